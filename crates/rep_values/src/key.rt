@@ -3,7 +3,9 @@ ghost use Rattle.std.specs.Prelude.{◌≡◌, ℕ, ◌-◌, ◌≤◌, ◌++◌
 ghost use Rattle.rep_values.specs.Number.{IsKeyLen};
 ghost use Rattle.rep_values.specs.declared.value.Value.TheVariants.{Num};
 
-use crate::Value;
+use crate::{NoMemory, Value};
+use rep_lists::Copies;
+use std::alloc::Global;
 use std::marker::Model;
 
 /// The values of a row's key columns, 1 to 4 of them. It is kept in place and takes no memory.
@@ -65,5 +67,11 @@ impl Key {
         ensures number { IsKeyLen (length self.now) }
     {
         &self.cells[..self.len as usize]
+    }
+}
+
+impl Copies for Key {
+    fn copy(&self, _alloc: Global) -> Result<Key, NoMemory> {
+        Ok(*self)
     }
 }

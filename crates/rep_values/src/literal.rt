@@ -2,7 +2,9 @@
 ghost use Rattle.std.specs.Prelude.{◌≡◌};
 ghost use Rattle.rep_values.specs.Literal.{value_of_literal};
 
-use crate::{Text, Value};
+use crate::{NoMemory, Text, Value};
+use rep_lists::Copies;
+use std::alloc::Global;
 
 /// A number of at most 16 digits, not yet tested for its range, or a text.
 #[derive(Clone, Copy)]
@@ -20,5 +22,11 @@ impl Literal {
             Literal::Num(number) => Value::Num(*number),
             Literal::Words(text) => Value::Words(*text),
         }
+    }
+}
+
+impl Copies for Literal {
+    fn copy(&self, _alloc: Global) -> Result<Literal, NoMemory> {
+        Ok(*self)
     }
 }

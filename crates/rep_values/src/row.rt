@@ -2,7 +2,7 @@
 ghost use Rattle.std.specs.Prelude.{◌≡◌, ◌↔◌, length, IsSome, IfSome, IfOk};
 ghost use Rattle.rep_values.specs.Number.{IsRowLen};
 
-use crate::{Key, NoMemory, Value};
+use crate::{NoMemory, Value};
 use rep_lists::Copies;
 use std::alloc::Global;
 use std::marker::Model;
@@ -53,17 +53,5 @@ impl Copies for Row {
         Ok(Row {
             values: Vec::from_slice(alloc, &self.values)?,
         })
-    }
-}
-
-impl Copies for Value {
-    fn copy(&self, _alloc: Global) -> Result<Value, NoMemory> {
-        Ok(*self)
-    }
-}
-
-impl Copies for Key {
-    fn copy(&self, _alloc: Global) -> Result<Key, NoMemory> {
-        Ok(*self)
     }
 }

@@ -2,7 +2,9 @@
 ghost use Rattle.rep_values.specs.Equality.{value_eq, value_eq_equiv};
 ghost use Rattle.std.specs.Cmp.{partial_equiv_from_equiv};
 
-use crate::Text;
+use crate::{NoMemory, Text};
+use rep_lists::Copies;
+use std::alloc::Global;
 
 /// A number or a text. A stored number lies within ±10^15. Every number comes before every text.
 #[derive(Clone, Copy, PartialOrd, Ord)]
@@ -27,4 +29,10 @@ impl PartialEq for Value {
 
 impl Eq for Value {
     ghost laws = { value_eq_equiv };
+}
+
+impl Copies for Value {
+    fn copy(&self, _alloc: Global) -> Result<Value, NoMemory> {
+        Ok(*self)
+    }
 }
