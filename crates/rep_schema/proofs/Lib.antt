@@ -1,0 +1,5 @@
+-- The lemmas of this crate, from the bottom up.
+pub mod KeyWalk
+pub mod RowFit
+pub mod SameValues
+pub mod KeptTables
