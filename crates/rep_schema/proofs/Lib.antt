@@ -3,3 +3,4 @@ pub mod KeyWalk
 pub mod RowFit
 pub mod SameValues
 pub mod KeptTables
+pub mod FittingTests

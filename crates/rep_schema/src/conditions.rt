@@ -1,8 +1,9 @@
 //! The tests of what calls on rows ask: that a number is in range, that a row fits its columns, that a table has a
 //! key, and that a row is unique.
-ghost use Rattle.std.specs.Prelude.{◌<◌, ◌≤◌, ◌↔◌, length, IsTrue};
+ghost use Rattle.std.specs.Prelude.{◌≡◌, ◌<◌, ◌≤◌, ◌↔◌, length, IsTrue};
 ghost use Rattle.rep_schema.specs.Limits.{most_constraints};
-ghost use Rattle.rep_schema.specs.Tables.{columns_of, constraints_of, rows_of, IsInRange, FitsKind, RowFits, IsKeyed, IsUniqueRow};
+ghost use Rattle.rep_schema.specs.Tables.{columns_of, constraints_of, rows_of, IsInRange, FitsKind, RowFits, IsKeyed, IsUniqueRow, key_count};
+ghost use Rattle.rep_schema.specs.Fitting.{row_fits, is_keyed};
 
 use crate::{Column, Kind, RowStore, constraint_count};
 use rep_values::{Row, Value};
@@ -26,8 +27,7 @@ pub fn fits_kind(kind: Kind, value: &Value) -> bool
     }
 }
 
-/// Whether a row has a value for each column, of its kind.
-pub fn row_fits(columns: &[Column], row: &[Value]) -> bool
+fn fits_each(columns: &[Column], row: &[Value]) -> bool
     ensures { IsTrue result ↔ RowFits columns.now row.now }
 {
     if columns.len() != row.len() {
@@ -41,9 +41,17 @@ pub fn row_fits(columns: &[Column], row: &[Value]) -> bool
     true
 }
 
-/// Whether there are 1 to 4 key columns.
-pub fn is_keyed(columns: &[Column]) -> bool
-    ensures { IsTrue result ↔ IsKeyed columns.now }
+/// Whether a row has a value for each column, of its kind.
+pub fn row_fits(columns: &[Column], row: &[Value]) -> bool
+    ensures value { result ≡ row_fits columns.now row.now }
+    ensures meaning { IsTrue result ↔ RowFits columns.now row.now }
+{
+    fits_each(columns, row)
+}
+
+/// How many key columns there are.
+pub fn key_count(columns: &[Column]) -> usize
+    ensures { result ≡ key_count columns.now }
 {
     let mut count = 0usize;
     for column in columns {
@@ -51,6 +59,15 @@ pub fn is_keyed(columns: &[Column]) -> bool
             count += 1;
         }
     }
+    count
+}
+
+/// Whether there are 1 to 4 key columns.
+pub fn is_keyed(columns: &[Column]) -> bool
+    ensures value { result ≡ is_keyed columns.now }
+    ensures meaning { IsTrue result ↔ IsKeyed columns.now }
+{
+    let count = key_count(columns);
     1 <= count && count <= 4
 }
 

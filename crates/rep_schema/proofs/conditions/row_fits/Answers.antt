@@ -1,5 +1,6 @@
-use Rattle.rep_schema.proofs.RowFit.{length-fits}
+-- The test of a row computes what it means.
+use Rattle.rep_schema.proofs.FittingTests.{row_test, same_test}
 use Rattle.rep_schema.proofs.conditions.row_fits.Goals as goal
 
-pub returns-then-columns-row : goal.returns-then-columns-row
-returns-then-columns-row c = (λ yes. cc, λ fits. absurd (c.if-columns-row.true (length-fits _ _ fits)))
+pub returns-clause-value : goal.returns-clause-value
+returns-clause-value c = same_test _ _ c.fits_each.ensures (row_test c.args.columns.now c.args.row.now)

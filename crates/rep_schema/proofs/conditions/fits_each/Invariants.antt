@@ -2,7 +2,7 @@
 use Rattle.std.proofs.Common.{◌≡◌, length, drop}
 use Rattle.std.specs.Prelude.{◌↔◌}
 use Rattle.rep_schema.specs.Tables.{RowFits}
-use Rattle.rep_schema.proofs.conditions.row_fits.Given as goal
+use Rattle.rep_schema.proofs.conditions.fits_each.Given as goal
 
 -- what is left decides
 abbrev pub invariant-loop-i : goal.invariant-loop-i

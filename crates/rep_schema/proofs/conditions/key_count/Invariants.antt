@@ -1,7 +1,7 @@
 -- Counting key columns.
 use Rattle.std.proofs.Common.{◌≡◌, ◌+◌, ◌≤◌, drop}
 use Rattle.rep_schema.specs.Tables.{key_count}
-use Rattle.rep_schema.proofs.conditions.is_keyed.Given as goal
+use Rattle.rep_schema.proofs.conditions.key_count.Given as goal
 
 -- those counted and those to come are all
 abbrev pub invariant-loop-column : goal.invariant-loop-column
