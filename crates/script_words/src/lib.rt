@@ -6,5 +6,6 @@ mod reader;
 mod repeated;
 mod words;
 
+pub use chosen::choice_of;
 pub use reader::Reader;
 pub use repeated::{NamePart, Part, ValuePart, separated, several, some_of};
