@@ -3,4 +3,5 @@ pub mod Runs
 pub mod Longest
 pub mod TextBytes
 pub mod Steps
+pub mod Readings
 mod WorkedLines

@@ -1,5 +1,5 @@
 -- The forms of tokens, and the longest front of some bytes that has one.
-use Rattle.std.specs.Prelude.{ℕ, zero, suc, Bool, false, ◌&&◌, ◌==◌, if◌then◌else◌, List, [], ◌∷◌, length, take, Option, Some, None}
+use Rattle.std.specs.Prelude.{ℕ, zero, suc, Bool, false, ◌&&◌, ◌==◌, if◌then◌else◌, List, [], ◌∷◌, length, take, Option, Some, None, codes}
 use Rattle.std.specs.List.{list_all}
 use Rattle.std.specs.Option.{is_some}
 use Rattle.rep_values.specs.Bytes.{is_digit}
@@ -38,6 +38,18 @@ symbol_of (b ∷ c ∷ []) =
     else None)
     else None
 symbol_of (b ∷ c ∷ d ∷ bs) = None
+
+-- the bytes that write a symbol
+abbrev pub symbol_bytes : Symbol → List ℕ
+symbol_bytes symbol.Colon = codes ":"
+symbol_bytes symbol.Comma = codes ","
+symbol_bytes symbol.Eq = codes "="
+symbol_bytes symbol.Ne = codes "!="
+symbol_bytes symbol.Lt = codes "<"
+symbol_bytes symbol.Le = codes "<="
+symbol_bytes symbol.Gt = codes ">"
+symbol_bytes symbol.Ge = codes ">="
+symbol_bytes symbol.Plus = codes "+"
 
 -- whether a byte and those behind it are what the byte begins, however long
 abbrev pub form_by : Start → ℕ → List ℕ → Bool

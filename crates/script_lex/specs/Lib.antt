@@ -4,3 +4,4 @@ pub mod Forms
 pub mod Tokens
 pub mod Stop
 pub mod Lines
+pub mod Laws

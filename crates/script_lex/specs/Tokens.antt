@@ -68,14 +68,3 @@ pub data IsTokens : List ℕ → List Token → Type 0 where
   space : {bytes : List ℕ} {ts : List Token} → IsTokens bytes ts → IsTokens (32 ∷ bytes) ts
   first : {bytes : List ℕ} {ts : List Token} (front rest : List ℕ) (t : Token)
       → bytes ≡ front ++ rest → IsFirst bytes front t → IsTokens rest ts → IsTokens bytes (t ∷ ts)
-
--- two sequences that are the tokens of one line are the same
-abbrev pub OneReading : Type 0
-OneReading = (bytes : List ℕ) (ts us : List Token) → IsTokens bytes ts → IsTokens bytes us → ts ≡ us
-
--- the tokens that are found are the tokens
-abbrev pub FindsTokens : Type 0
-FindsTokens = (bytes : List ℕ) (ts : List Token) → record {
-  found : tokens_from 0 bytes ≡ Some ts → IsTokens bytes ts;
-  all : IsTokens bytes ts → tokens_from 0 bytes ≡ Some ts;
-}

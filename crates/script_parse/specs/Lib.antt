@@ -1,1 +1,7 @@
 -- The definitions of this crate.
+pub mod Columns
+pub mod Rows
+pub mod Heads
+pub mod Built
+pub mod Parsed
+pub mod Young

@@ -11,7 +11,9 @@ pub enum Command {
     /// A line that is passed over.
     Nothing,
     /// `site NAME`
-    Site { name: SiteName },
+    Site {
+        name: SiteName,
+    },
     /// `table NAME COLUMN+`
     Table {
         name: TableName,
@@ -20,7 +22,9 @@ pub enum Command {
     /// `resume`
     Resume,
     /// `txn NAME`
-    Txn { site: SiteName },
+    Txn {
+        site: SiteName,
+    },
     /// `insert NAME VALUE+`
     Statement(Statement),
     /// `commit`
@@ -32,7 +36,10 @@ pub enum Command {
         count: Option<u64>,
     },
     /// `show tables|queue|errors|marks|journal|log NAME`
-    Show { what: Shown, site: SiteName },
+    Show {
+        what: Shown,
+        site: SiteName,
+    },
 }
 
 /// What of a site is shown.

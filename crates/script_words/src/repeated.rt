@@ -1,0 +1,120 @@
+//! Parts of a form that stand several times.
+ghost use Rattle.std.specs.Prelude.{◌≡◌, ℕ, Bool, List, Result};
+ghost use Rattle.script_lex.specs.declared.token.Token.{Token};
+ghost use Rattle.script_words.specs.Words.{is_named, is_valued};
+ghost use Rattle.script_words.specs.Reading.{begins, after, several, some_of, separated};
+ghost use Rattle.script_words.specs.Parts.{name, value};
+ghost use Rattle.script_words.specs.Readers.{Reads};
+
+use crate::Reader;
+use rep_lists::Items;
+use rep_values::{Literal, Name};
+use script_lex::LineStop;
+use std::alloc::Global;
+
+/// A part of a form that may stand several times. Its first token tells that it stands there.
+pub trait Part {
+    /// What is read.
+    type Item: Drop;
+
+    ghost starts: { Token → Bool };
+
+    ghost reading: { List Token → Result (Self.Item × List Token) ℕ };
+
+    /// Whether one begins here.
+    fn is_next(tokens: &Reader<'_>) -> bool
+        ensures { result ≡ begins starts tokens.now };
+
+    /// Reads one, or stops at rule 6.
+    fn read(tokens: &mut Reader<'_>) -> Result<Self::Item, LineStop>
+        ensures { Reads reading result tokens.old tokens.new };
+}
+
+/// NAME
+pub struct NamePart;
+
+impl Part for NamePart {
+    type Item = Name;
+
+    ghost starts = { is_named };
+
+    ghost reading = { name };
+
+    fn is_next(tokens: &Reader<'_>) -> bool {
+        tokens.is_at_name()
+    }
+
+    fn read(tokens: &mut Reader<'_>) -> Result<Name, LineStop> {
+        tokens.name()
+    }
+}
+
+/// VALUE
+pub struct ValuePart;
+
+impl Part for ValuePart {
+    type Item = Literal;
+
+    ghost starts = { is_valued };
+
+    ghost reading = { value };
+
+    fn is_next(tokens: &Reader<'_>) -> bool {
+        tokens.is_at_value()
+    }
+
+    fn read(tokens: &mut Reader<'_>) -> Result<Literal, LineStop> {
+        tokens.value()
+    }
+}
+
+/// As many as there are. It may want memory.
+pub fn several<P: Part>(alloc: Global, tokens: &mut Reader<'_>) -> Result<Items<P::Item>, LineStop>
+    ensures { Reads (several P.starts P.reading) result tokens.old tokens.new }
+{
+    let mut found = Items::new(alloc);
+    for _ in 0..tokens.len() {
+        if !P::is_next(tokens) {
+            return Ok(found);
+        }
+        found.push(P::read(tokens)?)?;
+    }
+    Ok(found)
+}
+
+/// One or more. It may want memory.
+pub fn some_of<P: Part>(alloc: Global, tokens: &mut Reader<'_>) -> Result<Items<P::Item>, LineStop>
+    ensures { Reads (some_of P.starts P.reading) result tokens.old tokens.new }
+{
+    if !P::is_next(tokens) {
+        return Err(LineStop::Rule(6));
+    }
+    several::<P>(alloc, tokens)
+}
+
+/// One behind the mark.
+fn after<P: Part>(word: &[u8], tokens: &mut Reader<'_>) -> Result<P::Item, LineStop>
+    ensures { Reads (after word.now P.reading) result tokens.old tokens.new }
+{
+    tokens.pass(word)?;
+    P::read(tokens)
+}
+
+/// One, and as many further ones as stand behind the mark. It may want memory.
+pub fn separated<P: Part>(
+    alloc: Global,
+    word: &[u8],
+    tokens: &mut Reader<'_>,
+) -> Result<Items<P::Item>, LineStop>
+    ensures { Reads (separated word.now P.reading) result tokens.old tokens.new }
+{
+    let mut found = Items::new(alloc);
+    found.push(P::read(tokens)?)?;
+    for _ in 0..tokens.len() {
+        if !tokens.is_at(word) {
+            return Ok(found);
+        }
+        found.push(after::<P>(word, tokens)?)?;
+    }
+    Ok(found)
+}
