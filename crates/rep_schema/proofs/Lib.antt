@@ -3,3 +3,5 @@ pub mod KeyWalk
 pub mod RowFit
 pub mod SameValues
 pub mod KeptTables
+pub mod Shapes
+mod ShapeExamples
