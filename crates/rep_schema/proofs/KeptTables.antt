@@ -15,7 +15,8 @@ use Rattle.rep_schema.specs.Tables.{Cells, Rows, columns_of, constraints_of, con
 none_from_any : {X : Type 0} (P : X → Type 0) (xs : List X) → ¬ Any P xs → AllByRecursion (λ x. ¬ P x) xs
 none_from_any P xs none = recursion_from_All (λ x. ¬ P x) xs (λ k d below p. none (k, get_or xs k d, below, get_or_default xs k (get_or xs k d) d below, p))
 
-any_from_none : {X : Type 0} (P : X → Type 0) (xs : List X) → AllByRecursion (λ x. ¬ P x) xs → ¬ Any P xs
+-- and what none of them is isn't found
+pub any_from_none : {X : Type 0} (P : X → Type 0) (xs : List X) → AllByRecursion (λ x. ¬ P x) xs → ¬ Any P xs
 any_from_none P xs none any = All-from_recursion (λ x. ¬ P x) xs none any.0 any.1 any.2 (rw any.3 any.4)
 
 module _ (schema : Schema) (table : ℕ) where

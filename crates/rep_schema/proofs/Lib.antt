@@ -4,3 +4,5 @@ pub mod RowFit
 pub mod SameValues
 pub mod KeptTables
 pub mod FittingTests
+pub mod Shapes
+mod ShapeExamples

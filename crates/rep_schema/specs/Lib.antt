@@ -2,3 +2,4 @@
 pub mod Limits
 pub mod Tables
 pub mod Fitting
+pub mod Shape

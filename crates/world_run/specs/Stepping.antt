@@ -1,5 +1,7 @@
 -- What a call that steps the world answers.
 use Rattle.std.specs.Prelude.{◌≡◌, List, ℕ, Option, Some, None, Result, Ok, Err}
+use Rattle.script_parse.specs.declared.command.Command.{Command}
+use Rattle.script_parse.specs.declared.command.Command.TheVariants as command
 use Rattle.report_text.specs.Sheet.{Sheet}
 use Rattle.world_run.specs.declared.stop.Stop.{Stop}
 use Rattle.world_run.specs.declared.stop.Stop.TheVariants.{Refused, Memory}
@@ -23,3 +25,15 @@ abbrev pub Finds : {A : Type 0} → Option A → Result A Stop → Type 0
 Finds found (Ok x) = found ≡ Some x
 Finds found (Err Refused) = found ≡ None
 Finds found (Err Memory) = Unit {0}
+
+-- a push may leave some rows inserted where there is no memory; no other command does
+abbrev pub StepsBy : Command → Outcome → Result Sheet Stop → WorldState → WorldState → Type 0
+StepsBy (command.Push from to count) = StepsOrSome
+StepsBy command.Nothing = Steps
+StepsBy (command.Site name) = Steps
+StepsBy (command.Table name columns) = Steps
+StepsBy command.Resume = Steps
+StepsBy (command.Txn site) = Steps
+StepsBy (command.Statement statement) = Steps
+StepsBy command.Commit = Steps
+StepsBy (command.Show what site) = Steps

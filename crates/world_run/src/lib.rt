@@ -6,7 +6,10 @@ mod insertion;
 mod phase;
 mod setup;
 mod site;
+mod stated;
 mod stop;
+mod world;
 
 pub use insertion::Insertion;
 pub use stop::Stop;
+pub use world::World;
