@@ -34,11 +34,16 @@ abbrev pub AreKeyed : Phase → List TableEntry → Type 0
 AreKeyed phase.Setup tables = Unit {0}
 AreKeyed phase.Running tables = AllByRecursion (λ table. is_keyed table.columns ≡ true) tables
 
+-- no site is made before the first resume; then each has this schema
+abbrev pub AreMade : Phase → Schema → List Site → Type 0
+AreMade phase.Setup schema kept = kept ≡ []
+AreMade phase.Running schema kept = AllByRecursion (IsSiteOf schema) kept
+
 -- few and narrow declarations; from the first resume on keyed tables, and sites with this schema
 pub record IsSound (schema : Schema) (phase : Phase) (kept : List Site) (block : Block) : Type 0 where
   pub few_sites : length schema.sites ≤ 2
   pub few_tables : length schema.tables ≤ 1
   pub narrow : AllByRecursion IsNarrow schema.tables
   pub keyed : AreKeyed phase schema.tables
-  pub sites : AllByRecursion (IsSiteOf schema) kept
+  pub made : AreMade phase schema kept
   pub placed : IsPlaced (length kept) block

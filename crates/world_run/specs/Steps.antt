@@ -18,6 +18,7 @@ use Rattle.script_parse.specs.declared.command.Command.{Command}
 use Rattle.script_parse.specs.declared.command.Command.TheVariants as command
 use Rattle.script_parse.specs.declared.command.Shown.{Shown}
 use Rattle.script_parse.specs.declared.command.Shown.TheVariants as shown
+use Rattle.report_text.specs.declared.printed.PushCount.{PushCount}
 use Rattle.report_text.specs.Texts.{commit_text, push_text, tables_text}
 use Rattle.world_run.specs.declared.block.Block.{Block}
 use Rattle.world_run.specs.declared.block.Block.TheVariants as block
@@ -108,7 +109,7 @@ stated_at (statement.Update table key sets) w site = None
 stated_at (statement.Delete table key) w site = None
 
 unfoldable pub statement_step : Statement → WorldState → Outcome
-statement_step s w = open_site w.block >>= stated_at s w
+statement_step s w = in_running w.phase (open_site w.block >>= stated_at s w)
 
 -- the row that literals give for a table, where they fit its columns
 abbrev pub insertion_of : Schema → TableName → List Literal → Option Insertion
@@ -127,9 +128,9 @@ abbrev pub committed : Schema → Insertion → SiteState → SiteState
 committed schema i site = record site { tables = inserted schema i site.tables; queue = site.queue ++ i ∷ [] }
 
 -- a commit at a place, and its line
-abbrev pub commit_at : WorldState → ℕ → Insertion → Outcome
-commit_at w place i = slice_get w.sites place >>= λ site.
-    Some (record w { sites = slice_set w.sites place (committed w.schema i site); block = block.After }, commit_text site.name.0 (length site.queue + 1))
+abbrev pub commit_at : Schema → List SiteState → ℕ → Insertion → Option (List SiteState × List ℕ)
+commit_at schema sites place i = slice_get sites place >>= λ site.
+    Some (slice_set sites place (committed schema i site), commit_text site.name.0 (length site.queue + 1))
 
 -- what the open block asks for: a place, and the row to be inserted there
 abbrev pub stated_of : Schema → Block → Option (ℕ × Insertion)
@@ -139,7 +140,8 @@ stated_of schema (block.Open site) = None
 stated_of schema block.After = None
 
 unfoldable pub commit_step : WorldState → Outcome
-commit_step w = stated_of w.schema w.block >>= λ stated. commit_at w stated.0 stated.1
+commit_step w = in_running w.phase (stated_of w.schema w.block >>= λ stated. commit_at w.schema w.sites stated.0 stated.1 >>= λ done.
+    Some (record w { sites = done.0; block = block.After }, done.1))
 
 -- Travelling.
 
@@ -160,38 +162,42 @@ received schema is site = record site { tables = all_inserted schema is site.tab
 abbrev pub acknowledged : SiteState → SiteState
 acknowledged site = record site { acked = length site.queue }
 
-abbrev pub push_between : WorldState → ℕ → ℕ → SiteState → SiteState → Outcome
-push_between w from to a b =
-    Some (record w { sites = slice_set (slice_set w.sites to (received w.schema (waiting a) b)) from (acknowledged a) },
-    push_text a.name.0 b.name.0 (record { sent = length (waiting a); done = length (waiting a); errors = 0; low = length a.queue }))
+-- what a push sends, applies and acknowledges: all that waits, with no error
+abbrev pub push_count : SiteState → PushCount
+push_count site = record { sent = length (waiting site); done = length (waiting site); errors = 0; low = length site.queue }
 
--- between two different sites
-abbrev pub push_at : WorldState → ℕ → ℕ → Outcome
-push_at w from to =
-    if from == to then None
-    else (slice_get w.sites from >>= λ a. slice_get w.sites to >>= λ b. push_between w from to a b)
+-- a push from one place to another, and its line
+abbrev pub push_between : Schema → List SiteState → ℕ → ℕ → Option (List SiteState × List ℕ)
+push_between schema sites from to = slice_get sites from >>= λ a. slice_get sites to >>= λ b.
+    Some (slice_set (slice_set sites to (received schema (waiting a) b)) from (acknowledged a), push_text a.name.0 b.name.0 (push_count a))
 
+-- between two different sites, with no count
 abbrev pub push_all : SiteName → SiteName → Option ℕ → WorldState → Outcome
 push_all from to (Some count) w = None
-push_all from to None w = place_of w.sites from >>= λ i. place_of w.sites to >>= λ j. push_at w i j
+push_all from to None w = place_of w.sites from >>= λ i. place_of w.sites to >>= λ j.
+    if i == j then None else (push_between w.schema w.sites i j >>= λ done. Some (record w { sites = done.0 }, done.1))
 
 unfoldable pub push_step : SiteName → SiteName → Option ℕ → WorldState → Outcome
 push_step from to count w = in_running w.phase (if is_shut w.block then push_all from to count w else None)
 
 -- Showing.
 
-abbrev pub shown_at : Shown → WorldState → SiteState → Outcome
-shown_at shown.Tables w site = Some (w, tables_text site.name.0 w.schema site.tables)
-shown_at shown.Queue w site = None
-shown_at shown.Errors w site = None
-shown_at shown.Marks w site = None
-shown_at shown.Journal w site = None
-shown_at shown.Log w site = None
+abbrev pub is_tables : Shown → Bool
+is_tables shown.Tables = true
+is_tables shown.Queue = false
+is_tables shown.Errors = false
+is_tables shown.Marks = false
+is_tables shown.Journal = false
+is_tables shown.Log = false
+
+-- the tables of the site at a place
+abbrev pub shown_at : Schema → List SiteState → ℕ → Option (List ℕ)
+shown_at schema sites place = slice_get sites place >>= λ site. Some (tables_text site.name.0 schema site.tables)
 
 unfoldable pub show_step : Shown → SiteName → WorldState → Outcome
 show_step what name w = in_running w.phase
-    (if is_shut w.block
-    then (place_of w.sites name >>= λ place. slice_get w.sites place >>= shown_at what w)
+    (if is_shut w.block && is_tables what
+    then (place_of w.sites name >>= λ place. shown_at w.schema w.sites place >>= λ out. Some (w, out))
     else None)
 
 -- the step of a command

@@ -6,6 +6,7 @@ mod insertion;
 mod phase;
 mod setup;
 mod site;
+mod sites;
 mod stated;
 mod stop;
 mod world;

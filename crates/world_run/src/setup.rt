@@ -9,8 +9,8 @@ use rep_schema::{Column, Schema, SiteEntry, TableEntry, is_keyed, key_count};
 use rep_values::{Name, SiteName};
 
 /// Whether a site of this name may be declared.
-pub fn may_add_site(sites: &[SiteEntry], name: SiteName) -> bool
-    ensures { result ≡ may_add_site sites.now name }
+pub fn may_add_site(sites: &[SiteEntry], name: &SiteName) -> bool
+    ensures { result ≡ may_add_site sites.now name.now }
 {
     if sites.len() >= 2 {
         return false;
@@ -18,8 +18,8 @@ pub fn may_add_site(sites: &[SiteEntry], name: SiteName) -> bool
     !has_site(sites, name)
 }
 
-fn has_site(sites: &[SiteEntry], name: SiteName) -> bool
-    ensures { result ≡ list_any (λ site. same_bytes site.name.0 name.0) sites.now }
+fn has_site(sites: &[SiteEntry], name: &SiteName) -> bool
+    ensures { result ≡ list_any (λ site. same_bytes site.name.0 name.now.0) sites.now }
 {
     sites.iter().any(|site| site.name.0.is_same(&name.0))
 }

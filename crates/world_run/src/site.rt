@@ -1,10 +1,8 @@
 //! One site: its rows, its queue, and how far the other site has acknowledged it.
-ghost use Rattle.std.specs.Prelude.{◌≡◌, ◌≤◌, length, map, drop, slice_index, IfOk, OnOk, OnErr};
-ghost use Rattle.std.specs.List.{position, AllByRecursion};
-ghost use Rattle.rep_values.specs.Name.{same_bytes};
-ghost use Rattle.world_run.specs.Steps.{inserted, all_inserted, new_site};
+ghost use Rattle.std.specs.Prelude.{◌≡◌, ◌≤◌, length, drop, slice_index, IfOk, OnOk, OnErr};
+ghost use Rattle.std.specs.List.{AllByRecursion};
+ghost use Rattle.world_run.specs.Steps.{inserted, all_inserted};
 ghost use Rattle.world_run.specs.Rows.{IsInsertionOf, IsPlain};
-ghost use Rattle.world_run.specs.Sound.{site_state, IsSiteOf};
 ghost use Rattle.world_run.specs.Kept.{IsNewSite, Commits, Stays, Receives};
 
 use crate::Insertion;
@@ -101,25 +99,4 @@ impl Site {
         }
         Ok(())
     }
-}
-
-/// The place of the site of a name.
-pub fn place_of(sites: &[Site], name: SiteName) -> Option<usize>
-    ensures { result ≡ position (λ site. same_bytes site.name.0 name.0) sites.now }
-{
-    sites
-        .iter()
-        .position(|site| site.name.0.is_same(&name.0))
-}
-
-/// A site for each that was declared.
-pub fn new_sites(alloc: Global, schema: &Schema) -> Result<Vec<Site>, NoMemory>
-    ensures states { IfOk result (λ sites. map site_state sites.items ≡ map (new_site schema.now) schema.now.sites) }
-    ensures kept { IfOk result (λ sites. AllByRecursion (IsSiteOf schema.now) sites.items) }
-{
-    let mut sites = Vec::with_capacity(alloc, schema.sites.len())?;
-    for entry in schema.sites.as_slice() {
-        sites.push(Site::new(alloc, entry.name, schema)?)?;
-    }
-    Ok(sites)
 }

@@ -1,8 +1,9 @@
 //! What a block asks for, as a row of a table.
-ghost use Rattle.std.specs.Prelude.{◌≡◌, ◌≤◌, length, map, IfOk};
+ghost use Rattle.std.specs.Prelude.{◌≡◌, ◌≤◌, length, map, true, IfOk};
 ghost use Rattle.std.specs.List.{position, AllByRecursion};
 ghost use Rattle.rep_values.specs.Name.{same_bytes};
 ghost use Rattle.rep_values.specs.Literal.{value_of_literal};
+ghost use Rattle.rep_schema.specs.Fitting.{is_keyed};
 ghost use Rattle.world_run.specs.Steps.{insertion_of, stated_of};
 ghost use Rattle.world_run.specs.Stepping.{Finds};
 ghost use Rattle.world_run.specs.Rows.{IsNarrow};
@@ -43,6 +44,7 @@ fn insertion_of(
 ) -> Result<Insertion, Stop>
     requires few { length schema.now.tables ≤ 1 }
     requires narrow { AllByRecursion IsNarrow schema.now.tables }
+    requires keyed { AllByRecursion (λ table. is_keyed table.columns ≡ true) schema.now.tables }
     ensures { Finds (insertion_of schema.now name literals.now) result }
 {
     let Some(place) = table_of(schema.tables.as_slice(), name) else {
@@ -63,6 +65,7 @@ fn insertion_of(
 pub fn stated(alloc: Global, schema: &Schema, block: &Block) -> Result<(usize, Insertion), Stop>
     requires few { length schema.now.tables ≤ 1 }
     requires narrow { AllByRecursion IsNarrow schema.now.tables }
+    requires keyed { AllByRecursion (λ table. is_keyed table.columns ≡ true) schema.now.tables }
     ensures { Finds (stated_of schema.now block.now) result }
 {
     match block {
@@ -71,8 +74,10 @@ pub fn stated(alloc: Global, schema: &Schema, block: &Block) -> Result<(usize, I
             table,
             values,
         } => {
-            let insertion = insertion_of(alloc, schema, *table, values.as_slice())?;
-            Ok((*site, insertion))
+            match insertion_of(alloc, schema, *table, values.as_slice()) {
+                Ok(insertion) => Ok((*site, insertion)),
+                Err(stop) => Err(stop),
+            }
         }
         Block::Before | Block::Open { .. } | Block::After => Err(Stop::Refused),
     }

@@ -1,21 +1,21 @@
 //! The world, and the step of each command.
-ghost use Rattle.std.specs.Prelude.{◌≡◌, ◌≢◌, ◌<◌, length};
+ghost use Rattle.std.specs.Prelude.{◌≡◌};
 ghost use Rattle.world_run.specs.World.{first_world};
-ghost use Rattle.world_run.specs.Steps.{command_step, site_step, table_step, resume_step, txn_step, statement_step, commit_step, push_step, show_step, push_at};
+ghost use Rattle.world_run.specs.Steps.{command_step, site_step, table_step, resume_step, txn_step, statement_step, commit_step, push_step, show_step, is_tables};
 ghost use Rattle.world_run.specs.Stepping.{Steps, StepsOrSome, StepsBy};
-ghost use Rattle.world_run.specs.declared.phase.Phase.TheVariants.{Running};
 
 use crate::block::Block;
 use crate::phase::Phase;
 use crate::setup::{may_add_site, may_add_table, may_resume};
-use crate::site::{Site, new_sites, place_of};
+use crate::site::Site;
+use crate::sites::{commit_at, new_sites, place_of, push_between, shown_at};
 use crate::stated::stated;
 use crate::Stop;
 use rep_calls::Statement;
 use rep_lists::{Copies, Items};
 use rep_schema::{Column, Schema, SiteEntry, TableEntry};
 use rep_values::{SiteName, TableName};
-use report_text::{Lines, PushCount, add_tables, commit_line, push_line};
+use report_text::Lines;
 use script_parse::{Command, Shown};
 use std::alloc::Global;
 use std::marker::Model;
@@ -85,14 +85,15 @@ impl World {
             Phase::Setup => {}
             Phase::Running => return Err(Stop::Refused),
         }
-        if !may_add_site(self.schema.sites.as_slice(), name) {
+        if !may_add_site(self.schema.sites.as_slice(), &name) {
             return Err(Stop::Refused);
         }
-        self.schema.sites.push(SiteEntry {
+        let entry = SiteEntry {
             name,
             master: None,
             level: None,
-        })?;
+        };
+        self.schema.sites.push(entry)?;
         Ok(Lines::make(alloc))
     }
 
@@ -162,6 +163,10 @@ impl World {
     fn state(&mut self, alloc: Global, statement: &Statement) -> Result<Lines, Stop>
         ensures { Steps (statement_step statement.now self.old) result self.old self.new }
     {
+        match self.phase {
+            Phase::Setup => return Err(Stop::Refused),
+            Phase::Running => {}
+        }
         let Some(site) = self.block.open_site() else {
             return Err(Stop::Refused);
         };
@@ -183,12 +188,12 @@ impl World {
     fn commit(&mut self, alloc: Global) -> Result<Lines, Stop>
         ensures { Steps (commit_step self.old) result self.old self.new }
     {
+        match self.phase {
+            Phase::Setup => return Err(Stop::Refused),
+            Phase::Running => {}
+        }
         let (place, insertion) = stated(alloc, &self.schema, &self.block)?;
-        let mut lines = Lines::make(alloc);
-        lines.reserve(256)?;
-        let site = &mut self.sites[place];
-        site.commit(alloc, insertion)?;
-        commit_line(&mut lines, site.name, site.queue.len() as u64);
+        let lines = commit_at(alloc, &self.schema, &mut self.sites, place, insertion)?;
         self.block = Block::After;
         Ok(lines)
     }
@@ -222,33 +227,7 @@ impl World {
         if from == to {
             return Err(Stop::Refused);
         }
-        self.push_between(alloc, from, to)
-    }
-
-    /// Sends what waits at one site to the other, which applies it, and acknowledges it.
-    fn push_between(&mut self, alloc: Global, from: usize, to: usize) -> Result<Lines, Stop>
-        requires from { from < length self.old.sites }
-        requires to { to < length self.old.sites }
-        requires apart { from ≢ to }
-        requires running { self.old.phase ≡ Running }
-        ensures { StepsOrSome (push_at self.old from to) result self.old self.new }
-    {
-        let mut lines = Lines::make(alloc);
-        lines.reserve(256)?;
-        let sender = &self.sites[from];
-        let waiting = sender.waiting(alloc)?;
-        let receiver = &mut self.sites[to];
-        receiver.receive(alloc, waiting.as_slice())?;
-        let receiver_name = receiver.name;
-        let sender = &mut self.sites[from];
-        sender.acked = sender.queue.len();
-        let count = PushCount {
-            sent: waiting.len() as u64,
-            done: waiting.len() as u64,
-            errors: 0,
-            low: sender.acked as u64,
-        };
-        push_line(&mut lines, sender.name, receiver_name, count);
+        let lines = push_between(alloc, &self.schema, &mut self.sites, from, to)?;
         Ok(lines)
     }
 
@@ -263,18 +242,22 @@ impl World {
         if !self.block.is_shut() {
             return Err(Stop::Refused);
         }
+        if !is_tables(what) {
+            return Err(Stop::Refused);
+        }
         let Some(place) = place_of(&self.sites, name) else {
             return Err(Stop::Refused);
         };
-        match what {
-            Shown::Tables => {}
-            Shown::Queue | Shown::Errors | Shown::Marks | Shown::Journal | Shown::Log => {
-                return Err(Stop::Refused);
-            }
-        }
-        let mut lines = Lines::make(alloc);
-        let site = &self.sites[place];
-        add_tables(&mut lines, site.name, &site.store)?;
+        let lines = shown_at(alloc, &self.schema, &self.sites, place)?;
         Ok(lines)
+    }
+}
+
+fn is_tables(what: Shown) -> bool
+    ensures { result ≡ is_tables what }
+{
+    match what {
+        Shown::Tables => true,
+        Shown::Queue | Shown::Errors | Shown::Marks | Shown::Journal | Shown::Log => false,
     }
 }
