@@ -1,5 +1,5 @@
 -- What a read of bytes in memory gives and leaves.
-use Rattle.std.proofs.Common.{arith, List, ℕ, ◌≡◌, ◌≤◌, ◌+◌, ◌-◌, ◌++◌, length, drop, take, ap, sym, ◌∙◌, length-take-le}
+use Rattle.std.proofs.Common.{arith, List, ℕ, ◌≡◌, ◌+◌, ◌-◌, ◌++◌, length, drop, take, ap, sym, ◌∙◌}
 use Rattle.std.proofs.lemmas.List.Folds.{drop_split}
 use Rattle.std.proofs.Math.Seq.{take-append_seam}
 

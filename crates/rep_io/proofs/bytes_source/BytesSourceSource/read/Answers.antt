@@ -1,4 +1,4 @@
-use Rattle.std.proofs.Common.{rules, arith, ◌≡◌, ◌≤◌, ◌<◌, ◌+◌, ◌-◌, ◌++◌, ℕ, List, min, length, drop, length-append, length-drop, length-take-le, ◌∙◌, sym, subst}
+use Rattle.std.proofs.Common.{rules, arith, ◌≡◌, ◌<◌, ◌+◌, ◌-◌, ℕ, List, min, length, drop, length-append, length-drop, length-take-le, ◌∙◌, sym}
 use Rattle.std.proofs.lemmas.List.{drop_all}
 use Rattle.rep_io.proofs.Copies.{drop-copied}
 use Rattle.rep_io.proofs.bytes_source.BytesSourceSource.read.Goals as goal
