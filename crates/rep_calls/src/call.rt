@@ -1,0 +1,72 @@
+//! What travels from site to site: row changes with their old and new values.
+
+use rep_lists::{Copies, Items, NoMemory};
+use rep_values::{Key, Row, Value};
+use std::alloc::Global;
+
+/// One row change. Tables and groups are named by their place, the shadow group by 255.
+#[derive(Drop)]
+pub enum Call {
+    /// The whole new row.
+    Insert { table: u32, row: Row },
+    /// A part for each group in which a column changed, named groups in declared order, the shadow group last.
+    Update {
+        table: u32,
+        key: Key,
+        parts: Items<Part>,
+    },
+    /// The whole old row.
+    Delete { table: u32, row: Row },
+}
+
+/// The old and new values of all columns of one group, in column order.
+#[derive(Drop)]
+pub struct Part {
+    pub group: u8,
+    pub old: Items<Value>,
+    pub new: Items<Value>,
+}
+
+/// A transaction: its calls in order, 1 to 1,000 of them where it is queued.
+#[derive(Drop)]
+pub struct Txn {
+    pub calls: Items<Call>,
+}
+
+impl Copies for Call {
+    fn copy(&self, alloc: Global) -> Result<Call, NoMemory> {
+        match self {
+            Call::Insert { table, row } => Ok(Call::Insert {
+                table: *table,
+                row: row.copy(alloc)?,
+            }),
+            Call::Update { table, key, parts } => Ok(Call::Update {
+                table: *table,
+                key: *key,
+                parts: parts.copy(alloc)?,
+            }),
+            Call::Delete { table, row } => Ok(Call::Delete {
+                table: *table,
+                row: row.copy(alloc)?,
+            }),
+        }
+    }
+}
+
+impl Copies for Part {
+    fn copy(&self, alloc: Global) -> Result<Part, NoMemory> {
+        Ok(Part {
+            group: self.group,
+            old: self.old.copy(alloc)?,
+            new: self.new.copy(alloc)?,
+        })
+    }
+}
+
+impl Copies for Txn {
+    fn copy(&self, alloc: Global) -> Result<Txn, NoMemory> {
+        Ok(Txn {
+            calls: self.calls.copy(alloc)?,
+        })
+    }
+}

@@ -1,0 +1,10 @@
+//! Lists that contracts see as lists, deep copies, and lists in rising order.
+#![tactic(auto)]
+
+mod copies;
+mod items;
+mod memory;
+
+pub use copies::Copies;
+pub use items::Items;
+pub use memory::NoMemory;

@@ -1,0 +1,119 @@
+//! Names of at most 30 bytes, kept in place.
+ghost use Rattle.std.specs.Prelude.{◌≡◌, ℕ, ◌-◌, ◌≤◌, ◌++◌, ◌↔◌, length, replicate, nat_eq, true, IsTrue, Some, None, if◌then◌else◌};
+ghost use Rattle.std.specs.Cmp.{partial_equiv_from_equiv};
+ghost use Rattle.std.specs.Cmp.Lexicographic.{pointwise, nat_list_eq_equiv};
+ghost use Rattle.std.specs.List.{list_all};
+ghost use Rattle.rep_values.specs.Name.{is_name, is_name_byte, same_bytes};
+
+use crate::{is_digit, is_letter};
+use std::marker::Model;
+
+/// 1 to 30 bytes: a letter, then letters, digits and underscores. It is kept in place and takes no memory.
+#[derive(Clone, Copy)]
+pub struct Name {
+    cells: [u8; 30],
+    len: u8,
+}
+
+impl Model for Name {
+    ghost use Rattle.std.specs.Prelude.{◌≡◌, ℕ, List, ◌++◌, ◌-◌, length, take, replicate, true};
+    ghost use Rattle.rep_values.specs.Name.{is_name};
+    ghost use Rattle.rep_values.specs.Padded.{IsPadded, cells-of_front, len-of_front};
+
+    ghost Value = { List ℕ };
+
+    ghost view = { λ n. take n.len n.cells };
+
+    ghost invariant = { λ n. (is_name (take n.len n.cells) ≡ true) × IsPadded 30 0 n.len n.cells };
+
+    ghost inverse = { λ bytes. record { cells = bytes ++ replicate (30 - length bytes) 0; len = length bytes } };
+
+    ghost inverse_ok = { λ n h i. record {
+      cells = cells-of_front 30 0 n.len n.cells h.1 i;
+      len = len-of_front 30 0 n.len n.cells h.1 i;
+    } };
+}
+
+fn is_name_byte(byte: u8) -> bool
+    ensures { result ≡ is_name_byte byte }
+{
+    is_letter(byte) || is_digit(byte) || byte == b'_'
+}
+
+fn are_name_bytes(bytes: &[u8]) -> bool
+    ensures { result ≡ list_all is_name_byte bytes.now }
+{
+    bytes.iter().all(|byte| is_name_byte(*byte))
+}
+
+/// The bytes, and zeros behind them.
+fn padded(bytes: &[u8]) -> [u8; 30]
+    requires { length bytes.now ≤ 30 }
+    ensures { result ≡ bytes.now ++ replicate (30 - length bytes.now) 0 }
+{
+    let mut cells = [0; 30];
+    cells[..bytes.len()].copy_from_slice(bytes);
+    cells
+}
+
+impl Name {
+    /// The name of these bytes; None exactly where they don't have the form of a name.
+    pub fn of(bytes: &[u8]) -> Option<Name>
+        ensures { result ≡ (if is_name bytes.now then Some bytes.now else None) }
+    {
+        if bytes.is_empty() {
+            return None;
+        }
+        if bytes.len() > 30 {
+            return None;
+        }
+        if !is_letter(bytes[0]) {
+            return None;
+        }
+        if !are_name_bytes(bytes) {
+            return None;
+        }
+        Some(Name {
+            cells: padded(bytes),
+            len: bytes.len() as u8,
+        })
+    }
+
+    /// The bytes of the name.
+    pub fn bytes(&self) -> &[u8]
+        ensures value { result.now ≡ self.now }
+        ensures form { is_name self.now ≡ true }
+    {
+        &self.cells[..self.len as usize]
+    }
+
+    /// Whether two names are the same.
+    pub fn is_same(&self, other: &Name) -> bool
+        ensures value { result ≡ same_bytes self.now other.now }
+        ensures meaning { IsTrue result ↔ (self.now ≡ other.now) }
+    {
+        self == other
+    }
+}
+
+impl PartialEq for Name {
+    ghost eq = { pointwise nat_eq };
+
+    ghost laws = { partial_equiv_from_equiv nat_list_eq_equiv };
+
+    fn eq(&self, other: &Name) -> bool {
+        self.bytes() == other.bytes()
+    }
+}
+
+impl Eq for Name {
+    ghost laws = { nat_list_eq_equiv };
+}
+
+/// The name of a site.
+#[derive(Clone, Copy, PartialEq, Eq)]
+pub struct SiteName(pub Name);
+
+/// The name of a table.
+#[derive(Clone, Copy, PartialEq, Eq)]
+pub struct TableName(pub Name);

@@ -1,0 +1,57 @@
+//! Rows of 1 to 32 values.
+ghost use Rattle.std.specs.Prelude.{◌≡◌, ◌↔◌, length, IsSome, IfSome, IfOk};
+ghost use Rattle.rep_values.specs.Number.{IsRowLen};
+
+use crate::{NoMemory, Value};
+use rep_lists::Copies;
+use std::alloc::Global;
+use std::marker::Model;
+
+/// A value for each column of a table, 1 to 32 of them.
+#[derive(Drop)]
+pub struct Row {
+    values: Vec<Value>,
+}
+
+impl Model for Row {
+    ghost use Rattle.std.specs.Prelude.{List, length};
+    ghost use Rattle.rep_values.specs.declared.value.Value.{Value as One};
+    ghost use Rattle.rep_values.specs.Number.{IsRowLen};
+
+    ghost Value = { List One };
+
+    ghost view = { λ r. r.values.items };
+
+    ghost invariant = { λ r. IsRowLen (length r.values.items) };
+}
+
+impl Row {
+    /// The row of these values; None exactly where there is none or more than 32. It may want memory.
+    pub fn of(alloc: Global, values: &[Value]) -> Result<Option<Row>, NoMemory>
+        ensures variant { IfOk result (λ row. IsSome row ↔ IsRowLen (length values.now)) }
+        ensures value { IfOk result (λ row. IfSome row (λ row. row ≡ values.now)) }
+    {
+        if values.is_empty() || values.len() > 32 {
+            return Ok(None);
+        }
+        Ok(Some(Row {
+            values: Vec::from_slice(alloc, values)?,
+        }))
+    }
+
+    /// The values of the row, in column order.
+    pub fn values(&self) -> &[Value]
+        ensures value { result.now ≡ self.now }
+        ensures number { IsRowLen (length self.now) }
+    {
+        &self.values
+    }
+}
+
+impl Copies for Row {
+    fn copy(&self, alloc: Global) -> Result<Row, NoMemory> {
+        Ok(Row {
+            values: Vec::from_slice(alloc, &self.values)?,
+        })
+    }
+}

@@ -1,0 +1,247 @@
+//! The world, and the step of each command.
+ghost use Rattle.std.specs.Prelude.{◌≡◌, ◌≢◌, ℕ, ◌+◌, ◌<◌, ◌≤◌, [], map, length, Some, None, IfOk};
+ghost use Rattle.std.specs.List.{position, AllByRecursion};
+ghost use Rattle.report_text.specs.Sheet.{Appends};
+ghost use Rattle.world_run.specs.World.{first_world};
+ghost use Rattle.world_run.specs.Steps.{command_step, site_step, table_step, resume_step, txn_step, statement_step, commit_step, push_step, show_step, place_of, stated_of, insertion_of, new_site, outside_block};
+ghost use Rattle.world_run.specs.Stepping.{Steps, StepsOrSome, Finds, StepsBy};
+ghost use Rattle.world_run.specs.Sound.{site_state, IsSiteOf, IsSound};
+
+use crate::block::Block;
+use crate::phase::Phase;
+use crate::setup::{may_add_site, may_add_table, may_resume};
+use crate::site::Site;
+use crate::{Insertion, Stop};
+use rep_calls::Statement;
+use rep_lists::{Copies, Items, NoMemory};
+use rep_schema::{Column, RowStore, Schema, SiteEntry, TableEntry, columns_of, row_fits};
+use rep_values::{Literal, Row, SiteName, TableName, Value};
+use report_text::{Lines, PushCount, add_tables, commit_line, push_line};
+use script_parse::{Command, Shown};
+use std::alloc::Global;
+use std::marker::Model;
+
+/// What was declared, the sites from the first `resume` on, and the script's block.
+#[derive(Drop)]
+pub struct World {
+    schema: Schema,
+    phase: Phase,
+    sites: Vec<Site>,
+    block: Block,
+}
+
+impl Model for World {
+    ghost use Rattle.std.specs.Prelude.{map};
+    ghost use Rattle.world_run.specs.World.{WorldState};
+    ghost use Rattle.world_run.specs.Sound.{site_state, IsSound};
+
+    ghost Value = { WorldState };
+
+    ghost view = { λ w. record { schema = w.schema; phase = w.phase; sites = map site_state w.sites.items; block = w.block } };
+
+    ghost invariant = { λ w. IsSound w.schema w.phase w.sites.items w.block };
+}
+
+impl World {
+    /// The world in which nothing is declared. It takes no memory.
+    pub fn make(alloc: Global) -> World
+        ensures { result ≡ first_world }
+    {
+        World {
+            schema: Schema {
+                sites: Items::new(alloc),
+                tables: Items::new(alloc),
+                priorities: Items::new(alloc),
+            },
+            phase: Phase::Setup,
+            sites: Vec::new(alloc),
+            block: Block::Before,
+        }
+    }
+
+    #[tactic(auto, unfolding(crate::specs::Steps::command_step))]
+    /// Runs a command and gives what it prints. A refused command leaves the world, and so does want of memory,
+    /// but that a push may then have inserted the first of its rows.
+    pub fn step(&mut self, alloc: Global, command: &Command) -> Result<Lines, Stop>
+        ensures { StepsBy command.now (command_step command.now self.old) result self.old self.new }
+    {
+        match command {
+            Command::Nothing => Ok(Lines::make(alloc)),
+            Command::Site { name } => self.site(alloc, *name),
+            Command::Table { name, columns } => self.table(alloc, *name, columns),
+            Command::Resume => self.resume(alloc),
+            Command::Txn { site } => self.open(alloc, *site),
+            Command::Statement(statement) => self.state(alloc, statement),
+            Command::Commit => self.commit(alloc),
+            Command::Push { from, to, count } => self.push(alloc, *from, *to, *count),
+            Command::Show { what, site } => self.show(alloc, *what, *site),
+        }
+    }
+
+    #[tactic(auto, unfolding(crate::specs::Steps::site_step))]
+    fn site(&mut self, alloc: Global, name: SiteName) -> Result<Lines, Stop>
+        ensures { Steps (site_step name self.old) result self.old self.new }
+    {
+        match self.phase {
+            Phase::Setup => {}
+            Phase::Running => return Err(Stop::Refused),
+        }
+        if !may_add_site(self.schema.sites.as_slice(), name) {
+            return Err(Stop::Refused);
+        }
+        self.schema.sites.push(SiteEntry {
+            name,
+            master: None,
+            level: None,
+        })?;
+        Ok(Lines::make(alloc))
+    }
+
+    #[tactic(auto, unfolding(crate::specs::Steps::table_step))]
+    fn table(
+        &mut self,
+        alloc: Global,
+        name: TableName,
+        columns: &Items<Column>,
+    ) -> Result<Lines, Stop>
+        ensures { Steps (table_step name columns.now self.old) result self.old self.new }
+    {
+        match self.phase {
+            Phase::Setup => {}
+            Phase::Running => return Err(Stop::Refused),
+        }
+        if !may_add_table(self.schema.tables.as_slice(), columns.as_slice()) {
+            return Err(Stop::Refused);
+        }
+        let columns = columns.copy(alloc)?;
+        self.schema.tables.push(TableEntry {
+            name,
+            columns,
+            groups: Items::new(alloc),
+            key_methods: Items::new(alloc),
+            constraints: Items::new(alloc),
+            convergent: false,
+        })?;
+        Ok(Lines::make(alloc))
+    }
+
+    #[tactic(auto, unfolding(crate::specs::Steps::resume_step))]
+    fn resume(&mut self, alloc: Global) -> Result<Lines, Stop>
+        ensures { Steps (resume_step self.old) result self.old self.new }
+    {
+        match self.phase {
+            Phase::Setup => {}
+            Phase::Running => return Err(Stop::Refused),
+        }
+        if !may_resume(&self.schema) {
+            return Err(Stop::Refused);
+        }
+        self.sites = new_sites(alloc, &self.schema)?;
+        self.phase = Phase::Running;
+        Ok(Lines::make(alloc))
+    }
+
+    #[tactic(auto, unfolding(crate::specs::Steps::txn_step))]
+    fn open(&mut self, alloc: Global, name: SiteName) -> Result<Lines, Stop>
+        ensures { Steps (txn_step name self.old) result self.old self.new }
+    {
+        match self.phase {
+            Phase::Setup => return Err(Stop::Refused),
+            Phase::Running => {}
+        }
+        match self.block {
+            Block::Before => {}
+            Block::Open { .. } | Block::Stated { .. } | Block::After => return Err(Stop::Refused),
+        }
+        let Some(site) = place_of(&self.sites, name) else {
+            return Err(Stop::Refused);
+        };
+        self.block = Block::Open { site };
+        Ok(Lines::make(alloc))
+    }
+
+    #[tactic(auto, unfolding(crate::specs::Steps::statement_step))]
+    fn state(&mut self, alloc: Global, statement: &Statement) -> Result<Lines, Stop>
+        ensures { Steps (statement_step statement.now self.old) result self.old self.new }
+    {
+        let Some(site) = self.block.open_site() else {
+            return Err(Stop::Refused);
+        };
+        match statement {
+            Statement::Insert { table, values } => {
+                let values = values.copy(alloc)?;
+                self.block = Block::Stated {
+                    site,
+                    table: *table,
+                    values,
+                };
+                Ok(Lines::make(alloc))
+            }
+            Statement::Update { .. } | Statement::Delete { .. } => Err(Stop::Refused),
+        }
+    }
+
+    #[tactic(auto, unfolding(crate::specs::Steps::commit_step))]
+    fn commit(&mut self, alloc: Global) -> Result<Lines, Stop>
+        ensures { Steps (commit_step self.old) result self.old self.new }
+    {
+        let (place, insertion) = stated(alloc, &self.schema, &self.block)?;
+        let mut lines = Lines::make(alloc);
+        lines.reserve(256)?;
+        let site = &mut self.sites[place];
+        site.commit(alloc, insertion)?;
+        commit_line(&mut lines, site.name, site.queue.len() as u64);
+        self.block = Block::After;
+        Ok(lines)
+    }
+
+    #[tactic(auto, unfolding(crate::specs::Steps::push_step))]
+    fn push(
+        &mut self,
+        alloc: Global,
+        from: SiteName,
+        to: SiteName,
+        count: Option<u64>,
+    ) -> Result<Lines, Stop>
+        ensures { StepsOrSome (push_step from to count self.old) result self.old self.new }
+    {
+        if !self.is_outside_block() {
+            return Err(Stop::Refused);
+        }
+        if count.is_some() {
+            return Err(Stop::Refused);
+        }
+        let Some(from) = place_of(&self.sites, from) else {
+            return Err(Stop::Refused);
+        };
+        let Some(to) = place_of(&self.sites, to) else {
+            return Err(Stop::Refused);
+        };
+        if from == to {
+            return Err(Stop::Refused);
+        }
+        self.push_between(alloc, from, to)
+    }
+
+    #[tactic(auto, unfolding(crate::specs::Steps::show_step))]
+    fn show(&mut self, alloc: Global, what: Shown, name: SiteName) -> Result<Lines, Stop>
+        ensures { Steps (show_step what name self.old) result self.old self.new }
+    {
+        if !self.is_outside_block() {
+            return Err(Stop::Refused);
+        }
+        let Some(place) = place_of(&self.sites, name) else {
+            return Err(Stop::Refused);
+        };
+        match what {
+            Shown::Tables => {}
+            Shown::Queue | Shown::Errors | Shown::Marks | Shown::Journal | Shown::Log => {
+                return Err(Stop::Refused);
+            }
+        }
+        let mut lines = Lines::make(alloc);
+        let site = &self.sites[place];
+        add_tables(&mut lines, site.name, &site.store)?;
+        Ok(lines)
+    }
+}
