@@ -1,3 +1,4 @@
+//! A sink in memory that fails only for want of memory.
 ghost use Rattle.std.specs.Prelude.{◌≡◌, ℕ, ◌+◌, ◌-◌, ◌<◌, ◌≤◌, List, [], length, Some, IfOk, OnErr, vec_capacity};
 ghost use Rattle.rep_io.specs.Faults.{HasCause, CountsFailure};
 ghost use Rattle.rep_io.specs.Transfer.{Writes};

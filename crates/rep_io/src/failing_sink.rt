@@ -1,3 +1,4 @@
+//! A sink in memory that fails at listed writes.
 ghost use Rattle.std.specs.Prelude.{◌≡◌, ℕ, ◌-◌, ◌<◌, ◌⊎◌, min, [], length, Some, IsErr, IfOk, OnErr, vec_capacity};
 ghost use Rattle.rep_io.specs.Faults.{HasCause};
 ghost use Rattle.rep_io.specs.Transfer.{Writes};

@@ -1,3 +1,4 @@
+//! A source in memory that fails at listed reads.
 ghost use Rattle.std.specs.Prelude.{◌≡◌, ◌≤◌, ◌<◌, ◌↔◌, min, Some, IsErr, IfOk, drop, length};
 ghost use Rattle.rep_io.specs.Faults.{HasCause};
 ghost use Rattle.rep_io.specs.Transfer.{Reads};

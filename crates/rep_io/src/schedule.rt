@@ -1,3 +1,4 @@
+//! Which calls of an object fail.
 ghost use Rattle.std.specs.Prelude.{◌≡◌, ◌≤◌, ◌<◌, ◌↔◌, min, length, IsErr};
 ghost use Rattle.rep_io.specs.Faults.{count_up};
 ghost use Rattle.rep_io.specs.Memory.{FailsNext, Counts};

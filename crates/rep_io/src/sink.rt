@@ -1,3 +1,4 @@
+//! Sinks of bytes.
 ghost use Rattle.std.specs.Prelude.{ℕ, ◌<◌, List, length, take, OnOk, OnErr};
 ghost use Rattle.std.specs.declared.option.Option.{Option};
 ghost use Rattle.std.specs.Io.KnownBytes.{Appends};

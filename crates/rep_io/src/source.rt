@@ -1,3 +1,4 @@
+//! Sources of bytes, and the answer of a call that failed.
 ghost use Rattle.std.specs.Prelude.{ℕ, List};
 ghost use Rattle.std.specs.declared.option.Option.{Option};
 ghost use Rattle.rep_io.specs.Faults.{HasCause};

@@ -1,3 +1,4 @@
+//! A source over a reader of std, and a sink over a writer.
 ghost use Rattle.std.specs.Prelude.{◌≡◌};
 ghost use Rattle.rep_io.specs.Faults.{HasCause, CountsFailure};
 ghost use Rattle.rep_io.specs.Transfer.{Reads, Writes};

@@ -1,3 +1,5 @@
+//! Calls of the objects in memory, with ample memory.
+
 use crate::{BytesSink, BytesSource, Failed, FailingSink, FailingSource, Sink, Source, offer};
 use std::test::Fail;
 
