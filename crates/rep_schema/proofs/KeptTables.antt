@@ -1,5 +1,5 @@
 -- Tables stay tables when a row is put or taken.
-use Rattle.std.proofs.Common.{◌≡◌, ◌≢◌, ℕ, ◌<◌, List, [], ◌∷◌, length, get_or, set, replicate, Option, Some, None, refl, sym, ap, ◌∙◌, subst, inl, inr, arith}
+use Rattle.std.proofs.Common.{◌≡◌, ◌≢◌, ℕ, ◌<◌, List, [], ◌∷◌, length, get_or, set, replicate, refl, sym, ◌∙◌, subst, inl, inr, arith}
 use Rattle.std.specs.Prelude.{Any}
 use Rattle.std.specs.List.{AllByRecursion}
 use Rattle.std.proofs.lemmas.Bool.{cases_eq}
@@ -9,7 +9,7 @@ use Rattle.rep_lists.proofs.Rising.{rising_put, rising_take, all_put, all_take}
 use Rattle.rep_values.specs.Order.{key_cmp}
 use Rattle.rep_values.specs.OrderLaws.{key_cmp_total}
 use Rattle.rep_schema.specs.declared.schema.Schema.{Schema}
-use Rattle.rep_schema.specs.Tables.{Cells, Rows, columns_of, constraints_of, constraint_columns_of, key_of, beside, picked, put_row, take_row, rows_of, RowFits, IsHeldElsewhere, IsUniqueRow, IsTable, AreTables}
+use Rattle.rep_schema.specs.Tables.{Cells, Rows, columns_of, constraints_of, constraint_columns_of, key_of, beside, picked, put_row, take_row, rows_of, RowFits, IsUniqueRow, IsTable, AreTables}
 
 -- what isn't found among values is none of them
 none_from_any : {X : Type 0} (P : X → Type 0) (xs : List X) → ¬ Any P xs → AllByRecursion (λ x. ¬ P x) xs
@@ -46,8 +46,8 @@ module _ (schema : Schema) (table : ℕ) where
   apart_put row rows (y ∷ ys) none apart = (
     unique_from_none y _ (λ c below.
         all_put (beside (columns_of schema table) (key_of (columns_of schema table) row)) (λ other. ¬ Clashes c y other) row rows
-          (λ clash. (none c below).0 (λ e. clash.0 (sym e), sym clash.1))
-          (none_from_unique y rows apart.0 c below)),
+        (λ clash. (none c below).0 (λ e. clash.0 (sym e), sym clash.1))
+        (none_from_unique y rows apart.0 c below)),
     apart_put row rows ys (λ c below. (none c below).1) apart.1,
   )
 

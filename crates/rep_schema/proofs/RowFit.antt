@@ -1,8 +1,7 @@
 -- Rows that fit their columns.
-use Rattle.std.proofs.Common.{◌≡◌, ℕ, ◌+◌, Bool, true, false, cond, List, [], ◌∷◌, length, get_or, drop, ◌<◌, refl, arith, add-one, drop-cons}
-use Rattle.rep_values.specs.declared.value.Value.{Value}
+use Rattle.std.proofs.Common.{◌≡◌, ◌+◌, Bool, true, false, cond, List, [], ◌∷◌, length, refl, arith}
 use Rattle.rep_schema.specs.declared.schema.Column.{Column}
-use Rattle.rep_schema.specs.Tables.{Cells, key_of, key_count, RowFits, FitsKind}
+use Rattle.rep_schema.specs.Tables.{Cells, key_of, key_count, RowFits}
 
 -- a row that fits has a value for each key column
 pub length-key_of : (columns : List Column) (row : Cells) → RowFits columns row → length (key_of columns row) ≡ key_count columns

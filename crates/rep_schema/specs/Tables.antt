@@ -118,7 +118,7 @@ pub record IsUniqueRow (schema : Schema) (table : ℕ) (row : Cells) (rows : Row
   pub unheld : (constraint : ℕ) → constraint < length (constraints_of schema table)
       → ¬ IsHeldElsewhere (columns_of schema table) (constraint_columns_of schema table constraint) row rows
 
--- the rows of each table of a schema: those of one table
+-- one table's rows, of the rows of all tables
 abbrev pub rows_of : List Rows → ℕ → Rows
 rows_of tables table = slice_index_or tables table []
 

@@ -42,7 +42,8 @@ pub trait RowStore: Send + Drop {
         requires keyed { IsKeyed (columns_of (schema self.now) table) }
         requires constraint { constraint < length (constraints_of (schema self.now) table) }
         requires fits { RowFits (columns_of (schema self.now) table) row.now }
-        ensures { IsTrue result ↔ IsHeldElsewhere (columns_of (schema self.now) table) (constraint_columns_of (schema self.now) table constraint) row.now (rows_of (tables self.now) table) };
+        ensures { IsTrue result
+            ↔ IsHeldElsewhere (columns_of (schema self.now) table) (constraint_columns_of (schema self.now) table constraint) row.now (rows_of (tables self.now) table) };
 
     /// Makes room in a table for so many new rows, or finds no memory. Room that is there is never given up.
     fn reserve(&mut self, table: u32, rows: u64) -> Result<(), NoMemory>
@@ -60,7 +61,8 @@ pub trait RowStore: Send + Drop {
         requires keyed { IsKeyed (columns_of (schema self.old) table) }
         requires fits { RowFits (columns_of (schema self.old) table) row }
         requires unique { IsUniqueRow (schema self.old) table row (rows_of (tables self.old) table) }
-        requires room { IsSome (find_row (columns_of (schema self.old) table) (key_of (columns_of (schema self.old) table) row) (rows_of (tables self.old) table)) ⊎ (1 ≤ slice_index (spare self.old) table) }
+        requires room { IsSome (find_row (columns_of (schema self.old) table) (key_of (columns_of (schema self.old) table) row) (rows_of (tables self.old) table))
+            ⊎ (1 ≤ slice_index (spare self.old) table) }
         ensures replaced { result ≡ find_row (columns_of (schema self.old) table) (key_of (columns_of (schema self.old) table) row) (rows_of (tables self.old) table) }
         ensures schema { schema self.new ≡ schema self.old }
         ensures tables { tables self.new ≡ slice_set (tables self.old) table (put_row (columns_of (schema self.old) table) row (rows_of (tables self.old) table)) }

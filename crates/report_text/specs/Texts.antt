@@ -4,6 +4,9 @@ use Rattle.std.specs.Fmt.{signed_decimal}
 use Rattle.std.specs.List.{flat_map}
 use Rattle.rep_values.specs.declared.value.Value.{Value}
 use Rattle.rep_values.specs.declared.value.Value.TheVariants as value
+use Rattle.rep_schema.specs.declared.schema.Schema.{Schema}
+use Rattle.rep_schema.specs.declared.schema.TableEntry.{TableEntry}
+use Rattle.rep_schema.specs.Tables.{Rows}
 use Rattle.report_text.specs.declared.printed.PushCount.{PushCount}
 use Rattle.report_text.specs.Sheet.{line, quoted}
 
@@ -33,3 +36,13 @@ row_text values = line (codes "row") (map value_text values)
 -- table T COUNT, and its rows
 abbrev pub table_text : List ℕ → List (List Value) → List ℕ
 table_text name rows = line (codes "table") (name ∷ decimal (length rows) ∷ []) ++ flat_map row_text rows
+
+-- each table with its rows
+abbrev pub each_table : List TableEntry → List Rows → List ℕ
+each_table [] rows = []
+each_table (t ∷ ts) [] = []
+each_table (t ∷ ts) (r ∷ rs) = table_text t.name.0 r ++ each_table ts rs
+
+-- tables SITE, and each table in declared order
+abbrev pub tables_text : List ℕ → Schema → List Rows → List ℕ
+tables_text site schema tables = line (codes "tables") (site ∷ []) ++ each_table schema.tables tables

@@ -1,1 +1,6 @@
 -- The definitions of this crate.
+pub mod Bytes
+pub mod Forms
+pub mod Tokens
+pub mod Stop
+pub mod Lines

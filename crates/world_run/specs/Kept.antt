@@ -7,10 +7,10 @@ use Rattle.world_run.specs.declared.site.Site.{Site}
 use Rattle.world_run.specs.Steps.{inserted}
 
 -- empty tables, an empty queue
-pub record IsNewSite (name : SiteName) (schema : Schema) (site : Site) : Type 0 where
-  pub name : site.name ≡ name
-  pub schema : site.store.schema ≡ schema
-  pub tables : site.store.tables ≡ replicate (length schema.tables) []
+pub record IsNewSite (called : SiteName) (declared : Schema) (site : Site) : Type 0 where
+  pub name : site.name ≡ called
+  pub schema : site.store.schema ≡ declared
+  pub tables : site.store.tables ≡ replicate (length declared.tables) []
   pub queue : site.queue ≡ []
   pub acked : site.acked ≡ 0
 

@@ -1,5 +1,6 @@
 -- The definitions of this crate.
 pub mod Options
+pub mod Blocks
 pub mod World
 pub mod Steps
 pub mod Stepping

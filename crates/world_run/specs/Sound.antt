@@ -17,10 +17,10 @@ abbrev pub site_state : Site → SiteState
 site_state site = record { name = site.name; tables = site.store.tables; queue = site.queue; acked = site.acked }
 
 -- a site with this schema, whose queue has rows that fit
-pub record IsSiteOf (schema : Schema) (site : Site) : Type 0 where
-  pub schema : site.store.schema ≡ schema
+pub record IsSiteOf (declared : Schema) (site : Site) : Type 0 where
+  pub schema : site.store.schema ≡ declared
   pub acked : site.acked ≤ length site.queue
-  pub fit : AllByRecursion (IsInsertionOf schema) site.queue
+  pub fit : AllByRecursion (IsInsertionOf declared) site.queue
 
 -- an open block stands at one of so many sites
 abbrev pub IsPlaced : ℕ → Block → Type 0
@@ -34,10 +34,11 @@ abbrev pub AreKeyed : Phase → List TableEntry → Type 0
 AreKeyed phase.Setup tables = Unit {0}
 AreKeyed phase.Running tables = AllByRecursion (λ table. is_keyed table.columns ≡ true) tables
 
-pub record IsSound (schema : Schema) (phase : Phase) (sites : List Site) (block : Block) : Type 0 where
+-- few and narrow declarations; from the first resume on keyed tables, and sites with this schema
+pub record IsSound (schema : Schema) (phase : Phase) (kept : List Site) (block : Block) : Type 0 where
   pub few_sites : length schema.sites ≤ 2
   pub few_tables : length schema.tables ≤ 1
   pub narrow : AllByRecursion IsNarrow schema.tables
   pub keyed : AreKeyed phase schema.tables
-  pub sites : AllByRecursion (IsSiteOf schema) sites
-  pub placed : IsPlaced (length sites) block
+  pub sites : AllByRecursion (IsSiteOf schema) kept
+  pub placed : IsPlaced (length kept) block

@@ -24,6 +24,7 @@ use Rattle.world_run.specs.declared.block.Block.TheVariants as block
 use Rattle.world_run.specs.declared.phase.Phase.{Phase}
 use Rattle.world_run.specs.declared.phase.Phase.TheVariants as phase
 use Rattle.world_run.specs.declared.insertion.Insertion.{Insertion}
+use Rattle.world_run.specs.Blocks.{is_unused, is_shut, open_site}
 use Rattle.world_run.specs.Options.{◌>>=◌}
 use Rattle.world_run.specs.World.{SiteState, WorldState}
 
@@ -40,20 +41,6 @@ in_setup phase.Running outcome = None
 abbrev pub in_running : Phase → Outcome → Outcome
 in_running phase.Setup outcome = None
 in_running phase.Running outcome = outcome
-
--- only where no block was opened
-abbrev pub before_block : Block → Outcome → Outcome
-before_block block.Before outcome = outcome
-before_block (block.Open site) outcome = None
-before_block (block.Stated site table values) outcome = None
-before_block block.After outcome = None
-
--- only where no block is open
-abbrev pub outside_block : Block → Outcome → Outcome
-outside_block block.Before outcome = outcome
-outside_block (block.Open site) outcome = None
-outside_block (block.Stated site table values) outcome = None
-outside_block block.After outcome = outcome
 
 -- Setup.
 
@@ -109,20 +96,19 @@ abbrev pub place_of : List SiteState → SiteName → Option ℕ
 place_of sites name = position (λ site. same_bytes site.name.0 name.0) sites
 
 unfoldable pub txn_step : SiteName → WorldState → Outcome
-txn_step name w = in_running w.phase (before_block w.block
-    (place_of w.sites name >>= λ site. Some (record w { block = block.Open site }, [])))
+txn_step name w = in_running w.phase
+    (if is_unused w.block
+    then (place_of w.sites name >>= λ site. Some (record w { block = block.Open site }, []))
+    else None)
 
--- an insert is kept in the open block
-abbrev pub stated_in : Statement → WorldState → Block → Outcome
-stated_in (statement.Insert table values) w (block.Open site) = Some (record w { block = block.Stated site table values }, [])
-stated_in (statement.Insert table values) w block.Before = None
-stated_in (statement.Insert table values) w (block.Stated site' table' values') = None
-stated_in (statement.Insert table values) w block.After = None
-stated_in (statement.Update table key sets) w b = None
-stated_in (statement.Delete table key) w b = None
+-- an insert is kept in the block that is open at a place
+abbrev pub stated_at : Statement → WorldState → ℕ → Outcome
+stated_at (statement.Insert table values) w site = Some (record w { block = block.Stated site table values }, [])
+stated_at (statement.Update table key sets) w site = None
+stated_at (statement.Delete table key) w site = None
 
 unfoldable pub statement_step : Statement → WorldState → Outcome
-statement_step s w = stated_in s w w.block
+statement_step s w = open_site w.block >>= stated_at s w
 
 -- the row that literals give for a table, where they fit its columns
 abbrev pub insertion_of : Schema → TableName → List Literal → Option Insertion
@@ -190,7 +176,7 @@ push_all from to (Some count) w = None
 push_all from to None w = place_of w.sites from >>= λ i. place_of w.sites to >>= λ j. push_at w i j
 
 unfoldable pub push_step : SiteName → SiteName → Option ℕ → WorldState → Outcome
-push_step from to count w = in_running w.phase (outside_block w.block (push_all from to count w))
+push_step from to count w = in_running w.phase (if is_shut w.block then push_all from to count w else None)
 
 -- Showing.
 
@@ -203,8 +189,10 @@ shown_at shown.Journal w site = None
 shown_at shown.Log w site = None
 
 unfoldable pub show_step : Shown → SiteName → WorldState → Outcome
-show_step what name w = in_running w.phase (outside_block w.block
-    (place_of w.sites name >>= λ place. slice_get w.sites place >>= shown_at what w))
+show_step what name w = in_running w.phase
+    (if is_shut w.block
+    then (place_of w.sites name >>= λ place. slice_get w.sites place >>= shown_at what w)
+    else None)
 
 -- the step of a command
 unfoldable pub command_step : Command → WorldState → Outcome

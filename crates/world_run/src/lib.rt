@@ -1,8 +1,12 @@
-//! The world that a script's commands change: its sites and what they print.
+//! The world that a script's commands change, and what they print.
 #![tactic(auto)]
 
 mod block;
 mod insertion;
 mod phase;
+mod setup;
+mod site;
+mod stop;
 
 pub use insertion::Insertion;
+pub use stop::Stop;

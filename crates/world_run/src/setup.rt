@@ -1,7 +1,8 @@
 //! Tests of what is declared.
 ghost use Rattle.std.specs.Prelude.{◌≡◌, ◌∷◌, [], MatchOption};
-ghost use Rattle.std.specs.List.{list_any};
+ghost use Rattle.std.specs.List.{list_any, list_all};
 ghost use Rattle.rep_values.specs.Name.{same_bytes};
+ghost use Rattle.rep_schema.specs.Fitting.{is_keyed};
 ghost use Rattle.world_run.specs.Steps.{may_add_site, may_add_table, may_resume, are_apart};
 
 use rep_schema::{Column, Schema, SiteEntry, TableEntry, is_keyed, key_count};
@@ -14,7 +15,13 @@ pub fn may_add_site(sites: &[SiteEntry], name: SiteName) -> bool
     if sites.len() >= 2 {
         return false;
     }
-    !sites.iter().any(|site| site.name.0.is_same(&name.0))
+    !has_site(sites, name)
+}
+
+fn has_site(sites: &[SiteEntry], name: SiteName) -> bool
+    ensures { result ≡ list_any (λ site. same_bytes site.name.0 name.0) sites.now }
+{
+    sites.iter().any(|site| site.name.0.is_same(&name.0))
 }
 
 fn has_column(columns: &[Column], name: &Name) -> bool
@@ -66,8 +73,13 @@ pub fn may_resume(schema: &Schema) -> bool
     if schema.sites.is_empty() {
         return false;
     }
-    schema
-        .tables
+    are_keyed(schema.tables.as_slice())
+}
+
+fn are_keyed(tables: &[TableEntry]) -> bool
+    ensures { result ≡ list_all (λ table. is_keyed table.columns) tables.now }
+{
+    tables
         .iter()
         .all(|table| is_keyed(table.columns.as_slice()))
 }

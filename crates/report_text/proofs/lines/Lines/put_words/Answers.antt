@@ -1,11 +1,12 @@
 use Rattle.std.proofs.Common.{arith, ap, length, length-append, ℕ}
 use Rattle.report_text.specs.Sheet.{most_spaced}
-use Rattle.report_text.proofs.Printing.{next_word, printed_more}
+use Rattle.rep_lists.proofs.Places.{drop_from_place}
+use Rattle.report_text.proofs.Printing.{printed_more}
 use Rattle.report_text.proofs.lines.Lines.put_words.Goals as goal
 
 pub loop-word-preserved : goal.loop-word-preserved
 loop-word-preserved c =
-    let next = next_word c.args.words.now c.loop-word.word-index c.word-item.result c.loop-word-test.true c.word-item.is in
+    let next = drop_from_place c.args.words.now c.loop-word.word-index c.word-item.result c.loop-word-test.true c.word-item.is in
     let space = c.put.ensures in
     let word = c.put_word.ensures.text in
     record {
