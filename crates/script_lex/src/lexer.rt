@@ -14,6 +14,18 @@ use crate::{LineStop, Token};
 use rep_values::Text;
 use std::alloc::Global;
 
+/// The greatest number of bytes of a line, its end left out.
+const LINE_BYTES: usize = 1024;
+
+/// The greatest number of bytes of a word.
+const WORD_BYTES: usize = 30;
+
+/// The greatest number of digits of a number, leading zeros included.
+const DIGITS: usize = 16;
+
+/// The greatest number of bytes between the quotes of a text.
+const TEXT_BYTES: usize = 64;
+
 /// The number that digits write.
 fn digits_value(digits: &[u8]) -> u64
     requires { length digits.now ≤ 16 }
@@ -31,7 +43,7 @@ fn word_token(bytes: &[u8]) -> Option<Token>
     requires { list_all is_word_byte bytes.now ≡ true }
     ensures { result ≡ word_token bytes.now }
 {
-    if bytes.len() > 30 {
+    if bytes.len() > WORD_BYTES {
         return None;
     }
     Some(Token::Word(Text::of(bytes)?))
@@ -40,7 +52,7 @@ fn word_token(bytes: &[u8]) -> Option<Token>
 fn number_token(minus: bool, digits: &[u8]) -> Option<Token>
     ensures { result ≡ number_token minus digits.now }
 {
-    if digits.len() > 16 {
+    if digits.len() > DIGITS {
         return None;
     }
     Some(Token::Number {
@@ -56,7 +68,7 @@ fn text_token(bytes: &[u8]) -> Option<Token>
     requires printable { list_all is_printable bytes.now ≡ true }
     ensures { result ≡ text_token bytes.now }
 {
-    if bytes.len() > 65 {
+    if bytes.len() > TEXT_BYTES + 1 {
         return None;
     }
     let inner = &bytes[..bytes.len().saturating_sub(1)];
@@ -114,7 +126,7 @@ fn tokens_of(alloc: Global, line: &[u8]) -> Result<Vec<Token>, LineStop>
 pub fn lex(alloc: Global, line: &[u8]) -> Result<Vec<Token>, LineStop>
     ensures { Gives (λ tokens. tokens.items) result (lexed line.now) }
 {
-    if line.len() > 1024 {
+    if line.len() > LINE_BYTES {
         return Err(LineStop::Rule(1));
     }
     if !are_printable(line) {

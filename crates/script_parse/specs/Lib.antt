@@ -4,4 +4,6 @@ pub mod Rows
 pub mod Heads
 pub mod Built
 pub mod Parsed
+pub mod Spelled
+pub mod Laws
 pub mod Young

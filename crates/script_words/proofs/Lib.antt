@@ -1,2 +1,4 @@
 -- The lemmas of this crate.
 pub mod Repeats
+pub mod ReadAgain
+pub mod Again

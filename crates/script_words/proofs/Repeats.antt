@@ -15,8 +15,8 @@ module _ {A : Type 0} (starts : Token → Bool) (reading : Reading A) where
 
   -- no part begins here
   pub found_stops : (found : List A) (n : ℕ) (ts : List Token) (all : Result (List A × List Token) ℕ) → with_found found (many starts reading n ts) ≡ all
-      → begins starts ts ≡ false → all ≡ Ok (found, ts)
-  found_stops found n ts all kept none = sym kept ∙ rw (many_stops n ts none, append-nil) refl
+      → false ≡ begins starts ts → all ≡ Ok (found, ts)
+  found_stops found n ts all kept none = sym kept ∙ rw (many_stops n ts (sym none), append-nil) refl
 
   -- no token is left
   pub found_ends : (found : List A) (n : ℕ) (ts : List Token) (all : Result (List A × List Token) ℕ) → with_found found (many starts reading n ts) ≡ all
@@ -30,22 +30,22 @@ module _ {A : Type 0} (starts : Token → Bool) (reading : Reading A) where
 
   -- one more part is read
   pub found_more : (found more : List A) (m n : ℕ) (ts rest : List Token) (x : A) (all : Result (List A × List Token) ℕ)
-      → with_found found (many starts reading n ts) ≡ all → n ≡ m + 1 → begins starts ts ≡ true → reading ts ≡ Ok (x, rest)
+      → with_found found (many starts reading n ts) ≡ all → n ≡ m + 1 → true ≡ begins starts ts → reading ts ≡ Ok (x, rest)
       → more ≡ found ++ x ∷ [] → with_found more (many starts reading m rest) ≡ all
   unfolding many
   found_more found more m n ts rest x all kept count there read pushed =
       let e : n ≡ suc m = omega arith in
-      let step : many starts reading n ts ≡ (many starts reading m rest >>= λ xs. Ok (x ∷ xs.0, xs.1)) = rw (e, there, read) refl in
+      let step : many starts reading n ts ≡ (many starts reading m rest >>= λ xs. Ok (x ∷ xs.0, xs.1)) = rw (e, sym there, read) refl in
       rw pushed (sym (with_more found x (many starts reading m rest)) ∙ ap (with_found found) (sym step) ∙ kept)
 
   -- a part breaks a rule
   pub found_fails : (found : List A) (m n : ℕ) (ts : List Token) (e : LineStop) (all : Result (List A × List Token) ℕ)
-      → with_found found (many starts reading n ts) ≡ all → n ≡ m + 1 → begins starts ts ≡ true → Fails e (reading ts) → Fails e all
+      → with_found found (many starts reading n ts) ≡ all → n ≡ m + 1 → true ≡ begins starts ts → Fails e (reading ts) → Fails e all
   unfolding many
   found_fails found m n ts stop.Memory all kept count there read = tt
   found_fails found m n ts (stop.Rule rule) all kept count there read =
       let e : n ≡ suc m = omega arith in
-      let step : many starts reading n ts ≡ Err rule = rw (e, there, read) refl in
+      let step : many starts reading n ts ≡ Err rule = rw (e, sym there, read) refl in
       sym kept ∙ ap (with_found found) step
 
   -- the first part is read, and others follow

@@ -3,3 +3,4 @@ pub mod Words
 pub mod Reading
 pub mod Parts
 pub mod Readers
+pub mod Spelled

@@ -73,7 +73,8 @@ pub fn several<P: Part>(alloc: Global, tokens: &mut Reader<'_>) -> Result<Items<
     ensures { Reads (several P.starts P.reading) result tokens.old tokens.new }
 {
     let mut found = Items::new(alloc);
-    for _ in 0..tokens.len() {
+    let most = tokens.len();
+    for _ in 0..most {
         if !P::is_next(tokens) {
             return Ok(found);
         }

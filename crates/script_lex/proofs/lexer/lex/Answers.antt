@@ -4,13 +4,13 @@ use Rattle.script_lex.proofs.Steps.{line_short}
 use Rattle.script_lex.proofs.lexer.lex.Goals as goal
 
 pub returns-then-not-are_printable : goal.returns-then-not-are_printable
-returns-then-not-are_printable c = sym (line_short c.args.line.now false _ c.if-line-gt1024.false c.if-not-are_printable.ensures (sym refl))
+returns-then-not-are_printable c = sym (line_short c.args.line.now false _ c.if-line-gt-LINE_BYTES.false c.if-not-are_printable.ensures (sym refl))
 
 pub returns-then-is_passed_over : goal.returns-then-is_passed_over
 returns-then-is_passed_over c =
-    sym (line_short c.args.line.now true true c.if-line-gt1024.false c.if-not-are_printable.ensures c.if-is_passed_over.ensures) ∙ ap Ok (sym c.new.ensures.items)
+    sym (line_short c.args.line.now true true c.if-line-gt-LINE_BYTES.false c.if-not-are_printable.ensures c.if-is_passed_over.ensures) ∙ ap Ok (sym c.new.ensures.items)
 
 pub returns : goal.returns
 returns c =
-    let line = line_short c.args.line.now true false c.if-line-gt1024.false c.if-not-are_printable.ensures c.if-is_passed_over.ensures in
+    let line = line_short c.args.line.now true false c.if-line-gt-LINE_BYTES.false c.if-not-are_printable.ensures c.if-is_passed_over.ensures in
     rw (← line) c.tokens_of.ensures

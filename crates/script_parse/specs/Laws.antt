@@ -1,0 +1,10 @@
+-- Laws of forms.
+use Rattle.std.specs.Prelude.{◌≡◌, Ok}
+use Rattle.script_parse.specs.declared.command.Command.{Command}
+use Rattle.script_parse.specs.Built.{gated}
+use Rattle.script_parse.specs.Parsed.{command_of}
+use Rattle.script_parse.specs.Spelled.{spelled, IsFine}
+
+-- what a command is written as is read again as that command, or stopped by rule 5 where its form isn't built
+abbrev pub ReadsAgain : Type 0
+ReadsAgain = (c : Command) → IsFine c → command_of (spelled c) ≡ gated (Ok c)

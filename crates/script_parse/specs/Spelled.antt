@@ -1,0 +1,86 @@
+-- How commands are written.
+use Rattle.std.specs.Prelude.{◌≡◌, ◌≢◌, ℕ, true, false, if◌then◌else◌, List, [], ◌∷◌, Option, Some, None, codes, flat_map}
+use Rattle.std.specs.List.{AllByRecursion}
+use Rattle.rep_values.specs.Name.{is_name}
+use Rattle.rep_values.specs.declared.literal.Literal.{Literal}
+use Rattle.rep_schema.specs.declared.schema.Kind.{Kind}
+use Rattle.rep_schema.specs.declared.schema.Kind.TheVariants as kind
+use Rattle.rep_schema.specs.declared.schema.Column.{Column}
+use Rattle.rep_calls.specs.declared.statement.Statement.{Statement}
+use Rattle.rep_calls.specs.declared.statement.Statement.TheVariants as statement
+use Rattle.script_lex.specs.declared.token.Symbol.TheVariants as symbol
+use Rattle.script_lex.specs.declared.token.Token.{Token}
+use Rattle.script_lex.specs.declared.token.Token.TheVariants as token
+use Rattle.script_words.specs.Spelled.{value_token, is_small}
+use Rattle.script_parse.specs.declared.command.Shown.{Shown}
+use Rattle.script_parse.specs.declared.command.Shown.TheVariants as shown
+use Rattle.script_parse.specs.declared.command.Command.{Command}
+use Rattle.script_parse.specs.declared.command.Command.TheVariants as command
+
+abbrev pub kind_word : Kind → List ℕ
+kind_word kind.Number = codes "NUMBER"
+kind_word kind.Words = codes "TEXT"
+kind_word kind.Date = codes "DATE"
+kind_word kind.Stamp = codes "STAMP"
+kind_word kind.Site = codes "SITE"
+
+abbrev pub shown_word : Shown → List ℕ
+shown_word shown.Tables = codes "tables"
+shown_word shown.Queue = codes "queue"
+shown_word shown.Errors = codes "errors"
+shown_word shown.Marks = codes "marks"
+shown_word shown.Journal = codes "journal"
+shown_word shown.Log = codes "log"
+
+-- the tokens of a column
+abbrev pub column_tokens : Column → List Token
+column_tokens c =
+    token.Word c.name ∷ token.Symbol symbol.Colon ∷ token.Word (kind_word c.kind) ∷
+    (if c.key then token.Symbol symbol.Colon ∷ token.Word (codes "key") ∷ [] else [])
+
+abbrev pub value_tokens : List Literal → List Token
+value_tokens values = flat_map (λ v. value_token v ∷ []) values
+
+-- the tokens of a statement
+abbrev pub statement_tokens : Statement → List Token
+statement_tokens (statement.Insert table values) = token.Word (codes "insert") ∷ token.Word table.0 ∷ value_tokens values
+statement_tokens (statement.Update table key sets) = []
+statement_tokens (statement.Delete table key) = []
+
+abbrev pub count_tokens : Option ℕ → List Token
+count_tokens None = []
+count_tokens (Some n) = token.Word (codes "count") ∷ token.Number false n ∷ []
+
+-- the tokens of a command
+abbrev pub spelled : Command → List Token
+spelled command.Nothing = []
+spelled (command.Site name) = token.Word (codes "site") ∷ token.Word name.0 ∷ []
+spelled (command.Table name columns) = token.Word (codes "table") ∷ token.Word name.0 ∷ flat_map column_tokens columns
+spelled command.Resume = token.Word (codes "resume") ∷ []
+spelled (command.Txn site) = token.Word (codes "txn") ∷ token.Word site.0 ∷ []
+spelled (command.Statement statement) = statement_tokens statement
+spelled command.Commit = token.Word (codes "commit") ∷ []
+spelled (command.Push from to count) = token.Word (codes "push") ∷ token.Word from.0 ∷ token.Word to.0 ∷ count_tokens count
+spelled (command.Show what site) = token.Word (codes "show") ∷ token.Word (shown_word what) ∷ token.Word site.0 ∷ []
+
+-- its names have the form of names
+abbrev pub IsName : List ℕ → Type 0
+IsName bytes = is_name bytes ≡ true
+
+-- a statement of a form that is read, with a value at least, and values that are small enough to be read
+abbrev pub IsFineStatement : Statement → Type 0
+IsFineStatement (statement.Insert table values) = IsName table.0 × (values ≢ []) × AllByRecursion (λ v. is_small v ≡ true) values
+IsFineStatement (statement.Update table key sets) = ⊥
+IsFineStatement (statement.Delete table key) = ⊥
+
+-- a command that a line can give: its names have their form, and no list of parts is empty
+abbrev pub IsFine : Command → Type 0
+IsFine command.Nothing = Unit {0}
+IsFine (command.Site name) = IsName name.0
+IsFine (command.Table name columns) = IsName name.0 × (columns ≢ []) × AllByRecursion (λ c. IsName c.name) columns
+IsFine command.Resume = Unit {0}
+IsFine (command.Txn site) = IsName site.0
+IsFine (command.Statement statement) = IsFineStatement statement
+IsFine command.Commit = Unit {0}
+IsFine (command.Push from to count) = IsName from.0 × IsName to.0
+IsFine (command.Show what site) = IsName site.0

@@ -1,0 +1,34 @@
+//! A line of groups, read one after the other.
+
+use crate::{NamePart, Reader, ValuePart, separated, several, some_of};
+use script_lex::{LineStop, lex};
+use std::rt::HostRuntime;
+
+#[test]
+fn groups_are_read(rt: HostRuntime) {
+    let alloc = rt.alloc();
+    let Ok(tokens) = lex(alloc, b"A B: 1 -0 'x' : C, D, E") else {
+        return assert!(rt; false);
+    };
+    let mut left = Reader::of(&tokens);
+    assert_eq!(rt;
+        some_of::<NamePart>(alloc, &mut left).map(|names| names.len()),
+        Ok(2)
+    );
+    assert_eq!(rt; left.pass(b":"), Ok(()));
+    assert_eq!(rt;
+        several::<ValuePart>(alloc, &mut left).map(|values| values.len()),
+        Ok(3)
+    );
+    assert_eq!(rt; left.pass(b","), Err(LineStop::Rule(6)));
+    assert_eq!(rt; left.pass(b":"), Ok(()));
+    assert_eq!(rt;
+        separated::<NamePart>(alloc, b",", &mut left).map(|names| names.len()),
+        Ok(3)
+    );
+    assert_eq!(rt;
+        several::<ValuePart>(alloc, &mut left).map(|values| values.len()),
+        Ok(0)
+    );
+    assert_eq!(rt; left.end(), Ok(()));
+}
