@@ -3,3 +3,5 @@ pub mod Codes
 pub mod Lines
 pub mod Halts
 pub mod Outcome
+pub mod Young
+pub mod Words
