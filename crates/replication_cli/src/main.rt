@@ -14,6 +14,7 @@ pub use status::Status;
 
 use rep_io::{StdSink, StdSource};
 use std::alloc::{AllocError, Global};
+use std::env::Env;
 use std::process::ExitCode;
 use std::{env, io};
 
