@@ -110,12 +110,12 @@ impl<X: LineRunner> Run<X> {
         Ok(())
     }
 
-    /// Runs the last line where it isn't empty, as if its end stood there.
-    pub fn finish<K: Sink>(&mut self, alloc: Global, sink: &mut K) -> Result<(), Halt>
+    /// Ends the run: its last line is run where it isn't empty, as if its end stood there.
+    pub fn finish<K: Sink>(mut self, alloc: Global, sink: &mut K) -> Result<(), Halt>
         ensures fed { OnOk result ((out : List ℕ) × Appends (K.taken sink.old) (K.taken sink.new) out
-            × (out ≡ prints_from (line_step X.step) self.old []) × (stops_from (line_step X.step) self.old [] ≡ false)) }
-        ensures halted { IfErr result (λ halt. HaltsInto (line_step X.step) (K.taken sink.old) (K.taken sink.new) halt self.old (newline ∷ [])) }
-        ensures some { OnErr result (self.old.line ≢ []) }
+            × (out ≡ prints_from (line_step X.step) self []) × (stops_from (line_step X.step) self [] ≡ false)) }
+        ensures halted { IfErr result (λ halt. HaltsInto (line_step X.step) (K.taken sink.old) (K.taken sink.new) halt self (newline ∷ [])) }
+        ensures some { OnErr result (self.line ≢ []) }
         ensures cause { HasWriteCause (K.faults sink.old) (K.faults sink.new) result }
     {
         if self.line.is_empty() {
