@@ -3,16 +3,17 @@
 
 mod alone;
 mod drive;
+#[cfg(test)]
+mod drive_tests;
 mod program;
 mod run;
-mod status;
 #[cfg(test)]
-mod tests;
+mod script_tests;
+mod status;
 
 pub use program::{run_alone, run_program};
-pub use status::Status;
-
 use rep_io::{StdSink, StdSource};
+pub use status::Status;
 use std::alloc::{AllocError, Global};
 use std::env::Env;
 use std::process::ExitCode;
