@@ -2,3 +2,4 @@
 pub mod HaltLemmas
 pub mod ToldLemmas
 pub mod YoungSteps
+mod WorkedScripts
