@@ -18,9 +18,9 @@ first_path : script_report (codes "site A\nsite B\ntable T ID:NUMBER:key NAME:TE
 unfolding digits limited lexed tokens_from longest_up_to has_form token_of one mark many column command_of site_step table_step resume_step txn_step statement_step commit_step push_step show_step command_step young_step
 first_path = refl
 
--- nothing waits before a commit, and nothing goes on from where it came to
-one_way : script_report (codes "site A\nsite B\ntable T ID:NUMBER:key\nresume\npush A B\ntxn B\ninsert T -7\ncommit\npush A B\npush B A\npush B A\npush A B\nshow tables A")
-    ≡ codes "push A B sent 0 done 0 errors 0 low 0\ncommit B 1\npush A B sent 0 done 0 errors 0 low 0\npush B A sent 1 done 1 errors 0 low 1\npush B A sent 0 done 0 errors 0 low 1\npush A B sent 0 done 0 errors 0 low 0\ntables A\ntable T 1\nrow -7\n"
+-- nothing waits before a commit, what came from elsewhere isn't sent on, and what was acknowledged isn't sent again
+one_way : script_report (codes "# What came from another master is not sent on, and what was acknowledged is not sent again.\nsite LON\nsite NYC\ntable STOCK ITEM:NUMBER:key NAME:TEXT\nresume\npush NYC LON\ntxn NYC\ninsert STOCK 7 'bolts'\ncommit\npush LON NYC\npush NYC LON\npush NYC LON\npush LON NYC\nshow tables LON\n")
+    ≡ codes "push NYC LON sent 0 done 0 errors 0 low 0\ncommit NYC 1\npush LON NYC sent 0 done 0 errors 0 low 0\npush NYC LON sent 1 done 1 errors 0 low 1\npush NYC LON sent 0 done 0 errors 0 low 1\npush LON NYC sent 0 done 0 errors 0 low 0\ntables LON\ntable STOCK 1\nrow 7 'bolts'\n"
 unfolding digits limited lexed tokens_from longest_up_to has_form token_of one mark many column command_of site_step table_step resume_step txn_step statement_step commit_step push_step show_step command_step young_step
 one_way = refl
 
