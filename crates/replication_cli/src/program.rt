@@ -53,7 +53,8 @@ pub fn run_program<S: Source, K: Sink>(
     ensures usage { (result ≡ Status.Usage) ↔ (are_run words.now ≡ false) }
     ensures unread { result ≡ Status.Usage → source.new ≡ source.old }
     ensures unwritten { result ≡ Status.Usage → sink.new ≡ sink.old }
-    ensures told { result ≢ Status.Usage → Tells (Told (line_step young_step) first_world result) (S.left source.old) (S.left source.new) (K.taken sink.old) (K.taken sink.new) }
+    ensures told { result ≢ Status.Usage → Tells (Told (line_step young_step) first_world result)
+        (S.left source.old) (S.left source.new) (K.taken sink.old) (K.taken sink.new) }
     ensures read { result ≡ Status.ReadFault → Rose (S.faults source.old) (S.faults source.new) }
     ensures write { result ≡ Status.WriteFault → Rose (K.faults sink.old) (K.faults sink.new) }
 {

@@ -13,65 +13,68 @@ const SCRIPT: &str =
 const REPORT: &str =
     "commit A 1\npush A B sent 1 done 1 errors 0 low 1\ntables A\ntable T 1\nrow 1 'one'\ntables B\ntable T 1\nrow 1 'one'\n";
 
+// A script, its status and its report.
+const CASES: [(&str, Status, &str); 18] = [
+    ("", Status::Done, ""),
+    (SCRIPT, Status::Done, REPORT),
+    ("# a comment\n\n   \n", Status::Done, ""),
+    ("site A\n\tsite B\n", Status::Malformed, "malformed 2 3\n"),
+    ("site A\n# \x01", Status::Malformed, "malformed 2 3\n"),
+    ("site A\nsite A\n", Status::Malformed, "malformed 2 5\n"),
+    (
+        "site A\nsite B\nsite C\n",
+        Status::Malformed,
+        "malformed 3 5\n",
+    ),
+    ("frob !\n", Status::Malformed, "malformed 1 5\n"),
+    ("push A B count\n", Status::Malformed, "malformed 1 5\n"),
+    ("resume\n", Status::Malformed, "malformed 1 5\n"),
+    (
+        "site A\ntable T ID:NUMBER\nresume\n",
+        Status::Malformed,
+        "malformed 3 5\n",
+    ),
+    (
+        "table T A:NUMBER:key A:TEXT\n",
+        Status::Malformed,
+        "malformed 1 5\n",
+    ),
+    (
+        "site A\nresume\nresume\n",
+        Status::Malformed,
+        "malformed 3 5\n",
+    ),
+    (
+        "site A\nresume\npush A A\n",
+        Status::Malformed,
+        "malformed 3 5\n",
+    ),
+    (
+        "site A\nresume\ntxn A\ncommit\n",
+        Status::Malformed,
+        "malformed 4 5\n",
+    ),
+    (
+        "site A\ntable T K:NUMBER:key\nresume\ntxn A\ninsert T 1000000000000001\ncommit\n",
+        Status::Malformed,
+        "malformed 6 5\n",
+    ),
+    (
+        "site A\ntable T K:NUMBER:key\nresume\ntxn A\ninsert T 'x'\ncommit\n",
+        Status::Malformed,
+        "malformed 6 5\n",
+    ),
+    (
+        "site A\ntable T K:TEXT:key\nresume\ntxn A\ninsert T ''\ncommit\nshow tables A\ntxn A\n",
+        Status::Malformed,
+        "commit A 1\ntables A\ntable T 1\nrow ''\nmalformed 8 5\n",
+    ),
+];
+
 #[test]
 fn scripts_give_their_reports(rt: HostRuntime) -> Result<(), Fail> {
     let alloc = rt.alloc();
-    for (script, status, report) in [
-        ("", Status::Done, ""),
-        (SCRIPT, Status::Done, REPORT),
-        ("# a comment\n\n   \n", Status::Done, ""),
-        ("site A\n\tsite B\n", Status::Malformed, "malformed 2 3\n"),
-        ("site A\n# \x01", Status::Malformed, "malformed 2 3\n"),
-        ("site A\nsite A\n", Status::Malformed, "malformed 2 5\n"),
-        (
-            "site A\nsite B\nsite C\n",
-            Status::Malformed,
-            "malformed 3 5\n",
-        ),
-        ("frob !\n", Status::Malformed, "malformed 1 5\n"),
-        ("push A B count\n", Status::Malformed, "malformed 1 5\n"),
-        ("resume\n", Status::Malformed, "malformed 1 5\n"),
-        (
-            "site A\ntable T ID:NUMBER\nresume\n",
-            Status::Malformed,
-            "malformed 3 5\n",
-        ),
-        (
-            "table T A:NUMBER:key A:TEXT\n",
-            Status::Malformed,
-            "malformed 1 5\n",
-        ),
-        (
-            "site A\nresume\nresume\n",
-            Status::Malformed,
-            "malformed 3 5\n",
-        ),
-        (
-            "site A\nresume\npush A A\n",
-            Status::Malformed,
-            "malformed 3 5\n",
-        ),
-        (
-            "site A\nresume\ntxn A\ncommit\n",
-            Status::Malformed,
-            "malformed 4 5\n",
-        ),
-        (
-            "site A\ntable T K:NUMBER:key\nresume\ntxn A\ninsert T 1000000000000001\ncommit\n",
-            Status::Malformed,
-            "malformed 6 5\n",
-        ),
-        (
-            "site A\ntable T K:NUMBER:key\nresume\ntxn A\ninsert T 'x'\ncommit\n",
-            Status::Malformed,
-            "malformed 6 5\n",
-        ),
-        (
-            "site A\ntable T K:TEXT:key\nresume\ntxn A\ninsert T ''\ncommit\nshow tables A\ntxn A\n",
-            Status::Malformed,
-            "commit A 1\ntables A\ntable T 1\nrow ''\nmalformed 8 5\n",
-        ),
-    ] {
+    for (script, status, report) in CASES {
         let mut source = BytesSource::make(script.as_bytes().to_vec(alloc)?);
         let mut sink = BytesSink::make(alloc);
         let ended = run_program(alloc, &["run"], &mut source, &mut sink);
