@@ -1,2 +1,3 @@
--- The lemmas of this crate.
+-- The lemmas of this crate, from the bottom up.
 pub mod Rising
+pub mod FoundByKey

@@ -3,5 +3,6 @@ pub mod KeyWalk
 pub mod RowFit
 pub mod SameValues
 pub mod KeptTables
+pub mod FoundRows
 pub mod Shapes
 mod ShapeExamples
