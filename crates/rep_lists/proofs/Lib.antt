@@ -1,4 +1,5 @@
--- The lemmas of this crate.
+-- The lemmas of this crate, from the bottom up.
 pub mod Rising
 pub mod Places
 pub mod Each
+pub mod FoundByKey

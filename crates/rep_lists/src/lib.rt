@@ -3,8 +3,10 @@
 
 mod copies;
 mod items;
+mod laws;
 mod memory;
 
 pub use copies::Copies;
 pub use items::Items;
+pub use laws::rising_list_laws;
 pub use memory::NoMemory;

@@ -4,5 +4,6 @@ pub mod RowFit
 pub mod SameValues
 pub mod KeptTables
 pub mod FittingTests
+pub mod FoundRows
 pub mod Shapes
 mod ShapeExamples

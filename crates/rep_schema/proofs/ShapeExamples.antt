@@ -1,8 +1,7 @@
 -- Schemas that have their shape, and schemas that haven't.
-use Rattle.std.proofs.Common.{◌≡◌, ℕ, ◌<◌, ◌≤◌, List, [], ◌∷◌, length, get_or, Some, None, true, false, zero, suc, refl, ap, arith}
+use Rattle.std.proofs.Common.{◌≡◌, ℕ, ◌<◌, List, [], ◌∷◌, get_or, Some, None, true, false, zero, suc, refl, ap, arith}
 use Rattle.std.specs.Prelude.{codes, ◌≢◌}
 use Rattle.std.specs.List.{AllByRecursion, AllPairs}
-use Rattle.std.specs.List.Sorted.{IsStrictlyIncreasing}
 use Rattle.std.proofs.lemmas.List.Elements.{All-from_recursion}
 use Rattle.rep_values.specs.declared.name.SiteName.{SiteName}
 use Rattle.rep_schema.specs.declared.schema.Schema.{Schema}
@@ -119,8 +118,8 @@ chained = record small { sites = site_a ∷ site_s ∷ record site_s { name = re
 chained_lacks_shape : ¬ HasShape chained
 chained_lacks_shape shape =
     any_from_none (λ s. (s.name ≡ site_s.name) × (s.master ≡ None)) chained.sites
-      ((λ is. let first : 65 ≡ 83 = ap (λ (n : SiteName). get_or n.0 0 0) is.0 in omega arith), ((λ is. cc), ((λ is. let first : 85 ≡ 83 = ap (λ (n : SiteName). get_or n.0 0 0) is.0 in omega arith), tt)))
-      (shape.site_masters 2 site_a (omega arith))
+    ((λ is. let first : 65 ≡ 83 = ap (λ (n : SiteName). get_or n.0 0 0) is.0 in omega arith), ((λ is. cc), ((λ is. let first : 85 ≡ 83 = ap (λ (n : SiteName). get_or n.0 0 0) is.0 in omega arith), tt)))
+    (shape.site_masters 2 site_a (omega arith))
 
 -- a group of a column that the table hasn't
 abbrev beyond : Schema

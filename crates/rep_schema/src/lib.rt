@@ -15,3 +15,6 @@ pub use schema::{
     TableEntry, UniqueMethod,
 };
 pub use store::RowStore;
+
+#[cfg(test)]
+mod tests;

@@ -5,3 +5,6 @@ mod list_tables;
 mod sorted_rows;
 
 pub use list_tables::ListTables;
+
+#[cfg(test)]
+mod tests;

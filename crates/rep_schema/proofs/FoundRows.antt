@@ -1,0 +1,30 @@
+-- What is found by key among a table's rows, after a put and after a take, and that it determines the rows.
+use Rattle.std.proofs.Common.{◌≡◌, ◌≢◌, List, Some, None}
+use Rattle.rep_lists.specs.Rising.{IsRising}
+use Rattle.rep_lists.proofs.FoundByKey.{find_put_own, find_put_other, find_take, find_take_other, same_from_finds}
+use Rattle.rep_values.specs.Order.{key_cmp}
+use Rattle.rep_values.specs.OrderLaws.{key_cmp_total, exact_keys}
+use Rattle.rep_schema.specs.declared.schema.Column.{Column}
+use Rattle.rep_schema.specs.Tables.{Cells, Rows, key_of, row_cmp, find_row, put_row, take_row}
+
+module _ (columns : List Column) where
+  -- a row that was put is found under its key
+  pub find_row-put_own : (row : Cells) (rows : Rows) → find_row columns (key_of columns row) (put_row columns row rows) ≡ Some row
+  find_row-put_own row rows = find_put_own (key_of columns) key_cmp key_cmp_total row rows
+
+  -- under another key the same row is found as before the put
+  pub find_row-put_other : (row key : Cells) (rows : Rows) → key_of columns row ≢ key → find_row columns key (put_row columns row rows) ≡ find_row columns key rows
+  find_row-put_other row key rows other = find_put_other (key_of columns) key_cmp key_cmp_total row key rows (λ tied. other (exact_keys (key_of columns row) key tied))
+
+  -- after a take no row is found under its key
+  pub find_row-take_own : (key : Cells) (rows : Rows) → IsRising (row_cmp columns) rows → find_row columns key (take_row columns key rows) ≡ None
+  find_row-take_own key rows rising = find_take (key_of columns) key_cmp key_cmp_total key rows rising
+
+  -- under another key the same row is found as before the take
+  pub find_row-take_other : (taken key : Cells) (rows : Rows) → IsRising (row_cmp columns) rows → taken ≢ key → find_row columns key (take_row columns taken rows) ≡ find_row columns key rows
+  find_row-take_other taken key rows rising other = find_take_other (key_of columns) key_cmp key_cmp_total taken key rows rising (λ tied. other (exact_keys taken key tied))
+
+  -- rows in rising order in which every key finds the same row are the same
+  pub rows_from_finds : (rows others : Rows) → IsRising (row_cmp columns) rows → IsRising (row_cmp columns) others
+      → ((key : Cells) → find_row columns key rows ≡ find_row columns key others) → rows ≡ others
+  rows_from_finds rows others rising rising_others finds = same_from_finds (key_of columns) key_cmp key_cmp_total rows others rising rising_others finds
