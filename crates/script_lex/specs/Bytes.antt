@@ -12,6 +12,7 @@ is_word_byte byte = is_letter byte || is_digit byte || byte == 95 || byte == 45
 abbrev pub is_plain : ℕ → Bool
 is_plain byte = not (byte == 39)
 
+-- the space
 abbrev pub is_space : ℕ → Bool
 is_space byte = byte == 32
 

@@ -11,6 +11,7 @@ abbrev pub is_passed_over : List ℕ → Bool
 is_passed_over [] = true
 is_passed_over (b ∷ bs) = b == 35 || list_all is_space (b ∷ bs)
 
+-- the tokens, or the rule where there are none
 abbrev pub or_rule : ℕ → Option (List Token) → Result (List Token) ℕ
 or_rule rule None = Err rule
 or_rule rule (Some ts) = Ok ts

@@ -13,18 +13,19 @@ abbrev pub digits_value : ℕ → List ℕ → ℕ
 digits_value n [] = n
 digits_value n (d ∷ ds) = digits_value (10 * n + (d - 48)) ds
 
--- at most 30 bytes
+-- a word of at most 30 bytes
 abbrev pub word_token : List ℕ → Option Token
 word_token bytes = if nat_le (length bytes) 30 then Some (token.Word bytes) else None
 
--- at most 16 digits
+-- a number of at most 16 digits
 abbrev pub number_token : Bool → List ℕ → Option Token
 number_token minus digits = if nat_le (length digits) 16 then Some (token.Number minus (digits_value 0 digits)) else None
 
--- at most 64 bytes before the closing quote
+-- a text of at most 64 bytes, which stand before the closing quote
 abbrev pub text_token : List ℕ → Option Token
 text_token bytes = if nat_le (length bytes) 65 then Some (token.Words (take (length bytes - 1) bytes)) else None
 
+-- a symbol is a token as it is
 abbrev pub symbol_token : Option Symbol → Option Token
 symbol_token None = None
 symbol_token (Some s) = Some (token.Symbol s)
@@ -42,6 +43,7 @@ unfoldable pub token_of : List ℕ → Option Token
 token_of [] = None
 token_of (b ∷ bs) = token_by (start_of b) b bs
 
+-- a token and those behind it, where there are both
 abbrev pub with_front : Option Token → Option (List Token) → Option (List Token)
 with_front None ts = None
 with_front (Some t) None = None

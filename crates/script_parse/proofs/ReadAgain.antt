@@ -22,30 +22,30 @@ use Rattle.script_parse.specs.declared.command.Command.TheVariants as command
 use Rattle.script_parse.specs.Columns.{column_of, column}
 use Rattle.script_parse.specs.Built.{gated}
 use Rattle.script_parse.specs.Parsed.{command_of}
-use Rattle.script_parse.specs.Spelled.{column_tokens, spelled, IsName, IsFine}
+use Rattle.script_parse.specs.Spelled.{column_tokens, spelled, IsName, IsWellFormed}
 
 -- Columns, which end where no colon follows.
 
 column_begins : (c : Column) (rest : List Token) → IsName c.name → begins is_named (column_tokens c ++ rest) ≡ true
-column_begins c rest fine = rw fine refl
+column_begins c rest formed = rw formed refl
 
 plain_again : (n : List ℕ) (k : Kind) (rest : List Token) → IsName n → at (codes ":") rest ≡ false
     → column (column_tokens (column_of n k false) ++ rest) ≡ Ok (column_of n k false, rest)
 unfolding one mark column
-plain_again n kind.Number rest fine none = rw (fine, none) refl
-plain_again n kind.Words rest fine none = rw (fine, none) refl
-plain_again n kind.Date rest fine none = rw (fine, none) refl
-plain_again n kind.Stamp rest fine none = rw (fine, none) refl
-plain_again n kind.Site rest fine none = rw (fine, none) refl
+plain_again n kind.Number rest formed none = rw (formed, none) refl
+plain_again n kind.Words rest formed none = rw (formed, none) refl
+plain_again n kind.Date rest formed none = rw (formed, none) refl
+plain_again n kind.Stamp rest formed none = rw (formed, none) refl
+plain_again n kind.Site rest formed none = rw (formed, none) refl
 
 key_again : (n : List ℕ) (k : Kind) (rest : List Token) → IsName n
     → column (column_tokens (column_of n k true) ++ rest) ≡ Ok (column_of n k true, rest)
 unfolding one mark column
-key_again n kind.Number rest fine = rw fine refl
-key_again n kind.Words rest fine = rw fine refl
-key_again n kind.Date rest fine = rw fine refl
-key_again n kind.Stamp rest fine = rw fine refl
-key_again n kind.Site rest fine = rw fine refl
+key_again n kind.Number rest formed = rw formed refl
+key_again n kind.Words rest formed = rw formed refl
+key_again n kind.Date rest formed = rw formed refl
+key_again n kind.Stamp rest formed = rw formed refl
+key_again n kind.Site rest formed = rw formed refl
 
 abbrev ends_column : List Token → Bool
 ends_column rest = not (at (codes ":") rest)
@@ -55,60 +55,60 @@ ends_so true is = cc
 ends_so false is = refl
 
 column_again : (c : Column) (rest : List Token) → IsName c.name → ends_column rest ≡ true → column (column_tokens c ++ rest) ≡ Ok (c, rest)
-column_again c rest fine ends = go c.name c.kind c.key fine
+column_again c rest formed ends = go c.name c.kind c.key formed
   where
     go : (n : List ℕ) (k : Kind) (b : Bool) → IsName n → column (column_tokens (column_of n k b) ++ rest) ≡ Ok (column_of n k b, rest)
     go n k true named = key_again n k rest named
     go n k false named = plain_again n k rest named (ends_so (at (codes ":") rest) ends)
 
 next_ends_column : (c : Column) (rest : List Token) → IsName c.name → ends_column (column_tokens c ++ rest) ≡ true
-next_ends_column c rest fine = rw (name_is_no_mark 58 [] c.name refl fine) refl
+next_ends_column c rest formed = rw (name_is_no_mark 58 [] c.name refl formed) refl
 
 columns_again : (c : Column) (cs : List Column) → AllByRecursion (λ d. IsName d.name) (c ∷ cs)
     → some_of is_named column (flat_map column_tokens (c ∷ cs)) ≡ Ok (c ∷ cs, [])
-columns_again c cs fine =
-    all_again is_named column column_tokens (λ d. IsName d.name) ends_column column_begins column_again next_ends_column c cs fine refl
+columns_again c cs formed =
+    all_again is_named column column_tokens (λ d. IsName d.name) ends_column column_begins column_again next_ends_column c cs formed refl
 
 -- Commands.
 
 table_again : (name : TableName) (columns : List Column) → IsName name.0 → columns ≢ [] → AllByRecursion (λ c. IsName c.name) columns
     → command_of (spelled (command.Table name columns)) ≡ gated (Ok (command.Table name columns))
 unfolding one command_of
-table_again name [] fine some all = absurd (some refl)
-table_again name (c ∷ cs) fine some all = rw (fine, columns_again c cs all) refl
+table_again name [] formed some all = absurd (some refl)
+table_again name (c ∷ cs) formed some all = rw (formed, columns_again c cs all) refl
 
 insert_again : (table : TableName) (values : List Literal) → IsName table.0 → values ≢ [] → AllByRecursion (λ v. is_small v ≡ true) values
     → command_of (spelled (command.Statement (statement.Insert table values))) ≡ Ok (command.Statement (statement.Insert table values))
 unfolding one command_of
-insert_again table [] fine some all = absurd (some refl)
-insert_again table (v ∷ vs) fine some all = rw (fine, all_values_again v vs all) refl
+insert_again table [] formed some all = absurd (some refl)
+insert_again table (v ∷ vs) formed some all = rw (formed, all_values_again v vs all) refl
 
 push_again : (from to : SiteName) (count : Option ℕ) → IsName from.0 → IsName to.0
     → command_of (spelled (command.Push from to count)) ≡ gated (Ok (command.Push from to count))
 unfolding one mark command_of
-push_again from to None fine fine' = rw (fine, fine') refl
-push_again from to (Some n) fine fine' = rw (fine, fine') refl
+push_again from to None sends takes = rw (sends, takes) refl
+push_again from to (Some n) sends takes = rw (sends, takes) refl
 
 show_again : (what : Shown) (site : SiteName) → IsName site.0 → command_of (spelled (command.Show what site)) ≡ gated (Ok (command.Show what site))
 unfolding one command_of
-show_again shown.Tables site fine = rw fine refl
-show_again shown.Queue site fine = rw fine refl
-show_again shown.Errors site fine = rw fine refl
-show_again shown.Marks site fine = rw fine refl
-show_again shown.Journal site fine = rw fine refl
-show_again shown.Log site fine = rw fine refl
+show_again shown.Tables site formed = rw formed refl
+show_again shown.Queue site formed = rw formed refl
+show_again shown.Errors site formed = rw formed refl
+show_again shown.Marks site formed = rw formed refl
+show_again shown.Journal site formed = rw formed refl
+show_again shown.Log site formed = rw formed refl
 
 -- what a command is written as is read again
-pub reads_again : (c : Command) → IsFine c → command_of (spelled c) ≡ gated (Ok c)
+pub reads_again : (c : Command) → IsWellFormed c → command_of (spelled c) ≡ gated (Ok c)
 unfolding one command_of
-reads_again command.Nothing fine = refl
-reads_again (command.Site name) fine = rw fine refl
-reads_again (command.Table name columns) fine = table_again name columns fine.0 fine.1 fine.2
-reads_again command.Resume fine = refl
-reads_again (command.Txn site) fine = rw fine refl
-reads_again (command.Statement (statement.Insert table values)) fine = insert_again table values fine.0 fine.1 fine.2
-reads_again (command.Statement (statement.Update table key sets)) fine = absurd fine
-reads_again (command.Statement (statement.Delete table key)) fine = absurd fine
-reads_again command.Commit fine = refl
-reads_again (command.Push from to count) fine = push_again from to count fine.0 fine.1
-reads_again (command.Show what site) fine = show_again what site fine
+reads_again command.Nothing formed = refl
+reads_again (command.Site name) formed = rw formed refl
+reads_again (command.Table name columns) formed = table_again name columns formed.0 formed.1 formed.2
+reads_again command.Resume formed = refl
+reads_again (command.Txn site) formed = rw formed refl
+reads_again (command.Statement (statement.Insert table values)) formed = insert_again table values formed.0 formed.1 formed.2
+reads_again (command.Statement (statement.Update table key sets)) formed = absurd formed
+reads_again (command.Statement (statement.Delete table key)) formed = absurd formed
+reads_again command.Commit formed = refl
+reads_again (command.Push from to count) formed = push_again from to count formed.0 formed.1
+reads_again (command.Show what site) formed = show_again what site formed

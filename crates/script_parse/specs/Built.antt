@@ -17,6 +17,7 @@ is_built_kind kind.Date = false
 is_built_kind kind.Stamp = false
 is_built_kind kind.Site = false
 
+-- a column of such a type
 abbrev pub is_built_column : Column → Bool
 is_built_column column = is_built_kind column.kind
 
@@ -34,6 +35,7 @@ is_built_show shown.Marks = false
 is_built_show shown.Journal = false
 is_built_show shown.Log = false
 
+-- a command of a form that is built
 abbrev pub is_built : Command → Bool
 is_built command.Nothing = true
 is_built (command.Site name) = true

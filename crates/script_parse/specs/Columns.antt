@@ -16,6 +16,7 @@ kinds =
     (codes "SITE", kind.Site) ∷
     []
 
+-- a column by its parts
 abbrev pub column_of : List ℕ → Kind → Bool → Column
 column_of n k b = record { name = n; kind = k; key = b }
 

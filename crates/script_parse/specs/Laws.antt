@@ -3,8 +3,8 @@ use Rattle.std.specs.Prelude.{◌≡◌, Ok}
 use Rattle.script_parse.specs.declared.command.Command.{Command}
 use Rattle.script_parse.specs.Built.{gated}
 use Rattle.script_parse.specs.Parsed.{command_of}
-use Rattle.script_parse.specs.Spelled.{spelled, IsFine}
+use Rattle.script_parse.specs.Spelled.{spelled, IsWellFormed}
 
 -- what a command is written as is read again as that command, or stopped by rule 5 where its form isn't built
 abbrev pub ReadsAgain : Type 0
-ReadsAgain = (c : Command) → IsFine c → command_of (spelled c) ≡ gated (Ok c)
+ReadsAgain = (c : Command) → IsWellFormed c → command_of (spelled c) ≡ gated (Ok c)

@@ -13,9 +13,11 @@ use Rattle.script_parse.specs.declared.command.Command.{Command}
 use Rattle.script_parse.specs.declared.command.Command.TheVariants as command
 use Rattle.script_parse.specs.Columns.{column}
 
+-- the site's name that bytes are
 abbrev pub site_of : List ℕ → SiteName
 site_of n = record { 0 = n }
 
+-- the table's name that bytes are
 abbrev pub table_of : List ℕ → TableName
 table_of n = record { 0 = n }
 
@@ -43,6 +45,7 @@ resume_row = row command.Resume
 abbrev pub txn_row : Reading Command
 txn_row = row command.Txn ⊛ site
 
+-- the insert of values into a table
 abbrev pub insert_of : TableName → List Literal → Command
 insert_of t values = command.Statement (statement.Insert t values)
 
@@ -58,6 +61,7 @@ commit_row = row command.Commit
 abbrev pub push_row : Reading Command
 push_row = row command.Push ⊛ site ⊛ site ⊛ optional (codes "count") whole_number
 
+-- tables|queue|errors|marks|journal|log
 abbrev pub shown_words : List (List ℕ × Shown)
 shown_words =
     (codes "tables", shown.Tables) ∷

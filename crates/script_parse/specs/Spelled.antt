@@ -17,6 +17,7 @@ use Rattle.script_parse.specs.declared.command.Shown.TheVariants as shown
 use Rattle.script_parse.specs.declared.command.Command.{Command}
 use Rattle.script_parse.specs.declared.command.Command.TheVariants as command
 
+-- the word of a type
 abbrev pub kind_word : Kind → List ℕ
 kind_word kind.Number = codes "NUMBER"
 kind_word kind.Words = codes "TEXT"
@@ -24,6 +25,7 @@ kind_word kind.Date = codes "DATE"
 kind_word kind.Stamp = codes "STAMP"
 kind_word kind.Site = codes "SITE"
 
+-- the word of what is shown
 abbrev pub shown_word : Shown → List ℕ
 shown_word shown.Tables = codes "tables"
 shown_word shown.Queue = codes "queue"
@@ -38,15 +40,17 @@ column_tokens c =
     token.Word c.name ∷ token.Symbol symbol.Colon ∷ token.Word (kind_word c.kind) ∷
     (if c.key then token.Symbol symbol.Colon ∷ token.Word (codes "key") ∷ [] else [])
 
+-- the tokens of values in a row
 abbrev pub value_tokens : List Literal → List Token
 value_tokens values = flat_map (λ v. value_token v ∷ []) values
 
--- the tokens of a statement
+-- the tokens of a statement, of a form that is read
 abbrev pub statement_tokens : Statement → List Token
 statement_tokens (statement.Insert table values) = token.Word (codes "insert") ∷ token.Word table.0 ∷ value_tokens values
 statement_tokens (statement.Update table key sets) = []
 statement_tokens (statement.Delete table key) = []
 
+-- the tokens of a count, if there is one
 abbrev pub count_tokens : Option ℕ → List Token
 count_tokens None = []
 count_tokens (Some n) = token.Word (codes "count") ∷ token.Number false n ∷ []
@@ -63,24 +67,24 @@ spelled command.Commit = token.Word (codes "commit") ∷ []
 spelled (command.Push from to count) = token.Word (codes "push") ∷ token.Word from.0 ∷ token.Word to.0 ∷ count_tokens count
 spelled (command.Show what site) = token.Word (codes "show") ∷ token.Word (shown_word what) ∷ token.Word site.0 ∷ []
 
--- its names have the form of names
+-- bytes that have the form of a name
 abbrev pub IsName : List ℕ → Type 0
 IsName bytes = is_name bytes ≡ true
 
--- a statement of a form that is read, with a value at least, and values that are small enough to be read
-abbrev pub IsFineStatement : Statement → Type 0
-IsFineStatement (statement.Insert table values) = IsName table.0 × (values ≢ []) × AllByRecursion (λ v. is_small v ≡ true) values
-IsFineStatement (statement.Update table key sets) = ⊥
-IsFineStatement (statement.Delete table key) = ⊥
+-- an insert of at least one value, with values that are small enough to be read
+abbrev pub IsWellFormedStatement : Statement → Type 0
+IsWellFormedStatement (statement.Insert table values) = IsName table.0 × (values ≢ []) × AllByRecursion (λ v. is_small v ≡ true) values
+IsWellFormedStatement (statement.Update table key sets) = ⊥
+IsWellFormedStatement (statement.Delete table key) = ⊥
 
--- a command that a line can give: its names have their form, and no list of parts is empty
-abbrev pub IsFine : Command → Type 0
-IsFine command.Nothing = Unit {0}
-IsFine (command.Site name) = IsName name.0
-IsFine (command.Table name columns) = IsName name.0 × (columns ≢ []) × AllByRecursion (λ c. IsName c.name) columns
-IsFine command.Resume = Unit {0}
-IsFine (command.Txn site) = IsName site.0
-IsFine (command.Statement statement) = IsFineStatement statement
-IsFine command.Commit = Unit {0}
-IsFine (command.Push from to count) = IsName from.0 × IsName to.0
-IsFine (command.Show what site) = IsName site.0
+-- a command that a line can give: its names have their form, and no list of its parts is empty
+abbrev pub IsWellFormed : Command → Type 0
+IsWellFormed command.Nothing = Unit {0}
+IsWellFormed (command.Site name) = IsName name.0
+IsWellFormed (command.Table name columns) = IsName name.0 × (columns ≢ []) × AllByRecursion (λ c. IsName c.name) columns
+IsWellFormed command.Resume = Unit {0}
+IsWellFormed (command.Txn site) = IsName site.0
+IsWellFormed (command.Statement statement) = IsWellFormedStatement statement
+IsWellFormed command.Commit = Unit {0}
+IsWellFormed (command.Push from to count) = IsName from.0 × IsName to.0
+IsWellFormed (command.Show what site) = IsName site.0

@@ -18,10 +18,10 @@ use Rattle.script_words.proofs.ReadAgain.{some_again, all_again}
 
 pub name_again : (bytes : List ℕ) (rest : List Token) → is_name bytes ≡ true → name (token.Word bytes ∷ rest) ≡ Ok (bytes, rest)
 unfolding one
-name_again bytes rest fine = rw fine refl
+name_again bytes rest formed = rw formed refl
 
 begins_with_letter : (b : ℕ) (bs : List ℕ) → is_name (b ∷ bs) ≡ true → is_letter b ≡ true
-begins_with_letter b bs fine = go (nat_le (length (b ∷ bs)) 30) (is_letter b) (list_all is_name_byte (b ∷ bs)) fine
+begins_with_letter b bs formed = go (nat_le (length (b ∷ bs)) 30) (is_letter b) (list_all is_name_byte (b ∷ bs)) formed
   where
     go : (short letter all : Bool) → (short && letter && all) ≡ true → letter ≡ true
     go true true all is = refl
@@ -30,37 +30,37 @@ begins_with_letter b bs fine = go (nat_le (length (b ∷ bs)) 30) (is_letter b) 
 
 -- a name is no mark that begins with another byte than a letter
 pub name_is_no_mark : (m : ℕ) (ms bytes : List ℕ) → is_letter m ≡ false → is_name bytes ≡ true → pointwise eqb (m ∷ ms) bytes ≡ false
-name_is_no_mark m ms [] other fine = refl
-name_is_no_mark m ms (b ∷ bs) other fine = go (eqb m b) refl
+name_is_no_mark m ms [] other formed = refl
+name_is_no_mark m ms (b ∷ bs) other formed = go (eqb m b) refl
   where
     go : (v : Bool) → eqb m b ≡ v → (v && pointwise eqb ms bs) ≡ false
     go true is =
         let same : m ≡ b = grind (arith, nat_tests) in
-        let letter : is_letter b ≡ true = begins_with_letter b bs fine in
+        let letter : is_letter b ≡ true = begins_with_letter b bs formed in
         absurd (cc)
     go false is = refl
 
 pub value_again : (v : Literal) (rest : List Token) → is_small v ≡ true → value (value_token v ∷ rest) ≡ Ok (v, rest)
 unfolding one
-value_again (literal.Num (pos n)) rest fine = rw fine refl
-value_again (literal.Num (negsuc n)) rest fine = rw fine refl
-value_again (literal.Words bytes) rest fine = refl
+value_again (literal.Num (pos n)) rest formed = rw formed refl
+value_again (literal.Num (negsuc n)) rest formed = rw formed refl
+value_again (literal.Words bytes) rest formed = refl
 
 value_begins : (v : Literal) (rest : List Token) → is_small v ≡ true → begins is_valued (value_token v ∷ rest) ≡ true
-value_begins (literal.Num (pos n)) rest fine = rw fine refl
-value_begins (literal.Num (negsuc n)) rest fine = rw fine refl
-value_begins (literal.Words bytes) rest fine = refl
+value_begins (literal.Num (pos n)) rest formed = rw formed refl
+value_begins (literal.Num (negsuc n)) rest formed = rw formed refl
+value_begins (literal.Words bytes) rest formed = refl
 
 -- values in a row, with other tokens behind them
 pub values_again : (v : Literal) (vs : List Literal) (rest : List Token) → AllByRecursion (λ w. is_small w ≡ true) (v ∷ vs) → begins is_valued rest ≡ false
     → some_of is_valued value (flat_map (λ w. value_token w ∷ []) (v ∷ vs) ++ rest) ≡ Ok (v ∷ vs, rest)
-values_again v vs rest fine none =
+values_again v vs rest formed none =
     some_again is_valued value (λ w. value_token w ∷ []) (λ w. is_small w ≡ true) (λ ts. true)
-    value_begins (λ w ts small stop. value_again w ts small) (λ w ts small. refl) v vs rest fine refl none
+    value_begins (λ w ts small stop. value_again w ts small) (λ w ts small. refl) v vs rest formed refl none
 
 -- the same with nothing behind them
 pub all_values_again : (v : Literal) (vs : List Literal) → AllByRecursion (λ w. is_small w ≡ true) (v ∷ vs)
     → some_of is_valued value (flat_map (λ w. value_token w ∷ []) (v ∷ vs)) ≡ Ok (v ∷ vs, [])
-all_values_again v vs fine =
+all_values_again v vs formed =
     all_again is_valued value (λ w. value_token w ∷ []) (λ w. is_small w ≡ true) (λ ts. true)
-    value_begins (λ w ts small stop. value_again w ts small) (λ w ts small. refl) v vs fine refl
+    value_begins (λ w ts small stop. value_again w ts small) (λ w ts small. refl) v vs formed refl

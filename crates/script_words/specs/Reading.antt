@@ -13,6 +13,7 @@ abbrev pub ◌>>=◌ : {A B : Type 0} → Result A ℕ → (A → Result B ℕ) 
 (Ok x) >>= f = f x
 (Err e) >>= f = Err e
 
+-- the next token, if there is one
 abbrev pub front_of : List Token → Option Token
 front_of [] = None
 front_of (t ∷ ts) = Some t
@@ -26,6 +27,7 @@ begins test (t ∷ ts) = test t
 abbrev pub at : List ℕ → List Token → Bool
 at word = begins (is_mark word)
 
+-- what the next token was taken for, and the tokens behind it
 abbrev pub taken : {A : Type 0} → Option A → List Token → Result (A × List Token) ℕ
 taken None ts = Err 6
 taken (Some x) ts = Ok (x, ts)
@@ -42,6 +44,7 @@ mark word (t ∷ ts) = if is_mark word t then Ok ts else Err 6
 
 -- Forms: a row begins with what is made, and goes on with its parts and marks.
 
+-- what is made, with nothing read
 abbrev pub row : {A : Type 0} → A → Reading A
 row x ts = Ok (x, ts)
 

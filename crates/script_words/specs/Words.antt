@@ -24,6 +24,7 @@ whole_of (token.Number minus size) = if minus then None else Some size
 whole_of (token.Words bytes) = None
 whole_of (token.Symbol s) = None
 
+-- a number by its sign and its size
 abbrev pub signed : Bool → ℕ → ℤ
 signed false size = pos size
 signed true zero = pos 0
@@ -67,13 +68,16 @@ abbrev pub entries : {A : Type 0} → List (Bor (List ℕ) × A) → List (List 
 entries [] = []
 entries (entry ∷ rest) = (entry.0.now, entry.1) ∷ entries rest
 
--- what a part that repeats begins with
+-- What a part that repeats begins with.
 
+-- a NAME
 abbrev pub is_named : Token → Bool
 is_named t = is_some (name_of t)
 
+-- a VALUE
 abbrev pub is_valued : Token → Bool
 is_valued t = is_some (value_of t)
 
+-- a word or a symbol of the table
 abbrev pub is_chosen : {A : Type 0} → List (List ℕ × A) → Token → Bool
 is_chosen table t = is_some (choice_of table t)
