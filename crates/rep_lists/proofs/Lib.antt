@@ -1,2 +1,4 @@
 -- The lemmas of this crate.
 pub mod Rising
+pub mod Places
+pub mod Each

@@ -1,1 +1,5 @@
 -- The definitions of this crate.
+pub mod Limits
+pub mod Tables
+pub mod Fitting
+pub mod Shape

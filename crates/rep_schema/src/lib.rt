@@ -1,9 +1,17 @@
-//! Schemas, and what a store of their rows is.
+//! Schemas, what it means for rows to be their tables, and what a store of such rows gives.
 #![tactic(auto)]
 
+mod compare;
+mod conditions;
 mod schema;
+mod store;
 
+pub use compare::{
+    columns_of, compare_row, constraint_columns, constraint_count, has_key, key_of, same_picked,
+};
+pub use conditions::{fits_kind, is_in_range, is_keyed, is_unique, key_count, row_fits};
 pub use schema::{
     Column, Constraint, Group, Kind, Method, PriorityGroup, PriorityLevel, Schema, SiteEntry,
     TableEntry, UniqueMethod,
 };
+pub use store::RowStore;

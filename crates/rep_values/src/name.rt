@@ -3,7 +3,7 @@ ghost use Rattle.std.specs.Prelude.{◌≡◌, ℕ, ◌-◌, ◌≤◌, ◌++◌
 ghost use Rattle.std.specs.Cmp.{partial_equiv_from_equiv};
 ghost use Rattle.std.specs.Cmp.Lexicographic.{pointwise, nat_list_eq_equiv};
 ghost use Rattle.std.specs.List.{list_all};
-ghost use Rattle.rep_values.specs.Name.{is_name, is_name_byte};
+ghost use Rattle.rep_values.specs.Name.{is_name, is_name_byte, same_bytes};
 
 use crate::{is_digit, is_letter};
 use std::marker::Model;
@@ -89,7 +89,8 @@ impl Name {
 
     /// Whether two names are the same.
     pub fn is_same(&self, other: &Name) -> bool
-        ensures { IsTrue result ↔ (self.now ≡ other.now) }
+        ensures value { result ≡ same_bytes self.now other.now }
+        ensures meaning { IsTrue result ↔ (self.now ≡ other.now) }
     {
         self == other
     }

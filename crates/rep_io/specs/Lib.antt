@@ -1,0 +1,4 @@
+-- The definitions of this crate.
+pub mod Faults
+pub mod Transfer
+pub mod Memory

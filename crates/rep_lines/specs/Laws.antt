@@ -1,0 +1,42 @@
+-- Laws of lines, and of what they print.
+use Rattle.std.specs.Prelude.{◌≡◌, ℕ, ◌<◌, ◌≤◌, List, [], ◌++◌, length, true, All}
+use Rattle.rep_lines.specs.Lines.{whole_lines, pending, lines_after, joined, IsUnbroken}
+use Rattle.rep_lines.specs.Runs.{Stepped, halts, printed, is_stopped}
+use Rattle.rep_lines.specs.Limits.{limited}
+use Rattle.rep_lines.specs.Fed.{Begins, Standing, Fed, prints_from, stops_from}
+
+-- the lines, each with its end, and the bytes without an end are the bytes, and no line has an end within
+pub record LinesJoin (bytes : List ℕ) : Type 0 where
+  pub all : joined (whole_lines [] bytes) ++ pending [] bytes ≡ bytes
+  pub lines : All IsUnbroken (whole_lines [] bytes)
+  pub rest : IsUnbroken (pending [] bytes)
+
+-- bytes have no other lines
+pub record LinesAreThese (lines : List (List ℕ)) (rest : List ℕ) : Type 0 where
+  pub whole : whole_lines [] (joined lines ++ rest) ≡ lines
+  pub last : pending [] (joined lines ++ rest) ≡ rest
+
+-- lines that come in two pieces are the lines of both together
+abbrev pub LinesOfPieces : List ℕ → List ℕ → List ℕ → Type 0
+LinesOfPieces front first second = lines_after front (first ++ second) ≡ whole_lines front first ++ lines_after (pending front first) second
+
+module _ {W : Type 0} (step : W → ℕ → List ℕ → Stepped W) where
+  -- what the whole lines of a front print is a front of what is printed of all
+  abbrev pub FrontIsPrinted : W → ℕ → List ℕ → List ℕ → Type 0
+  FrontIsPrinted w n read rest = Begins (printed step w n (whole_lines [] read)) (printed step w n (lines_after [] (read ++ rest)))
+
+  -- where a line ends the run, nothing behind it is printed
+  abbrev pub StopIsLast : W → ℕ → List (List ℕ) → List (List ℕ) → Type 0
+  StopIsLast w n lines more = is_stopped step w n lines ≡ true
+      → (printed step w n (lines ++ more) ≡ printed step w n lines) × (is_stopped step w n (lines ++ more) ≡ true)
+
+  -- what is still to be printed depends on where the run stands alone
+  abbrev pub GoesOn : Standing W → List ℕ → List ℕ → Standing W → List ℕ → Type 0
+  GoesOn old bytes out new rest = Fed step old bytes out new
+      → (prints_from step old (bytes ++ rest) ≡ out ++ prints_from step new rest) × (stops_from step old (bytes ++ rest) ≡ stops_from step new rest)
+
+  -- the limits are tested in this order, and a line within them is under its own step
+  pub record LimitsComeFirst (most_lines most_bytes : ℕ) (refusal : ℕ → ℕ → List ℕ) (w : W) (n : ℕ) (line : List ℕ) : Type 0 where
+    pub many : most_lines < n → limited most_lines most_bytes refusal step w n line ≡ halts w (refusal n 2)
+    pub long : n ≤ most_lines → most_bytes < length line → limited most_lines most_bytes refusal step w n line ≡ halts w (refusal n 1)
+    pub within : n ≤ most_lines → length line ≤ most_bytes → limited most_lines most_bytes refusal step w n line ≡ step w n line

@@ -1,0 +1,47 @@
+//! Laws of lines and of what they print, for a step of any kind.
+ghost use Rattle.std.specs.Prelude.{ℕ, List, All};
+ghost use Rattle.rep_lines.specs.Lines.{IsUnbroken};
+ghost use Rattle.rep_lines.specs.Runs.{Stepped};
+ghost use Rattle.rep_lines.specs.Fed.{Standing};
+ghost use Rattle.rep_lines.specs.Laws.{LinesJoin, LinesAreThese, LinesOfPieces, FrontIsPrinted, StopIsLast, GoesOn, LimitsComeFirst};
+
+/// Each byte stands in one line or behind the last, and no line goes over an end.
+pub fn lines_join_to_the_bytes()
+    ensures { (bytes : List ℕ) → LinesJoin bytes }
+{}
+
+/// Bytes are parted into lines in one way only.
+pub fn lines_are_these()
+    ensures { (lines : List (List ℕ)) (rest : List ℕ) → All IsUnbroken lines → IsUnbroken rest
+        → LinesAreThese lines rest }
+{}
+
+/// It makes no difference how bytes are cut into pieces.
+pub fn lines_of_pieces()
+    ensures { (front first second : List ℕ) → LinesOfPieces front first second }
+{}
+
+/// What has been printed of a front stays, whatever follows.
+pub fn front_is_printed<W>()
+    ensures { (step : W → ℕ → List ℕ → Stepped W) (w : W) (n : ℕ) (read rest : List ℕ)
+        → FrontIsPrinted step w n read rest }
+{}
+
+/// A line that ends the run is the last that prints.
+pub fn stop_is_last<W>()
+    ensures { (step : W → ℕ → List ℕ → Stepped W) (w : W) (n : ℕ) (lines more : List (List ℕ))
+        → StopIsLast step w n lines more }
+{}
+
+/// A run that was fed a piece goes on as one that had started where it stands.
+pub fn run_goes_on<W>()
+    ensures { (step : W → ℕ → List ℕ → Stepped W) (old : Standing W) (bytes out : List ℕ) (new : Standing W)
+        (rest : List ℕ) → GoesOn step old bytes out new rest }
+{}
+
+/// What the limits of a script's lines refuse.
+pub fn limits_come_first<W>()
+    ensures { (step : W → ℕ → List ℕ → Stepped W) (most_lines most_bytes : ℕ)
+        (refusal : ℕ → ℕ → List ℕ) (w : W) (n : ℕ) (line : List ℕ)
+        → LimitsComeFirst step most_lines most_bytes refusal w n line }
+{}

@@ -1,0 +1,8 @@
+-- The lemmas of this crate, from the bottom up.
+pub mod KeyWalk
+pub mod RowFit
+pub mod SameValues
+pub mod KeptTables
+pub mod FittingTests
+pub mod Shapes
+mod ShapeExamples

@@ -1,0 +1,108 @@
+//! Rows beside keys and beside one another, by the columns of a table.
+ghost use Rattle.std.specs.Prelude.{◌≡◌, ◌<◌, ◌↔◌, length, slice_get, IsTrue};
+ghost use Rattle.rep_values.specs.Number.{IsKeyLen};
+ghost use Rattle.rep_schema.specs.Tables.{beside, key_of, columns_of, constraints_of, constraint_columns_of, picked};
+
+use crate::{Column, Schema};
+use rep_values::{Key, Value, compare_values, same_value};
+use std::cmp::Ordering;
+
+/// Where a row stands beside a key: before it, at it or behind it. It takes no memory and builds no key.
+pub fn compare_row(columns: &[Column], key: &[Value], row: &[Value]) -> Ordering
+    ensures { result ≡ beside columns.now key.now row.now }
+{
+    let mut read = 0;
+    for i in 0..columns.len().min(row.len()) {
+        if columns[i].key {
+            if read == key.len() {
+                return Ordering::Greater;
+            }
+            match compare_values(&row[i], &key[read]) {
+                Ordering::Equal => read += 1,
+                Ordering::Less => return Ordering::Less,
+                Ordering::Greater => return Ordering::Greater,
+            }
+        }
+    }
+    if read == key.len() {
+        Ordering::Equal
+    } else {
+        Ordering::Less
+    }
+}
+
+/// The key of a row: its values in the key columns, of which there are 1 to 4.
+pub fn key_of(columns: &[Column], row: &[Value]) -> Key
+    requires { IsKeyLen (length (key_of columns.now row.now)) }
+    ensures { result ≡ key_of columns.now row.now }
+{
+    let mut cells = [Value::Num(0); 4];
+    let mut count = 0;
+    for i in 0..columns.len().min(row.len()) {
+        if columns[i].key {
+            cells[count] = row[i];
+            count += 1;
+        }
+    }
+    match Key::of(&cells[..count]) {
+        Some(key) => key,
+        None => unreachable!(),
+    }
+}
+
+/// Whether a row has this key.
+pub fn has_key(columns: &[Column], key: &[Value], row: &[Value]) -> bool
+    ensures { IsTrue result ↔ (key_of columns.now row.now ≡ key.now) }
+{
+    compare_row(columns, key, row).is_eq()
+}
+
+/// The columns of a table of the schema.
+pub fn columns_of(schema: &Schema, table: u32) -> &[Column]
+    requires { table < length schema.now.tables }
+    ensures { result.now ≡ columns_of schema.now table }
+{
+    schema.tables.at(table as usize).columns.as_slice()
+}
+
+/// How many secondary constraints a table of the schema has.
+pub fn constraint_count(schema: &Schema, table: u32) -> usize
+    requires { table < length schema.now.tables }
+    ensures { result ≡ length (constraints_of schema.now table) }
+{
+    let entry = schema.tables.at(table as usize);
+    entry.constraints.len()
+}
+
+/// The places of the columns of a secondary constraint, in rising order.
+pub fn constraint_columns(schema: &Schema, table: u32, constraint: u32) -> &[u32]
+    requires table { table < length schema.now.tables }
+    requires constraint { constraint < length (constraints_of schema.now table) }
+    ensures { result.now ≡ constraint_columns_of schema.now table constraint }
+{
+    let entry = schema.tables.at(table as usize);
+    entry.constraints.at(constraint as usize).columns.as_slice()
+}
+
+/// Whether two rows have the same value at a place, or both none.
+fn same_cell(a: &[Value], b: &[Value], place: u32) -> bool
+    ensures { IsTrue result ↔ (slice_get a.now place ≡ slice_get b.now place) }
+{
+    match (a.get(place as usize), b.get(place as usize)) {
+        (Some(x), Some(y)) => same_value(x, y),
+        (None, None) => true,
+        (Some(_), None) | (None, Some(_)) => false,
+    }
+}
+
+/// Whether two rows have the same values at these places.
+pub fn same_picked(places: &[u32], a: &[Value], b: &[Value]) -> bool
+    ensures { IsTrue result ↔ (picked places.now a.now ≡ picked places.now b.now) }
+{
+    for place in places {
+        if !same_cell(a, b, *place) {
+            return false;
+        }
+    }
+    true
+}

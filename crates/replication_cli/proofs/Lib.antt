@@ -1,0 +1,4 @@
+-- The lemmas of this crate.
+pub mod HaltLemmas
+pub mod ToldLemmas
+pub mod YoungSteps

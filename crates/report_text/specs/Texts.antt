@@ -1,0 +1,48 @@
+-- The lines of a report.
+use Rattle.std.specs.Prelude.{ℕ, List, [], ◌∷◌, ◌++◌, map, length, decimal, codes}
+use Rattle.std.specs.Fmt.{signed_decimal}
+use Rattle.std.specs.List.{flat_map}
+use Rattle.rep_values.specs.declared.value.Value.{Value}
+use Rattle.rep_values.specs.declared.value.Value.TheVariants as value
+use Rattle.rep_schema.specs.declared.schema.Schema.{Schema}
+use Rattle.rep_schema.specs.declared.schema.TableEntry.{TableEntry}
+use Rattle.rep_schema.specs.Tables.{Rows}
+use Rattle.report_text.specs.declared.printed.PushCount.{PushCount}
+use Rattle.report_text.specs.Sheet.{line, quoted}
+
+-- commit SITE NUMBER
+abbrev pub commit_text : List ℕ → ℕ → List ℕ
+commit_text site number = line (codes "commit") (site ∷ decimal number ∷ [])
+
+-- push A B sent N done D errors E low M
+abbrev pub push_text : List ℕ → List ℕ → PushCount → List ℕ
+push_text from to count =
+    line (codes "push") (from ∷ to ∷ codes "sent" ∷ decimal count.sent ∷ codes "done" ∷ decimal count.done
+    ∷ codes "errors" ∷ decimal count.errors ∷ codes "low" ∷ decimal count.low ∷ [])
+
+-- malformed LINE RULE
+abbrev pub malformed_text : ℕ → ℕ → List ℕ
+malformed_text number rule = line (codes "malformed") (decimal number ∷ decimal rule ∷ [])
+
+-- a number in decimal, a text between quotes
+abbrev pub value_text : Value → List ℕ
+value_text (value.Num z) = signed_decimal z
+value_text (value.Words text) = quoted text
+
+-- row VALUES
+abbrev pub row_text : List Value → List ℕ
+row_text values = line (codes "row") (map value_text values)
+
+-- table T COUNT, and its rows
+abbrev pub table_text : List ℕ → List (List Value) → List ℕ
+table_text name rows = line (codes "table") (name ∷ decimal (length rows) ∷ []) ++ flat_map row_text rows
+
+-- each table with its rows
+abbrev pub each_table : List TableEntry → List Rows → List ℕ
+each_table [] rows = []
+each_table (t ∷ ts) [] = []
+each_table (t ∷ ts) (r ∷ rs) = table_text t.name.0 r ++ each_table ts rs
+
+-- tables SITE, and each table in declared order
+abbrev pub tables_text : List ℕ → Schema → List Rows → List ℕ
+tables_text site schema tables = line (codes "tables") (site ∷ []) ++ each_table schema.tables tables

@@ -1,0 +1,61 @@
+//! Lines of at most 256 bytes, which are put into room that is there.
+ghost use Rattle.std.specs.Prelude.{◌≤◌};
+ghost use Rattle.report_text.specs.Sheet.{Appends};
+ghost use Rattle.report_text.specs.Texts.{commit_text, push_text, malformed_text};
+
+use crate::{Lines, Word};
+use rep_values::SiteName;
+
+/// What one push did: how many transactions were sent, how many were applied and how many are in error, and the
+/// receiver's low-water mark for the sender.
+#[derive(Clone, Copy, Debug, PartialEq, Eq)]
+pub struct PushCount {
+    pub sent: u64,
+    pub done: u64,
+    pub errors: u64,
+    pub low: u64,
+}
+
+/// `commit SITE NUMBER`
+pub fn commit_line(lines: &mut Lines, site: SiteName, number: u64)
+    requires { 256 ≤ lines.old.room }
+    ensures { Appends lines.old lines.new (commit_text site.0 number) }
+{
+    lines.put_line(b"commit", &[Word::Name(site.0), Word::Number(number)]);
+}
+
+/// `push A B sent N done D errors E low M`
+pub fn push_line(lines: &mut Lines, from: SiteName, to: SiteName, count: PushCount)
+    requires { 256 ≤ lines.old.room }
+    ensures { Appends lines.old lines.new (push_text from.0 to.0 count) }
+{
+    lines.put_line(
+        b"push",
+        &[
+            Word::Name(from.0),
+            Word::Name(to.0),
+            Word::Plain(b"sent"),
+            Word::Number(count.sent),
+            Word::Plain(b"done"),
+            Word::Number(count.done),
+            Word::Plain(b"errors"),
+            Word::Number(count.errors),
+            Word::Plain(b"low"),
+            Word::Number(count.low),
+        ],
+    );
+}
+
+/// `malformed LINE RULE`
+pub fn malformed_line(lines: &mut Lines, line: u32, rule: u8)
+    requires { 256 ≤ lines.old.room }
+    ensures { Appends lines.old lines.new (malformed_text line rule) }
+{
+    lines.put_line(
+        b"malformed",
+        &[
+            Word::Number(u64::from(line)),
+            Word::Number(u64::from(rule)),
+        ],
+    );
+}

@@ -1,0 +1,87 @@
+//! What the show commands print, which takes memory.
+ghost use Rattle.std.specs.Prelude.{◌≡◌, ◌≤◌, ◌<◌, ◌+◌, ◌*◌, ◌∷◌, ◌++◌, length, drop, map, OnOk};
+ghost use Rattle.std.specs.List.{flat_map};
+ghost use Rattle.rep_values.specs.Number.{IsRowLen};
+ghost use Rattle.rep_schema.specs.Tables.{rows_of};
+ghost use Rattle.report_text.specs.Sheet.{Appends, spaced};
+ghost use Rattle.report_text.specs.Texts.{value_text, row_text, table_text, tables_text};
+
+use crate::{Lines, Word};
+use rep_schema::RowStore;
+use rep_values::{NoMemory, Row, SiteName, TableName, Value};
+
+/// Each value behind a space.
+fn put_values(lines: &mut Lines, values: &[Value])
+    requires { 67 * length values.now ≤ lines.old.room }
+    ensures text { Appends lines.old lines.new (spaced (map value_text values.now)) }
+    ensures room { lines.old.room ≤ lines.new.room + 67 * length values.now }
+{
+    for value in values {
+        match *value {
+            Value::Num(number) => lines.put_words(&[Word::Signed(number)]),
+            Value::Words(text) => lines.put_words(&[Word::Quoted(text)]),
+        }
+    }
+}
+
+/// `row VALUES`
+fn add_row(lines: &mut Lines, values: &[Value]) -> Result<(), NoMemory>
+    requires { IsRowLen (length values.now) }
+    ensures { OnOk result (lines.new.bytes ≡ lines.old.bytes ++ row_text values.now) }
+{
+    lines.reserve(2_200)?;
+    lines.put(b"row");
+    put_values(lines, values);
+    lines.put(b"\n");
+    Ok(())
+}
+
+/// The row at a place that has one.
+fn row_at<R: RowStore>(store: &R, table: u32, place: u64) -> &Row
+    requires table { table < length (R.schema store.now).tables }
+    requires place { place < length (rows_of (R.tables store.now) table) }
+    ensures { drop place (rows_of (R.tables store.now) table) ≡ result.now ∷ drop (place + 1) (rows_of (R.tables store.now) table) }
+{
+    match store.row_in_order(table, place) {
+        Some(row) => row,
+        None => unreachable!(),
+    }
+}
+
+/// `table T COUNT`, and a line for each row in rising order of key.
+fn add_table<R: RowStore>(
+    lines: &mut Lines,
+    name: TableName,
+    store: &R,
+    table: u32,
+) -> Result<(), NoMemory>
+    requires { table < length (R.schema store.now).tables }
+    ensures { OnOk result (lines.new.bytes ≡ lines.old.bytes ++ table_text name.0 (rows_of (R.tables store.now) table)) }
+{
+    let count = store.count(table);
+    lines.reserve(256)?;
+    lines.put_line(b"table", &[Word::Name(name.0), Word::Number(count)]);
+    for place in 0..count {
+        add_row(lines, row_at(store, table, place).values())?;
+    }
+    Ok(())
+}
+
+/// What `show tables` prints of a site: its name, and each table in declared order with its rows. Where there is no
+/// memory, part of it may stand in the lines.
+pub fn add_tables<R: RowStore>(
+    lines: &mut Lines,
+    site: SiteName,
+    store: &R,
+) -> Result<(), NoMemory>
+    requires { length (R.schema store.now).tables ≤ 32 }
+    ensures { OnOk result (lines.new.bytes ≡ lines.old.bytes ++ tables_text site.0 (R.schema store.now) (R.tables store.now)) }
+{
+    lines.reserve(256)?;
+    lines.put_line(b"tables", &[Word::Name(site.0)]);
+    let schema = store.schema();
+    for table in 0..schema.tables.len() {
+        add_table(lines, schema.tables.at(table).name, store, table as u32)?;
+    }
+    Ok(())
+}

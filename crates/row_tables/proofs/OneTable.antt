@@ -1,0 +1,45 @@
+-- A store where one of its tables is read or changed.
+use Rattle.std.proofs.Common.{◌≡◌, ◌≢◌, ℕ, ◌<◌, List, [], length, get_or, set, sym, ap, ◌∙◌, subst, arith}
+use Rattle.std.proofs.Math.Seq.{map-set_same}
+use Rattle.std.proofs.lemmas.List.{get_or-set_other, get_or-set_same, map-set, get_or-map, length-map}
+use Rattle.rep_schema.specs.declared.schema.Schema.{Schema}
+use Rattle.rep_schema.specs.Tables.{rows_of, IsTable, AreTables}
+use Rattle.rep_schema.proofs.KeptTables.{AreTables-set}
+use Rattle.row_tables.specs.Stored.{StoredTable, rows_in, spare_in}
+
+module _ (stored : List StoredTable) (table : ℕ) (in_range : table < length stored) where
+  -- the rows that are kept for a table are its rows
+  pub rows_of-stored : (t : StoredTable) → t ≡ get_or stored table t → rows_of (rows_in stored) table ≡ t.rows
+  rows_of-stored t t_is = get_or-map (λ t. t.rows) stored table t [] in_range ∙ ap (λ t. t.rows) (sym t_is)
+
+  -- and the room is its room
+  pub spare-stored : (t : StoredTable) → t ≡ get_or stored table t → get_or (spare_in stored) table 0 ≡ t.spare
+  spare-stored t t_is = get_or-map (λ t. t.spare) stored table t 0 in_range ∙ ap (λ t. t.spare) (sym t_is)
+
+  pub spare-set : (t : StoredTable) → get_or (spare_in (set stored table t)) table 0 ≡ t.spare
+  spare-set t = ap (λ xs. get_or xs table 0) (map-set (λ t. t.spare) stored table t) ∙ get_or-set_same (spare_in stored) table t.spare 0 (omega (arith, in_range, length-map stored (λ t. t.spare)))
+
+-- the room of the other tables stays
+pub spare-set_other : (stored : List StoredTable) (table k : ℕ) (t : StoredTable) → k ≢ table → get_or (spare_in (set stored table t)) k 0 ≡ get_or (spare_in stored) k 0
+spare-set_other stored table k t other = ap (λ xs. get_or xs k 0) (map-set (λ t. t.spare) stored table t) ∙ get_or-set_other (spare_in stored) table k t.spare 0 other
+
+-- one table's rows are changed
+pub rows_in-set : (stored : List StoredTable) (table : ℕ) (t : StoredTable) → rows_in (set stored table t) ≡ set (rows_in stored) table t.rows
+rows_in-set stored table t = map-set (λ t. t.rows) stored table t
+
+-- no rows are changed
+pub rows_in-set_same : (stored : List StoredTable) (table : ℕ) (t n : StoredTable) → t ≡ get_or stored table t → n.rows ≡ t.rows → rows_in (set stored table n) ≡ rows_in stored
+rows_in-set_same stored table t n t_is same = map-set_same (λ t. t.rows) stored table n t (same ∙ ap (λ t. t.rows) t_is)
+
+-- each table of the schema is kept
+pub in_stored : (schema : Schema) (stored : List StoredTable) (table : ℕ) → table < length schema.tables → AreTables schema (rows_in stored) → table < length stored
+in_stored schema stored table below are = omega (arith, below, are.number, length-map stored (λ t. t.rows))
+
+-- what is kept is a table of the schema
+pub stored_is_table : (schema : Schema) (stored : List StoredTable) (table : ℕ) (t : StoredTable) → table < length schema.tables → AreTables schema (rows_in stored) → t ≡ get_or stored table t → IsTable schema table t.rows
+stored_is_table schema stored table t below are t_is =
+    subst (IsTable schema table) (rows_of-stored stored table (in_stored schema stored table below are) t t_is) (are.each table below)
+
+-- a table in the place of one
+pub AreTables-stored : (schema : Schema) (stored : List StoredTable) (table : ℕ) (t : StoredTable) → AreTables schema (rows_in stored) → IsTable schema table t.rows → AreTables schema (rows_in (set stored table t))
+AreTables-stored schema stored table t are is = subst (AreTables schema) (sym (rows_in-set stored table t)) (AreTables-set schema (rows_in stored) table t.rows are is)

@@ -1,0 +1,4 @@
+-- The lemmas of this crate.
+pub mod Worlds
+pub mod Seen
+pub mod StepAnswers

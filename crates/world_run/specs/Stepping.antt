@@ -1,0 +1,39 @@
+-- What a call that steps the world answers.
+use Rattle.std.specs.Prelude.{◌≡◌, List, ℕ, Option, Some, None, Result, Ok, Err}
+use Rattle.script_parse.specs.declared.command.Command.{Command}
+use Rattle.script_parse.specs.declared.command.Command.TheVariants as command
+use Rattle.report_text.specs.Sheet.{Sheet}
+use Rattle.world_run.specs.declared.stop.Stop.{Stop}
+use Rattle.world_run.specs.declared.stop.Stop.TheVariants.{Refused, Memory}
+use Rattle.world_run.specs.World.{WorldState}
+use Rattle.world_run.specs.Steps.{Outcome}
+
+-- the outcome is the new world and the printed bytes; none leaves the world, and so does want of memory
+abbrev pub Steps : Outcome → Result Sheet Stop → WorldState → WorldState → Type 0
+Steps outcome (Ok lines) old new = outcome ≡ Some (new, lines.bytes)
+Steps outcome (Err Refused) old new = (outcome ≡ None) × (new ≡ old)
+Steps outcome (Err Memory) old new = new ≡ old
+
+-- the same, but want of memory may leave some rows inserted
+abbrev pub StepsOrSome : Outcome → Result Sheet Stop → WorldState → WorldState → Type 0
+StepsOrSome outcome (Ok lines) old new = outcome ≡ Some (new, lines.bytes)
+StepsOrSome outcome (Err Refused) old new = (outcome ≡ None) × (new ≡ old)
+StepsOrSome outcome (Err Memory) old new = Unit {0}
+
+-- the value that is found, and none where the call refuses
+abbrev pub Finds : {A : Type 0} → Option A → Result A Stop → Type 0
+Finds found (Ok x) = found ≡ Some x
+Finds found (Err Refused) = found ≡ None
+Finds found (Err Memory) = Unit {0}
+
+-- a push may leave some rows inserted where there is no memory; no other command does
+abbrev pub StepsBy : Command → Outcome → Result Sheet Stop → WorldState → WorldState → Type 0
+StepsBy (command.Push from to count) = StepsOrSome
+StepsBy command.Nothing = Steps
+StepsBy (command.Site name) = Steps
+StepsBy (command.Table name columns) = Steps
+StepsBy command.Resume = Steps
+StepsBy (command.Txn site) = Steps
+StepsBy (command.Statement statement) = Steps
+StepsBy command.Commit = Steps
+StepsBy (command.Show what site) = Steps
