@@ -25,11 +25,14 @@ fn txn(rt: &impl Abort, alloc: Global) -> Result<Txn, NoMemory> {
     calls.push(Call::Update {
         table: 3,
         key: Key::of(&[Value::Num(1)]).expect(rt, "a key"),
-        parts: one(alloc, Part {
-            group: 2,
-            old: one(alloc, Value::Num(5))?,
-            new: one(alloc, Value::Num(7))?,
-        })?,
+        parts: one(
+            alloc,
+            Part {
+                group: 2,
+                old: one(alloc, Value::Num(5))?,
+                new: one(alloc, Value::Num(7))?,
+            },
+        )?,
     })?;
     calls.push(Call::Delete {
         table: 3,
@@ -42,7 +45,11 @@ fn txn(rt: &impl Abort, alloc: Global) -> Result<Txn, NoMemory> {
 fn outline(call: &Call) -> (u8, u32, usize) {
     match call {
         Call::Insert { table, row } => (1, *table, row.values().len()),
-        Call::Update { table, key: _, parts } => (2, *table, parts.len()),
+        Call::Update {
+            table,
+            key: _,
+            parts,
+        } => (2, *table, parts.len()),
         Call::Delete { table, row } => (3, *table, row.values().len()),
     }
 }
@@ -70,7 +77,11 @@ fn transactions_are_copied_whole(rt: HostRuntime) -> Result<(), Fail> {
 fn words_of(statement: &Statement) -> (u8, usize, usize) {
     match statement {
         Statement::Insert { table: _, values } => (1, values.len(), 0),
-        Statement::Update { table: _, key, sets } => (2, key.len(), sets.len()),
+        Statement::Update {
+            table: _,
+            key,
+            sets,
+        } => (2, key.len(), sets.len()),
         Statement::Delete { table: _, key } => (3, key.len(), 0),
     }
 }
@@ -88,7 +99,13 @@ fn statements_are_copied_whole(rt: HostRuntime) -> Result<(), Fail> {
     let update = Statement::Update {
         table,
         key: one(alloc, Literal::Num(1))?,
-        sets: one(alloc, Set { column, how: How::Add(2) })?,
+        sets: one(
+            alloc,
+            Set {
+                column,
+                how: How::Add(2),
+            },
+        )?,
     };
     assert!(rt; words_of(&update.copy(alloc)?) == (2, 1, 1));
     let delete = Statement::Delete {

@@ -53,7 +53,11 @@ fn names_have_at_most_30_bytes_and_begin_with_a_letter(rt: HostRuntime) {
 fn keys_have_1_to_4_values_and_rows_1_to_32(rt: HostRuntime) -> Result<(), Fail> {
     let values = [Value::Num(5); 33];
     for (number, is_key) in [(0, false), (1, true), (4, true), (5, false)] {
-        assert_eq!(rt; Key::of(&values[..number]).is_some(), is_key, "{number} values");
+        assert_eq!(rt;
+            Key::of(&values[..number]).is_some(),
+            is_key,
+            "{number} values"
+        );
     }
     for (number, is_row) in [(0, false), (1, true), (32, true), (33, false)] {
         let row = Row::of(rt.alloc(), &values[..number])?;
