@@ -7,3 +7,5 @@ pub mod FittingTests
 pub mod FoundRows
 pub mod Shapes
 mod ShapeExamples
+pub mod NamedColumns
+pub mod Changed

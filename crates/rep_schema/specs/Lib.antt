@@ -3,3 +3,6 @@ pub mod Limits
 pub mod Tables
 pub mod Fitting
 pub mod Shape
+pub mod Named
+pub mod Refusals
+pub mod Additions

@@ -1,8 +1,12 @@
 //! Schemas, what it means for rows to be their tables, and what a store of such rows gives.
 #![tactic(auto)]
 
+mod additions;
 mod compare;
 mod conditions;
+mod declare;
+mod named;
+mod refusals;
 mod schema;
 mod store;
 
@@ -10,6 +14,7 @@ pub use compare::{
     columns_of, compare_row, constraint_columns, constraint_count, has_key, key_of, same_picked,
 };
 pub use conditions::{fits_kind, is_in_range, is_keyed, is_unique, key_count, row_fits};
+pub use declare::{Declare, MethodWords, UniqueWords};
 pub use schema::{
     Column, Constraint, Group, Kind, Method, PriorityGroup, PriorityLevel, Schema, SiteEntry,
     TableEntry, UniqueMethod,

@@ -1,0 +1,10 @@
+-- The columns that a group names.
+use Rattle.std.proofs.Common.{◌≡◌, ◌∙◌, ap, []}
+use Rattle.rep_schema.specs.Refusals.{columns_step}
+use Rattle.rep_schema.specs.Named.{is_grouped}
+use Rattle.rep_schema.proofs.refusals.group_columns_refusal.Goals as goal
+
+pub returns : goal.returns
+returns c = c.columns_refusal.ensures
+    ∙ ap (λ columns. columns_step columns (is_grouped c.as_slice-2.result.now) [] c.args.names.now) c.as_slice.ensures
+    ∙ ap (λ others. columns_step c.args.table.now.columns (is_grouped others) [] c.args.names.now) c.as_slice-2.ensures
