@@ -8,4 +8,3 @@ pub mod FoundRows
 pub mod Shapes
 mod ShapeExamples
 pub mod NamedColumns
-pub mod Changed

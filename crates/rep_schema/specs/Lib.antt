@@ -5,4 +5,3 @@ pub mod Fitting
 pub mod Shape
 pub mod Named
 pub mod Refusals
-pub mod Additions

@@ -1,7 +1,6 @@
 //! Schemas, what it means for rows to be their tables, and what a store of such rows gives.
 #![tactic(auto)]
 
-mod additions;
 mod compare;
 mod conditions;
 mod declare;
