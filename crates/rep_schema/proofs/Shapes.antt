@@ -1,4 +1,4 @@
--- What the shape of a schema says of one of its tables.
+-- A schema that has its shape: the empty one, and what the shape says of one table.
 use Rattle.std.proofs.Common.{ℕ, ◌≤◌, List, [], ◌∷◌, length, Option, Some, None, zero, suc, arith}
 use Rattle.std.specs.Prelude.{slice_get, IfSome}
 use Rattle.std.specs.List.{All}
@@ -14,6 +14,20 @@ pub slice_get-All : {X : Type 0} (P : X → Type 0) (xs : List X) (i : ℕ) → 
 slice_get-All P [] i all = tt
 slice_get-All P (x ∷ xs) zero all = All-head P x xs all
 slice_get-All P (x ∷ xs) (suc i) all = slice_get-All P xs i (All-tail P x xs all)
+
+-- a schema without sites, tables and priority groups has its shape
+pub HasShape-empty : HasShape (record { sites = []; tables = []; priorities = [] })
+HasShape-empty = record {
+  masters = omega arith;
+  snapshots = omega arith;
+  site_names = λ i j d lt in_range. absurd (omega arith);
+  site_masters = λ k d in_range. absurd (omega arith);
+  tables = λ k d in_range. absurd (omega arith);
+  table_number = omega arith;
+  table_names = λ i j d lt in_range. absurd (omega arith);
+  priorities = λ k d in_range. absurd (omega arith);
+  priority_names = λ i j d lt in_range. absurd (omega arith);
+}
 
 module _ (schema : Schema) (shape : HasShape schema) (table : ℕ) where
   -- a table of the schema has its shape

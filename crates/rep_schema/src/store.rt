@@ -9,6 +9,7 @@ use rep_values::{Key, NoMemory, Row};
 /// The rows of each table of a schema, in rising order of key, and room for more of them. `reserve` alone takes
 /// memory. No call changes the schema, and none changes another table than its own.
 pub trait RowStore: Send + Drop {
+    // What contracts see: the schema, the rows of each table, and for how many new keys each table has room.
     ghost schema: { Self → SchemaValue };
 
     ghost tables: { Self → List Rows };
