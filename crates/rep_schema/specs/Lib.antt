@@ -5,3 +5,4 @@ pub mod Fitting
 pub mod Shape
 pub mod Named
 pub mod Refusals
+pub mod Rules

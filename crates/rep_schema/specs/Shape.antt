@@ -1,5 +1,5 @@
 -- The shape of a schema: its counts are within the limits, its names are distinct, and each place in it is the place of something.
-use Rattle.std.specs.Prelude.{◌≡◌, ◌≢◌, ℕ, ◌<◌, ◌≤◌, Bool, List, length, map, codes, Option, Some, None, is_some, is_none, IfSome, Any}
+use Rattle.std.specs.Prelude.{◌≡◌, ◌≢◌, ℕ, ◌<◌, ◌≤◌, Bool, List, [], length, map, codes, Option, Some, None, is_some, is_none, IfSome, Any}
 use Rattle.std.specs.List.{All, AllPairs, Contains, count_by}
 use Rattle.std.specs.List.Sorted.{IsStrictlyIncreasing}
 use Rattle.rep_schema.specs.declared.schema.Schema.{Schema}
@@ -134,3 +134,7 @@ pub record HasShape (schema : Schema) : Type 0 where
   pub table_names : AreDistinct (map (λ t. t.name) schema.tables)
   pub priorities : All HasLevelShape schema.priorities
   pub priority_names : AreDistinct (map (λ p. p.name) schema.priorities)
+
+-- the schema in which nothing is declared
+abbrev pub no_schema : Schema
+no_schema = record { sites = []; tables = []; priorities = [] }

@@ -6,6 +6,7 @@ mod conditions;
 mod declare;
 mod named;
 mod refusals;
+mod rules;
 mod schema;
 mod store;
 
@@ -14,6 +15,7 @@ pub use compare::{
 };
 pub use conditions::{fits_kind, is_in_range, is_keyed, is_unique, key_count, row_fits};
 pub use declare::{Declare, MethodWords, UniqueWords};
+pub use refusals::refusal_of;
 pub use schema::{
     Column, Constraint, Group, Kind, Method, PriorityGroup, PriorityLevel, Schema, SiteEntry,
     TableEntry, UniqueMethod,
