@@ -23,4 +23,6 @@ pub use schema::{
 pub use store::RowStore;
 
 #[cfg(test)]
+mod declare_tests;
+#[cfg(test)]
 mod tests;

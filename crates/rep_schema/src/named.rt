@@ -96,9 +96,7 @@ pub fn find_site<'a>(sites: &'a [SiteEntry], name: &SiteName) -> Option<&'a Site
 pub fn has_master(sites: &[SiteEntry], name: &SiteName) -> bool
     ensures { result ≡ list_any (λ site. is_site name.now site && is_master site) sites.now }
 {
-    sites
-        .iter()
-        .any(|site| site.name.0.is_same(&name.0) && site.master.is_none())
+    sites.iter().any(|site| site.name.0.is_same(&name.0) && site.master.is_none())
 }
 
 /// The table of a name.

@@ -10,11 +10,12 @@ ghost use Rattle.rep_schema.specs.Refusals.{refusal_of, first_refusal, refused, 
 ghost use Rattle.rep_schema.specs.Named.{column_place, is_column, is_grouped, is_constrained};
 
 use crate::named::{
-    OnColumns, column_place, find_constraint, find_group, find_priority, find_site, find_table, has_master, is_taken,
+    OnColumns, column_place, find_constraint, find_group, find_priority, find_site, find_table,
+    has_master, is_taken,
 };
 use crate::{
-    Column, Declare, MethodWords, PriorityLevel, Schema, SiteEntry, TableEntry,
-    UniqueWords, is_in_range, key_count,
+    Column, Declare, MethodWords, PriorityLevel, Schema, SiteEntry, TableEntry, UniqueWords,
+    is_in_range, key_count,
 };
 use rep_values::{Limit, Literal, Name, Refusal, SiteName, TableName, Value, same_value};
 
@@ -178,7 +179,11 @@ fn group_columns_refusal(table: &TableEntry, names: &[Name]) -> Option<Refusal>
 fn constraint_columns_refusal(table: &TableEntry, names: &[Name]) -> Option<Refusal>
     ensures { result ≡ columns_step table.now.columns (is_constrained table.now.constraints) [] names.now }
 {
-    columns_refusal(table.columns.as_slice(), table.constraints.as_slice(), names)
+    columns_refusal(
+        table.columns.as_slice(),
+        table.constraints.as_slice(),
+        names,
+    )
 }
 
 fn is_shadow(name: &Name) -> bool
@@ -369,7 +374,6 @@ fn site_level_refusal(schema: &Schema, site: &SiteName, level: i64) -> Option<Re
     None
 }
 
-
 fn convergent_refusal(schema: &Schema, table: &TableName) -> Option<Refusal>
     ensures { result ≡ refusal_of schema.now (Declare.Convergent table.now) }
 {
@@ -387,20 +391,32 @@ pub fn refusal_of(schema: &Schema, declaration: &Declare) -> Option<Refusal>
         Declare::Site { name } => site_refusal(schema, name),
         Declare::SnapSite { name, master } => snapshot_site_refusal(schema, name, master),
         Declare::Table { name, columns } => table_refusal(schema, name, columns.as_slice()),
-        Declare::Group { table, group, columns } => {
-            group_refusal(schema, table, group, columns.as_slice())
-        }
-        Declare::Method { table, group, method } => {
-            group_method_refusal(schema, table, group, method)
-        }
-        Declare::Priority { group, value, level } => priority_refusal(schema, group, value, *level),
+        Declare::Group {
+            table,
+            group,
+            columns,
+        } => { group_refusal(schema, table, group, columns.as_slice()) }
+        Declare::Method {
+            table,
+            group,
+            method,
+        } => { group_method_refusal(schema, table, group, method) }
+        Declare::Priority {
+            group,
+            value,
+            level,
+        } => priority_refusal(schema, group, value, *level),
         Declare::SiteLevel { site, level } => site_level_refusal(schema, site, *level),
-        Declare::Unique { table, constraint, columns } => {
-            unique_refusal(schema, table, constraint, columns.as_slice())
-        }
-        Declare::UniqueMethod { table, constraint, method } => {
-            unique_method_refusal(schema, table, constraint, method)
-        }
+        Declare::Unique {
+            table,
+            constraint,
+            columns,
+        } => { unique_refusal(schema, table, constraint, columns.as_slice()) }
+        Declare::UniqueMethod {
+            table,
+            constraint,
+            method,
+        } => { unique_method_refusal(schema, table, constraint, method) }
         Declare::Convergent { table } => convergent_refusal(schema, table),
     }
 }

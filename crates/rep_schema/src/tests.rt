@@ -9,7 +9,7 @@ use std::cmp::Ordering;
 use std::process::Abort;
 use std::test::Fail;
 
-fn name(rt: &impl Abort, bytes: &[u8]) -> Name {
+pub(crate) fn name(rt: &impl Abort, bytes: &[u8]) -> Name {
     Name::of(bytes).expect(rt, "a name")
 }
 
@@ -17,7 +17,7 @@ fn words(rt: &impl Abort, bytes: &[u8]) -> Value {
     Value::Words(Text::of(bytes).expect(rt, "a text"))
 }
 
-fn column(rt: &impl Abort, bytes: &[u8], kind: Kind, key: bool) -> Column {
+pub(crate) fn column(rt: &impl Abort, bytes: &[u8], kind: Kind, key: bool) -> Column {
     Column {
         name: name(rt, bytes),
         kind,
@@ -101,7 +101,7 @@ fn table(rt: &impl Abort, alloc: Global) -> Result<TableEntry, NoMemory> {
     })
 }
 
-fn schema(rt: &impl Abort, alloc: Global) -> Result<Schema, NoMemory> {
+pub(crate) fn schema(rt: &impl Abort, alloc: Global) -> Result<Schema, NoMemory> {
     Ok(Schema {
         sites: Items::from_vec(vec![in alloc;
             SiteEntry {
