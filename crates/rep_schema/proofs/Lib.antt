@@ -7,3 +7,5 @@ pub mod FittingTests
 pub mod FoundRows
 pub mod Shapes
 mod ShapeExamples
+mod GroupExamples
+mod ChangeExamples

@@ -3,3 +3,5 @@ pub mod Limits
 pub mod Tables
 pub mod Fitting
 pub mod Shape
+pub mod Groups
+pub mod Changes

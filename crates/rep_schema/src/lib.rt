@@ -1,11 +1,13 @@
 //! Schemas, what it means for rows to be their tables, and what a store of such rows gives.
 #![tactic(auto)]
 
+mod change;
 mod compare;
 mod conditions;
 mod schema;
 mod store;
 
+pub use change::{Change, Changes};
 pub use compare::{
     columns_of, compare_row, constraint_columns, constraint_count, has_key, key_of, same_picked,
 };
