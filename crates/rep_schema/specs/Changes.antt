@@ -1,5 +1,5 @@
 -- Changes of rows: what one does to the tables, what taking it back does, and which changes lead from tables to tables.
-use Rattle.std.specs.Prelude.{◌≡◌, ℕ, ◌<◌, List, [], ◌∷◌, length, slice_set, Option, Some, None, is_none, IfSome, ◌==◌, ◌&&◌, count_by}
+use Rattle.std.specs.Prelude.{◌≡◌, ◌≢◌, ℕ, ◌<◌, List, [], ◌∷◌, length, slice_set, Option, Some, None, is_none, IfSome, ◌==◌, ◌&&◌, count_by}
 use Rattle.rep_schema.specs.declared.schema.Schema.{Schema}
 use Rattle.rep_schema.specs.declared.schema.Column.{Column}
 use Rattle.rep_schema.specs.declared.change.Change.{Change}
@@ -21,6 +21,15 @@ turned change = record { table = change.table; before = change.after; after = ch
 -- the tables after a change is taken back
 abbrev pub unmade : Schema → Change → List Rows → List Rows
 unmade schema change tables = made schema (turned change) tables
+
+-- a change of one row of the schema: what is there fits, differs, and has one key
+pub record ChangeFits (schema : Schema) (change : Change) : Type 0 where
+  pub table : change.table < length schema.tables
+  pub keyed : IsKeyed (columns_of schema change.table)
+  pub before : IfSome change.before (λ row. RowFits (columns_of schema change.table) row)
+  pub after : IfSome change.after (λ row. RowFits (columns_of schema change.table) row)
+  pub differ : change.before ≢ change.after
+  pub same_key : IfSome change.before (λ a. IfSome change.after (λ b. key_of (columns_of schema change.table) a ≡ key_of (columns_of schema change.table) b))
 
 -- a change that these tables allow: the row before is there, the row after takes its place, fits and is unique
 pub record IsChange (schema : Schema) (change : Change) (tables : List Rows) : Type 0 where

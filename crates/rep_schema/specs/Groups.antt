@@ -56,6 +56,10 @@ with_values [] values xs = xs
 with_values (p ∷ ps) [] xs = xs
 with_values (p ∷ ps) (v ∷ vs) xs = with_values ps vs (slice_set xs p v)
 
+-- the columns themselves of a table's group
+abbrev pub columns_in_group : Schema → ℕ → ℕ → List Column
+columns_in_group schema table group = values_at (group_columns_of schema table group) (columns_of schema table)
+
 -- a row's values in a group
 abbrev pub group_values : Schema → ℕ → ℕ → Cells → Cells
 group_values schema table group row = values_at (group_columns_of schema table group) row

@@ -1,0 +1,5 @@
+-- The definitions of this crate.
+pub mod Fits
+pub mod FitTests
+pub mod Differing
+pub mod ChangeCalls
