@@ -5,6 +5,8 @@ pub mod SameValues
 pub mod KeptTables
 pub mod FittingTests
 pub mod FoundRows
+pub mod TakingBack
+pub mod Leading
 pub mod Shapes
 mod ShapeExamples
 mod GroupExamples

@@ -1,9 +1,9 @@
 -- Changes of rows: what one does to the tables, what taking it back does, and which changes lead from tables to tables.
-use Rattle.std.specs.Prelude.{◌≡◌, ◌≢◌, ℕ, ◌<◌, List, [], ◌∷◌, length, slice_set, Option, Some, None, is_none, IfSome, ◌==◌, ◌&&◌, count_by}
+use Rattle.std.specs.Prelude.{◌≡◌, ◌≢◌, ℕ, ◌<◌, Bool, List, [], ◌∷◌, length, slice_set, Option, Some, None, is_none, IfSome, ◌==◌, ◌&&◌, count_by}
 use Rattle.rep_schema.specs.declared.schema.Schema.{Schema}
 use Rattle.rep_schema.specs.declared.schema.Column.{Column}
 use Rattle.rep_schema.specs.declared.change.Change.{Change}
-use Rattle.rep_schema.specs.Tables.{Cells, Rows, columns_of, key_of, find_row, put_row, take_row, rows_of, RowFits, IsUniqueRow, IsKeyed}
+use Rattle.rep_schema.specs.Tables.{Cells, Rows, columns_of, key_of, find_row, put_row, take_row, rows_of, RowFits, IsUniqueRow, IsKeyed, AreTables}
 
 abbrev pub made_in : List Column → Option Cells → Option Cells → Rows → Rows
 made_in columns before (Some row) rows = put_row columns row rows
@@ -45,6 +45,16 @@ abbrev pub LeadsTo : Schema → List Change → List Rows → List Rows → Type
 LeadsTo schema [] earlier later = earlier ≡ later
 LeadsTo schema (change ∷ changes) earlier later = IsChange schema change earlier × LeadsTo schema changes (made schema change earlier) later
 
+-- there are earlier tables of the schema from which the changes lead to these
+pub record HaveLed (schema : Schema) (changes : List Change) (tables : List Rows) : Type 0 where
+  pub earlier : List Rows
+  pub are : AreTables schema earlier
+  pub lead : LeadsTo schema changes earlier tables
+
+-- the change took a row of the table away
+abbrev pub is_taken_from : ℕ → Change → Bool
+is_taken_from table change = change.table == table && is_none change.after
+
 -- the room that taking these changes back wants in a table: one row for each change there that left none
 abbrev pub room_for : ℕ → List Change → ℕ
-room_for table changes = count_by (λ change. change.table == table && is_none change.after) changes
+room_for table changes = count_by (is_taken_from table) changes

@@ -7,7 +7,7 @@ mod conditions;
 mod schema;
 mod store;
 
-pub use change::{Change, Changes};
+pub use change::{Change, Changes, undo};
 pub use compare::{
     columns_of, compare_row, constraint_columns, constraint_count, has_key, key_of, same_picked,
 };
