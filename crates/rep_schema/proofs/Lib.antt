@@ -5,9 +5,12 @@ pub mod SameValues
 pub mod KeptTables
 pub mod FittingTests
 pub mod FoundRows
+pub mod ValuesAt
 pub mod TakingBack
 pub mod Leading
 pub mod Shapes
+mod FewNumbers
+pub mod GroupShapes
 mod ShapeExamples
 mod GroupExamples
 mod ChangeExamples

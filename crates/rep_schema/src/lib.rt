@@ -4,6 +4,7 @@
 mod change;
 mod compare;
 mod conditions;
+mod groups;
 mod schema;
 mod store;
 
@@ -12,6 +13,9 @@ pub use compare::{
     columns_of, compare_row, constraint_columns, constraint_count, has_key, key_of, same_picked,
 };
 pub use conditions::{fits_kind, is_in_range, is_keyed, is_unique, key_count, row_fits};
+pub use groups::{
+    GroupColumns, SHADOW, group_columns, groups_of, has_values, same_values_at, values_at,
+};
 pub use schema::{
     Column, Constraint, Group, Kind, Method, PriorityGroup, PriorityLevel, Schema, SiteEntry,
     TableEntry, UniqueMethod,
