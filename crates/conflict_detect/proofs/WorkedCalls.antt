@@ -13,7 +13,7 @@ use Rattle.rep_schema.specs.Groups.{group_columns_of}
 use Rattle.rep_calls.specs.declared.call.Part.{Part}
 use Rattle.rep_calls.specs.declared.call.Call.{Call}
 use Rattle.rep_calls.specs.declared.call.Call.TheVariants.{Insert, Update, Delete}
-use Rattle.conflict_detect.specs.declared.detect.Found.TheVariants.{NoRow, Matches, Differs}
+use Rattle.conflict_detect.specs.declared.detection.Found.TheVariants.{NoRow, Matches, Differs}
 use Rattle.conflict_detect.specs.FitTests.{txn_fits}
 use Rattle.conflict_detect.specs.Differing.{found_of}
 use Rattle.conflict_detect.specs.ChangeCalls.{call_of, with_parts, parts_between}

@@ -6,8 +6,8 @@ use Rattle.rep_schema.specs.Groups.{group_values, are_same, differing_groups}
 use Rattle.rep_calls.specs.declared.call.Part.{Part}
 use Rattle.rep_calls.specs.declared.call.Call.{Call}
 use Rattle.rep_calls.specs.declared.call.Call.TheVariants.{Insert, Update, Delete}
-use Rattle.conflict_detect.specs.declared.detect.Found.{Found}
-use Rattle.conflict_detect.specs.declared.detect.Found.TheVariants.{NoRow, Matches, Differs}
+use Rattle.conflict_detect.specs.declared.detection.Found.{Found}
+use Rattle.conflict_detect.specs.declared.detection.Found.TheVariants.{NoRow, Matches, Differs}
 
 -- the row has the part's old values
 abbrev pub is_matched : Schema → ℕ → Cells → Part → Bool

@@ -2,8 +2,10 @@
 //! changed row.
 #![tactic(auto)]
 
-mod detect;
+mod detection;
+mod fitting;
 mod group_set;
 
-pub use detect::Found;
+pub use detection::Found;
+pub use fitting::fits;
 pub use group_set::GroupSet;

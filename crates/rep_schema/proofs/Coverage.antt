@@ -1,10 +1,10 @@
 -- Every column is a key column or in a group, and a group's columns are the table's.
-use Rattle.std.proofs.Common.{◌≡◌, ◌≢◌, ℕ, zero, suc, ◌+◌, ◌<◌, ◌≤◌, List, [], ◌∷◌, ◌++◌, length, get_or, Bool, true, false, cond, Some, None, refl, sym, ap, ◌∙◌, subst, inl, inr, arith}
+use Rattle.std.proofs.Common.{◌≡◌, ◌≢◌, ℕ, zero, suc, ◌+◌, ◌<◌, ◌≤◌, ◌⊎◌, List, [], ◌∷◌, ◌++◌, length, get_or, Bool, true, false, cond, Some, None, refl, sym, ap, ◌∙◌, subst, inl, inr, arith}
 use Rattle.std.specs.Prelude.{Option, IfSome, slice_get, ◌||◌, ◌==◌}
 use Rattle.std.specs.List.{AllByRecursion, Any, Contains, list_any, range_with_len}
 use Rattle.std.proofs.lemmas.Bool.{eq-eqb}
 use Rattle.std.proofs.lemmas.Bool.Decides.{eqb_tells}
-use Rattle.std.proofs.lemmas.List.Elements.{Contains-append_left, Contains-push, recursion_from_All}
+use Rattle.std.proofs.lemmas.List.Elements.{Contains-append_left, Contains-append_cases, Contains-push, recursion_from_All}
 use Rattle.std.proofs.lemmas.List.Folds.{Any-from_list_any}
 use Rattle.std.proofs.lemmas.List.FromFn.{length-range_with_len, get_or-range_with_len}
 use Rattle.std.proofs.lemmas.Option.{slice_get_read}
@@ -48,6 +48,29 @@ shadow_lists groups n (c ∷ cs) (suc k) d within plain alone =
         either true later = refl
         either false later = later
 
+module _ (schema : Schema) (table : ℕ) where
+  -- a named group's number is one of the table's
+  pub Contains-named : (group : ℕ) → group < length (groups_of schema table) → Contains (group_numbers_of schema table) group
+  Contains-named group below =
+      let counted = length-range_with_len 0 (length (groups_of schema table)) in
+      let here : get_or (range_with_len 0 (length (groups_of schema table))) group group ≡ group = get_or-range_with_len 0 (length (groups_of schema table)) group group below ∙ omega arith in
+      Contains-append_left (range_with_len 0 (length (groups_of schema table))) (shadow_group ∷ []) group (group, omega (arith, counted, below), here)
+
+  -- so is the shadow group's
+  pub Contains-shadow : Contains (group_numbers_of schema table) shadow_group
+  Contains-shadow = Contains-push (range_with_len 0 (length (groups_of schema table))) shadow_group
+
+  -- and there are no others
+  pub group_number_cases : (group : ℕ) → Contains (group_numbers_of schema table) group → (group < length (groups_of schema table)) ⊎ (group ≡ shadow_group)
+  group_number_cases group has = elim (Contains-append_cases (range_with_len 0 (length (groups_of schema table))) (shadow_group ∷ []) group has) [
+    | inl named ↦
+        let within : named.0 < length (groups_of schema table) = omega (arith, named.1, length-range_with_len 0 (length (groups_of schema table))) in
+        inl (omega (arith, within, sym named.2 ∙ get_or-range_with_len 0 (length (groups_of schema table)) named.0 group within))
+    | inr last ↦
+        let first : last.0 ≡ 0 = omega (arith, last.1) in
+        inr (sym (ap (λ k. get_or (shadow_group ∷ []) k group) (sym first) ∙ last.2))
+  ]
+
 module _ (schema : Schema) (shape : HasShape schema) (table : ℕ) where
   -- the columns of a group are the table's
   pub group_columns_of-below : (group : ℕ) → AllByRecursion (λ c. c < length (columns_of schema table)) (group_columns_of schema table group)
@@ -62,17 +85,6 @@ module _ (schema : Schema) (shape : HasShape schema) (table : ℕ) where
       named None is = tt
       named (Some entry) is = recursion_from_All (λ c. c < length (columns_of schema table)) entry.columns is.columns.in_range
 
-  -- a named group's number is one of the table's
-  pub Contains-named : (group : ℕ) → group < length (groups_of schema table) → Contains (group_numbers_of schema table) group
-  Contains-named group below =
-      let counted = length-range_with_len 0 (length (groups_of schema table)) in
-      let here : get_or (range_with_len 0 (length (groups_of schema table))) group group ≡ group = get_or-range_with_len 0 (length (groups_of schema table)) group group below ∙ omega arith in
-      Contains-append_left (range_with_len 0 (length (groups_of schema table))) (shadow_group ∷ []) group (group, omega (arith, counted, below), here)
-
-  -- so is the shadow group's
-  pub Contains-shadow : Contains (group_numbers_of schema table) shadow_group
-  Contains-shadow = Contains-push (range_with_len 0 (length (groups_of schema table))) shadow_group
-
   -- a column that is no key column is in a group
   pub group_of_column : (k : ℕ) (d : Column) → k < length (columns_of schema table) → (get_or (columns_of schema table) k d).key ≡ false
       → (group : ℕ) × Contains (group_numbers_of schema table) group × (list_any (λ c. c == k) (group_columns_of schema table group) ≡ true)
@@ -83,8 +95,8 @@ module _ (schema : Schema) (shape : HasShape schema) (table : ℕ) where
           let named = Any-from_list_any (λ (g : Group). list_any (λ c. c == k) g.columns) (groups_of schema table) grouped in
           let other : named.0 ≢ shadow_group = omega (arith, named.2, length-groups_of schema shape table) in
           let there : slice_get (groups_of schema table) named.0 ≡ Some named.1 = slice_get_read (groups_of schema table) (length (groups_of schema table)) named.0 named.1 refl named.2 (sym named.3) in
-          (named.0, Contains-named named.0 named.2, rw (group_columns_of-named schema table named.0 other, there) named.4)
+          (named.0, Contains-named schema table named.0 named.2, rw (group_columns_of-named schema table named.0 other, there) named.4)
       go false alone =
           let zeroed : 0 + k ≡ k = omega arith in
           let listed = shadow_lists (groups_of schema table) 0 (columns_of schema table) k d within plain (rw zeroed alone) in
-          (shadow_group, Contains-shadow, rw (group_columns_of-shadow schema table) (rw zeroed at listed))
+          (shadow_group, Contains-shadow schema table, rw (group_columns_of-shadow schema table) (rw zeroed at listed))

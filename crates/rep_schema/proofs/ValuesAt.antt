@@ -10,14 +10,14 @@ use Rattle.rep_schema.specs.Tables.{Cells, picked}
 use Rattle.rep_schema.specs.Groups.{values_at}
 
 -- what stands at a place is the first value from there on
-slice_get-drop : (xs : Cells) (n : ℕ) → slice_get (drop n xs) 0 ≡ slice_get xs n
+pub slice_get-drop : {X : Type 0} (xs : List X) (n : ℕ) → slice_get (drop n xs) 0 ≡ slice_get xs n
 slice_get-drop xs zero = refl
 slice_get-drop [] (suc n) = refl
 slice_get-drop (x ∷ xs) (suc n) = slice_get-drop xs n
 
-module _ (places : List ℕ) (row : Cells) (i : ℕ) (within : i < length places) where
+module _ {X : Type 0} (places : List ℕ) (row : List X) (i : ℕ) (within : i < length places) where
   -- one place more that the row has
-  pub take-values_at_some : (v : Value) → slice_get row (get_or places i 0) ≡ Some v → values_at (take (i + 1) places) row ≡ values_at (take i places) row ++ v ∷ []
+  pub take-values_at_some : (v : X) → slice_get row (get_or places i 0) ≡ Some v → values_at (take (i + 1) places) row ≡ values_at (take i places) row ++ v ∷ []
   take-values_at_some v here = rw (take_more places i 0 within, filter_map-append (slice_get row) (take i places) (get_or places i 0 ∷ []), here)
 
   -- one that it hasn't
@@ -25,7 +25,7 @@ module _ (places : List ℕ) (row : Cells) (i : ℕ) (within : i < length places
   take-values_at_none here = rw (take_more places i 0 within, filter_map-append (slice_get row) (take i places) (get_or places i 0 ∷ []), here)
 
   -- the same, from the place on
-  pub drop-values_at_some : (v : Value) → slice_get row (get_or places i 0) ≡ Some v → values_at (drop i places) row ≡ v ∷ values_at (drop (i + 1) places) row
+  pub drop-values_at_some : (v : X) → slice_get row (get_or places i 0) ≡ Some v → values_at (drop i places) row ≡ v ∷ values_at (drop (i + 1) places) row
   drop-values_at_some v here = rw (drop_more places i 0 within, here)
 
   pub drop-values_at_none : slice_get row (get_or places i 0) ≡ None → values_at (drop i places) row ≡ values_at (drop (i + 1) places) row
