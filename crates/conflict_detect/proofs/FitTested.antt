@@ -14,16 +14,13 @@ use Rattle.rep_schema.specs.Tables.{Cells, columns_of, key_columns}
 use Rattle.rep_schema.specs.Fitting.{row_fits}
 use Rattle.rep_schema.specs.Groups.{group_numbers_of, columns_in_group, are_same}
 use Rattle.rep_schema.proofs.FittingTests.{row_test}
+use Rattle.rep_schema.proofs.ValuesAt.{are_same-Decides}
 use Rattle.rep_calls.specs.declared.call.Part.{Part}
 use Rattle.rep_calls.specs.declared.call.Call.{Call}
 use Rattle.rep_calls.specs.declared.call.Call.TheVariants.{Insert, Update, Delete}
 use Rattle.rep_calls.specs.declared.call.Txn.{Txn}
 use Rattle.conflict_detect.specs.Fits.{table_of, IsGroupOf, PartFits, UpdateFits, ContentFits, CallFits, TxnFits}
 use Rattle.conflict_detect.specs.FitTests.{is_group_of, rise_above, rise, part_fits, update_fits, content_fits, call_fits, txn_fits}
-
--- the same values pass the test
-pub same_test : (a b : Cells) → Decides (are_same a b) (a ≡ b)
-same_test a b = slice_eq-Decides value_eq-Decides a b (pointwise value_eq a b) refl
 
 all_test : {X : Type 0} (p : X → Bool) (P : X → Type 0) → ((x : X) → Decides (p x) (P x)) → (xs : List X) → Decides (list_all p xs) (AllByRecursion P xs)
 all_test p P each [] = (λ e. tt, λ all. refl)
@@ -70,7 +67,7 @@ module _ (schema : Schema) where
   pub part_test : (table : ℕ) (part : Part) → Decides (part_fits schema table part) (PartFits schema table part)
   part_test table part =
       let columns = columns_in_group schema table part.group in
-      let tests = Decides-and _ _ (Decides-and _ _ (Decides-and _ _ (listed_test (group_numbers_of schema table) part.group) (row_test columns part.old)) (row_test columns part.new)) (Decides-not _ (same_test part.old part.new)) in
+      let tests = Decides-and _ _ (Decides-and _ _ (Decides-and _ _ (listed_test (group_numbers_of schema table) part.group) (row_test columns part.old)) (row_test columns part.new)) (Decides-not _ (are_same-Decides part.old part.new)) in
       Decides-like (part_fits schema table part)
       (λ all. record { group = all.0.0.0; old = all.0.0.1; new = all.0.1; differ = all.1 })
       (λ fits. (((fits.group, fits.old), fits.new), fits.differ))

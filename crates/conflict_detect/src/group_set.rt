@@ -1,5 +1,5 @@
 //! Groups of a table, by number.
-ghost use Rattle.std.specs.Prelude.{◌≡◌, ◌<◌, [], ◌∷◌, ◌++◌, ◌==◌, length};
+ghost use Rattle.std.specs.Prelude.{◌≡◌, ◌<◌, [], ◌∷◌, ◌++◌, ◌==◌, ◌↔◌, length, IsTrue};
 ghost use Rattle.std.specs.List.{list_any};
 
 use std::marker::Model;
@@ -40,6 +40,19 @@ impl GroupSet {
         }
     }
 
+    pub(crate) fn is_empty(&self) -> bool
+        ensures { IsTrue result ↔ (self.now ≡ []) }
+    {
+        self.len == 0
+    }
+
+    /// The groups in the order in which they were added.
+    pub(crate) fn as_slice(&self) -> &[u8]
+        ensures { result.now ≡ self.now }
+    {
+        &self.cells[..self.len as usize]
+    }
+
     /// Adds a group behind the others.
     pub(crate) fn add(&mut self, group: u8)
         requires { length self.old < 33 }
@@ -53,6 +66,6 @@ impl GroupSet {
     pub fn has(&self, group: u8) -> bool
         ensures { result ≡ list_any (λ g. g == group) self.now }
     {
-        self.cells[..self.len as usize].contains(&group)
+        self.as_slice().contains(&group)
     }
 }

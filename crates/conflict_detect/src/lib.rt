@@ -6,6 +6,6 @@ mod detection;
 mod fitting;
 mod group_set;
 
-pub use detection::Found;
+pub use detection::{Found, detect};
 pub use fitting::fits;
 pub use group_set::GroupSet;

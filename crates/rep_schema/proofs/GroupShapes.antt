@@ -27,7 +27,7 @@ unfolding group_columns_of
 group_columns_of-named schema table group named = rw (ne_eqb group shadow_group named)
 
 -- a number at a place of a strictly increasing list is at least the place
-place_below : (xs : List ℕ) → IsStrictlyIncreasing xs → (k : ℕ) → k < length xs → k ≤ get_or xs k 0
+pub place_below : (xs : List ℕ) → IsStrictlyIncreasing xs → (k : ℕ) → k < length xs → k ≤ get_or xs k 0
 place_below xs rising zero within = omega arith
 place_below xs rising (suc k) within =
     let next : suc k ≡ k + 1 = omega arith in

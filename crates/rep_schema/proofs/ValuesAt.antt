@@ -1,13 +1,16 @@
 -- A row's values at some places.
 use Rattle.std.proofs.Common.{◌≡◌, ℕ, zero, suc, ◌+◌, ◌-◌, ◌<◌, ◌≤◌, List, [], ◌∷◌, ◌++◌, length, take, drop, get_or, Some, None, length-drop, refl, sym, ap, ◌∙◌, arith}
-use Rattle.std.specs.Prelude.{Option, is_some, ◌↔◌, slice_get, filter_map}
+use Rattle.std.specs.Prelude.{Decides, Option, is_some, ◌↔◌, slice_get, filter_map}
 use Rattle.std.specs.List.{cons_option}
 use Rattle.std.proofs.lemmas.List.{drop_more, drop_all, take_more}
 use Rattle.std.proofs.lemmas.List.Elements.{filter_map-append}
+use Rattle.std.specs.Cmp.Lexicographic.{pointwise}
+use Rattle.std.proofs.lemmas.Slice.Eq.{slice_eq-Decides}
 use Rattle.rep_lists.proofs.Places.{drop_from_found}
+use Rattle.rep_values.specs.Equality.{value_eq, value_eq-Decides}
 use Rattle.rep_values.specs.declared.value.Value.{Value}
 use Rattle.rep_schema.specs.Tables.{Cells, picked}
-use Rattle.rep_schema.specs.Groups.{values_at}
+use Rattle.rep_schema.specs.Groups.{values_at, are_same}
 
 -- what stands at a place is the first value from there on
 pub slice_get-drop : {X : Type 0} (xs : List X) (n : ℕ) → slice_get (drop n xs) 0 ≡ slice_get xs n
@@ -89,3 +92,7 @@ picked-values_at (p ∷ ps) a b long = go (slice_get a p) (slice_get b p) (both_
           let later : values_at ps a ≡ values_at ps b = cc in
           rw first (ap (λ xs. Some y ∷ xs) (rest.1 later)),
     )
+
+-- the test whether values are the same
+pub are_same-Decides : (a b : Cells) → Decides (are_same a b) (a ≡ b)
+are_same-Decides a b = slice_eq-Decides value_eq-Decides a b (pointwise value_eq a b) refl

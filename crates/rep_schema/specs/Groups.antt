@@ -72,6 +72,10 @@ with_group_values schema table group values row = with_values (group_columns_of 
 abbrev pub are_same : Cells → Cells → Bool
 are_same = pointwise value_eq
 
+-- two rows have other values in a group
+abbrev pub differ_in : Schema → ℕ → Cells → Cells → ℕ → Bool
+differ_in schema table a b group = not (are_same (group_values schema table group a) (group_values schema table group b))
+
 -- the groups in which two rows of a table differ
 abbrev pub differing_groups : Schema → ℕ → Cells → Cells → List ℕ
-differing_groups schema table a b = filter (λ group. not (are_same (group_values schema table group a) (group_values schema table group b))) (group_numbers_of schema table)
+differing_groups schema table a b = filter (differ_in schema table a b) (group_numbers_of schema table)
