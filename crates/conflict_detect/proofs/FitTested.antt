@@ -26,7 +26,8 @@ all_test : {X : Type 0} (p : X → Bool) (P : X → Type 0) → ((x : X) → Dec
 all_test p P each [] = (λ e. tt, λ all. refl)
 all_test p P each (x ∷ xs) = Decides-and (p x) (list_all p xs) (each x) (all_test p P each xs)
 
-listed_test : (xs : List ℕ) (x : ℕ) → Decides (list_any (λ y. y == x) xs) (Contains xs x)
+-- the test whether a number is one of a list's
+pub listed_test : (xs : List ℕ) (x : ℕ) → Decides (list_any (λ y. y == x) xs) (Contains xs x)
 listed_test xs x = (
   λ e.
       let found = Any-from_list_any (λ y. y == x) xs e in

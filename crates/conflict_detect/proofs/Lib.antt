@@ -3,5 +3,9 @@ mod FitWalk
 pub mod FitTested
 mod Gathered
 mod FewParts
+pub mod RowAfter
+pub mod CallFit
+pub mod OwnCall
+pub mod FoundGroups
 mod OneMore
 mod WorkedCalls

@@ -3,3 +3,4 @@ pub mod Fits
 pub mod FitTests
 pub mod Differing
 pub mod ChangeCalls
+pub mod Laws
