@@ -8,7 +8,10 @@ use std::alloc::Global;
 #[derive(Drop)]
 pub enum Call {
     /// The whole new row.
-    Insert { table: u32, row: Row },
+    Insert {
+        table: u32,
+        row: Row,
+    },
     /// A part for each group in which a column changed, named groups in declared order, the shadow group last.
     Update {
         table: u32,
@@ -16,7 +19,10 @@ pub enum Call {
         parts: Items<Part>,
     },
     /// The whole old row.
-    Delete { table: u32, row: Row },
+    Delete {
+        table: u32,
+        row: Row,
+    },
 }
 
 /// The old and new values of all columns of one group, in column order.

@@ -6,3 +6,6 @@ mod statement;
 
 pub use call::{Call, Part, Txn};
 pub use statement::{How, Set, Statement};
+
+#[cfg(test)]
+mod tests;

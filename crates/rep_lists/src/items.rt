@@ -63,7 +63,7 @@ impl<T> Items<T> {
     pub fn as_slice(&self) -> &[T]
         ensures { result.now ≡ self.now }
     {
-        &self.kept
+        self.kept.as_slice()
     }
 
     /// The value at a place, from 0.

@@ -10,3 +10,6 @@ pub use copies::Copies;
 pub use items::Items;
 pub use laws::rising_list_laws;
 pub use memory::NoMemory;
+
+#[cfg(test)]
+mod tests;

@@ -1,6 +1,6 @@
 -- The tests of rows that compute, and what they mean.
 use Rattle.std.proofs.Common.{◌≡◌, Bool, true, false, ◌&&◌, List, [], ◌∷◌, refl, pos, negsuc}
-use Rattle.std.specs.Prelude.{ℤ, ◌≤ℤ◌, ◌↔◌, int_le}
+use Rattle.std.specs.Prelude.{ℤ, ◌↔◌, int_le}
 use Rattle.std.specs.Prelude.{T}
 use Rattle.rep_values.specs.declared.value.Value.{Value}
 use Rattle.rep_values.specs.declared.value.Value.TheVariants.{Num, Words}

@@ -1,5 +1,5 @@
 -- Tests of rows and columns that compute.
-use Rattle.std.specs.Prelude.{ℕ, Bool, true, false, ◌&&◌, ℤ, pos, negsuc, int_le, nat_le, List, [], ◌∷◌}
+use Rattle.std.specs.Prelude.{Bool, true, false, ◌&&◌, ℤ, pos, negsuc, int_le, nat_le, List, [], ◌∷◌}
 use Rattle.rep_values.specs.declared.value.Value.{Value}
 use Rattle.rep_values.specs.declared.value.Value.TheVariants.{Num, Words}
 use Rattle.rep_schema.specs.declared.schema.Column.{Column}

@@ -21,3 +21,6 @@ pub use rep_lists::NoMemory;
 pub use row::Row;
 pub use text::Text;
 pub use value::Value;
+
+#[cfg(test)]
+mod tests;

@@ -1,7 +1,7 @@
 -- The step of a line: the command that it is, run on the world.
-use Rattle.std.specs.Prelude.{ℕ, List, Option, Some, None, Result, Ok, Err}
+use Rattle.std.specs.Prelude.{ℕ, List, Some, None, Result, Ok, Err}
 use Rattle.rep_lines.specs.Runs.{Stepped, goes, halts}
-use Rattle.rep_lines.specs.Told.{report, is_ended_early}
+use Rattle.rep_lines.specs.Told.{report}
 use Rattle.report_text.specs.Texts.{malformed_text}
 use Rattle.script_parse.specs.declared.command.Command.{Command}
 use Rattle.script_parse.specs.Young.{parsed_young}

@@ -53,9 +53,6 @@ pub fn malformed_line(lines: &mut Lines, line: u32, rule: u8)
 {
     lines.put_line(
         b"malformed",
-        &[
-            Word::Number(u64::from(line)),
-            Word::Number(u64::from(rule)),
-        ],
+        &[Word::Number(u64::from(line)), Word::Number(u64::from(rule))],
     );
 }

@@ -69,11 +69,7 @@ fn add_table<R: RowStore>(
 
 /// What `show tables` prints of a site: its name, and each table in declared order with its rows. Where there is no
 /// memory, part of it may stand in the lines.
-pub fn add_tables<R: RowStore>(
-    lines: &mut Lines,
-    site: SiteName,
-    store: &R,
-) -> Result<(), NoMemory>
+pub fn add_tables<R: RowStore>(lines: &mut Lines, site: SiteName, store: &R) -> Result<(), NoMemory>
     requires { length (R.schema store.now).tables ≤ 32 }
     ensures { OnOk result (lines.new.bytes ≡ lines.old.bytes ++ tables_text site.0 (R.schema store.now) (R.tables store.now)) }
 {

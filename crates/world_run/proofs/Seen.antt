@@ -1,8 +1,8 @@
 -- What a contract sees of sites after one of them is changed.
-use Rattle.std.proofs.Common.{◌≡◌, ◌≢◌, ℕ, ◌+◌, ◌<◌, List, [], ◌∷◌, ◌++◌, length, map, drop, get_or, set, Some, refl, sym, ap, ◌∙◌, subst, arith, length-append}
+use Rattle.std.proofs.Common.{◌≡◌, ◌≢◌, ℕ, ◌+◌, ◌<◌, List, [], ◌∷◌, length, map, get_or, set, Some, refl, sym, ap, ◌∙◌, subst, length-append}
 use Rattle.std.specs.Prelude.{slice_get, Result, Ok, Err, OnErr}
 use Rattle.std.proofs.lemmas.List.{map-set, get_or-set_other, get_or_default}
-use Rattle.std.proofs.lemmas.Option.{slice_get-map, slice_get_read, slice_get-get_or}
+use Rattle.std.proofs.lemmas.Option.{slice_get-map, slice_get_read}
 use Rattle.std.proofs.Math.Seq.{map-set_same}
 use Rattle.std.specs.List.{AllByRecursion}
 use Rattle.rep_lists.proofs.Each.{each_at}
@@ -10,7 +10,6 @@ use Rattle.rep_schema.specs.declared.schema.Schema.{Schema}
 use Rattle.report_text.specs.Texts.{commit_text, push_text}
 use Rattle.world_run.specs.declared.insertion.Insertion.{Insertion}
 use Rattle.world_run.specs.declared.site.Site.{Site}
-use Rattle.world_run.specs.World.{SiteState}
 use Rattle.world_run.specs.Steps.{committed, commit_at, received, waiting, acknowledged, push_between, push_count, all_inserted}
 use Rattle.world_run.specs.Kept.{Commits, Receives, Stays}
 use Rattle.world_run.specs.Sound.{site_state, IsSiteOf}

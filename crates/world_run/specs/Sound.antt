@@ -1,5 +1,5 @@
 -- What is true of every world that the code keeps.
-use Rattle.std.specs.Prelude.{◌≡◌, ℕ, ◌<◌, ◌≤◌, true, List, [], length, map}
+use Rattle.std.specs.Prelude.{◌≡◌, ℕ, ◌<◌, ◌≤◌, true, List, [], length}
 use Rattle.std.specs.List.{AllByRecursion}
 use Rattle.rep_schema.specs.declared.schema.Schema.{Schema}
 use Rattle.rep_schema.specs.declared.schema.TableEntry.{TableEntry}
@@ -10,7 +10,7 @@ use Rattle.world_run.specs.declared.phase.Phase.{Phase}
 use Rattle.world_run.specs.declared.phase.Phase.TheVariants as phase
 use Rattle.world_run.specs.Rows.{IsNarrow, IsInsertionOf}
 use Rattle.world_run.specs.declared.site.Site.{Site}
-use Rattle.world_run.specs.World.{SiteState, WorldState}
+use Rattle.world_run.specs.World.{SiteState}
 
 -- what a contract sees of a site that is kept
 abbrev pub site_state : Site → SiteState

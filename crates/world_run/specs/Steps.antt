@@ -10,7 +10,7 @@ use Rattle.rep_schema.specs.declared.schema.Schema.{Schema}
 use Rattle.rep_schema.specs.declared.schema.SiteEntry.{SiteEntry}
 use Rattle.rep_schema.specs.declared.schema.TableEntry.{TableEntry}
 use Rattle.rep_schema.specs.declared.schema.Column.{Column}
-use Rattle.rep_schema.specs.Tables.{Cells, Rows, columns_of, key_count, put_row, rows_of}
+use Rattle.rep_schema.specs.Tables.{Rows, columns_of, key_count, put_row, rows_of}
 use Rattle.rep_schema.specs.Fitting.{row_fits, is_keyed}
 use Rattle.rep_calls.specs.declared.statement.Statement.{Statement}
 use Rattle.rep_calls.specs.declared.statement.Statement.TheVariants as statement

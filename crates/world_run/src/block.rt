@@ -11,7 +11,9 @@ pub enum Block {
     /// No block was opened yet.
     Before,
     /// It is open and has no statement.
-    Open { site: usize },
+    Open {
+        site: usize,
+    },
     /// It is open and has its insert.
     Stated {
         site: usize,

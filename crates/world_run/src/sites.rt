@@ -17,9 +17,7 @@ use std::alloc::Global;
 fn find_place(sites: &[Site], name: SiteName) -> Option<usize>
     ensures { result ≡ position (λ site. same_bytes site.name.0 name.0) sites.now }
 {
-    sites
-        .iter()
-        .position(|site| site.name.0.is_same(&name.0))
+    sites.iter().position(|site| site.name.0.is_same(&name.0))
 }
 
 /// The place of the site of a name.

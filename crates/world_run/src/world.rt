@@ -4,13 +4,13 @@ ghost use Rattle.world_run.specs.World.{first_world};
 ghost use Rattle.world_run.specs.Steps.{command_step, site_step, table_step, resume_step, txn_step, statement_step, commit_step, push_step, show_step, is_tables};
 ghost use Rattle.world_run.specs.Stepping.{Steps, StepsOrSome, StepsBy};
 
+use crate::Stop;
 use crate::block::Block;
 use crate::phase::Phase;
 use crate::setup::{may_add_site, may_add_table, may_resume};
 use crate::site::Site;
 use crate::sites::{commit_at, new_sites, place_of, push_between, shown_at};
 use crate::stated::stated;
-use crate::Stop;
 use rep_calls::Statement;
 use rep_lists::{Copies, Items};
 use rep_schema::{Column, Schema, SiteEntry, TableEntry};

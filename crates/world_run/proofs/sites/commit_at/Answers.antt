@@ -16,6 +16,6 @@ returns-clause-ok c =
     let new = c.commit.new.self in
     let empty : c.reserve.new.self.bytes ≡ [] = c.in_ok-reserve.ensures.bytes ∙ c.make-lines.ensures in
     let text : c.commit_line.new.lines.bytes ≡ commit_text new.name.0 (length new.queue) =
-        rw (← c.len.ensures) (c.commit_line.ensures.bytes ∙ ap (λ (b : List ℕ). b ++ commit_text new.name.0 c.len.result) empty) in
+    rw (← c.len.ensures) (c.commit_line.ensures.bytes ∙ ap (λ (b : List ℕ). b ++ commit_text new.name.0 c.len.result) empty) in
     let site = kept_at c.args.schema.now sites c.args.place old c.requires.place c.index_mut-site.ensures.value c.requires.kept in
     rw text (seen_commit c.args.schema.now sites c.args.place c.args.insertion old new c.requires.place c.index_mut-site.ensures.value site.schema c.in_ok-commit.ensures.ok)

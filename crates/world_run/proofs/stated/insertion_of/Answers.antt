@@ -1,5 +1,5 @@
 -- Values that fit a table are the values of a row.
-use Rattle.std.proofs.Common.{rules, ◌<◌, length, arith}
+use Rattle.std.proofs.Common.{rules, ◌<◌, length}
 use mathlib.Core.Bool.{false≢true}
 use Rattle.rep_values.specs.Number.{IsRowLen}
 use Rattle.rep_schema.specs.Tables.{RowFits}

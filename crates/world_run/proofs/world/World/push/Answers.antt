@@ -1,5 +1,5 @@
 -- Each table is plain once the script has resumed.
-use Rattle.std.proofs.Common.{rules, subst}
+use Rattle.std.proofs.Common.{subst}
 use Rattle.world_run.specs.declared.phase.Phase.{Phase}
 use Rattle.world_run.specs.Sound.{AreKeyed}
 use Rattle.world_run.proofs.Worlds.{plain_at}
