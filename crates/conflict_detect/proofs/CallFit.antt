@@ -1,6 +1,6 @@
 -- The call of a changed row fits the schema.
-use Rattle.std.proofs.Common.{◌≡◌, ◌≢◌, ℕ, ◌+◌, ◌<◌, ◌≤◌, List, [], ◌∷◌, ◌++◌, length, get_or, map, Bool, true, false, cond, length-append, refl, sym, ap, ◌∙◌, subst, inl, inr, arith}
-use Rattle.std.specs.Prelude.{not, filter, Option, Some, None, IfSome}
+use Rattle.std.proofs.Common.{◌≡◌, ◌≢◌, ℕ, ◌+◌, ◌<◌, ◌≤◌, List, [], ◌∷◌, length, get_or, map, Bool, true, false, cond, length-append, refl, sym, ap, ◌∙◌, subst, inl, inr, arith}
+use Rattle.std.specs.Prelude.{filter, Option, Some, None, IfSome}
 use Rattle.std.specs.List.{AllByRecursion, range_with_len}
 use Rattle.std.specs.List.Sorted.{IsStrictlyIncreasing}
 use Rattle.std.proofs.lemmas.Bool.{cases_lt}
@@ -12,7 +12,7 @@ use Rattle.rep_schema.specs.declared.schema.Schema.{Schema}
 use Rattle.rep_schema.specs.declared.change.Change.{Change}
 use Rattle.rep_schema.specs.Tables.{Cells, columns_of, key_of, RowFits}
 use Rattle.rep_schema.specs.Shape.{HasShape}
-use Rattle.rep_schema.specs.Groups.{shadow_group, groups_of, group_columns_of, group_numbers_of, group_values, are_same, differ_in, differing_groups}
+use Rattle.rep_schema.specs.Groups.{shadow_group, groups_of, group_columns_of, group_numbers_of, group_values, differ_in, differing_groups}
 use Rattle.rep_schema.specs.Changes.{ChangeFits}
 use Rattle.rep_schema.proofs.GroupShapes.{length-groups_of}
 use Rattle.rep_schema.proofs.ValuesAt.{are_same-Decides}

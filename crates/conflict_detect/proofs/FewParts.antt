@@ -1,5 +1,5 @@
 -- An update that fits has at most 33 parts.
-use Rattle.std.proofs.Common.{◌≡◌, ℕ, ◌+◌, ◌<◌, ◌≤◌, ◌⊎◌, List, length, get_or, map, sym, ◌∙◌, inl, inr, arith}
+use Rattle.std.proofs.Common.{◌≡◌, ℕ, ◌+◌, ◌<◌, ◌≤◌, ◌⊎◌, List, length, get_or, map, ◌∙◌, inl, inr, arith}
 use Rattle.std.specs.List.Sorted.{IsStrictlyIncreasing}
 use Rattle.std.proofs.lemmas.Bool.{cases_lt}
 use Rattle.std.proofs.lemmas.List.{get_or-map, length-map}
@@ -34,7 +34,7 @@ length-UpdateFits schema table key parts shape fits =
     let named = length-groups_of schema shape table in
     let counted = length-map parts group in
     let few = few_rising (length (groups_of schema table)) (map group parts) (omega (arith, named)) fits.rise (λ k within.
-        let found = each_found (PartFits schema table) parts k (omega (arith, within, counted)) fits.parts_fit in
-        let is : get_or (map group parts) k 0 ≡ found.0.group = get_or-map group parts k found.0 0 (omega (arith, within, counted)) ∙ (let same = get_or_from_slice_get parts k found.0 found.0 found.1 in rw same) in
-        rw is (group_number_cases schema table found.0.group found.2.group)) in
+    let found = each_found (PartFits schema table) parts k (omega (arith, within, counted)) fits.parts_fit in
+    let is : get_or (map group parts) k 0 ≡ found.0.group = get_or-map group parts k found.0 0 (omega (arith, within, counted)) ∙ (let same = get_or_from_slice_get parts k found.0 found.0 found.1 in rw same) in
+    rw is (group_number_cases schema table found.0.group found.2.group)) in
     omega (arith, few, named, counted)

@@ -1,26 +1,22 @@
 -- The tests of calls that compute, and what they mean.
-use Rattle.std.proofs.Common.{◌≡◌, ◌≢◌, ℕ, zero, suc, ◌+◌, ◌<◌, ◌≤◌, Bool, true, false, List, [], ◌∷◌, length, get_or, map, refl, subst, inl, inr, arith}
-use Rattle.std.specs.Prelude.{◌&&◌, ◌==◌, not, nat_lt, nat_le, Contains, Decides}
-use Rattle.std.specs.List.{AllByRecursion, Any, list_any, list_all}
+use Rattle.std.proofs.Common.{◌≡◌, ℕ, zero, suc, ◌+◌, ◌<◌, ◌≤◌, Bool, List, [], ◌∷◌, length, get_or, map, refl, subst, inl, inr, arith}
+use Rattle.std.specs.Prelude.{◌&&◌, ◌==◌, nat_lt, nat_le, Contains, Decides}
+use Rattle.std.specs.List.{AllByRecursion, list_any, list_all}
 use Rattle.std.specs.List.Sorted.{IsStrictlyIncreasing}
-use Rattle.std.specs.Cmp.Lexicographic.{pointwise}
 use Rattle.std.proofs.lemmas.Bool.{eqb-true, eq-eqb}
 use Rattle.std.proofs.lemmas.Bool.Decides.{Decides-and, Decides-not, Decides-ltb, Decides-like, leb_tells}
 use Rattle.std.proofs.lemmas.List.Folds.{Any-from_list_any, list_any-from_Any}
-use Rattle.std.proofs.lemmas.Slice.Eq.{slice_eq-Decides}
-use Rattle.rep_values.specs.Equality.{value_eq, value_eq-Decides}
 use Rattle.rep_schema.specs.declared.schema.Schema.{Schema}
 use Rattle.rep_schema.specs.Tables.{Cells, columns_of, key_columns}
-use Rattle.rep_schema.specs.Fitting.{row_fits}
-use Rattle.rep_schema.specs.Groups.{group_numbers_of, columns_in_group, are_same}
+use Rattle.rep_schema.specs.Groups.{group_numbers_of, columns_in_group}
 use Rattle.rep_schema.proofs.FittingTests.{row_test}
 use Rattle.rep_schema.proofs.ValuesAt.{are_same-Decides}
 use Rattle.rep_calls.specs.declared.call.Part.{Part}
 use Rattle.rep_calls.specs.declared.call.Call.{Call}
 use Rattle.rep_calls.specs.declared.call.Call.TheVariants.{Insert, Update, Delete}
 use Rattle.rep_calls.specs.declared.call.Txn.{Txn}
-use Rattle.conflict_detect.specs.Fits.{table_of, IsGroupOf, PartFits, UpdateFits, ContentFits, CallFits, TxnFits}
-use Rattle.conflict_detect.specs.FitTests.{is_group_of, rise_above, rise, part_fits, update_fits, content_fits, call_fits, txn_fits}
+use Rattle.conflict_detect.specs.Fits.{table_of, PartFits, UpdateFits, ContentFits, CallFits, TxnFits}
+use Rattle.conflict_detect.specs.FitTests.{rise_above, rise, part_fits, update_fits, content_fits, call_fits, txn_fits}
 
 all_test : {X : Type 0} (p : X → Bool) (P : X → Type 0) → ((x : X) → Decides (p x) (P x)) → (xs : List X) → Decides (list_all p xs) (AllByRecursion P xs)
 all_test p P each [] = (λ e. tt, λ all. refl)

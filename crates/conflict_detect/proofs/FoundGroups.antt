@@ -1,8 +1,7 @@
 -- The groups that are found for an update are those of the parts whose old values the row hasn't.
-use Rattle.std.proofs.Common.{◌≡◌, ◌≢◌, ℕ, zero, suc, ◌<◌, List, [], ◌∷◌, length, get_or, map, Bool, true, false, cond, refl, sym, arith}
-use Rattle.std.specs.Prelude.{not, ◌||◌, ◌==◌, filter}
-use Rattle.std.specs.List.{All, AllByRecursion, AllPairs, list_any}
-use Rattle.std.specs.List.Sorted.{IsStrictlyIncreasing}
+use Rattle.std.proofs.Common.{◌≡◌, ◌≢◌, ℕ, zero, suc, ◌<◌, List, [], ◌∷◌, map, Bool, true, false, cond, refl, sym, arith}
+use Rattle.std.specs.Prelude.{not, ◌==◌, filter}
+use Rattle.std.specs.List.{AllByRecursion, AllPairs, list_any}
 use Rattle.std.proofs.lemmas.Bool.{eq-eqb, ne_eqb}
 use Rattle.std.proofs.lemmas.List.Elements.{recursion_from_All}
 use Rattle.std.proofs.lemmas.List.Kept.{AllPairs-from_increasing}

@@ -1,5 +1,5 @@
 -- The groups in which two rows with one key differ hold all that differs.
-use Rattle.std.proofs.Common.{◌≡◌, ◌≢◌, ◌⊎◌, ℕ, zero, suc, ◌<◌, List, [], ◌∷◌, length, get_or, map, Bool, true, false, cond, pos, refl, sym, ap, ◌∙◌, subst, inl, inr, arith}
+use Rattle.std.proofs.Common.{◌≡◌, ◌≢◌, ◌⊎◌, ℕ, zero, suc, ◌<◌, List, [], ◌∷◌, length, get_or, map, Bool, true, false, cond, pos, refl, sym, ◌∙◌, subst, inl, inr, arith}
 use Rattle.std.specs.Prelude.{not, ◌||◌, ◌==◌, filter, Contains}
 use Rattle.std.specs.List.{AllByRecursion, list_any}
 use Rattle.std.proofs.lemmas.Bool.{eqb-true, eq-eqb}
@@ -152,8 +152,8 @@ module _ (schema : Schema) (shape : HasShape schema) (table : ℕ) (a b : Cells)
   with_parts-parts_between =
       let groups = differing_groups schema table a b in
       ext_get_or blank (with_groups groups a) b (length-with_groups groups a ∙ as_long) (λ k within.
-        let in_a : k < length a = omega (arith, within, length-with_groups groups a) in
-        elim (same_or_listed k in_a) [
-          | inl same ↦ with_groups_keep groups a k as_long same
-          | inr found ↦ with_groups_put groups a k found.0 as_long found.1 found.2
-        ])
+      let in_a : k < length a = omega (arith, within, length-with_groups groups a) in
+      elim (same_or_listed k in_a) [
+        | inl same ↦ with_groups_keep groups a k as_long same
+        | inr found ↦ with_groups_put groups a k found.0 as_long found.1 found.2
+      ])

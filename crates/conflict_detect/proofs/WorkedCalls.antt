@@ -1,13 +1,12 @@
 -- Transactions that fit and that don't, differing groups and calls of changed rows, worked out by hand.
-use Rattle.std.proofs.Common.{◌≡◌, ℕ, List, [], ◌∷◌, true, false, refl, pos, negsuc}
-use Rattle.std.specs.Prelude.{codes, Option, Some, None}
+use Rattle.std.proofs.Common.{◌≡◌, List, [], ◌∷◌, true, false, refl, pos, negsuc}
+use Rattle.std.specs.Prelude.{codes, Some, None}
 use Rattle.rep_values.specs.declared.value.Value.TheVariants.{Num, Words}
 use Rattle.rep_schema.specs.declared.schema.Schema.{Schema}
 use Rattle.rep_schema.specs.declared.schema.TableEntry.{TableEntry}
 use Rattle.rep_schema.specs.declared.schema.Column.{Column}
 use Rattle.rep_schema.specs.declared.schema.Group.{Group}
 use Rattle.rep_schema.specs.declared.schema.Kind.TheVariants as kind
-use Rattle.rep_schema.specs.declared.change.Change.{Change}
 use Rattle.rep_schema.specs.Tables.{Cells}
 use Rattle.rep_schema.specs.Groups.{group_columns_of}
 use Rattle.rep_calls.specs.declared.call.Part.{Part}

@@ -90,7 +90,12 @@ fn groups_unlike(schema: &Schema, call: &Call, row: &[Value]) -> GroupSet
 {
     match call {
         Call::Insert { .. } => GroupSet::empty(),
-        Call::Update { table, parts, .. } => unmatched_groups(schema, *table, row, parts.as_slice()),
+        Call::Update { table, parts, .. } => unmatched_groups(
+            schema,
+            *table,
+            row,
+            parts.as_slice(),
+        ),
         Call::Delete { table, row: old } => differing_groups(schema, *table, row, old.values()),
     }
 }

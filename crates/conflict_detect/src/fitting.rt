@@ -125,12 +125,16 @@ fn call_fits(schema: &Schema, call: &Call) -> bool
     requires { HasShape schema.now }
     ensures { IsTrue result ↔ CallFits schema.now call.now }
 {
-    let (Call::Insert { table, .. } | Call::Update { table, .. } | Call::Delete { table, .. }) = call;
+    let (Call::Insert { table, .. } | Call::Update { table, .. } | Call::Delete { table, .. }) =
+        call;
     if *table as usize >= schema.tables.len() {
         return false;
     }
     match call {
-        Call::Insert { table, row } | Call::Delete { table, row } => row_fits(columns_of(schema, *table), row.values()),
+        Call::Insert { table, row } | Call::Delete { table, row } => row_fits(
+            columns_of(schema, *table),
+            row.values(),
+        ),
         Call::Update { table, key, parts } => update_fits(schema, *table, key, parts.as_slice()),
     }
 }

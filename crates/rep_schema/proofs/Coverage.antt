@@ -1,7 +1,7 @@
 -- Every column is a key column or in a group, and a group's columns are the table's.
-use Rattle.std.proofs.Common.{◌≡◌, ◌≢◌, ℕ, zero, suc, ◌+◌, ◌<◌, ◌≤◌, ◌⊎◌, List, [], ◌∷◌, ◌++◌, length, get_or, Bool, true, false, cond, Some, None, refl, sym, ap, ◌∙◌, subst, inl, inr, arith}
+use Rattle.std.proofs.Common.{◌≡◌, ◌≢◌, ℕ, zero, suc, ◌+◌, ◌<◌, ◌⊎◌, List, [], ◌∷◌, length, get_or, Bool, true, false, cond, Some, None, refl, sym, ap, ◌∙◌, inl, inr, arith}
 use Rattle.std.specs.Prelude.{Option, IfSome, slice_get, ◌||◌, ◌==◌}
-use Rattle.std.specs.List.{AllByRecursion, Any, Contains, list_any, range_with_len}
+use Rattle.std.specs.List.{AllByRecursion, Contains, list_any, range_with_len}
 use Rattle.std.proofs.lemmas.Bool.{eq-eqb}
 use Rattle.std.proofs.lemmas.Bool.Decides.{eqb_tells}
 use Rattle.std.proofs.lemmas.List.Elements.{Contains-append_left, Contains-append_cases, Contains-push, recursion_from_All}
@@ -12,7 +12,6 @@ use Rattle.rep_lists.proofs.Each.{each_then}
 use Rattle.rep_schema.specs.declared.schema.Schema.{Schema}
 use Rattle.rep_schema.specs.declared.schema.Column.{Column}
 use Rattle.rep_schema.specs.declared.schema.Group.{Group}
-use Rattle.rep_schema.specs.Limits.{most_columns}
 use Rattle.rep_schema.specs.Tables.{columns_of}
 use Rattle.rep_schema.specs.Shape.{HasGroupShape, HasShape}
 use Rattle.rep_schema.specs.Groups.{shadow_group, groups_of, is_grouped, shadow_from, named_columns, group_columns_of, group_numbers_of}

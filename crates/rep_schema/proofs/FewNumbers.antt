@@ -28,7 +28,7 @@ few_distinct (suc n) xs distinct below =
     let is_high : ℕ → Bool = λ x. not (nat_lt x n) in
     let low = few_distinct n (filter is_low xs) (AllPairs-filter (λ x y. x ≢ y) is_low xs distinct) (λ k d within. ltb-true _ n (filter_passes is_low xs k d within)) in
     let high = one_at_most n (filter is_high xs) (AllPairs-filter (λ x y. x ≢ y) is_high xs distinct) (λ k d within.
-        let under : get_or (filter is_high xs) k d < suc n = All-filter is_high (λ x. x < suc n) xs below k d within in
-        let over = ltb-false (get_or (filter is_high xs) k d) n (false_from_not _ (filter_passes is_high xs k d within)) in
-        omega (arith, under, over)) in
+    let under : get_or (filter is_high xs) k d < suc n = All-filter is_high (λ x. x < suc n) xs below k d within in
+    let over = ltb-false (get_or (filter is_high xs) k d) n (false_from_not _ (filter_passes is_high xs k d within)) in
+    omega (arith, under, over)) in
     omega (arith, low, high, length-filter_both is_low is_high (λ x. refl) xs)

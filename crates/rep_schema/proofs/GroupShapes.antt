@@ -1,18 +1,17 @@
 -- The groups of a table of a schema that has its shape.
-use Rattle.std.proofs.Common.{◌≡◌, ◌≢◌, ℕ, zero, suc, ◌+◌, ◌<◌, ◌≤◌, List, [], ◌∷◌, ◌++◌, length, get_or, Bool, true, false, cond, Some, None, refl, sym, ap, ◌∙◌, inl, inr, arith}
-use Rattle.std.specs.Prelude.{Option, IfSome, slice_get, map, ◌||◌, ◌==◌}
-use Rattle.std.specs.List.{All, AllByRecursion, AllPairs, Contains}
+use Rattle.std.proofs.Common.{◌≡◌, ◌≢◌, ℕ, zero, suc, ◌+◌, ◌<◌, ◌≤◌, List, [], ◌∷◌, length, get_or, Some, None, refl, sym, ◌∙◌, arith}
+use Rattle.std.specs.Prelude.{Option, IfSome, slice_get, map}
+use Rattle.std.specs.List.{All, AllPairs, Contains}
 use Rattle.std.specs.List.Sorted.{IsStrictlyIncreasing}
-use Rattle.std.proofs.lemmas.Bool.{eq-eqb, ne_eqb}
+use Rattle.std.proofs.lemmas.Bool.{ne_eqb}
 use Rattle.std.proofs.lemmas.List.{get_or_default, get_or-map, length-map}
 use Rattle.rep_schema.specs.declared.schema.Schema.{Schema}
 use Rattle.rep_schema.specs.declared.schema.TableEntry.{TableEntry}
-use Rattle.rep_schema.specs.declared.schema.Column.{Column}
 use Rattle.rep_schema.specs.declared.schema.Group.{Group}
 use Rattle.rep_schema.specs.Limits.{most_columns}
 use Rattle.rep_schema.specs.Tables.{columns_in, columns_of}
 use Rattle.rep_schema.specs.Shape.{ShareNone, AreColumns, HasGroupShape, HasTableShape, HasShape}
-use Rattle.rep_schema.specs.Groups.{shadow_group, groups_in, groups_of, is_grouped, shadow_from, shadow_columns_of, named_columns, group_columns_of}
+use Rattle.rep_schema.specs.Groups.{shadow_group, groups_in, groups_of, shadow_columns_of, named_columns, group_columns_of}
 use Rattle.rep_schema.proofs.FewNumbers.{few_distinct}
 use Rattle.rep_schema.proofs.Shapes.{slice_get-All, table_shape, length-columns_of}
 
@@ -80,15 +79,15 @@ few_groups width priorities (g ∷ gs) shapes apart =
     let at : (i : ℕ) (d : ℕ) → i < length groups → get_or (map first_column groups) i d ≡ first_column (get_or groups i g) = λ i d within. get_or-map first_column groups i g d within in
     let counted = length-map groups first_column in
     let distinct : AllPairs (λ x y. x ≢ y) (map first_column groups) = λ i j d below within same.
-        let in_i : i < length groups = omega (arith, below, within, counted) in
-        let in_j : j < length groups = omega (arith, within, counted) in
-        let one : first_column (get_or groups i g) ≡ first_column (get_or groups j g) = sym (at i d in_i) ∙ same ∙ at j d in_j in
-        let has_i = first_is_one width priorities (get_or groups i g) (shapes i g in_i) in
-        let has_j = first_is_one width priorities (get_or groups j g) (shapes j g in_j) in
-        apart i j g below in_j (first_column (get_or groups i g)) has_i (rw one has_j) in
+    let in_i : i < length groups = omega (arith, below, within, counted) in
+    let in_j : j < length groups = omega (arith, within, counted) in
+    let one : first_column (get_or groups i g) ≡ first_column (get_or groups j g) = sym (at i d in_i) ∙ same ∙ at j d in_j in
+    let has_i = first_is_one width priorities (get_or groups i g) (shapes i g in_i) in
+    let has_j = first_is_one width priorities (get_or groups j g) (shapes j g in_j) in
+    apart i j g below in_j (first_column (get_or groups i g)) has_i (rw one has_j) in
     let low : All (λ x. x < width) (map first_column groups) = λ i d within.
-        let in_i : i < length groups = omega (arith, within, counted) in
-        rw (at i d in_i) (first_below width priorities (get_or groups i g) (shapes i g in_i)) in
+    let in_i : i < length groups = omega (arith, within, counted) in
+    rw (at i d in_i) (first_below width priorities (get_or groups i g) (shapes i g in_i)) in
     omega (arith, counted, few_distinct width (map first_column groups) distinct low)
 
 module _ (schema : Schema) (shape : HasShape schema) (table : ℕ) where

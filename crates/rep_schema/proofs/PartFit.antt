@@ -1,6 +1,6 @@
 -- Parts of a row that fit their columns.
 use Rattle.std.proofs.Common.{◌≡◌, ℕ, zero, suc, ◌<◌, List, [], ◌∷◌, length, set, Bool, true, false, cond, Some, None, refl, ap, ◌∙◌, arith}
-use Rattle.std.specs.Prelude.{Option, IfSome, slice_get, filter}
+use Rattle.std.specs.Prelude.{Option, IfSome, slice_get}
 use Rattle.std.specs.List.{AllByRecursion, cons_option}
 use Rattle.rep_values.specs.declared.value.Value.{Value}
 use Rattle.rep_schema.specs.declared.schema.Column.{Column}
@@ -72,7 +72,7 @@ pub RowFits-with_values : (columns : List Column) (places : List ℕ) (values ro
     → RowFits columns (with_values places values row)
 RowFits-with_values columns [] values row below fit fits = fits
 RowFits-with_values columns (p ∷ ps) [] row below fit fits = fits
-RowFits-with_values columns (p ∷ ps) (v ∷ vs) row below fit fits = 
+RowFits-with_values columns (p ∷ ps) (v ∷ vs) row below fit fits =
     go (slice_get columns p) refl fit (λ rest kept. RowFits-with_values columns ps vs (set row p v) below.1 rest kept)
   where
     go : (c : Option Column) → slice_get columns p ≡ c → RowFits (cons_option c (values_at ps columns)) (v ∷ vs)

@@ -1,9 +1,8 @@
 -- Taking changes back: what was made is unmade, and each step is one that a store allows.
-use Rattle.std.proofs.Common.{◌≡◌, ℕ, ◌+◌, ◌<◌, ◌≤◌, ◌⊎◌, List, [], ◌∷◌, ◌++◌, length, set, Option, Some, None, IsSome, OnSome, Bool, true, false, cond, refl, sym, ap, ◌∙◌, subst, inl, inr, arith}
-use Rattle.std.specs.Prelude.{◌==◌, ◌&&◌, IfSome, is_none, sum_by}
+use Rattle.std.proofs.Common.{◌≡◌, ℕ, ◌+◌, ◌<◌, ◌≤◌, ◌⊎◌, List, [], ◌∷◌, ◌++◌, length, Option, Some, None, IsSome, OnSome, refl, sym, ap, ◌∙◌, subst, inl, inr, arith}
+use Rattle.std.specs.Prelude.{IfSome}
 use Rattle.std.proofs.lemmas.List.{get_or-set_same, set-get_or, set-set}
 use Rattle.std.proofs.lemmas.Bool.{eq-eqb}
-use Rattle.std.proofs.lemmas.List.Sums.{sum_by-append, sum_by-cons}
 use Rattle.rep_lists.proofs.Rising.{put_take, take_put, put_put}
 use Rattle.rep_values.specs.Order.{key_cmp}
 use Rattle.rep_values.specs.OrderLaws.{key_cmp_total}
@@ -12,8 +11,8 @@ use Rattle.std.specs.Ordering.{ordering_reverse}
 use Rattle.rep_schema.specs.declared.schema.Schema.{Schema}
 use Rattle.rep_schema.specs.declared.schema.Column.{Column}
 use Rattle.rep_schema.specs.declared.change.Change.{Change}
-use Rattle.rep_schema.specs.Tables.{Cells, Rows, columns_of, key_of, beside, row_cmp, find_row, put_row, take_row, rows_of, RowFits, IsUniqueRow, IsTable, AreTables}
-use Rattle.rep_schema.specs.Changes.{made_in, made, turned, unmade, IsChange, LeadsTo, HaveLed, is_taken_from, room_for}
+use Rattle.rep_schema.specs.Tables.{Cells, Rows, columns_of, key_of, beside, row_cmp, find_row, rows_of, RowFits, IsUniqueRow, IsTable, AreTables}
+use Rattle.rep_schema.specs.Changes.{made_in, made, unmade, IsChange, LeadsTo, HaveLed, room_for}
 use Rattle.rep_schema.proofs.SameValues.{beside-own}
 use Rattle.rep_schema.proofs.KeptTables.{IsTable-put, IsTable-take, IsUniqueRow-take, IsUniqueRow-put_same, AreTables-set}
 use Rattle.rep_schema.proofs.FoundRows.{found_row, key_of-found, find_row-put_own}

@@ -1,7 +1,5 @@
-use Rattle.std.proofs.Common.{sym, ◌∙◌, subst}
-use Rattle.rep_calls.specs.declared.call.Call.{Call}
+use Rattle.std.proofs.Common.{sym, ◌∙◌}
 use Rattle.rep_schema.proofs.RowFit.{length-fits}
-use Rattle.conflict_detect.specs.Fits.{ContentFits, table_of}
 use Rattle.conflict_detect.proofs.FewParts.{length-UpdateFits}
 use Rattle.conflict_detect.proofs.detection.groups_unlike.Goals as goal
 

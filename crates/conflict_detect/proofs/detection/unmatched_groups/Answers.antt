@@ -1,4 +1,4 @@
-use Rattle.std.proofs.Common.{◌≡◌, sym, ◌∙◌, arith}
+use Rattle.std.proofs.Common.{sym, ◌∙◌, arith}
 use Rattle.std.proofs.lemmas.List.{length_push}
 use Rattle.conflict_detect.proofs.Gathered.{unmatched-more, unmatched-same}
 use Rattle.conflict_detect.proofs.detection.unmatched_groups.Goals as goal

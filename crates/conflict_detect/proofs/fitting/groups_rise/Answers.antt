@@ -1,4 +1,4 @@
-use Rattle.std.proofs.Common.{◌≡◌, ℕ, ◌+◌, ◌-◌, ◌<◌, ◌≤◌, length, map, get_or, inl, inr, arith}
+use Rattle.std.proofs.Common.{◌≡◌, ℕ, ◌+◌, ◌-◌, ◌<◌, map, get_or, inl, inr, arith}
 use Rattle.std.proofs.lemmas.Bool.{cases_eq}
 use Rattle.std.proofs.lemmas.List.{get_or-map, length-map}
 use Rattle.rep_calls.specs.declared.call.Part.{Part}
@@ -11,10 +11,12 @@ returns-then-parts-i c =
     let group : Part → ℕ = λ part. part.group in
     let last = get_or-map group parts (c.loop-i.i - 1) c.index-parts-i-in-loop-i.result 0 (omega (arith, c.loop-i.auto.i, c.loop-i-test.true)) in
     let next = get_or-map group parts c.loop-i.i c.index-parts-i.result 0 c.loop-i-test.true in
-    let is_next : c.loop-i.i - 1 + 1 ≡ c.loop-i.i = omega (arith, c.loop-i.auto.i) in
-    (λ yes. cc, λ rising.
-        let below : get_or (map group parts) (c.loop-i.i - 1) 0 < get_or (map group parts) c.loop-i.i 0 = rw is_next at (rising (c.loop-i.i - 1) (omega (arith, is_next, length-map parts group, c.loop-i-test.true))) in
-        absurd (omega (arith, below, last, next, c.if-parts-i.true)))
+    let is_next : c.loop-i.i - 1 + 1 ≡ c.loop-i.i = omega (arith, c.loop-i.auto.i) in (
+      λ yes. cc,
+      λ rising.
+          let below : get_or (map group parts) (c.loop-i.i - 1) 0 < get_or (map group parts) c.loop-i.i 0 = rw is_next at (rising (c.loop-i.i - 1) (omega (arith, is_next, length-map parts group, c.loop-i-test.true))) in
+          absurd (omega (arith, below, last, next, c.if-parts-i.true)),
+    )
 
 -- the group is
 pub loop-i-preserved : goal.loop-i-preserved

@@ -1,7 +1,7 @@
-use Rattle.std.proofs.Common.{◌≡◌, ◌<◌, length, inl, inr, refl, subst, sym, arith}
+use Rattle.std.proofs.Common.{inl, inr, subst, sym, arith}
 use Rattle.std.specs.Prelude.{Contains}
-use Rattle.std.proofs.lemmas.Bool.{ltb-true, eqb-true, lt-ltb, eq-eqb}
-use Rattle.rep_schema.specs.Groups.{groups_of, group_numbers_of}
+use Rattle.std.proofs.lemmas.Bool.{eqb-true, lt-ltb, eq-eqb}
+use Rattle.rep_schema.specs.Groups.{group_numbers_of}
 use Rattle.rep_schema.proofs.Coverage.{Contains-named, Contains-shadow, group_number_cases}
 use Rattle.conflict_detect.proofs.fitting.is_group_of.Goals as goal
 

@@ -1,4 +1,4 @@
-use Rattle.std.proofs.Common.{◌≡◌, length, sym, ◌∙◌, arith}
+use Rattle.std.proofs.Common.{length, sym, ◌∙◌, arith}
 use Rattle.std.proofs.lemmas.Bool.Decides.{Decides-eqb}
 use Rattle.conflict_detect.proofs.FitWalk.{key_fits-more, key_fits-other, key_fits-end, counted}
 use Rattle.conflict_detect.proofs.fitting.key_fits.Goals as goal

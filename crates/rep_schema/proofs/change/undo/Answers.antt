@@ -1,9 +1,7 @@
-use Rattle.std.proofs.Common.{◌≡◌, List, [], ◌∷◌, refl, sym, ap, ◌∙◌, arith}
-use Rattle.std.specs.Prelude.{slice_index}
-use Rattle.std.proofs.lemmas.Bool.{eq-eqb}
+use Rattle.std.proofs.Common.{◌≡◌, List, [], ◌∷◌, sym, ap, ◌∙◌, arith}
 use Rattle.std.proofs.lemmas.List.{nil_from_length}
 use Rattle.rep_schema.specs.declared.change.Change.{Change}
-use Rattle.rep_schema.specs.Changes.{unmade, room_for, HaveLed}
+use Rattle.rep_schema.specs.Changes.{unmade}
 use Rattle.rep_schema.proofs.TakingBack.{unmade_all, HaveLed-last, HaveLed-others, unmade_all-last, unmade_all-led}
 use Rattle.rep_schema.proofs.Leading.{room_for-append}
 use Rattle.rep_schema.proofs.change.undo.Goals as goal

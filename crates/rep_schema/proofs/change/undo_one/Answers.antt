@@ -1,5 +1,5 @@
-use Rattle.std.proofs.Common.{inl, inr, refl, arith}
-use Rattle.std.proofs.lemmas.Bool.{cases_eq, eq-eqb, ne_eqb}
+use Rattle.std.proofs.Common.{inl, inr, arith}
+use Rattle.std.proofs.lemmas.Bool.{cases_eq}
 use Rattle.rep_schema.proofs.RowFit.{length-key_of}
 use Rattle.rep_schema.proofs.TakingBack.{put_back_fits, put_back_unique, put_back_room, put_back_takes, taken_fits}
 use Rattle.rep_schema.proofs.change.undo_one.Goals as goal

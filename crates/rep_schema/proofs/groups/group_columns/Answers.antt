@@ -1,4 +1,4 @@
-use Rattle.std.proofs.Common.{◌∙◌, sym}
+use Rattle.std.proofs.Common.{◌∙◌}
 use Rattle.rep_schema.proofs.GroupShapes.{group_columns_of-shadow, group_columns_of-named, length-named_columns}
 use Rattle.rep_schema.proofs.groups.group_columns.Goals as goal
 

@@ -1,4 +1,4 @@
-use Rattle.std.proofs.Common.{sym, ◌∙◌}
+use Rattle.std.proofs.Common.{sym}
 use Rattle.std.proofs.lemmas.List.{append-nil}
 use Rattle.rep_schema.proofs.ValuesAt.{take-values_at_some, take-values_at_none}
 use Rattle.rep_schema.proofs.groups.values_at.Goals as goal

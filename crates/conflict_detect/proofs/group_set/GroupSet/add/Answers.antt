@@ -1,4 +1,4 @@
-use Rattle.std.proofs.Common.{◌≡◌, ◌<◌, length, take, arith}
+use Rattle.std.proofs.Common.{◌<◌, length, take, arith}
 use Rattle.conflict_detect.proofs.OneMore.{IsPadded-more}
 use Rattle.rep_values.specs.Padded.{len-of_front}
 use Rattle.conflict_detect.proofs.group_set.GroupSet.add.Goals as goal
