@@ -27,11 +27,15 @@ rise (x ∷ xs) = rise_above x xs
 
 -- the part's group is the table's, its values match the group's columns, and old and new ones differ
 abbrev pub part_fits : Schema → ℕ → Part → Bool
-part_fits schema table part = is_group_of schema table part.group && row_fits (columns_in_group schema table part.group) part.old && row_fits (columns_in_group schema table part.group) part.new && not (are_same part.old part.new)
+part_fits schema table part =
+    let columns = columns_in_group schema table part.group in
+    is_group_of schema table part.group && row_fits columns part.old && row_fits columns part.new && not (are_same part.old part.new)
 
 -- the key matches the key columns, there is a part, each fits, and their groups rise
 abbrev pub update_fits : Schema → ℕ → Cells → List Part → Bool
-update_fits schema table key parts = row_fits (key_columns (columns_of schema table)) key && nat_le 1 (length parts) && list_all (part_fits schema table) parts && rise (map (λ part. part.group) parts)
+update_fits schema table key parts =
+    row_fits (key_columns (columns_of schema table)) key && nat_le 1 (length parts)
+    && list_all (part_fits schema table) parts && rise (map (λ part. part.group) parts)
 
 abbrev pub content_fits : Schema → Call → Bool
 content_fits schema (Insert table row) = row_fits (columns_of schema table) row

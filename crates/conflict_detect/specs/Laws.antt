@@ -25,7 +25,8 @@ CallsOfChangesFit = (schema : Schema) (change : Change) → HasShape schema → 
 
 -- the new values of its parts lead from the row before to the row after
 abbrev pub PartsLeadToTheRowAfter : Type 0
-PartsLeadToTheRowAfter = (schema : Schema) (table : ℕ) (before after : Cells) → HasShape schema → AreOneRow schema table before after → with_parts schema table (parts_between schema table before after) before ≡ after
+PartsLeadToTheRowAfter = (schema : Schema) (table : ℕ) (before after : Cells) → HasShape schema → AreOneRow schema table before after
+    → with_parts schema table (parts_between schema table before after) before ≡ after
 
 -- the row before matches it
 abbrev pub RowsBeforeMatch : Type 0

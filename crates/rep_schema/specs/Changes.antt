@@ -31,12 +31,16 @@ pub record ChangeFits (schema : Schema) (change : Change) : Type 0 where
   pub differ : change.before ≢ change.after
   pub same_key : IfSome change.before (λ a. IfSome change.after (λ b. key_of (columns_of schema change.table) a ≡ key_of (columns_of schema change.table) b))
 
+-- the row with another row's key, if there is one
+abbrev pub row_like : List Column → Cells → Rows → Option Cells
+row_like columns row rows = find_row columns (key_of columns row) rows
+
 -- a change that these tables allow: the row before is there, the row after takes its place, fits and is unique
 pub record IsChange (schema : Schema) (change : Change) (tables : List Rows) : Type 0 where
   pub table : change.table < length schema.tables
   pub keyed : IsKeyed (columns_of schema change.table)
-  pub before : IfSome change.before (λ row. find_row (columns_of schema change.table) (key_of (columns_of schema change.table) row) (rows_of tables change.table) ≡ Some row)
-  pub after : IfSome change.after (λ row. find_row (columns_of schema change.table) (key_of (columns_of schema change.table) row) (rows_of tables change.table) ≡ change.before)
+  pub before : IfSome change.before (λ row. row_like (columns_of schema change.table) row (rows_of tables change.table) ≡ Some row)
+  pub after : IfSome change.after (λ row. row_like (columns_of schema change.table) row (rows_of tables change.table) ≡ change.before)
   pub fits : IfSome change.after (λ row. RowFits (columns_of schema change.table) row)
   pub unique : IfSome change.after (λ row. IsUniqueRow schema change.table row (rows_of tables change.table))
 
