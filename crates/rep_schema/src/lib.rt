@@ -8,7 +8,7 @@ mod groups;
 mod schema;
 mod store;
 
-pub use change::{Change, Changes, undo};
+pub use change::{Change, Changes, change_fits, undo};
 pub use compare::{
     columns_of, compare_row, constraint_columns, constraint_count, has_key, key_of, same_picked,
 };
