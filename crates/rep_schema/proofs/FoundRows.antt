@@ -1,11 +1,14 @@
 -- What is found by key among a table's rows, after a put and after a take, and that it determines the rows.
-use Rattle.std.proofs.Common.{◌≡◌, ◌≢◌, List, Some, None}
-use Rattle.rep_lists.specs.Rising.{IsRising}
+use Rattle.std.proofs.Common.{◌≡◌, ◌≢◌, List, [], ◌∷◌, Some, None, refl, subst}
+use Rattle.std.specs.List.{AllByRecursion}
+use Rattle.std.specs.declared.cmp.Ordering.{Ordering}
+use Rattle.std.specs.declared.cmp.Ordering.TheVariants.{Less, Equal, Greater}
+use Rattle.rep_lists.specs.Rising.{IsRising, find_at, found_here}
 use Rattle.rep_lists.proofs.FoundByKey.{find_put_own, find_put_other, find_take, find_take_other, same_from_finds}
 use Rattle.rep_values.specs.Order.{key_cmp}
 use Rattle.rep_values.specs.OrderLaws.{key_cmp_total, exact_keys}
 use Rattle.rep_schema.specs.declared.schema.Column.{Column}
-use Rattle.rep_schema.specs.Tables.{Cells, Rows, key_of, row_cmp, find_row, put_row, take_row}
+use Rattle.rep_schema.specs.Tables.{Cells, Rows, key_of, beside, row_cmp, find_row, put_row, take_row}
 
 module _ (columns : List Column) where
   -- a row that was put is found under its key
@@ -28,3 +31,26 @@ module _ (columns : List Column) where
   pub rows_from_finds : (rows others : Rows) → IsRising (row_cmp columns) rows → IsRising (row_cmp columns) others
       → ((key : Cells) → find_row columns key rows ≡ find_row columns key others) → rows ≡ others
   rows_from_finds rows others rising rising_others finds = same_from_finds (key_of columns) key_cmp key_cmp_total rows others rising rising_others finds
+
+-- what is found stands at the place, and is one of the values
+found_at : {X : Type 0} (P : X → Type 0) (at : X → Ordering) (xs : List X) (x : X) → AllByRecursion P xs → find_at at xs ≡ Some x → P x × (at x ≡ Equal)
+found_at P at [] x all found = cc
+found_at P at (y ∷ ys) x all found = go (at y) refl found (found_at P at ys x all.1)
+  where
+    go : (o : Ordering) → at y ≡ o → found_here o y (find_at at ys) ≡ Some x → (find_at at ys ≡ Some x → P x × (at x ≡ Equal)) → P x × (at x ≡ Equal)
+    go Less place here later = later here
+    go Equal place here later = let same : y ≡ x = cc in (subst P same all.0, subst (λ z. at z ≡ Equal) same place)
+    go Greater place here later = cc
+
+module _ (columns : List Column) (key row : Cells) (rows : Rows) (found : find_row columns key rows ≡ Some row) where
+  -- a row that is found is one of the rows
+  pub found_row : (P : Cells → Type 0) → AllByRecursion P rows → P row
+  found_row P all = (found_at P (beside columns key) rows row all found).0
+
+  -- and has the key
+  pub key_of-found : key_of columns row ≡ key
+  key_of-found = exact_keys (key_of columns row) key (found_at (λ x. Unit {0}) (beside columns key) rows row (all_units rows) found).1
+    where
+      all_units : (xs : Rows) → AllByRecursion (λ x. Unit {0}) xs
+      all_units [] = tt
+      all_units (x ∷ xs) = (tt, all_units xs)

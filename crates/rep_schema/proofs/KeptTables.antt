@@ -40,6 +40,12 @@ module _ (schema : Schema) (table : ℕ) where
   IsUniqueRow-put_own row rows unique = unique_from_none row _ (λ c below.
       all_put (beside (columns_of schema table) (key_of (columns_of schema table) row)) (λ other. ¬ Clashes c row other) row rows (λ clash. clash.0 refl) (none_from_unique row rows unique c below))
 
+  -- what is unique among rows stays so where a row with its key is put
+  pub IsUniqueRow-put_same : (old row : Cells) (rows : Rows) → key_of (columns_of schema table) row ≡ key_of (columns_of schema table) old → IsUniqueRow schema table old rows
+      → IsUniqueRow schema table old (put_row (columns_of schema table) row rows)
+  IsUniqueRow-put_same old row rows same unique = unique_from_none old _ (λ c below.
+      all_put (beside (columns_of schema table) (key_of (columns_of schema table) row)) (λ other. ¬ Clashes c old other) row rows (λ clash. clash.0 same) (none_from_unique old rows unique c below))
+
   -- rows that are unique stay so where a unique one is put among them
   apart_put : (row : Cells) (rows ys : Rows) → ((c : ℕ) → c < length (constraints_of schema table) → AllByRecursion (λ y. ¬ Clashes c row y) ys) → AllByRecursion (λ y. IsUniqueRow schema table y rows) ys
       → AllByRecursion (λ y. IsUniqueRow schema table y (put_row (columns_of schema table) row rows)) ys

@@ -5,6 +5,16 @@ pub mod SameValues
 pub mod KeptTables
 pub mod FittingTests
 pub mod FoundRows
+pub mod ValuesAt
+pub mod WithValues
+pub mod PartFit
+pub mod TakingBack
+pub mod Leading
 pub mod Shapes
+mod FewNumbers
+pub mod GroupShapes
+pub mod Coverage
 mod ShapeExamples
 pub mod NamedColumns
+mod GroupExamples
+mod ChangeExamples

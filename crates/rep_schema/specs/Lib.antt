@@ -3,6 +3,8 @@ pub mod Limits
 pub mod Tables
 pub mod Fitting
 pub mod Shape
+pub mod Groups
+pub mod Changes
 pub mod Named
 pub mod Refusals
 pub mod Rules

@@ -77,10 +77,6 @@ places_from names n (c ∷ cs) = cond (list_any (same_bytes c.name) names) (n �
 abbrev pub places_named : List Column → List (List ℕ) → List ℕ
 places_named columns names = places_from names 0 columns
 
--- a column stands in one of these groups
-abbrev pub is_grouped : List Group → ℕ → Bool
-is_grouped groups column = list_any (λ group. list_any (λ c. c == column) group.columns) groups
-
 -- a column stands in one of these constraints
 abbrev pub is_constrained : List Constraint → ℕ → Bool
 is_constrained constraints column = list_any (λ constraint. list_any (λ c. c == column) constraint.columns) constraints

@@ -1,5 +1,5 @@
 -- Tables: lists of rows in rising order of key, and what is found, put and taken there.
-use Rattle.std.specs.Prelude.{◌≡◌, ◌≢◌, ℕ, ◌+◌, ◌<◌, ℤ, pos, negsuc, ◌≤ℤ◌, List, [], ◌∷◌, length, map, slice_get, slice_index_or, Option, Some, None, Any, cond}
+use Rattle.std.specs.Prelude.{◌≡◌, ◌≢◌, ℕ, ◌+◌, ◌<◌, ℤ, pos, negsuc, ◌≤ℤ◌, List, [], ◌∷◌, length, map, slice_get, slice_index_or, Option, Some, None, Any, cond, filter}
 use Rattle.std.specs.List.{AllByRecursion}
 use Rattle.std.specs.declared.cmp.Ordering.{Ordering}
 use Rattle.rep_lists.specs.Rising.{IsRising, find_at, put_at, take_at}
@@ -56,6 +56,10 @@ key_of (c ∷ cs) (v ∷ vs) = cond c.key (v ∷ key_of cs vs) (key_of cs vs)
 abbrev pub key_count : List Column → ℕ
 key_count [] = 0
 key_count (c ∷ cs) = cond c.key (key_count cs + 1) (key_count cs)
+
+-- the columns that a key has values for
+abbrev pub key_columns : List Column → List Column
+key_columns columns = filter (λ c. c.key) columns
 
 -- there are 1 to 4 key columns
 abbrev pub IsKeyed : List Column → Type 0

@@ -1,0 +1,11 @@
+-- The lemmas of this crate, from the bottom up.
+mod FitWalk
+pub mod FitTested
+mod Gathered
+mod FewParts
+pub mod RowAfter
+pub mod CallFit
+pub mod OwnCall
+pub mod FoundGroups
+mod OneMore
+mod WorkedCalls

@@ -1,0 +1,6 @@
+-- The definitions of this crate.
+pub mod Fits
+pub mod FitTests
+pub mod Differing
+pub mod ChangeCalls
+pub mod Laws

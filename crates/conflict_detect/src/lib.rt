@@ -1,0 +1,18 @@
+//! Whether a transaction fits a schema, in which groups a call's old values differ from a row, and the call of a
+//! changed row.
+#![tactic(auto)]
+
+mod change_call;
+mod detection;
+mod fitting;
+mod group_set;
+mod laws;
+
+pub use change_call::call_of;
+pub use detection::{Found, detect};
+pub use fitting::fits;
+pub use group_set::GroupSet;
+pub use laws::{
+    calls_of_changes_fit, found_groups_tell, parts_lead_to_the_row_after, rows_before_match,
+    rows_differ_in_some_group,
+};

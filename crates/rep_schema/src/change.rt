@@ -1,0 +1,129 @@
+//! Changes of rows, and taking them back.
+ghost use Rattle.std.specs.Prelude.{◌≡◌, ◌≢◌, ◌↔◌, ℕ, ◌+◌, ◌<◌, ◌≤◌, List, [], ◌∷◌, length, slice_index, IsTrue, IfOk};
+ghost use Rattle.rep_schema.specs.Tables.{Rows, key_of, RowFits, IsKeyed, AreTables};
+ghost use Rattle.rep_schema.specs.Changes.{ChangeFits, HaveLed, LeadsTo, unmade, room_for};
+
+use crate::{Column, RowStore, Schema, columns_of, has_key, is_keyed, key_of, row_fits};
+use rep_lists::{Copies, Items, NoMemory};
+use rep_values::{Row, same_values};
+use std::alloc::Global;
+
+/// A row that was added, replaced or taken, as it was before and as it is after. None stands for no row.
+#[derive(Drop)]
+pub struct Change {
+    pub table: u32,
+    pub before: Option<Row>,
+    pub after: Option<Row>,
+}
+
+/// Changes in the order in which they were made.
+#[derive(Drop)]
+pub struct Changes {
+    pub rows: Items<Change>,
+}
+
+fn copy_row(alloc: Global, row: &Option<Row>) -> Result<Option<Row>, NoMemory>
+    ensures { IfOk result (λ copied. copied ≡ row.now) }
+{
+    match row {
+        Some(row) => Ok(Some(row.copy(alloc)?)),
+        None => Ok(None),
+    }
+}
+
+impl Copies for Change {
+    fn copy(&self, alloc: Global) -> Result<Change, NoMemory> {
+        Ok(Change {
+            table: self.table,
+            before: copy_row(alloc, &self.before)?,
+            after: copy_row(alloc, &self.after)?,
+        })
+    }
+}
+
+impl Copies for Changes {
+    fn copy(&self, alloc: Global) -> Result<Changes, NoMemory> {
+        Ok(Changes {
+            rows: self.rows.copy(alloc)?,
+        })
+    }
+}
+
+/// Whether two rows fit, differ, and have one key.
+fn replaces(columns: &[Column], before: &Row, after: &Row) -> bool
+    requires { IsKeyed columns.now }
+    ensures { IsTrue result
+        ↔ (RowFits columns.now before.now × RowFits columns.now after.now × (before.now ≢ after.now) × (key_of columns.now before.now ≡ key_of columns.now after.now)) }
+{
+    if !row_fits(columns, before.values()) {
+        return false;
+    }
+    if !row_fits(columns, after.values()) {
+        return false;
+    }
+    if same_values(before.values(), after.values()) {
+        return false;
+    }
+    let key = key_of(columns, before.values());
+    has_key(columns, key.values(), after.values())
+}
+
+/// Whether a change is one of a row of the schema: what is there fits and differs, and has one key where both are
+/// there. The table has 1 to 4 key columns.
+pub fn change_fits(schema: &Schema, change: &Change) -> bool
+    ensures { IsTrue result ↔ ChangeFits schema.now change.now }
+{
+    if change.table as usize >= schema.tables.len() {
+        return false;
+    }
+    let columns = columns_of(schema, change.table);
+    if !is_keyed(columns) {
+        return false;
+    }
+    match (&change.before, &change.after) {
+        (Some(before), Some(after)) => replaces(columns, before, after),
+        (Some(row), None) | (None, Some(row)) => row_fits(columns, row.values()),
+        (None, None) => false,
+    }
+}
+
+/// Takes the last change back.
+fn undo_one<R: RowStore>(store: &mut R, change: Change)
+    requires led { HaveLed (R.schema store.old) (change ∷ []) (R.tables store.old) }
+    requires room { room_for change.table (change ∷ []) ≤ slice_index (R.spare store.old) change.table }
+    ensures tables { R.tables store.new ≡ unmade (R.schema store.old) change (R.tables store.old) }
+    ensures schema { R.schema store.new ≡ R.schema store.old }
+    ensures room { (t : ℕ) → slice_index (R.spare store.old) t ≤ slice_index (R.spare store.new) t + room_for t (change ∷ []) }
+{
+    let Change {
+        table,
+        before,
+        after,
+    } = change;
+    match (before, after) {
+        (Some(row), _) => {
+            let _ = store.put(table, row);
+        }
+        (None, Some(row)) => {
+            let key = key_of(columns_of(store.schema(), table), row.values());
+            let _ = store.take(table, &key);
+        }
+        (None, None) => {}
+    }
+}
+
+/// Takes changes back, the last one first: each row before is put back, and a row that was added is taken away. It
+/// takes no memory, since there is room for the rows to be put back.
+pub fn undo<R: RowStore>(store: &mut R, changes: Changes)
+    requires led { HaveLed (R.schema store.old) changes.rows (R.tables store.old) }
+    requires room { (t : ℕ) → t < length (R.schema store.old).tables → room_for t changes.rows ≤ slice_index (R.spare store.old) t }
+    ensures earlier { (earlier : List Rows) → AreTables (R.schema store.old) earlier → LeadsTo (R.schema store.old) changes.rows earlier (R.tables store.old)
+        → R.tables store.new ≡ earlier }
+    ensures schema { R.schema store.new ≡ R.schema store.old }
+    ensures room { (t : ℕ) → slice_index (R.spare store.old) t ≤ slice_index (R.spare store.new) t + room_for t changes.rows }
+{
+    let mut left = changes.rows.into_vec();
+    while let Some(change) = left.pop() {
+        undo_one(store, change);
+    }
+}

@@ -1,0 +1,181 @@
+//! The columns of a table's groups, and a row's values there.
+ghost use Rattle.std.specs.Prelude.{◌≡◌, ◌<◌, ◌≤◌, ◌↔◌, [], ◌∷◌, ◌++◌, ◌==◌, length, slice_get, option_copied, Some, IsTrue, IfOk};
+ghost use Rattle.std.specs.List.{list_any};
+ghost use Rattle.rep_schema.specs.Limits.{most_columns};
+ghost use Rattle.rep_schema.specs.Tables.{columns_of};
+ghost use Rattle.rep_schema.specs.Shape.{HasShape};
+ghost use Rattle.rep_schema.specs.Groups.{groups_of, is_grouped, shadow_from, named_columns, group_columns_of, values_at};
+
+use crate::{Column, Group, Schema, columns_of, same_picked};
+use rep_lists::{Items, NoMemory};
+use rep_values::{Value, same_value};
+use std::alloc::Global;
+use std::marker::Model;
+
+/// The number of the shadow group. A named group's number is its place.
+pub const SHADOW: u8 = 255;
+
+/// The columns of one group of a table, in rising order. They are kept in place and take no memory.
+#[derive(Drop)]
+pub struct GroupColumns {
+    cells: [u32; 32],
+    len: usize,
+}
+
+impl Model for GroupColumns {
+    ghost use Rattle.std.specs.Prelude.{ℕ, ◌≤◌, List, take};
+
+    ghost Value = { List ℕ };
+
+    ghost view = { λ g. take g.len g.cells };
+
+    ghost invariant = { λ g. g.len ≤ 32 };
+}
+
+impl GroupColumns {
+    fn empty() -> GroupColumns
+        ensures { result ≡ [] }
+    {
+        GroupColumns {
+            cells: [0; 32],
+            len: 0,
+        }
+    }
+
+    fn add(&mut self, column: u32)
+        requires { length self.old < 32 }
+        ensures { self.new ≡ self.old ++ column ∷ [] }
+    {
+        self.cells[self.len] = column;
+        self.len += 1;
+    }
+
+    fn of(columns: &[u32]) -> GroupColumns
+        requires { length columns.now ≤ 32 }
+        ensures { result ≡ columns.now }
+    {
+        let mut cells = [0; 32];
+        cells[..columns.len()].copy_from_slice(columns);
+        GroupColumns {
+            cells,
+            len: columns.len(),
+        }
+    }
+
+    /// The places of the columns.
+    pub fn as_slice(&self) -> &[u32]
+        ensures { result.now ≡ self.now }
+    {
+        &self.cells[..self.len]
+    }
+}
+
+/// The named groups of a table of the schema.
+pub fn groups_of(schema: &Schema, table: u32) -> &[Group]
+    requires { table < length schema.now.tables }
+    ensures { result.now ≡ groups_of schema.now table }
+{
+    schema.tables.at(table as usize).groups.as_slice()
+}
+
+fn has_column(group: &Group, column: u32) -> bool
+    ensures { result ≡ list_any (λ c. c == column) group.now.columns }
+{
+    group.columns.as_slice().contains(&column)
+}
+
+fn is_grouped(groups: &[Group], column: u32) -> bool
+    ensures { result ≡ is_grouped groups.now column }
+{
+    groups.iter().any(|group| has_column(group, column))
+}
+
+/// The columns that are no key columns and in no named group.
+fn shadow_columns(groups: &[Group], columns: &[Column]) -> GroupColumns
+    requires { length columns.now ≤ most_columns }
+    ensures { result ≡ shadow_from groups.now 0 columns.now }
+{
+    let mut shadow = GroupColumns::empty();
+    for i in 0..columns.len() {
+        if !(columns[i].key || is_grouped(groups, i as u32)) {
+            shadow.add(i as u32);
+        }
+    }
+    shadow
+}
+
+fn named_columns(groups: &[Group], group: u8) -> GroupColumns
+    requires { length (named_columns (slice_get groups.now group)) ≤ most_columns }
+    ensures { result ≡ named_columns (slice_get groups.now group) }
+{
+    match groups.get(group as usize) {
+        Some(named) => GroupColumns::of(named.columns.as_slice()),
+        None => GroupColumns::empty(),
+    }
+}
+
+/// The columns of a table's group, by the group's number; none where the table has no such group.
+pub fn group_columns(schema: &Schema, table: u32, group: u8) -> GroupColumns
+    requires table { table < length schema.now.tables }
+    requires shape { HasShape schema.now }
+    ensures { result ≡ group_columns_of schema.now table group }
+{
+    if group == SHADOW {
+        shadow_columns(groups_of(schema, table), columns_of(schema, table))
+    } else {
+        named_columns(groups_of(schema, table), group)
+    }
+}
+
+fn cell(row: &[Value], place: u32) -> Option<&Value>
+    ensures { option_copied result ≡ slice_get row.now place }
+{
+    row.get(place as usize)
+}
+
+/// A row's values at these places, in their order. It may want memory.
+pub fn values_at(alloc: Global, places: &[u32], row: &[Value]) -> Result<Items<Value>, NoMemory>
+    ensures { IfOk result (λ values. values ≡ values_at places.now row.now) }
+{
+    let mut values = Items::new(alloc);
+    for place in places {
+        if let Some(value) = cell(row, *place) {
+            values.push(*value)?;
+        }
+    }
+    Ok(values)
+}
+
+/// Whether a value stands at a place.
+fn is_at(values: &[Value], place: usize, value: &Value) -> bool
+    ensures { IsTrue result ↔ (slice_get values.now place ≡ Some value.now) }
+{
+    match values.get(place) {
+        Some(found) => same_value(found, value),
+        None => false,
+    }
+}
+
+/// Whether a row has these values at these places.
+pub fn has_values(places: &[u32], values: &[Value], row: &[Value]) -> bool
+    ensures { IsTrue result ↔ (values_at places.now row.now ≡ values.now) }
+{
+    let mut read = 0;
+    for place in places {
+        if let Some(value) = cell(row, *place) {
+            if !is_at(values, read, value) {
+                return false;
+            }
+            read += 1;
+        }
+    }
+    read == values.len()
+}
+
+/// Whether two rows of one length have the same values at these places.
+pub fn same_values_at(places: &[u32], a: &[Value], b: &[Value]) -> bool
+    requires { length a.now ≡ length b.now }
+    ensures { IsTrue result ↔ (values_at places.now a.now ≡ values_at places.now b.now) }
+{
+    same_picked(places, a, b)
+}
