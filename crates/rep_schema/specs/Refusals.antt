@@ -1,24 +1,18 @@
 -- When a declaration is refused, and for what: the first of its steps that refuses it.
-use Rattle.std.specs.Prelude.{ℕ, ◌==◌, nat_le, Bool, true, false, cond, not, ◌||◌, List, [], ◌∷◌, ◌++◌, length, Option, Some, None, is_some, is_none, ℤ}
-use Rattle.std.specs.List.{find, list_any, count_by}
+use Rattle.std.specs.Prelude.{ℕ, nat_le, Bool, false, cond, not, ◌||◌, List, [], ◌∷◌, ◌++◌, length, Option, Some, None, is_some, is_none, ℤ}
+use Rattle.std.specs.List.{list_any, count_by}
 use Rattle.rep_values.specs.declared.refusal.Refusal.{Refusal}
 use Rattle.rep_values.specs.declared.refusal.Refusal.TheVariants as refusal
 use Rattle.rep_values.specs.declared.refusal.Limit.{Limit}
 use Rattle.rep_values.specs.declared.refusal.Limit.TheVariants as limit
-use Rattle.rep_values.specs.declared.literal.Literal.{Literal}
 use Rattle.rep_values.specs.declared.value.Value.{Value}
 use Rattle.rep_values.specs.declared.value.Value.TheVariants.{Num, Words}
 use Rattle.rep_values.specs.Literal.{value_of_literal}
 use Rattle.rep_values.specs.Equality.{value_eq}
 use Rattle.rep_values.specs.Name.{same_bytes}
 use Rattle.rep_schema.specs.declared.schema.Schema.{Schema}
-use Rattle.rep_schema.specs.declared.schema.SiteEntry.{SiteEntry}
-use Rattle.rep_schema.specs.declared.schema.TableEntry.{TableEntry}
 use Rattle.rep_schema.specs.declared.schema.Column.{Column}
-use Rattle.rep_schema.specs.declared.schema.Group.{Group}
-use Rattle.rep_schema.specs.declared.schema.Constraint.{Constraint}
 use Rattle.rep_schema.specs.declared.schema.PriorityGroup.{PriorityGroup}
-use Rattle.rep_schema.specs.declared.schema.PriorityLevel.{PriorityLevel}
 use Rattle.rep_schema.specs.declared.declare.Declare.{Declare}
 use Rattle.rep_schema.specs.declared.declare.Declare.TheVariants as declare
 use Rattle.rep_schema.specs.declared.declare.MethodWords.{MethodWords}

@@ -141,7 +141,8 @@ fn column_refusal<X: OnColumns>(
     before: &[Name],
     name: &Name,
 ) -> Option<Refusal>
-    ensures { result ≡ column_step (λ place. list_any (λ x. list_any (λ c. c == place) (X.columns x)) others.now) (list_any (same_bytes name.now) before.now) (column_place columns.now name.now) }
+    ensures { result ≡ column_step (λ place. list_any (λ x. list_any (λ c. c == place) (X.columns x)) others.now)
+        (list_any (same_bytes name.now) before.now) (column_place columns.now name.now) }
 {
     let Some(place) = column_place(columns, name) else {
         return Some(Refusal::UnknownName);
@@ -161,7 +162,8 @@ fn columns_refusal<X: OnColumns>(
     others: &[X],
     names: &[Name],
 ) -> Option<Refusal>
-    ensures { result ≡ columns_step columns.now (λ place. list_any (λ x. list_any (λ c. c == place) (X.columns x)) others.now) [] names.now }
+    ensures { result ≡ columns_step columns.now
+        (λ place. list_any (λ x. list_any (λ c. c == place) (X.columns x)) others.now) [] names.now }
 {
     for i in 0..names.len() {
         if let Some(refusal) = column_refusal(columns, others, &names[..i], &names[i]) {

@@ -1,5 +1,5 @@
 -- The columns that a constraint names.
-use Rattle.std.proofs.Common.{◌≡◌, ◌∙◌, ap, []}
+use Rattle.std.proofs.Common.{◌∙◌, ap, []}
 use Rattle.rep_schema.specs.Refusals.{columns_step}
 use Rattle.rep_schema.specs.Named.{is_constrained}
 use Rattle.rep_schema.proofs.refusals.constraint_columns_refusal.Goals as goal

@@ -1,5 +1,5 @@
 -- The columns that a group names.
-use Rattle.std.proofs.Common.{◌≡◌, ◌∙◌, ap, []}
+use Rattle.std.proofs.Common.{◌∙◌, ap, []}
 use Rattle.rep_schema.specs.Refusals.{columns_step}
 use Rattle.rep_schema.specs.Groups.{is_grouped}
 use Rattle.rep_schema.proofs.refusals.group_columns_refusal.Goals as goal

@@ -1,5 +1,5 @@
 -- Counting master sites.
-use Rattle.std.proofs.Common.{◌≡◌, ◌≤◌, take, length}
+use Rattle.std.proofs.Common.{◌≡◌, ◌≤◌, take}
 use Rattle.std.specs.List.{count_by}
 use Rattle.rep_schema.specs.Shape.{is_master}
 use Rattle.rep_schema.proofs.refusals.master_count.Given as goal
