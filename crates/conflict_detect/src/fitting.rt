@@ -5,7 +5,7 @@ ghost use Rattle.std.specs.List.Sorted.{IsStrictlyIncreasing};
 ghost use Rattle.rep_schema.specs.Tables.{key_columns, RowFits};
 ghost use Rattle.rep_schema.specs.Shape.{HasShape};
 ghost use Rattle.rep_schema.specs.Groups.{values_at};
-ghost use Rattle.conflict_detect.specs.Fits.{FitsThere, IsGroupOf, PartFits, UpdateFits, CallFits, TxnFits};
+ghost use Rattle.conflict_detect.specs.Fits.{table_of, FitsThere, IsGroupOf, PartFits, UpdateFits, CallFits, TxnFits};
 ghost use Rattle.conflict_detect.specs.FitTests.{txn_fits};
 
 use rep_calls::{Call, Part, Txn};
@@ -121,20 +121,28 @@ fn update_fits(schema: &Schema, table: u32, key: &Key, parts: &[Part]) -> bool
     groups_rise(parts)
 }
 
-fn call_fits(schema: &Schema, call: &Call) -> bool
+/// The table that a call names.
+pub fn table_of(call: &Call) -> u32
+    ensures { result ≡ table_of call.now }
+{
+    match call {
+        Call::Insert { table, .. } | Call::Update { table, .. } | Call::Delete { table, .. } =>
+            *table,
+    }
+}
+
+/// Whether a call fits the schema, as `fits` says it of each call of a transaction. It takes no memory.
+pub fn call_fits(schema: &Schema, call: &Call) -> bool
     requires { HasShape schema.now }
     ensures { IsTrue result ↔ CallFits schema.now call.now }
 {
-    let (Call::Insert { table, .. } | Call::Update { table, .. } | Call::Delete { table, .. }) =
-        call;
-    if *table as usize >= schema.tables.len() {
+    if table_of(call) as usize >= schema.tables.len() {
         return false;
     }
     match call {
-        Call::Insert { table, row } | Call::Delete { table, row } => row_fits(
-            columns_of(schema, *table),
-            row.values(),
-        ),
+        Call::Insert { table, row } | Call::Delete { table, row } => {
+            row_fits(columns_of(schema, *table), row.values())
+        }
         Call::Update { table, key, parts } => update_fits(schema, *table, key, parts.as_slice()),
     }
 }

@@ -10,9 +10,12 @@ mod laws;
 
 pub use change_call::call_of;
 pub use detection::{Found, detect};
-pub use fitting::fits;
+pub use fitting::{call_fits, fits, table_of};
 pub use group_set::GroupSet;
 pub use laws::{
     calls_of_changes_fit, found_groups_tell, parts_lead_to_the_row_after, rows_before_match,
     rows_differ_in_some_group,
 };
+
+#[cfg(test)]
+mod tests;
