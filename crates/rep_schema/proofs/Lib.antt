@@ -15,6 +15,5 @@ mod FewNumbers
 pub mod GroupShapes
 pub mod Coverage
 mod ShapeExamples
-pub mod NamedColumns
 mod GroupExamples
 mod ChangeExamples

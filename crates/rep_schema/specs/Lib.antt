@@ -5,6 +5,3 @@ pub mod Fitting
 pub mod Shape
 pub mod Groups
 pub mod Changes
-pub mod Named
-pub mod Refusals
-pub mod Rules

@@ -78,16 +78,19 @@ pub fn groups_of(schema: &Schema, table: u32) -> &[Group]
     schema.tables.at(table as usize).groups.as_slice()
 }
 
-fn has_column(group: &Group, column: u32) -> bool
-    ensures { result ≡ list_any (λ c. c == column) group.now.columns }
+/// Whether a column stands among these.
+pub fn has_place(columns: &[u32], place: usize) -> bool
+    ensures { result ≡ list_any (λ c. c == place) columns.now }
 {
-    group.columns.as_slice().contains(&column)
+    columns.iter().any(|column| *column as usize == place)
 }
 
 fn is_grouped(groups: &[Group], column: u32) -> bool
     ensures { result ≡ is_grouped groups.now column }
 {
-    groups.iter().any(|group| has_column(group, column))
+    groups
+        .iter()
+        .any(|group| has_place(group.columns.as_slice(), column as usize))
 }
 
 /// The columns that are no key columns and in no named group.

@@ -4,11 +4,7 @@
 mod change;
 mod compare;
 mod conditions;
-mod declare;
 mod groups;
-mod named;
-mod refusals;
-mod rules;
 mod schema;
 mod store;
 
@@ -17,18 +13,14 @@ pub use compare::{
     columns_of, compare_row, constraint_columns, constraint_count, has_key, key_of, same_picked,
 };
 pub use conditions::{fits_kind, is_in_range, is_keyed, is_unique, key_count, row_fits};
-pub use declare::{Declare, MethodWords, UniqueWords};
 pub use groups::{
-    GroupColumns, SHADOW, group_columns, groups_of, has_values, same_values_at, values_at,
+    GroupColumns, SHADOW, group_columns, groups_of, has_place, has_values, same_values_at, values_at,
 };
-pub use refusals::refusal_of;
 pub use schema::{
     Column, Constraint, Group, Kind, Method, PriorityGroup, PriorityLevel, Schema, SiteEntry,
     TableEntry, UniqueMethod,
 };
 pub use store::RowStore;
 
-#[cfg(test)]
-mod declare_tests;
 #[cfg(test)]
 mod tests;

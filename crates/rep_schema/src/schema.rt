@@ -1,6 +1,9 @@
 //! The types of a schema. A table, a group and a constraint are named by their place from 0, a column by its place
 //! in its table, a priority group by its place among them.
 
+ghost use Rattle.std.specs.Prelude.{◌≡◌};
+ghost use Rattle.rep_schema.specs.Shape.{HasShape, no_schema};
+
 use rep_lists::{Copies, Items, NoMemory};
 use rep_values::{Name, SiteName, TableName, Value};
 use std::alloc::Global;
@@ -108,6 +111,20 @@ pub enum UniqueMethod {
     AppendSite(u32),
     AppendSequence(u32),
     Discard,
+}
+
+impl Schema {
+    /// The schema in which nothing is declared. It takes no memory.
+    pub fn empty(alloc: Global) -> Schema
+        ensures value { result ≡ no_schema }
+        ensures shape { HasShape result }
+    {
+        Schema {
+            sites: Items::new(alloc),
+            tables: Items::new(alloc),
+            priorities: Items::new(alloc),
+        }
+    }
 }
 
 impl Copies for Schema {

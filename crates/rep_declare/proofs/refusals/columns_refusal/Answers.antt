@@ -1,6 +1,6 @@
 use Rattle.std.proofs.Common.{◌∙◌, sym}
-use Rattle.rep_schema.proofs.NamedColumns.{refused_at, passed_at, none_behind}
-use Rattle.rep_schema.proofs.refusals.columns_refusal.Goals as goal
+use Rattle.rep_declare.proofs.NamedColumns.{refused_at, passed_at, none_behind}
+use Rattle.rep_declare.proofs.refusals.columns_refusal.Goals as goal
 
 pub returns-in-Some : goal.returns-in-Some
 returns-in-Some g c =

@@ -1,7 +1,7 @@
 //! Declarations: the lines of a script that add to a schema, with the names that they are written with.
 
-use crate::Column;
 use rep_lists::Items;
+use rep_schema::Column;
 use rep_values::{Literal, Name, SiteName, TableName};
 
 /// A declaration.

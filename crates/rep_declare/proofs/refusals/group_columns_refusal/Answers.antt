@@ -1,8 +1,8 @@
 -- The columns that a group names.
 use Rattle.std.proofs.Common.{◌∙◌, ap, []}
-use Rattle.rep_schema.specs.Refusals.{columns_step}
+use Rattle.rep_declare.specs.Refusals.{columns_step}
 use Rattle.rep_schema.specs.Groups.{is_grouped}
-use Rattle.rep_schema.proofs.refusals.group_columns_refusal.Goals as goal
+use Rattle.rep_declare.proofs.refusals.group_columns_refusal.Goals as goal
 
 pub returns : goal.returns
 returns c = c.columns_refusal.ensures

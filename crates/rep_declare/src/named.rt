@@ -3,9 +3,9 @@ ghost use Rattle.std.specs.Prelude.{◌≡◌, ◌&&◌, ◌==◌, List, ℕ, op
 ghost use Rattle.std.specs.List.{find, list_any, position};
 ghost use Rattle.rep_values.specs.Name.{same_bytes};
 ghost use Rattle.rep_schema.specs.Shape.{is_master};
-ghost use Rattle.rep_schema.specs.Named.{is_site, is_table, is_column, is_group, is_constraint, is_priority};
+ghost use Rattle.rep_declare.specs.Named.{is_site, is_table, is_column, is_group, is_constraint, is_priority};
 
-use crate::{Column, Constraint, Group, PriorityGroup, SiteEntry, TableEntry};
+use rep_schema::{Column, Constraint, Group, PriorityGroup, SiteEntry, TableEntry, has_place};
 use rep_values::{Name, SiteName, TableName};
 
 /// What stands on columns of a table under a name: a group or a secondary constraint.
@@ -70,12 +70,6 @@ pub fn find_constraint<'a>(constraints: &'a [Constraint], name: &Name) -> Option
     ensures { option_copied result ≡ find (is_constraint name.now) constraints.now }
 {
     find_named(constraints, name)
-}
-
-fn has_place(columns: &[u32], place: usize) -> bool
-    ensures { result ≡ list_any (λ c. c == place) columns.now }
-{
-    columns.iter().any(|column| *column as usize == place)
 }
 
 /// Whether a column stands in one of these groups or constraints.

@@ -1,8 +1,8 @@
 -- The columns that a line names.
 use Rattle.std.proofs.Common.{◌≡◌, ◌==◌, [], take, drop}
 use Rattle.std.specs.List.{list_any}
-use Rattle.rep_schema.specs.Refusals.{columns_step}
-use Rattle.rep_schema.proofs.refusals.columns_refusal.Given as goal
+use Rattle.rep_declare.specs.Refusals.{columns_step}
+use Rattle.rep_declare.proofs.refusals.columns_refusal.Given as goal
 
 -- none of those of the front is refused
 abbrev pub invariant-loop-i : goal.invariant-loop-i

@@ -13,18 +13,18 @@ use Rattle.rep_values.specs.Name.{same_bytes}
 use Rattle.rep_schema.specs.declared.schema.Schema.{Schema}
 use Rattle.rep_schema.specs.declared.schema.Column.{Column}
 use Rattle.rep_schema.specs.declared.schema.PriorityGroup.{PriorityGroup}
-use Rattle.rep_schema.specs.declared.declare.Declare.{Declare}
-use Rattle.rep_schema.specs.declared.declare.Declare.TheVariants as declare
-use Rattle.rep_schema.specs.declared.declare.MethodWords.{MethodWords}
-use Rattle.rep_schema.specs.declared.declare.MethodWords.TheVariants as method
-use Rattle.rep_schema.specs.declared.declare.UniqueWords.{UniqueWords}
-use Rattle.rep_schema.specs.declared.declare.UniqueWords.TheVariants as unique
+use Rattle.rep_declare.specs.declared.declaration.Declare.{Declare}
+use Rattle.rep_declare.specs.declared.declaration.Declare.TheVariants as declare
+use Rattle.rep_declare.specs.declared.declaration.MethodWords.{MethodWords}
+use Rattle.rep_declare.specs.declared.declaration.MethodWords.TheVariants as method
+use Rattle.rep_declare.specs.declared.declaration.UniqueWords.{UniqueWords}
+use Rattle.rep_declare.specs.declared.declaration.UniqueWords.TheVariants as unique
 use Rattle.rep_schema.specs.Limits.{most_masters, most_snapshots, most_tables, most_columns, most_keys, most_methods, most_constraints, most_levels}
 use Rattle.rep_schema.specs.Tables.{key_count}
 use Rattle.rep_schema.specs.Fitting.{is_in_range}
 use Rattle.rep_schema.specs.Shape.{shadow_name, key_name, is_master, is_snapshot}
 use Rattle.rep_schema.specs.Groups.{is_grouped}
-use Rattle.rep_schema.specs.Named.{is_column, site_named, has_master, table_named, group_named, constraint_named, methods_named, priority_named, column_place, is_constrained}
+use Rattle.rep_declare.specs.Named.{is_column, site_named, has_master, table_named, group_named, constraint_named, methods_named, priority_named, column_place, is_constrained}
 
 abbrev pub refused : Bool → Refusal → Option Refusal
 refused test why = cond test (Some why) None

@@ -1,12 +1,10 @@
 //! The rules of a schema, which are tested when its declarations end.
 ghost use Rattle.std.specs.Prelude.{◌≡◌, ◌&&◌, Some, None, not, slice_get, IfErr, OnOk};
 ghost use Rattle.std.specs.List.{list_any, list_all};
-ghost use Rattle.rep_schema.specs.Shape.{HasShape, is_master, no_schema};
-ghost use Rattle.rep_schema.specs.Rules.{has_some_master, is_well_keyed, is_key, is_stamp, is_off_the_key, are_off_the_key, broken_rule};
+ghost use Rattle.rep_schema.specs.Shape.{is_master};
+ghost use Rattle.schema_rules.specs.Rules.{has_some_master, is_well_keyed, is_key, is_stamp, is_off_the_key, are_off_the_key, broken_rule};
 
-use crate::{Column, Group, Kind, Schema, SiteEntry, TableEntry, key_count};
-use rep_lists::Items;
-use std::alloc::Global;
+use rep_schema::{Column, Group, Kind, Schema, SiteEntry, TableEntry, key_count};
 
 fn has_some_master(sites: &[SiteEntry]) -> bool
     ensures { result ≡ list_any is_master sites.now }
@@ -78,34 +76,20 @@ fn all_off_the_key(tables: &[TableEntry]) -> bool
     tables.iter().all(|table| are_off_the_key(table))
 }
 
-impl Schema {
-    /// The schema in which nothing is declared. It takes no memory.
-    pub fn empty(alloc: Global) -> Schema
-        ensures value { result ≡ no_schema }
-        ensures shape { HasShape result }
-    {
-        Schema {
-            sites: Items::new(alloc),
-            tables: Items::new(alloc),
-            priorities: Items::new(alloc),
-        }
+/// The number of the lowest rule that is broken, if one is. 1: there is a master. 2: every table has a key column,
+/// and no key column is a STAMP. 3: no column of a named group is a key column. It takes no memory.
+pub fn check(schema: &Schema) -> Result<(), u8>
+    ensures sound { OnOk result (broken_rule schema.now ≡ None) }
+    ensures broken { IfErr result (λ rule. broken_rule schema.now ≡ Some rule) }
+{
+    if !has_some_master(schema.sites.as_slice()) {
+        return Err(1);
     }
-
-    /// The number of the lowest rule that is broken, if one is. 1: there is a master. 2: every table has a key column,
-    /// and no key column is a STAMP. 3: no column of a named group is a key column. It takes no memory.
-    pub fn check(&self) -> Result<(), u8>
-        ensures sound { OnOk result (broken_rule self.now ≡ None) }
-        ensures broken { IfErr result (λ rule. broken_rule self.now ≡ Some rule) }
-    {
-        if !has_some_master(self.sites.as_slice()) {
-            return Err(1);
-        }
-        if !are_well_keyed(self.tables.as_slice()) {
-            return Err(2);
-        }
-        if !all_off_the_key(self.tables.as_slice()) {
-            return Err(3);
-        }
-        Ok(())
+    if !are_well_keyed(schema.tables.as_slice()) {
+        return Err(2);
     }
+    if !all_off_the_key(schema.tables.as_slice()) {
+        return Err(3);
+    }
+    Ok(())
 }

@@ -6,17 +6,17 @@ ghost use Rattle.rep_values.specs.Literal.{value_of_literal};
 ghost use Rattle.rep_values.specs.Equality.{value_eq};
 ghost use Rattle.rep_schema.specs.Limits.{most_methods};
 ghost use Rattle.rep_schema.specs.Shape.{is_master, is_snapshot, shadow_name, key_name};
-ghost use Rattle.rep_schema.specs.Refusals.{refusal_of, first_refusal, refused, full, share_a_name, column_step, columns_step, unknown_column, words_column, unique_words_column, value_out_of_range};
+ghost use Rattle.rep_declare.specs.Refusals.{refusal_of, first_refusal, refused, full, share_a_name, column_step, columns_step, unknown_column, words_column, unique_words_column, value_out_of_range};
 ghost use Rattle.rep_schema.specs.Groups.{is_grouped};
-ghost use Rattle.rep_schema.specs.Named.{column_place, is_column, is_constrained};
+ghost use Rattle.rep_declare.specs.Named.{column_place, is_column, is_constrained};
 
 use crate::named::{
     OnColumns, column_place, find_constraint, find_group, find_priority, find_site, find_table,
     has_master, is_taken,
 };
-use crate::{
-    Column, Declare, MethodWords, PriorityLevel, Schema, SiteEntry, TableEntry, UniqueWords,
-    is_in_range, key_count,
+use crate::{Declare, MethodWords, UniqueWords};
+use rep_schema::{
+    Column, PriorityLevel, Schema, SiteEntry, TableEntry, is_in_range, key_count,
 };
 use rep_values::{Limit, Literal, Name, Refusal, SiteName, TableName, Value, same_value};
 
