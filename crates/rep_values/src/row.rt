@@ -1,5 +1,5 @@
 //! Rows of 1 to 32 values.
-ghost use Rattle.std.specs.Prelude.{◌≡◌, ◌↔◌, length, IsSome, IfSome, IfOk};
+ghost use Rattle.std.specs.Prelude.{◌≡◌, ◌<◌, ◌↔◌, length, slice_set, IsSome, IfSome, IfOk};
 ghost use Rattle.rep_values.specs.Number.{IsRowLen};
 
 use crate::{NoMemory, Value};
@@ -45,6 +45,14 @@ impl Row {
         ensures number { IsRowLen (length self.now) }
     {
         &self.values
+    }
+
+    /// Puts a value in the place of another one. It takes no memory.
+    pub fn set(&mut self, place: usize, value: Value)
+        requires { place < length self.old }
+        ensures { self.new ≡ slice_set self.old place value }
+    {
+        self.values[place] = value;
     }
 }
 

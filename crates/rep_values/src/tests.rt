@@ -67,6 +67,11 @@ fn keys_have_1_to_4_values_and_rows_1_to_32(rt: HostRuntime) -> Result<(), Fail>
             assert!(rt; same_values(copy.values(), &values[..number]));
         }
     }
+    let pair = Row::of(rt.alloc(), &values[..2])?;
+    let mut pair = pair.expect(&rt, "a row");
+    assert!(rt; pair.values().len() == 2);
+    pair.set(1, Value::Num(7));
+    assert!(rt; same_values(pair.values(), &[Value::Num(5), Value::Num(7)]));
     Ok(())
 }
 
