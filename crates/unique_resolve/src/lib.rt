@@ -1,0 +1,8 @@
+//! What becomes of a row that violates a uniqueness constraint.
+#![tactic(auto)]
+
+mod counters;
+mod settled;
+
+pub use counters::Counters;
+pub use settled::Settled;
