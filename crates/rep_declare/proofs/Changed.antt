@@ -14,7 +14,7 @@ module _ {X : Type 0} (test : X → Bool) (change : X → X) where
     at : (b : Bool) → cond (not b) (1 + position_or_len test xs) 0 < length (x ∷ xs)
         → (position_or_len test xs < length xs → with_changed test change xs ≡ slice_set xs (position_or_len test xs) (change (get_or xs (position_or_len test xs) d)))
         → cond b (change x ∷ xs) (x ∷ with_changed test change xs)
-          ≡ slice_set (x ∷ xs) (cond (not b) (1 + position_or_len test xs) 0) (change (get_or (x ∷ xs) (cond (not b) (1 + position_or_len test xs) 0) d))
+        ≡ slice_set (x ∷ xs) (cond (not b) (1 + position_or_len test xs) 0) (change (get_or (x ∷ xs) (cond (not b) (1 + position_or_len test xs) 0) d))
     at true within later = refl
     at false within later =
         let next : 1 + position_or_len test xs ≡ suc (position_or_len test xs) = omega arith in

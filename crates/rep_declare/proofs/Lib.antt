@@ -1,3 +1,4 @@
 -- The lemmas of this crate.
 pub mod NamedColumns
 mod Changed
+mod PriorityNames
