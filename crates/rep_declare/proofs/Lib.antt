@@ -1,3 +1,6 @@
 -- The lemmas of this crate.
 pub mod NamedColumns
 mod Changed
+mod NoRefusal
+mod ListNames
+mod SiteShapes
