@@ -4,3 +4,4 @@ mod Changed
 mod NoRefusal
 mod ListNames
 mod SiteShapes
+mod TableShapes
