@@ -5,3 +5,4 @@ mod NoRefusal
 mod ListNames
 mod SiteShapes
 mod TableShapes
+mod PriorityShapes
