@@ -6,3 +6,4 @@ mod ListNames
 mod SiteShapes
 mod TableShapes
 mod PriorityShapes
+mod PlacesNamed

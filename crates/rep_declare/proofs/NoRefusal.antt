@@ -1,5 +1,5 @@
 -- What it tells of the steps that none of them refuses.
-use Rattle.std.proofs.Common.{◌≡◌, ℕ, ◌<◌, ◌≤◌, Bool, true, false, List, [], ◌∷◌, Option, Some, None, refl}
+use Rattle.std.proofs.Common.{◌≡◌, ℕ, ◌<◌, ◌≤◌, Bool, true, false, List, [], ◌∷◌, Option, Some, None, refl, subst}
 use Rattle.std.proofs.lemmas.Bool.{leb-true, leb-false, not-false}
 use Rattle.rep_values.specs.declared.refusal.Refusal.{Refusal}
 use Rattle.rep_values.specs.declared.refusal.Refusal.TheVariants as refusal
@@ -26,8 +26,7 @@ pub taken-None : {X : Type 0} (found : Option X) → taken found ≡ None → fo
 taken-None None none = refl
 taken-None (Some x) none = cc
 
--- what has the name is there, and what follows doesn't refuse
-pub known-None : {X : Type 0} (found : Option X) (steps : X → List (Option Refusal)) → first_refusal (known found steps) ≡ None
-    → (x : X) × (found ≡ Some x) × (first_refusal (steps x) ≡ None)
-known-None None steps none = cc
-known-None (Some x) steps none = (x, refl, none)
+-- what follows doesn't refuse where something of the name is there
+pub known-None : {X : Type 0} (found : Option X) (x : X) (steps : X → List (Option Refusal)) → found ≡ Some x → first_refusal (known found steps) ≡ None
+    → first_refusal (steps x) ≡ None
+known-None found x steps is passed = subst (λ o. first_refusal (known o steps) ≡ None) is passed
