@@ -7,3 +7,4 @@ mod SiteShapes
 mod TableShapes
 mod PriorityShapes
 mod PlacesNamed
+mod GroupShapes
