@@ -8,3 +8,5 @@ mod TableShapes
 mod PriorityShapes
 mod PlacesNamed
 mod GroupShapes
+mod MethodShapes
+pub mod DeclaredShapes
