@@ -2,3 +2,12 @@
 pub mod NamedColumns
 mod Changed
 mod PriorityNames
+mod NoRefusal
+mod ListNames
+mod SiteShapes
+mod TableShapes
+mod PriorityShapes
+mod PlacesNamed
+mod GroupShapes
+mod MethodShapes
+pub mod DeclaredShapes

@@ -268,6 +268,7 @@ pub fn add_declaration(
     ensures ok { OnOk result ((refusal_of schema.old declaration.now ≡ None) × (schema.new ≡ declared declaration.now schema.old)) }
     ensures err { IfErr result (λ why. (refusal_of schema.old declaration.now ≡ Some why) ⊎ ((refusal_of schema.old declaration.now ≡ None) × (why ≡ Memory))) }
     ensures kept { OnErr result (schema.new ≡ schema.old) }
+    ensures shape { HasShape schema.new }
 {
     if let Some(why) = refusal_of(schema, declaration) {
         return Err(why);
