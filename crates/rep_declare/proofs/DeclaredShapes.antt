@@ -10,7 +10,8 @@ use Rattle.rep_declare.proofs.SiteShapes.{HasShape-Site, HasShape-SnapSite, HasS
 use Rattle.rep_declare.proofs.TableShapes.{HasShape-Table, HasShape-Convergent}
 use Rattle.rep_declare.proofs.GroupShapes.{HasShape-Group, HasShape-Unique}
 use Rattle.rep_declare.proofs.PriorityShapes.{HasShape-Priority}
-use Rattle.rep_declare.proofs.MethodShapes.{HasShape-Method, HasShape-UniqueMethod}
+use Rattle.rep_declare.proofs.MethodShapes.{HasShape-Method}
+use Rattle.rep_declare.proofs.UniqueMethodShapes.{HasShape-UniqueMethod}
 
 -- the schema with a declaration that isn't refused has its shape
 pub HasShape-declared : (declaration : Declare) (schema : Schema) → HasShape schema → ColumnNamed declaration → refusal_of schema declaration ≡ None

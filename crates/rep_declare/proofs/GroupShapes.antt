@@ -1,5 +1,5 @@
 -- A group or a secondary constraint more keeps the shape of a schema.
-use Rattle.std.proofs.Common.{◌≡◌, ◌≢◌, ℕ, ◌+◌, ◌<◌, ◌≤◌, Bool, true, false, List, [], ◌∷◌, ◌++◌, length, Option, Some, None, refl, arith}
+use Rattle.std.proofs.Common.{◌≡◌, ◌≢◌, ℕ, ◌<◌, ◌≤◌, false, List, [], ◌∷◌, ◌++◌, length, Some, None, refl, arith}
 use Rattle.std.specs.Prelude.{map}
 use Rattle.std.specs.List.{All, AllPairs}
 use Rattle.std.proofs.lemmas.List.{length_push}
@@ -89,6 +89,7 @@ one_more_group schema table name columns entry some passed found shape =
         (all_pairs_push (λ g h. ShareNone g.columns h.columns) entry.groups group shape.groups_apart
             (ShareNone-places_named (λ g. g.columns) entry.groups entry.columns columns shape.column_names named))
 
+-- with a group that isn't refused
 pub HasShape-Group : (schema : Schema) (table : TableName) (name : List ℕ) (columns : List (List ℕ)) → HasShape schema → 1 ≤ length columns
     → refusal_of schema (declare.Group table name columns) ≡ None → HasShape (declared (declare.Group table name columns) schema)
 HasShape-Group schema table name columns shape some passed =
@@ -121,6 +122,7 @@ one_more_constraint schema table name columns entry some passed found shape =
         (all_pairs_push (λ c d. ShareNone c.columns d.columns) entry.constraints constraint shape.constraints_apart
             (ShareNone-places_named (λ c. c.columns) entry.constraints entry.columns columns shape.column_names last.0))
 
+-- with a secondary constraint that isn't refused
 pub HasShape-Unique : (schema : Schema) (table : TableName) (name : List ℕ) (columns : List (List ℕ)) → HasShape schema → 1 ≤ length columns
     → refusal_of schema (declare.Unique table name columns) ≡ None → HasShape (declared (declare.Unique table name columns) schema)
 HasShape-Unique schema table name columns shape some passed =

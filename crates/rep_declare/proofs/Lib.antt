@@ -10,4 +10,5 @@ mod PriorityShapes
 mod PlacesNamed
 mod GroupShapes
 mod MethodShapes
+mod UniqueMethodShapes
 pub mod DeclaredShapes

@@ -1,12 +1,12 @@
 -- Lists of what has a name: one more at the end, or one changed at its place.
-use Rattle.std.proofs.Common.{◌≡◌, ◌≢◌, ℕ, zero, suc, ◌+◌, ◌<◌, ◌≤◌, Bool, true, false, cond, List, [], ◌∷◌, ◌++◌, length, get_or, Option, Some, None, refl, sym, ap, subst, ◌∙◌, inl, inr, ⊎_elim, arith}
+use Rattle.std.proofs.Common.{◌≡◌, ◌≢◌, ℕ, zero, suc, ◌<◌, Bool, true, false, cond, List, [], ◌∷◌, ◌++◌, length, get_or, Some, None, refl, sym, ap, subst, ◌∙◌, inl, inr, arith}
 use Rattle.std.specs.Prelude.{map, Any}
 use Rattle.std.specs.Bool.{Decides}
 use Rattle.std.specs.Cmp.{unsigned_Decides}
 use Rattle.std.specs.List.{All, AllPairs, find, list_any, count_by, sum}
 use Rattle.std.proofs.lemmas.Bool.{both_ways, false_from_ne_true, cases_order}
 use Rattle.std.proofs.lemmas.List.{map_push, get_or-map, get_or_default, length-map}
-use Rattle.std.proofs.lemmas.List.Elements.{All-nil, All-cons, All-head, All-tail, All-map, All-weaker}
+use Rattle.std.proofs.lemmas.List.Elements.{All-nil, All-cons, All-head, All-tail, All-map}
 use Rattle.std.proofs.lemmas.List.Folds.{list_any_at}
 use Rattle.std.proofs.lemmas.List.Quantifiers.{all_pairs_push}
 use Rattle.std.proofs.lemmas.List.Sums.{sum-map}
@@ -19,12 +19,15 @@ use Rattle.rep_declare.specs.Additions.{with_changed}
 pub same_bytes-Decides : (a b : List ℕ) → Decides (same_bytes a b) (a ≡ b)
 same_bytes-Decides a b = slice_eq-Decides unsigned_Decides a b (same_bytes a b) refl
 
+-- such names are the same
 pub same_bytes-true : (a b : List ℕ) → same_bytes a b ≡ true → a ≡ b
 same_bytes-true a b is = (same_bytes-Decides a b).0 is
 
+-- names that fail it differ
 pub same_bytes-false : (a b : List ℕ) → same_bytes a b ≡ false → a ≢ b
 same_bytes-false a b other same = both_ways _ other ((same_bytes-Decides a b).1 same)
 
+-- a name passes it beside itself
 pub same_bytes-same : (a : List ℕ) → same_bytes a a ≡ true
 same_bytes-same a = (same_bytes-Decides a a).1 refl
 
@@ -37,6 +40,7 @@ find-None test (x ∷ xs) none = at (test x) refl none (find-None test xs)
     at true is none later = cc
     at false is none later = All-cons (λ x. test x ≡ false) x xs is (later none)
 
+-- where the test finds none, none passes
 pub list_any-false : {X : Type 0} (test : X → Bool) (xs : List X) → list_any test xs ≡ false → All (λ x. test x ≡ false) xs
 list_any-false test xs none = λ k d within. false_from_ne_true (test (get_or xs k d)) (λ is. both_ways _ none (list_any_at test xs k d within is))
 
@@ -67,6 +71,7 @@ AllPairs-from_map R f xs all = λ i j d below within.
     let at_j : get_or (map f xs) j (f d) ≡ f (get_or xs j d) = get_or-map f xs j d (f d) within in
     rw (at_i, at_j) at (all i j (f d) below (omega (arith, within, counted)))
 
+-- and the other way round
 pub AllPairs-map : {X Y : Type 0} (R : Y → Y → Type 0) (f : X → Y) (xs : List X) → AllPairs (λ x y. R (f x) (f y)) xs → AllPairs R (map f xs)
 AllPairs-map {X} {Y} R f [] all = λ i j d below within. absurd (omega (arith, within))
 AllPairs-map {X} {Y} R f (x ∷ xs) all = λ i j d below within.
@@ -86,10 +91,12 @@ module _ {X : Type 0} (test : X → Bool) (change : X → X) where
       at true later = ap (λ y. y ∷ map f xs) (keeps x)
       at false later = ap (λ ys. f x ∷ ys) later
 
+  -- as many stay
   pub length-with_changed : (xs : List X) → length (with_changed test change xs) ≡ length xs
   length-with_changed xs =
       sym (length-map (with_changed test change xs) (λ x. tt {0})) ∙ ap length (map-with_changed (λ x. tt {0}) (λ x. refl) xs) ∙ length-map xs (λ x. tt {0})
 
+  -- and as many that pass a test that the change keeps
   pub count_by-with_changed : (p : X → Bool) → ((x : X) → p (change x) ≡ p x) → (xs : List X) → count_by p (with_changed test change xs) ≡ count_by p xs
   count_by-with_changed p keeps xs =
       let one : X → ℕ = λ x. cond (p x) 1 0 in

@@ -1,5 +1,5 @@
 -- What it tells of the steps that none of them refuses.
-use Rattle.std.proofs.Common.{◌≡◌, ℕ, ◌<◌, ◌≤◌, Bool, true, false, List, [], ◌∷◌, Option, Some, None, refl, subst}
+use Rattle.std.proofs.Common.{◌≡◌, ℕ, ◌<◌, ◌≤◌, Bool, true, false, List, Option, Some, None, refl, subst}
 use Rattle.std.proofs.lemmas.Bool.{leb-true, leb-false, not-false}
 use Rattle.rep_values.specs.declared.refusal.Refusal.{Refusal}
 use Rattle.rep_values.specs.declared.refusal.Refusal.TheVariants as refusal
@@ -11,6 +11,7 @@ pub or_then-None : (first following : Option Refusal) → or_then first followin
 or_then-None None following none = (refl, none)
 or_then-None (Some why) following none = cc
 
+-- the test fails
 pub refused-None : (test : Bool) (why : Refusal) → refused test why ≡ None → test ≡ false
 refused-None true why none = cc
 refused-None false why none = refl
@@ -19,9 +20,11 @@ refused-None false why none = refl
 pub full-None : (most count : ℕ) (what : Limit) → full most count what ≡ None → count < most
 full-None most count what none = leb-false most count (refused-None _ (refusal.LimitReached what) none)
 
+-- there aren't too many
 pub too_many-None : (most count : ℕ) (what : Limit) → too_many most count what ≡ None → count ≤ most
 too_many-None most count what none = leb-true count most (not-false _ (refused-None _ (refusal.LimitReached what) none))
 
+-- nothing of the name is there
 pub taken-None : {X : Type 0} (found : Option X) → taken found ≡ None → found ≡ None
 taken-None None none = refl
 taken-None (Some x) none = cc

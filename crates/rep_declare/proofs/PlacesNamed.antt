@@ -1,7 +1,7 @@
 -- The places of the columns that a line names: they rise, they are the table's, and none of them is taken.
-use Rattle.std.proofs.Common.{◌≡◌, ℕ, zero, suc, ◌+◌, ◌<◌, ◌≤◌, Bool, true, false, cond, ◌||◌, List, [], ◌∷◌, ◌++◌, length, get_or, Option, Some, None, refl, sym, subst, ◌∙◌, eq-eqb, arith}
+use Rattle.std.proofs.Common.{◌≡◌, ℕ, zero, suc, ◌+◌, ◌<◌, ◌≤◌, Bool, true, false, cond, List, [], ◌∷◌, ◌++◌, length, get_or, Option, Some, None, refl, sym, subst, ◌∙◌, eq-eqb, arith}
 use Rattle.std.specs.Prelude.{map, ◌==◌}
-use Rattle.std.specs.List.{All, Contains, list_any}
+use Rattle.std.specs.List.{All, list_any}
 use Rattle.std.specs.List.Sorted.{IsStrictlyIncreasing}
 use Rattle.std.proofs.lemmas.Bool.{both_ways, or_parts}
 use Rattle.std.proofs.lemmas.List.Elements.{All-nil, All-cons, All-contains}
@@ -13,7 +13,8 @@ use Rattle.rep_schema.specs.declared.schema.Column.{Column}
 use Rattle.rep_schema.specs.declared.schema.Kind.TheVariants as kind
 use Rattle.rep_schema.specs.Shape.{AreDistinct, AreColumns, ShareNone}
 use Rattle.rep_declare.specs.Named.{is_column, column_place, places_from, places_named}
-use Rattle.rep_declare.specs.Refusals.{column_step, columns_step}
+use Rattle.rep_declare.specs.Refusals.{unknown, column_step, columns_step}
+use Rattle.rep_declare.specs.Additions.{place_or_zero, column_number}
 use Rattle.rep_declare.proofs.NoRefusal.{or_then-None, refused-None}
 use Rattle.rep_declare.proofs.ListNames.{same_bytes-true, same_bytes-same, list_any-false, place-AreDistinct}
 
@@ -81,6 +82,14 @@ pub column_place-Some : (columns : List Column) (name : List ℕ) (place : ℕ) 
 column_place-Some columns name place is =
     let found = position-Some (is_column name) columns place no_column is in
     (found.0, same_bytes-true (get_or columns place no_column).name name found.1)
+
+-- a column that is there has its place among the columns
+pub column_number-below : (columns : List Column) (name : List ℕ) → unknown (column_place columns name) ≡ None → column_number columns name < length columns
+column_number-below columns name there = at (column_place columns name) refl there
+  where
+    at : (found : Option ℕ) → column_place columns name ≡ found → unknown found ≡ None → place_or_zero found < length columns
+    at None is there = cc
+    at (Some place) is there = (column_place-Some columns name place is).0
 
 module _ (columns : List Column) (is_taken : ℕ → Bool) (names : List (List ℕ)) (passed : columns_step columns is_taken [] names ≡ None) where
   free : All (IsFree columns is_taken) names

@@ -1,7 +1,6 @@
 -- A priority group more, or a level more in one, keeps the shape of a schema.
-use Rattle.std.proofs.Common.{◌≡◌, ◌≢◌, ◌⊎◌, ℕ, ◌<◌, ◌≤◌, ℤ, Bool, true, false, cond, List, [], ◌∷◌, ◌++◌, length, Option, Some, None, refl, sym, ap, subst, ◌∙◌, inl, inr, arith}
-use Rattle.std.specs.Prelude.{map}
-use Rattle.std.specs.List.{All, list_any, find}
+use Rattle.std.proofs.Common.{◌≡◌, ◌≢◌, ◌⊎◌, ℕ, ◌<◌, ℤ, Bool, true, false, cond, List, [], ◌∷◌, ◌++◌, length, Option, Some, None, refl, sym, ap, subst, inl, inr, arith}
+use Rattle.std.specs.List.{list_any, find}
 use Rattle.std.proofs.lemmas.Bool.{both_ways}
 use Rattle.std.proofs.lemmas.List.{length_push}
 use Rattle.std.proofs.lemmas.List.Elements.{All-push, All-weaker}
@@ -15,7 +14,7 @@ use Rattle.rep_schema.specs.declared.schema.Schema.{Schema}
 use Rattle.rep_schema.specs.declared.schema.PriorityGroup.{PriorityGroup}
 use Rattle.rep_schema.specs.declared.schema.PriorityLevel.{PriorityLevel}
 use Rattle.rep_schema.specs.Limits.{most_levels}
-use Rattle.rep_schema.specs.Shape.{AreDistinct, HasLevelShape, HasShape}
+use Rattle.rep_schema.specs.Shape.{HasLevelShape, HasShape}
 use Rattle.rep_declare.specs.declared.declaration.Declare.TheVariants as declare
 use Rattle.rep_declare.specs.Named.{is_priority, priority_named}
 use Rattle.rep_declare.specs.Refusals.{has_level, level_count, refusal_of}
@@ -97,6 +96,7 @@ has_level-new : (value : Value) (found : Option PriorityGroup) (group : Priority
 has_level-new value found group (inl same) new = subst (λ o. has_level value o ≡ false) same new
 has_level-new value found group (inr none) new = rw none refl
 
+-- with a level that isn't refused
 pub HasShape-Priority : (schema : Schema) (name : List ℕ) (literal : Literal) (level : ℤ) → HasShape schema → refusal_of schema (declare.Priority name literal level) ≡ None
     → HasShape (declared (declare.Priority name literal level) schema)
 HasShape-Priority schema name literal level shape passed =

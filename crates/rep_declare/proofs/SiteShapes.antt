@@ -1,7 +1,7 @@
 -- A site more, or the level of a site, keeps the shape of a schema.
-use Rattle.std.proofs.Common.{◌≡◌, ◌≢◌, ℕ, ◌+◌, ◌<◌, ◌≤◌, ℤ, Bool, true, false, List, [], ◌∷◌, ◌++◌, length, get_or, Option, Some, None, refl, sym, ap, ◌∙◌, arith}
+use Rattle.std.proofs.Common.{◌≡◌, ◌≢◌, ◌+◌, ◌<◌, ◌≤◌, ℤ, Bool, true, false, List, [], ◌∷◌, ◌++◌, Option, Some, None, refl, sym, ap, ◌∙◌, arith}
 use Rattle.std.specs.Prelude.{IfSome, Any, ◌&&◌, is_none}
-use Rattle.std.specs.List.{All, count_by, list_any}
+use Rattle.std.specs.List.{All, count_by}
 use Rattle.std.proofs.lemmas.Bool.{and_parts, not-false}
 use Rattle.std.proofs.lemmas.List.{get_or_append_left, length-append}
 use Rattle.std.proofs.lemmas.List.Elements.{All-push, All-weaker}
@@ -17,10 +17,10 @@ use Rattle.rep_schema.specs.Limits.{most_masters, most_snapshots}
 use Rattle.rep_schema.specs.Shape.{HasShape, HasMaster, is_master, is_snapshot}
 use Rattle.rep_declare.specs.declared.declaration.Declare.TheVariants as declare
 use Rattle.rep_declare.specs.Named.{is_site, site_named, has_master}
-use Rattle.rep_declare.specs.Refusals.{full, taken, refusal_of}
+use Rattle.rep_declare.specs.Refusals.{refusal_of}
 use Rattle.rep_declare.specs.Additions.{with_changed, with_sites, with_site_level, declared}
 use Rattle.rep_declare.proofs.NoRefusal.{or_then-None, refused-None, full-None, taken-None}
-use Rattle.rep_declare.proofs.ListNames.{same_bytes-true, same_bytes-false, find-None, AreDistinct-push, map-with_changed, count_by-with_changed, All-with_changed, AreDistinct-with_changed, Any-with_changed}
+use Rattle.rep_declare.proofs.ListNames.{same_bytes-true, same_bytes-false, find-None, AreDistinct-push, count_by-with_changed, All-with_changed, AreDistinct-with_changed, Any-with_changed}
 
 -- sites of one name have the same name
 site_name-true : (a b : SiteName) → same_bytes a.0 b.0 ≡ true → a ≡ b
@@ -59,6 +59,7 @@ one_more_site schema site shape new masters snapshots has = record {
   priority_names = shape.priority_names;
 }
 
+-- with a master site that isn't refused
 pub HasShape-Site : (schema : Schema) (name : SiteName) → HasShape schema → refusal_of schema (declare.Site name) ≡ None → HasShape (declared (declare.Site name) schema)
 HasShape-Site schema name shape passed =
     let site : SiteEntry = record { name = name; master = None; level = None } in
@@ -68,6 +69,7 @@ HasShape-Site schema name shape passed =
     let snapshots : count_by is_snapshot (schema.sites ++ site ∷ []) ≡ count_by is_snapshot schema.sites + 0 = sum_by_push _ schema.sites site in
     one_more_site schema site shape (taken-None _ steps.0) (omega (arith, room, masters)) (omega (arith, snapshots, shape.snapshots)) tt
 
+-- with a snapshot site that isn't refused
 pub HasShape-SnapSite : (schema : Schema) (name master : SiteName) → HasShape schema → refusal_of schema (declare.SnapSite name master) ≡ None
     → HasShape (declared (declare.SnapSite name master) schema)
 HasShape-SnapSite schema name master shape passed =
@@ -100,6 +102,7 @@ HasMaster-with_changed test level sites site has = at site.master has
     at None has = tt
     at (Some name) has = Any-with_changed test (with_site_level level) (λ s. (s.name ≡ name) × (s.master ≡ None)) (λ s holds. holds) sites has
 
+-- with the level of a site
 pub HasShape-SiteLevel : (schema : Schema) (site : SiteName) (level : ℤ) → HasShape schema → HasShape (declared (declare.SiteLevel site level) schema)
 HasShape-SiteLevel schema site level shape =
     let leveled : SiteEntry → SiteEntry = with_site_level level in

@@ -1,10 +1,10 @@
 -- A table more, or one changed, keeps the shape of a schema.
-use Rattle.std.proofs.Common.{◌≡◌, ◌≢◌, ℕ, ◌<◌, ◌≤◌, Bool, true, false, cond, ◌||◌, List, [], ◌∷◌, ◌++◌, length, get_or, zero, suc, Option, Some, None, refl, sym, ap, ◌∙◌, arith}
-use Rattle.std.specs.Prelude.{IfSome, map}
-use Rattle.std.specs.List.{All, list_any, find}
-use Rattle.std.proofs.lemmas.Bool.{or_parts, not-false}
+use Rattle.std.proofs.Common.{◌≡◌, ◌≢◌, ℕ, ◌<◌, ◌≤◌, false, List, [], ◌∷◌, length, get_or, zero, suc, Option, Some, None, refl, sym, ap, ◌∙◌, arith}
+use Rattle.std.specs.Prelude.{map}
+use Rattle.std.specs.List.{All, list_any}
+use Rattle.std.proofs.lemmas.Bool.{or_parts}
 use Rattle.std.proofs.lemmas.List.{get_or-map, length-map, length_push}
-use Rattle.std.proofs.lemmas.List.Elements.{All-nil, All-push, All-weaker}
+use Rattle.std.proofs.lemmas.List.Elements.{All-push, All-weaker}
 use Rattle.rep_values.specs.declared.name.TableName.{TableName}
 use Rattle.rep_values.specs.declared.refusal.Refusal.TheVariants as refusal
 use Rattle.rep_values.specs.declared.refusal.Limit.TheVariants as limit
@@ -13,7 +13,6 @@ use Rattle.rep_schema.specs.declared.schema.TableEntry.{TableEntry}
 use Rattle.rep_schema.specs.declared.schema.Column.{Column}
 use Rattle.rep_schema.specs.declared.schema.Group.{Group}
 use Rattle.rep_schema.specs.declared.schema.PriorityGroup.{PriorityGroup}
-use Rattle.rep_schema.specs.declared.schema.Method.{Method}
 use Rattle.rep_schema.specs.Limits.{most_tables, most_columns, most_keys}
 use Rattle.rep_schema.specs.Tables.{key_count}
 use Rattle.rep_schema.specs.Shape.{AreDistinct, IsPlaceIn, method_priority, HasGroupShape, HasTableShape, HasLevelShape, HasShape}
@@ -63,6 +62,7 @@ new_table-shape priorities name columns few own keys = record {
   constraints_apart = λ i j d below within. absurd (omega (arith, within));
 }
 
+-- with a table that isn't refused
 pub HasShape-Table : (schema : Schema) (name : TableName) (columns : List Column) → HasShape schema → refusal_of schema (declare.Table name columns) ≡ None
     → HasShape (declared (declare.Table name columns) schema)
 HasShape-Table schema name columns shape passed =
@@ -169,6 +169,7 @@ made_convergent-shape priorities entry shape = record {
   constraints_apart = shape.constraints_apart;
 }
 
+-- with a table that is to agree
 pub HasShape-Convergent : (schema : Schema) (table : TableName) → HasShape schema → HasShape (declared (declare.Convergent table) schema)
 HasShape-Convergent schema table shape =
     HasShape-with_table_changed schema table made_convergent shape (λ t. refl) (λ t found. made_convergent-shape (length schema.priorities) t)
