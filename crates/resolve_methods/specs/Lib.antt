@@ -1,3 +1,5 @@
 -- The definitions of this crate.
 pub mod Ranks
 pub mod Decide
+pub mod OrderCases
+pub mod WrittenOver

@@ -2,5 +2,11 @@
 #![tactic(auto)]
 
 mod decision;
+mod methods;
+mod new_values;
+mod numbers;
+mod order_cases;
+mod ranks;
 
 pub use decision::Decision;
+pub use methods::decide;
