@@ -1,6 +1,7 @@
 //! What becomes of a row that violates a uniqueness constraint.
 #![tactic(auto)]
 
+mod appending;
 mod counters;
 mod settled;
 
