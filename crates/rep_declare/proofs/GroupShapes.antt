@@ -77,24 +77,24 @@ one_more_group schema table name columns entry some passed found shape =
     let named = (or_then-None _ _ later.1).0 in
     let other : All (λ g. is_group name g ≡ false) entry.groups = find-None (is_group name) entry.groups (taken-None _ later.0) in
     with_groups-shape (length schema.priorities) entry (entry.groups ++ group ∷ []) shape
-        (All-push (HasGroupShape (length entry.columns) (length schema.priorities)) entry.groups group shape.groups (record {
-          columns = AreColumns-places_named entry.columns _ columns named some;
-          methods = omega arith;
-          method_columns = λ k d within. absurd (omega (arith, within));
-          method_priorities = λ k d within. absurd (omega (arith, within));
-        }))
-        (AreDistinct-push (λ g. g.name) entry.groups group shape.group_names
-            (All-weaker (λ g. is_group name g ≡ false) (λ g. g.name ≢ name) (λ g. same_bytes-false g.name name) entry.groups other))
-        (All-push (λ g. g.name ≢ shadow_name) entry.groups group shape.shadow_free (same_bytes-false name shadow_name (refused-None _ refusal.NameTaken steps.0)))
-        (all_pairs_push (λ g h. ShareNone g.columns h.columns) entry.groups group shape.groups_apart
-            (ShareNone-places_named (λ g. g.columns) entry.groups entry.columns columns shape.column_names named))
+    (All-push (HasGroupShape (length entry.columns) (length schema.priorities)) entry.groups group shape.groups (record {
+      columns = AreColumns-places_named entry.columns _ columns named some;
+      methods = omega arith;
+      method_columns = λ k d within. absurd (omega (arith, within));
+      method_priorities = λ k d within. absurd (omega (arith, within));
+    }))
+    (AreDistinct-push (λ g. g.name) entry.groups group shape.group_names
+    (All-weaker (λ g. is_group name g ≡ false) (λ g. g.name ≢ name) (λ g. same_bytes-false g.name name) entry.groups other))
+    (All-push (λ g. g.name ≢ shadow_name) entry.groups group shape.shadow_free (same_bytes-false name shadow_name (refused-None _ refusal.NameTaken steps.0)))
+    (all_pairs_push (λ g h. ShareNone g.columns h.columns) entry.groups group shape.groups_apart
+    (ShareNone-places_named (λ g. g.columns) entry.groups entry.columns columns shape.column_names named))
 
 -- with a group that isn't refused
 pub HasShape-Group : (schema : Schema) (table : TableName) (name : List ℕ) (columns : List (List ℕ)) → HasShape schema → 1 ≤ length columns
     → refusal_of schema (declare.Group table name columns) ≡ None → HasShape (declared (declare.Group table name columns) schema)
 HasShape-Group schema table name columns shape some passed =
     HasShape-with_table_changed schema table (λ entry. with_groups (entry.groups ++ new_group name columns entry ∷ []) entry) shape (λ t. refl)
-        (λ entry. one_more_group schema table name columns entry some passed)
+    (λ entry. one_more_group schema table name columns entry some passed)
 
 -- a secondary constraint of columns that are named, with no methods yet
 abbrev new_constraint : List ℕ → List (List ℕ) → TableEntry → Constraint
@@ -111,20 +111,20 @@ one_more_constraint schema table name columns entry some passed found shape =
     let room : length entry.constraints < most_constraints = full-None _ _ limit.Constraints (or_then-None _ _ last.1).0 in
     let other : All (λ c. is_constraint name c ≡ false) entry.constraints = find-None (is_constraint name) entry.constraints (taken-None _ later.0) in
     with_constraints-shape (length schema.priorities) entry (entry.constraints ++ constraint ∷ []) shape
-        (All-push (HasConstraintShape (length entry.columns)) entry.constraints constraint shape.constraints (record {
-          columns = AreColumns-places_named entry.columns _ columns last.0 some;
-          methods = record { number = omega arith; columns = λ k d within. absurd (omega (arith, within)) };
-        }))
-        (omega (arith, room, length_push entry.constraints constraint))
-        (AreDistinct-push (λ c. c.name) entry.constraints constraint shape.constraint_names
-            (All-weaker (λ c. is_constraint name c ≡ false) (λ c. c.name ≢ name) (λ c. same_bytes-false c.name name) entry.constraints other))
-        (All-push (λ c. c.name ≢ key_name) entry.constraints constraint shape.key_free (same_bytes-false name key_name (refused-None _ refusal.NameTaken steps.0)))
-        (all_pairs_push (λ c d. ShareNone c.columns d.columns) entry.constraints constraint shape.constraints_apart
-            (ShareNone-places_named (λ c. c.columns) entry.constraints entry.columns columns shape.column_names last.0))
+    (All-push (HasConstraintShape (length entry.columns)) entry.constraints constraint shape.constraints (record {
+      columns = AreColumns-places_named entry.columns _ columns last.0 some;
+      methods = record { number = omega arith; columns = λ k d within. absurd (omega (arith, within)) };
+    }))
+    (omega (arith, room, length_push entry.constraints constraint))
+    (AreDistinct-push (λ c. c.name) entry.constraints constraint shape.constraint_names
+    (All-weaker (λ c. is_constraint name c ≡ false) (λ c. c.name ≢ name) (λ c. same_bytes-false c.name name) entry.constraints other))
+    (All-push (λ c. c.name ≢ key_name) entry.constraints constraint shape.key_free (same_bytes-false name key_name (refused-None _ refusal.NameTaken steps.0)))
+    (all_pairs_push (λ c d. ShareNone c.columns d.columns) entry.constraints constraint shape.constraints_apart
+    (ShareNone-places_named (λ c. c.columns) entry.constraints entry.columns columns shape.column_names last.0))
 
 -- with a secondary constraint that isn't refused
 pub HasShape-Unique : (schema : Schema) (table : TableName) (name : List ℕ) (columns : List (List ℕ)) → HasShape schema → 1 ≤ length columns
     → refusal_of schema (declare.Unique table name columns) ≡ None → HasShape (declared (declare.Unique table name columns) schema)
 HasShape-Unique schema table name columns shape some passed =
     HasShape-with_table_changed schema table (λ entry. with_constraints (entry.constraints ++ new_constraint name columns entry ∷ []) entry) shape (λ t. refl)
-        (λ entry. one_more_constraint schema table name columns entry some passed)
+    (λ entry. one_more_constraint schema table name columns entry some passed)

@@ -58,9 +58,9 @@ place-AreDistinct f xs i j d distinct in_i in_j same =
     let at_j : get_or (map f xs) j (f d) ≡ f (get_or xs j d) = get_or-map f xs j d (f d) in_j in
     let one : get_or (map f xs) i (f d) ≡ get_or (map f xs) j (f d) = at_i ∙ same ∙ sym at_j in
     elim (cases_order i j) [
-      inl is ↦ is
-    | inr (inl below) ↦ absurd (distinct i j (f d) below (omega (arith, in_j, counted)) one)
-    | inr (inr above) ↦ absurd (distinct j i (f d) above (omega (arith, in_i, counted)) (sym one))
+      | inl is ↦ is
+      | inr (inl below) ↦ absurd (distinct i j (f d) below (omega (arith, in_j, counted)) one)
+      | inr (inr above) ↦ absurd (distinct j i (f d) above (omega (arith, in_i, counted)) (sym one))
     ]
 
 -- what holds of each two values of f holds of each two
@@ -115,9 +115,13 @@ module _ {X : Type 0} (test : X → Bool) (change : X → X) where
   -- one that is there stays there, where the change keeps what holds of it
   pub Any-with_changed : (P : X → Type 0) → ((x : X) → P x → P (change x)) → (xs : List X) → Any P xs → Any P (with_changed test change xs)
   Any-with_changed P keeps xs (k, x, within, is, holds) =
-      let counted = length-with_changed xs in
-      (k, get_or (with_changed test change xs) k x, omega (arith, within, counted), get_or_default (with_changed test change xs) k (get_or (with_changed test change xs) k x) x (omega (arith, within, counted)),
-          at_place xs k x within (subst P (sym is) holds))
+      let counted = length-with_changed xs in (
+        k,
+        get_or (with_changed test change xs) k x,
+        omega (arith, within, counted),
+        get_or_default (with_changed test change xs) k (get_or (with_changed test change xs) k x) x (omega (arith, within, counted)),
+        at_place xs k x within (subst P (sym is) holds),
+      )
     where
       at_place : (ys : List X) (j : ℕ) (d : X) → j < length ys → P (get_or ys j d) → P (get_or (with_changed test change ys) j d)
       at_place [] j d within holds = holds

@@ -104,14 +104,14 @@ one_more_method schema table name method entry passed found shape =
     let groups : List PriorityGroup = with_words_priority method schema.priorities in
     let change : Group → Group = with_method (method_of groups entry.columns method) in
     let fits : (g : Group) → group_named entry name ≡ Some g → HasGroupShape (length entry.columns) (length groups) g → HasGroupShape (length entry.columns) (length groups) (change g) = λ g is fits.
-        let steps = or_then-None _ _ (known-None (group_named entry name) g _ is (known-None (table_named schema table) entry _ found passed)) in
-        with_method-shape (length entry.columns) (length groups) (method_of groups entry.columns method) g fits (full-None _ _ limit.Methods (or_then-None _ _ steps.1).0)
-            (method_of-column groups entry.columns method steps.0) (method_of-priority schema.priorities entry.columns method) in
+    let steps = or_then-None _ _ (known-None (group_named entry name) g _ is (known-None (table_named schema table) entry _ found passed)) in
+    with_method-shape (length entry.columns) (length groups) (method_of groups entry.columns method) g fits (full-None _ _ limit.Methods (or_then-None _ _ steps.1).0)
+    (method_of-column groups entry.columns method steps.0) (method_of-priority schema.priorities entry.columns method) in
     with_groups-shape (length groups) entry (with_changed (is_group name) change entry.groups) shape
-        (All-with_changed (is_group name) change (HasGroupShape (length entry.columns) (length groups)) entry.groups shape.groups fits)
-        (AreDistinct-with_changed (is_group name) change (λ g. g.name) (λ g. refl) entry.groups shape.group_names)
-        (All-with_changed (is_group name) change (λ g. g.name ≢ shadow_name) entry.groups shape.shadow_free (λ g is free. free))
-        (AllPairs-with_changed (is_group name) change ShareNone (λ g. g.columns) (λ g. refl) entry.groups shape.groups_apart)
+    (All-with_changed (is_group name) change (HasGroupShape (length entry.columns) (length groups)) entry.groups shape.groups fits)
+    (AreDistinct-with_changed (is_group name) change (λ g. g.name) (λ g. refl) entry.groups shape.group_names)
+    (All-with_changed (is_group name) change (λ g. g.name ≢ shadow_name) entry.groups shape.shadow_free (λ g is free. free))
+    (AllPairs-with_changed (is_group name) change ShareNone (λ g. g.columns) (λ g. refl) entry.groups shape.groups_apart)
 
 -- with a method of a group that isn't refused
 pub HasShape-Method : (schema : Schema) (table : TableName) (name : List ℕ) (method : MethodWords) → HasShape schema
@@ -119,4 +119,4 @@ pub HasShape-Method : (schema : Schema) (table : TableName) (name : List ℕ) (m
 HasShape-Method schema table name method shape passed =
     let groups : List PriorityGroup = with_words_priority method schema.priorities in
     HasShape-with_table_changed (with_priorities groups schema) table (with_group_method groups name method) (HasShape-with_words_priority schema method shape) (λ t. refl)
-        (λ entry. one_more_method schema table name method entry passed)
+    (λ entry. one_more_method schema table name method entry passed)

@@ -101,7 +101,7 @@ module _ (columns : List Column) (is_taken : ℕ → Bool) (names : List (List �
       let first = free 0 [] some in
       let found = column_place-Some columns (get_or names 0 []) first.0 first.1 in
       let named : list_any (same_bytes (get_or columns first.0 no_column).name) names ≡ true =
-          list_any_at (same_bytes (get_or columns first.0 no_column).name) names 0 [] some (rw found.1 (same_bytes-same (get_or names 0 []))) in
+      list_any_at (same_bytes (get_or columns first.0 no_column).name) names 0 [] some (rw found.1 (same_bytes-same (get_or names 0 []))) in
       record {
         some = some-places_from names 0 columns first.0 no_column found.0 named;
         rising = IsStrictlyIncreasing-places_from names 0 columns;
@@ -115,7 +115,7 @@ module _ (columns : List Column) (is_taken : ℕ → Bool) (names : List (List �
       let there : IsFree columns is_taken by.1 = subst (IsFree columns is_taken) by.3 (free by.0 by.1 by.2) in
       let found = column_place-Some columns by.1 there.0 there.1 in
       let same : there.0 ≡ k = place-AreDistinct (λ c. c.name) columns there.0 k no_column distinct found.0 within
-          (found.1 ∙ sym (same_bytes-true (get_or columns k no_column).name by.1 by.4)) in
+      (found.1 ∙ sym (same_bytes-true (get_or columns k no_column).name by.1 by.4)) in
       let here : there.0 ≡ 0 + k = omega (arith, same) in
       subst (λ p. is_taken p ≡ false) here there.2)
 

@@ -34,7 +34,7 @@ with_priority-cases name (g ∷ gs) = at (is_priority name g) (with_priority-cas
   where
     at : (b : Bool) → (with_priority name gs ≡ gs) ⊎ ((find (is_priority name) gs ≡ None) × (with_priority name gs ≡ gs ++ empty_group name ∷ []))
         → (cond b (g ∷ gs) (g ∷ with_priority name gs) ≡ g ∷ gs)
-          ⊎ ((cond b (Some g) (find (is_priority name) gs) ≡ None) × (cond b (g ∷ gs) (g ∷ with_priority name gs) ≡ g ∷ (gs ++ empty_group name ∷ [])))
+        ⊎ ((cond b (Some g) (find (is_priority name) gs) ≡ None) × (cond b (g ∷ gs) (g ∷ with_priority name gs) ≡ g ∷ (gs ++ empty_group name ∷ [])))
     at true later = inl refl
     at false (inl same) = inl (ap (λ hs. g ∷ hs) same)
     at false (inr more) = inr (more.0, ap (λ hs. g ∷ hs) more.1)
@@ -67,11 +67,11 @@ module _ (schema : Schema) (shape : HasShape schema) (name : List ℕ) where
           (HasShape-with_priorities schema schema.priorities shape (omega arith) shape.priorities shape.priority_names)
       at (inr more) = subst (λ groups. HasShape (with_priorities groups schema)) (sym more.1)
           (HasShape-with_priorities schema (schema.priorities ++ empty_group name ∷ []) shape (omega (arith, length_push schema.priorities (empty_group name)))
-              (All-push HasLevelShape schema.priorities (empty_group name) shape.priorities
-                  (record { number = omega arith; values = λ i j d below within. absurd (omega (arith, within)) }))
-              (AreDistinct-push (λ p. p.name) schema.priorities (empty_group name) shape.priority_names
-                  (All-weaker (λ p. is_priority name p ≡ false) (λ p. p.name ≢ name) (λ p. same_bytes-false p.name name) schema.priorities
-                      (find-None (is_priority name) schema.priorities more.0))))
+          (All-push HasLevelShape schema.priorities (empty_group name) shape.priorities
+          (record { number = omega arith; values = λ i j d below within. absurd (omega (arith, within)) }))
+          (AreDistinct-push (λ p. p.name) schema.priorities (empty_group name) shape.priority_names
+          (All-weaker (λ p. is_priority name p ≡ false) (λ p. p.name ≢ name) (λ p. same_bytes-false p.name name) schema.priorities
+          (find-None (is_priority name) schema.priorities more.0))))
 
 -- a level more, of a value that isn't there
 with_level-shape : (value : Value) (level : ℤ) (group : PriorityGroup) → HasLevelShape group → length group.levels < most_levels
@@ -82,7 +82,7 @@ with_level-shape value level group shape room new =
       number = omega (arith, room, length_push group.levels added);
       values = AreDistinct-push (λ l. l.value) group.levels added shape.values
           (All-weaker (λ l. value_eq value l.value ≡ false) (λ l. l.value ≢ value) (λ l other same. both_ways _ other ((value_eq-Decides value l.value).1 (sym same))) group.levels
-              (list_any-false (λ l. value_eq value l.value) group.levels new));
+          (list_any-false (λ l. value_eq value l.value) group.levels new));
     }
 
 -- of the group that is found after an empty one is put where there was none, the same holds as of the one before
@@ -109,9 +109,9 @@ HasShape-Priority schema name literal level shape passed =
     let new : has_level value (priority_named schema name) ≡ false = refused-None _ refusal.NameTaken steps.0 in
     let room : level_count (priority_named schema name) < most_levels = full-None _ _ limit.Levels (or_then-None _ _ steps.1).0 in
     let fits : (group : PriorityGroup) → find (is_priority name) groups ≡ Some group → HasLevelShape group → HasLevelShape (change group) = λ group found fits.
-        let before = find-with_priority name schema.priorities group found in
-        with_level-shape value level group fits (level_count-room (priority_named schema name) group before room) (has_level-new value (priority_named schema name) group before new) in
+    let before = find-with_priority name schema.priorities group found in
+    with_level-shape value level group fits (level_count-room (priority_named schema name) group before room) (has_level-new value (priority_named schema name) group before new) in
     HasShape-with_priorities with_it (with_changed (is_priority name) change groups) shaped
-        (omega (arith, length-with_changed (is_priority name) change groups))
-        (All-with_changed (is_priority name) change HasLevelShape groups shaped.priorities fits)
-        (AreDistinct-with_changed (is_priority name) change (λ p. p.name) (λ p. refl) groups shaped.priority_names)
+    (omega (arith, length-with_changed (is_priority name) change groups))
+    (All-with_changed (is_priority name) change HasLevelShape groups shaped.priorities fits)
+    (AreDistinct-with_changed (is_priority name) change (λ p. p.name) (λ p. refl) groups shaped.priority_names)

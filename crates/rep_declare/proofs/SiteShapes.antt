@@ -48,7 +48,7 @@ one_more_site schema site shape new masters snapshots has = record {
   snapshots = snapshots;
   site_names = AreDistinct-push (λ s. s.name) schema.sites site shape.site_names
       (All-weaker (λ s. is_site site.name s ≡ false) (λ s. s.name ≢ site.name) (λ s other same. same_bytes-false _ _ other (ap (λ n. n.0) same)) schema.sites
-          (find-None (is_site site.name) schema.sites new));
+      (find-None (is_site site.name) schema.sites new));
   site_masters = All-push (HasMaster (schema.sites ++ site ∷ [])) schema.sites site
       (All-weaker (HasMaster schema.sites) (HasMaster (schema.sites ++ site ∷ [])) (HasMaster-push schema.sites site) schema.sites shape.site_masters)
       (HasMaster-push schema.sites site site has);
@@ -81,7 +81,7 @@ HasShape-SnapSite schema name master shape passed =
     let masters : count_by is_master (schema.sites ++ site ∷ []) ≡ count_by is_master schema.sites + 0 = sum_by_push _ schema.sites site in
     let snapshots : count_by is_snapshot (schema.sites ++ site ∷ []) ≡ count_by is_snapshot schema.sites + 1 = sum_by_push _ schema.sites site in
     one_more_site schema site shape (taken-None _ steps.0) (omega (arith, masters, shape.masters)) (omega (arith, room, snapshots))
-        (found (Any-from_list_any (λ s. is_site master s && is_master s) schema.sites there))
+    (found (Any-from_list_any (λ s. is_site master s && is_master s) schema.sites there))
   where
     none : (m : Option SiteName) (s : SiteEntry) → s.master ≡ m → is_master s ≡ true → m ≡ None
     none None s same is = refl
@@ -108,7 +108,7 @@ HasShape-SiteLevel schema site level shape =
     let leveled : SiteEntry → SiteEntry = with_site_level level in
     let sites : List SiteEntry = with_changed (is_site site) leveled schema.sites in
     let kept : All (HasMaster sites) schema.sites =
-        All-weaker (HasMaster schema.sites) (HasMaster sites) (HasMaster-with_changed (is_site site) level schema.sites) schema.sites shape.site_masters in
+    All-weaker (HasMaster schema.sites) (HasMaster sites) (HasMaster-with_changed (is_site site) level schema.sites) schema.sites shape.site_masters in
     record {
       masters = rw (count_by-with_changed (is_site site) leveled is_master (λ s. refl) schema.sites) shape.masters;
       snapshots = rw (count_by-with_changed (is_site site) leveled is_snapshot (λ s. refl) schema.sites) shape.snapshots;

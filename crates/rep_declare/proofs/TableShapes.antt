@@ -72,7 +72,7 @@ HasShape-Table schema name columns shape passed =
     let room = or_then-None _ _ own.1 in
     let few = or_then-None _ _ room.1 in
     let fits : HasTableShape (length schema.priorities) table = new_table-shape (length schema.priorities) name columns
-        (too_many-None _ _ limit.Columns few.0) (refused-None _ refusal.NameTaken own.0) (too_many-None _ _ limit.Keys (or_then-None _ _ few.1).0) in
+    (too_many-None _ _ limit.Columns few.0) (refused-None _ refusal.NameTaken own.0) (too_many-None _ _ limit.Keys (or_then-None _ _ few.1).0) in
     let number : length schema.tables < most_tables = full-None _ _ limit.Tables room.0 in
     record {
       masters = shape.masters;
@@ -83,7 +83,7 @@ HasShape-Table schema name columns shape passed =
       table_number = omega (arith, number, length_push schema.tables table);
       table_names = AreDistinct-push (λ t. t.name) schema.tables table shape.table_names
           (All-weaker (λ t. is_table name t ≡ false) (λ t. t.name ≢ name) (λ t other same. same_bytes-false _ _ other (ap (λ n. n.0) same)) schema.tables
-              (find-None (is_table name) schema.tables (taken-None _ names.0)));
+          (find-None (is_table name) schema.tables (taken-None _ names.0)));
       priorities = shape.priorities;
       priority_names = shape.priority_names;
     }

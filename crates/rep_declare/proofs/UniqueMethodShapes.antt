@@ -67,7 +67,7 @@ HaveMethodShape-steps : (entry : TableEntry) (method : UniqueWords) (methods : L
 HaveMethodShape-steps entry method methods passed shape =
     let steps = or_then-None _ _ passed in
     HaveMethodShape-push (length entry.columns) methods (unique_method_of entry.columns method) shape (full-None _ _ limit.Methods (or_then-None _ _ steps.1).0)
-        (unique_method_of-column entry.columns method steps.0)
+    (unique_method_of-column entry.columns method steps.0)
 
 with_unique_method-shape : (priorities : ℕ) (name : List ℕ) (method : UniqueWords) (entry : TableEntry)
     → first_refusal (known (constraint_methods (constraint_named entry name)) (method_steps entry method)) ≡ None → HasTableShape priorities entry
@@ -75,17 +75,17 @@ with_unique_method-shape : (priorities : ℕ) (name : List ℕ) (method : Unique
 with_unique_method-shape priorities name method entry passed shape =
     let change : Constraint → Constraint = with_unique_method (unique_method_of entry.columns method) in
     let fits : (c : Constraint) → constraint_named entry name ≡ Some c → HasConstraintShape (length entry.columns) c → HasConstraintShape (length entry.columns) (change c) = λ c is fits.
-        record {
-          columns = fits.columns;
-          methods = HaveMethodShape-steps entry method c.methods
-              (known-None (constraint_methods (constraint_named entry name)) c.methods (method_steps entry method) (ap constraint_methods is) passed) fits.methods;
-        } in
+    record {
+      columns = fits.columns;
+      methods = HaveMethodShape-steps entry method c.methods
+          (known-None (constraint_methods (constraint_named entry name)) c.methods (method_steps entry method) (ap constraint_methods is) passed) fits.methods;
+    } in
     with_constraints-shape priorities entry (with_changed (is_constraint name) change entry.constraints) shape
-        (All-with_changed (is_constraint name) change (HasConstraintShape (length entry.columns)) entry.constraints shape.constraints fits)
-        (rw (length-with_changed (is_constraint name) change entry.constraints) shape.constraint_number)
-        (AreDistinct-with_changed (is_constraint name) change (λ c. c.name) (λ c. refl) entry.constraints shape.constraint_names)
-        (All-with_changed (is_constraint name) change (λ c. c.name ≢ key_name) entry.constraints shape.key_free (λ c is free. free))
-        (AllPairs-with_changed (is_constraint name) change ShareNone (λ c. c.columns) (λ c. refl) entry.constraints shape.constraints_apart)
+    (All-with_changed (is_constraint name) change (HasConstraintShape (length entry.columns)) entry.constraints shape.constraints fits)
+    (rw (length-with_changed (is_constraint name) change entry.constraints) shape.constraint_number)
+    (AreDistinct-with_changed (is_constraint name) change (λ c. c.name) (λ c. refl) entry.constraints shape.constraint_names)
+    (All-with_changed (is_constraint name) change (λ c. c.name ≢ key_name) entry.constraints shape.key_free (λ c is free. free))
+    (AllPairs-with_changed (is_constraint name) change ShareNone (λ c. c.columns) (λ c. refl) entry.constraints shape.constraints_apart)
 
 one_more_unique_method : (priorities : ℕ) (name : List ℕ) (method : UniqueWords) (entry : TableEntry) → first_refusal (known (methods_named entry name) (method_steps entry method)) ≡ None
     → HasTableShape priorities entry → HasTableShape priorities (with_method_on name (unique_method_of entry.columns method) entry)
@@ -93,7 +93,7 @@ one_more_unique_method priorities name method entry passed shape = at (same_byte
   where
     at : (b : Bool) → first_refusal (known (cond b (Some entry.key_methods) (constraint_methods (constraint_named entry name))) (method_steps entry method)) ≡ None
         → HasTableShape priorities (cond b (with_key_methods (entry.key_methods ++ unique_method_of entry.columns method ∷ []) entry)
-            (with_constraints (with_changed (is_constraint name) (with_unique_method (unique_method_of entry.columns method)) entry.constraints) entry))
+        (with_constraints (with_changed (is_constraint name) (with_unique_method (unique_method_of entry.columns method)) entry.constraints) entry))
     at true passed = with_key_methods-shape priorities entry (entry.key_methods ++ unique_method_of entry.columns method ∷ []) shape
         (HaveMethodShape-steps entry method entry.key_methods passed shape.key_methods)
     at false passed = with_unique_method-shape priorities name method entry passed shape
@@ -112,5 +112,5 @@ pub HasShape-UniqueMethod : (schema : Schema) (table : TableName) (name : List �
     → refusal_of schema (declare.UniqueMethod table name method) ≡ None → HasShape (declared (declare.UniqueMethod table name method) schema)
 HasShape-UniqueMethod schema table name method shape passed =
     HasShape-with_table_changed schema table (λ entry. with_method_on name (unique_method_of entry.columns method) entry) shape
-        (λ entry. name-with_method_on name (unique_method_of entry.columns method) entry)
-        (λ entry found. one_more_unique_method (length schema.priorities) name method entry (known-None (table_named schema table) entry _ found passed))
+    (λ entry. name-with_method_on name (unique_method_of entry.columns method) entry)
+    (λ entry found. one_more_unique_method (length schema.priorities) name method entry (known-None (table_named schema table) entry _ found passed))

@@ -120,9 +120,13 @@ fn method(rt: &impl Abort, kind: &str, words: [&str; 3]) -> Declare
     }
 }
 
-// The number of the refusal, or 0.
-fn refused(answer: Result<(), Refusal>) -> u8 {
-    match answer {
+// Adds a declaration, and answers the refusal's number or 0.
+fn add(schema: &mut Schema, alloc: Global, declaration: &Declare) -> u8
+    requires shape { HasShape schema.old }
+    requires columns { ColumnNamed declaration.now }
+    ensures { HasShape schema.new }
+{
+    match add_declaration(schema, alloc, declaration) {
         Ok(()) => 0,
         Err(why) => why.number(),
     }
@@ -153,12 +157,12 @@ fn first_schema(rt: &impl Abort, alloc: Global) -> Result<Schema, Fail>
 {
     let mut schema = Schema::empty(alloc);
     let site = declaration(rt, alloc, "site", ["A", "A", "A"], 0)?;
-    assert_eq!(rt; refused(add_declaration(&mut schema, alloc, &site)), 0);
+    assert_eq!(rt; add(&mut schema, alloc, &site), 0);
     let table = Declare::Table {
         name: TableName(name(rt, "T")),
         columns: columns(rt, alloc, 3, 1)?,
     };
-    assert_eq!(rt; refused(add_declaration(&mut schema, alloc, &table)), 0);
+    assert_eq!(rt; add(&mut schema, alloc, &table), 0);
     Ok(schema)
 }
 
@@ -198,11 +202,7 @@ fn names_are_tested_from_the_left_and_a_refused_line_adds_nothing(
         ("site-level", ["A", "A", "A"], 2, 2, 2, [1, 1, 0, 0]),
     ] {
         let line = declaration(&rt, alloc, kind, words, number)?;
-        assert_eq!(rt;
-            refused(add_declaration(&mut schema, alloc, &line)),
-            refusal,
-            "{kind}"
-        );
+        assert_eq!(rt; add(&mut schema, alloc, &line), refusal, "{kind}");
         assert_eq!(rt; schema.sites.len(), sites);
         assert_eq!(rt; outline(&schema), shape, "{kind}");
     }
@@ -214,7 +214,7 @@ fn methods_name_what_is_there_and_bring_a_priority_group(rt: HostRuntime) -> Res
     let alloc = rt.alloc();
     let mut schema = first_schema(&rt, alloc)?;
     let group = declaration(&rt, alloc, "group", ["T", "g", "b"], 0)?;
-    assert_eq!(rt; refused(add_declaration(&mut schema, alloc, &group)), 0);
+    assert_eq!(rt; add(&mut schema, alloc, &group), 0);
     for (kind, words, refusal, groups, shape) in [
         ("latest", ["U", "g", "b"], 1, 0, [1, 0, 0, 0]),
         ("latest", ["T", "shadow", "a"], 1, 0, [1, 0, 0, 0]),
@@ -226,11 +226,7 @@ fn methods_name_what_is_there_and_bring_a_priority_group(rt: HostRuntime) -> Res
         ("append-site", ["T", "key", "b"], 0, 1, [1, 0, 2, 1]),
     ] {
         let line = method(&rt, kind, words);
-        assert_eq!(rt;
-            refused(add_declaration(&mut schema, alloc, &line)),
-            refusal,
-            "{kind}"
-        );
+        assert_eq!(rt; add(&mut schema, alloc, &line), refusal, "{kind}");
         assert_eq!(rt; schema.priorities.len(), groups);
         assert_eq!(rt; outline(&schema), shape, "{kind}");
     }
@@ -249,14 +245,28 @@ fn values_get_one_level_each(rt: HostRuntime) -> Result<(), Fail> {
         ("rank", "q", 1, 0, 2),
     ] {
         let line = declaration(&rt, alloc, kind, [group, "A", "A"], number)?;
-        assert_eq!(rt;
-            refused(add_declaration(&mut schema, alloc, &line)),
-            refusal,
-            "{kind}"
-        );
+        assert_eq!(rt; add(&mut schema, alloc, &line), refusal, "{kind}");
         assert_eq!(rt; schema.priorities.len(), groups);
     }
     Ok(())
+}
+
+// The limit that a table of so many columns reaches, the first of which are key columns.
+fn limit_of(
+    rt: &impl Abort,
+    alloc: Global,
+    width: usize,
+    keys: usize,
+) -> Result<Option<Limit>, NoMemory> {
+    let mut schema = Schema::empty(alloc);
+    let table = Declare::Table {
+        name: TableName(name(rt, "W")),
+        columns: columns(rt, alloc, width, keys)?,
+    };
+    match add_declaration(&mut schema, alloc, &table) {
+        Err(Refusal::LimitReached(limit)) => Ok(Some(limit)),
+        _ => Ok(None),
+    }
 }
 
 #[test]
@@ -267,17 +277,7 @@ fn limits_are_kept_in_their_order(rt: HostRuntime) -> Result<(), Fail> {
         (32, 5, Some(Limit::Keys)),
         (32, 4, None),
     ] {
-        let mut schema = Schema::empty(alloc);
-        let table = Declare::Table {
-            name: TableName(name(&rt, "W")),
-            columns: columns(&rt, alloc, width, keys)?,
-        };
-        let found = match add_declaration(&mut schema, alloc, &table) {
-            Err(Refusal::LimitReached(limit)) => Some(limit),
-            _ => None,
-        };
-        assert_eq!(rt; found, limit, "at {width}");
-        assert_eq!(rt; schema.tables.is_empty(), limit.is_some());
+        assert_eq!(rt; limit_of(&rt, alloc, width, keys)?, limit, "at {width}");
     }
     let mut schema = Schema::empty(alloc);
     for (master, refusal) in [
@@ -293,10 +293,7 @@ fn limits_are_kept_in_their_order(rt: HostRuntime) -> Result<(), Fail> {
         ("A", 2),
     ] {
         let line = declaration(&rt, alloc, "site", [master, "A", "A"], 0)?;
-        assert_eq!(rt;
-            refused(add_declaration(&mut schema, alloc, &line)),
-            refusal
-        );
+        assert_eq!(rt; add(&mut schema, alloc, &line), refusal);
     }
     Ok(())
 }
