@@ -1,0 +1,3 @@
+-- The lemmas of this crate, from the bottom up.
+pub mod Results
+pub mod PartEffects
