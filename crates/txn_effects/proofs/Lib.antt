@@ -1,3 +1,4 @@
 -- The lemmas of this crate, from the bottom up.
 pub mod Results
 pub mod PartEffects
+pub mod CallEffects
