@@ -1,8 +1,7 @@
 -- What one call leaves of the row that it names, and of the counters.
-use Rattle.std.proofs.Common.{◌≡◌, ◌≢◌, ℕ, ◌<◌, List, [], ◌∷◌, length, Bool, true, false, cond, Some, None, Ok, Err, refl, sym, ap, ◌∙◌, subst}
-use Rattle.std.specs.Prelude.{Option, IfSome}
+use Rattle.std.proofs.Common.{◌≡◌, ℕ, ◌<◌, List, length, Bool, true, false, cond, Some, None, Ok, Err, refl, sym, ap, ◌∙◌, subst}
+use Rattle.std.specs.Prelude.{Option}
 use Rattle.std.specs.Bool.{Decides}
-use Rattle.std.specs.List.{AllByRecursion}
 use Rattle.rep_values.specs.declared.name.SiteName.{SiteName}
 use Rattle.rep_values.specs.declared.refusal.ApplyError.TheVariants.{DeleteConflict}
 use Rattle.rep_schema.specs.declared.schema.Schema.{Schema}
@@ -117,9 +116,9 @@ module _ (schema : Schema) (tables : List Rows) (numbers : Numbers) (origin : Si
     IsChange-row_effect apart (Update table key parts) (Some found) effect fits was gives =
         let settled = result_then-Ok (settled_parts schema table parts found) (λ row. settled_effect (settlement_of schema tables numbers origin table false row) (Some found)) effect gives in
         let found_fits : RowFits (columns_of schema table) found =
-            found_row (columns_of schema table) key found (rows_of tables table) (sym was) (RowFits (columns_of schema table)) (are.each table fits.table).fit in
+        found_row (columns_of schema table) key found (rows_of tables table) (sym was) (RowFits (columns_of schema table)) (are.each table fits.table).fit in
         let own : key_of (columns_of schema table) settled.0 ≡ key =
-            key_of-settled_parts schema table apart fits.table parts found settled.0 settled.1 ∙ key_of-found (columns_of schema table) key found (rows_of tables table) (sym was) in
+        key_of-settled_parts schema table apart fits.table parts found settled.0 settled.1 ∙ key_of-found (columns_of schema table) key found (rows_of tables table) (sym was) in
         IsChange-settled table fits.table false settled.0 key (Some found) effect
         (RowFits-settled_parts schema table shape parts found settled.0 fits.content.parts_fit found_fits settled.1) own was settled.2
     IsChange-row_effect apart (Delete table row) None effect fits was gives = cc

@@ -2,3 +2,4 @@
 pub mod Results
 pub mod PartEffects
 pub mod CallEffects
+pub mod TransactionEffects
