@@ -3,3 +3,4 @@ pub mod Results
 pub mod PartEffects
 pub mod CallEffects
 pub mod TransactionEffects
+pub mod RoomForChanges
