@@ -4,3 +4,4 @@ pub mod PartEffects
 pub mod CallEffects
 pub mod TransactionEffects
 pub mod RoomForChanges
+mod WorkedTransactions
