@@ -1,12 +1,14 @@
 -- What one call does: what becomes of the row that it names, and of the counters.
-use Rattle.std.specs.Prelude.{ℕ, ◌<◌, Bool, true, false, cond, List, [], ◌∷◌, length, Option, Some, None, Result, Ok, Err}
+use Rattle.std.specs.Prelude.{◌≡◌, ℕ, ◌<◌, Bool, true, false, cond, List, [], ◌∷◌, length, Option, Some, None, IfSome, Result, Ok, Err, slice_get}
+use Rattle.std.specs.List.{AllByRecursion}
 use Rattle.rep_values.specs.declared.name.SiteName.{SiteName}
 use Rattle.rep_values.specs.declared.refusal.ApplyError.{ApplyError}
 use Rattle.rep_values.specs.declared.refusal.ApplyError.TheVariants.{NoRow, DeleteConflict, UniqueConflict}
 use Rattle.rep_schema.specs.declared.schema.Schema.{Schema}
+use Rattle.rep_schema.specs.declared.schema.Column.{Column}
 use Rattle.rep_schema.specs.declared.change.Change.{Change}
 use Rattle.rep_schema.specs.Tables.{Cells, Rows, columns_of, key_of, find_row, rows_of, IsKeyed}
-use Rattle.rep_schema.specs.Groups.{are_same}
+use Rattle.rep_schema.specs.Groups.{groups_of, named_columns, are_same}
 use Rattle.rep_calls.specs.declared.call.Call.{Call}
 use Rattle.rep_calls.specs.declared.call.Call.TheVariants.{Insert, Update, Delete}
 use Rattle.conflict_detect.specs.Fits.{table_of}
@@ -19,6 +21,15 @@ use Rattle.txn_effects.specs.Parts.{result_then, settled_parts}
 -- every table has 1 to 4 key columns
 abbrev pub HasKeys : Schema → Type 0
 HasKeys schema = (table : ℕ) → table < length schema.tables → IsKeyed (columns_of schema table)
+
+-- a column at this place is no key column
+abbrev pub IsOffTheKey : List Column → ℕ → Type 0
+IsOffTheKey columns place = IfSome (slice_get columns place) (λ column. column.key ≡ false)
+
+-- no column of a named group is a key column
+abbrev pub KeysStandAlone : Schema → Type 0
+KeysStandAlone schema = (table : ℕ) → table < length schema.tables → (group : ℕ)
+    → AllByRecursion (IsOffTheKey (columns_of schema table)) (named_columns (slice_get (groups_of schema table) group))
 
 -- the key of the row that a call names
 abbrev pub key_named : Schema → Call → Cells

@@ -9,13 +9,14 @@ use Rattle.rep_schema.specs.Changes.{LeadsTo}
 use Rattle.rep_calls.specs.declared.call.Txn.{Txn}
 use Rattle.conflict_detect.specs.Fits.{TxnFits}
 use Rattle.unique_resolve.specs.Numbers.{Numbers, AreCounters}
-use Rattle.txn_effects.specs.Calls.{HasKeys, Effect}
+use Rattle.txn_effects.specs.Calls.{HasKeys, KeysStandAlone, Effect}
 use Rattle.txn_effects.specs.Transactions.{made_all, txn_effect}
 
--- a schema with shape and keys, its tables, its counters, and a transaction that fits it
+-- a schema with shape and keys, which are in no group, its tables, its counters, and a transaction that fits it
 pub record CanApply (schema : Schema) (tables : List Rows) (numbers : Numbers) (txn : Txn) : Type 0 where
   pub shape : HasShape schema
   pub keys : HasKeys schema
+  pub apart : KeysStandAlone schema
   pub are : AreTables schema tables
   pub counters : AreCounters schema numbers
   pub fits : TxnFits schema txn

@@ -4,5 +4,4 @@ ghost use Rattle.txn_effects.specs.Laws.{TransactionsLeadToTheirTables};
 /// A transaction that succeeds leads by its changes from the tables before it to those after it.
 pub fn transactions_lead_to_their_tables()
     ensures { TransactionsLeadToTheirTables }
-{
-}
+{}
