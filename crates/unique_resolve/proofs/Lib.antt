@@ -2,3 +2,5 @@
 pub mod HeldValues
 pub mod AppendedTexts
 pub mod Settlements
+mod TextBytes
+mod Tries
