@@ -4,3 +4,5 @@ pub mod AppendedTexts
 pub mod Settlements
 mod TextBytes
 mod Tries
+mod EachConstraint
+mod TableCounters

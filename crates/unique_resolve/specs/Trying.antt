@@ -1,6 +1,7 @@
 -- What the steps of settling tell.
 use Rattle.std.specs.Prelude.{ℕ, ◌<◌, Bool, true, false, List, length}
 use Rattle.rep_schema.specs.declared.schema.Schema.{Schema}
+use Rattle.rep_schema.specs.Shape.{HasShape}
 use Rattle.rep_schema.specs.Tables.{Cells, Rows, columns_of, constraints_of, IsKeyed, RowFits, AreTables}
 use Rattle.unique_resolve.specs.declared.settled.Settled.{Settled}
 use Rattle.unique_resolve.specs.declared.settled.Settled.TheVariants.{Fits, Dropped, Conflict}
@@ -9,6 +10,13 @@ use Rattle.unique_resolve.specs.declared.trying.Tried.TheVariants.{Helps, GivesU
 use Rattle.unique_resolve.specs.declared.trying.Ruling.{Ruling}
 use Rattle.unique_resolve.specs.declared.trying.Ruling.TheVariants as ruling
 use Rattle.unique_resolve.specs.Settling.{Outcome}
+
+-- a row that is to be put into a table of a schema
+pub record IsAsked (schema : Schema) (table : ℕ) (row : Cells) : Type 0 where
+  pub shape : HasShape schema
+  pub of_table : table < length schema.tables
+  pub keyed : IsKeyed (columns_of schema table)
+  pub fits : RowFits (columns_of schema table) row
 
 -- a row that can be tested for a secondary constraint of a table
 pub record IsTestable (schema : Schema) (tables : List Rows) (table place : ℕ) (row : Cells) : Type 0 where

@@ -7,4 +7,4 @@ mod settled;
 mod trying;
 
 pub use counters::Counters;
-pub use settled::Settled;
+pub use settled::{Settled, settle_unique};

@@ -6,12 +6,12 @@ ghost use Rattle.rep_schema.specs.declared.schema.Constraint.{Constraint as Cons
 ghost use Rattle.rep_schema.specs.declared.schema.UniqueMethod.{UniqueMethod as MethodValue};
 ghost use Rattle.rep_schema.specs.Tables.{columns_of, constraints_of, constraint_columns_of, rows_of};
 ghost use Rattle.unique_resolve.specs.Appending.{appended};
-ghost use Rattle.unique_resolve.specs.Settling.{is_held, helping, settled_by, settled_one};
-ghost use Rattle.unique_resolve.specs.Trying.{IsTestable, tried_by, followed, settled_as};
+ghost use Rattle.unique_resolve.specs.Settling.{is_held, helping, settled_by, settled_one, settled_each};
+ghost use Rattle.unique_resolve.specs.Trying.{IsAsked, IsTestable, tried_by, followed, settled_as};
 
 use crate::appending::value_appended;
 use itoa::Buffer;
-use rep_schema::{Constraint, RowStore, UniqueMethod, columns_of, constraint_columns};
+use rep_schema::{Constraint, RowStore, Schema, UniqueMethod, columns_of, constraint_columns};
 use rep_values::{Name, Row, SiteName, Value};
 
 /// What came of one method.
@@ -186,7 +186,7 @@ fn settle_by<R: RowStore>(
 }
 
 /// Settles one constraint. A row that doesn't violate it fits.
-pub(crate) fn settle_one<R: RowStore>(
+fn settle_one<R: RowStore>(
     store: &R,
     table: u32,
     place: u32,
@@ -205,4 +205,38 @@ pub(crate) fn settle_one<R: RowStore>(
         return Ruling::Fits;
     }
     settle_by(store, table, place, constraint, row, origin, number)
+}
+
+/// The secondary constraints of a table.
+fn constraints_of(schema: &Schema, table: u32) -> &[Constraint]
+    requires { table < length schema.now.tables }
+    ensures { result.now ≡ constraints_of schema.now table }
+{
+    schema.tables.at(table as usize).constraints.as_slice()
+}
+
+/// Settles one constraint after another, each with its number. The first one that isn't settled ends it.
+pub(crate) fn settle_each<R: RowStore>(
+    store: &R,
+    table: u32,
+    row: &mut Row,
+    origin: &SiteName,
+    numbers: &mut [u64],
+) -> Ruling
+    requires asked { IsAsked (R.schema store.now) table row.old }
+    requires numbers { length numbers.old ≡ length (constraints_of (R.schema store.now) table) }
+    ensures { settled_each (columns_of (R.schema store.now) table) (rows_of (R.tables store.now) table) origin.now (constraints_of (R.schema store.now) table) numbers.old row.old
+        ≡ record { settled = settled_as result row.new; numbers = numbers.new } }
+{
+    let constraints = constraints_of(store.schema(), table);
+    for place in 0..constraints.len() {
+        let constraint = &constraints[place];
+        let number = &mut numbers[place];
+        match settle_one(store, table, place as u32, constraint, row, origin, number) {
+            Ruling::Fits => {}
+            Ruling::Dropped => return Ruling::Dropped,
+            Ruling::Conflict(name) => return Ruling::Conflict(name),
+        }
+    }
+    Ruling::Fits
 }
