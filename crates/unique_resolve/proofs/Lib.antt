@@ -2,3 +2,7 @@
 pub mod HeldValues
 pub mod AppendedTexts
 pub mod Settlements
+mod TextBytes
+mod Tries
+mod EachConstraint
+mod TableCounters

@@ -1,10 +1,15 @@
 //! The counters of constraints.
-ghost use Rattle.std.specs.Prelude.{◌≡◌, replicate, IfOk};
-ghost use Rattle.unique_resolve.specs.Numbers.{first_numbers};
+ghost use Rattle.std.specs.Prelude.{◌≡◌, [], replicate, slice_index_or, IfOk};
+ghost use Rattle.rep_schema.specs.Shape.{HasShape};
+ghost use Rattle.rep_schema.specs.Tables.{columns_of, constraints_of, rows_of};
+ghost use Rattle.unique_resolve.specs.Numbers.{AreCounters, first_numbers};
+ghost use Rattle.unique_resolve.specs.Settling.{settled_each, with_numbers};
+ghost use Rattle.unique_resolve.specs.Trying.{IsAsked, settled_as};
 
+use crate::trying::{Ruling, settle_each};
 use rep_lists::Copies;
-use rep_schema::Schema;
-use rep_values::NoMemory;
+use rep_schema::{RowStore, Schema};
+use rep_values::{NoMemory, Row, SiteName};
 use std::alloc::Global;
 use std::marker::Model;
 
@@ -40,6 +45,23 @@ impl Counters {
             tables.push(zeros(alloc, entry.constraints.len())?)?;
         }
         Ok(Counters { tables })
+    }
+
+    /// Settles the secondary constraints of a table, with its counters.
+    pub(crate) fn settle<R: RowStore>(
+        &mut self,
+        store: &R,
+        table: u32,
+        row: &mut Row,
+        origin: &SiteName,
+    ) -> Ruling
+        requires asked { IsAsked (R.schema store.now) table row.old }
+        requires counters { AreCounters (R.schema store.now) self.old }
+        ensures { with_numbers table self.old (settled_each (columns_of (R.schema store.now) table) (rows_of (R.tables store.now) table) origin.now
+                (constraints_of (R.schema store.now) table) (slice_index_or self.old table []) row.old)
+            ≡ record { settled = settled_as result row.new; numbers = self.new } }
+    {
+        settle_each(store, table, row, origin, &mut self.tables[table as usize])
     }
 }
 

@@ -4,6 +4,7 @@
 mod appending;
 mod counters;
 mod settled;
+mod trying;
 
 pub use counters::Counters;
-pub use settled::Settled;
+pub use settled::{Settled, settle_unique};
