@@ -3,3 +3,4 @@ mod Places
 mod Over
 mod InRange
 pub mod TakenNumber
+mod Orders
