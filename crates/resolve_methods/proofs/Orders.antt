@@ -1,7 +1,9 @@
 -- What the methods leave that compare numbers, add amounts or take a mean.
-use Rattle.std.proofs.Common.{◌≡◌, ℕ, List, [], ◌∷◌, Bool, true, false, Some, None, cond, refl, sym, ap, ◌∙◌, arith, pos}
+use Rattle.std.proofs.Common.{◌≡◌, ℕ, List, [], ◌∷◌, Bool, true, false, Some, None, cond, refl, sym, ap, ◌∙◌, arith, pos, negsuc, ◌+◌}
 use Rattle.std.specs.Prelude.{ℤ, ◌+ℤ◌, ◌-ℤ◌, int_lt, int_div, Option, slice_get}
-use Rattle.std.specs.List.{AllByRecursion}
+use Rattle.std.specs.List.{AllByRecursion, sum_by}
+use Rattle.std.proofs.lemmas.List.Sums.{sum_by-cons}
+use Rattle.std.proofs.lemmas.List.Sorted.{sum_by-IsPermutation}
 use Rattle.std.specs.Int.{int_max, int_min}
 use Rattle.std.specs.Ordering.{int_cmp, MatchOrdering}
 use Rattle.std.specs.declared.cmp.Ordering.{Ordering}
@@ -15,7 +17,7 @@ use Rattle.resolve_methods.specs.declared.decision.Decision.{Decision}
 use Rattle.resolve_methods.specs.declared.decision.Decision.TheVariants.{TakeNew, TakeNumber, Keep, Undecided, Range}
 use Rattle.resolve_methods.specs.Ranks.{number_of}
 use Rattle.resolve_methods.specs.Decide.{greater_stays, lesser_stays, by_order, new_in, taken_in_range, added, averaged}
-use Rattle.resolve_methods.specs.Laws.{AreCompared, number_after, AddUp, GreaterNumberStays, LesserNumberStays, EitherSideEndsTheSame, AmountsAddInAnyOrder, MeanIsTheSameFromEitherSide}
+use Rattle.resolve_methods.specs.Laws.{AreCompared, number_after, Amount, AddUp, GreaterNumberStays, LesserNumberStays, EitherSideEndsTheSame, AmountsAddInAnyOrder, MeanIsTheSameFromEitherSide}
 
 greater_after : (new current : ℤ) → number_after (greater_stays (int_cmp new current)) new current ≡ int_max new current
 greater_after new current = go (int_lt new current) (int_lt current new) refl refl
@@ -76,17 +78,44 @@ taken_is x n takes = go (is_in_range x) takes
     go true takes = cc
     go false takes = cc
 
-added_up : (old₁ new₁ old₂ new₂ start sum : ℤ) → AddUp old₁ new₁ old₂ new₂ start sum → start +ℤ (new₁ -ℤ old₁) +ℤ (new₂ -ℤ old₂) ≡ sum
-added_up old₁ new₁ old₂ new₂ start sum add =
-    let first = taken_is (start +ℤ (new₁ -ℤ old₁)) add.between add.first in
-    let second = taken_is (add.between +ℤ (new₂ -ℤ old₂)) sum add.second in
-    omega (arith, ints, first, second)
+-- how much an amount adds, and how much it takes away
+gain : ℤ → ℕ
+gain (pos n) = n
+gain (negsuc n) = 0
+
+loss : ℤ → ℕ
+loss (pos n) = 0
+loss (negsuc n) = n + 1
+
+balance : (z : ℤ) → z ≡ pos (gain z) -ℤ pos (loss z)
+unfolding gain loss
+balance (pos n) = omega (arith, ints)
+balance (negsuc n) = omega (arith, ints)
+
+gain_of : Amount → ℕ
+gain_of amount = gain (amount.new -ℤ amount.old)
+
+loss_of : Amount → ℕ
+loss_of amount = loss (amount.new -ℤ amount.old)
+
+added_up : (amounts : List Amount) (start sum : ℤ) → AddUp amounts start sum → start +ℤ pos (sum_by gain_of amounts) ≡ sum +ℤ pos (sum_by loss_of amounts)
+unfolding gain_of loss_of
+added_up [] start sum add = ap (λ n. n +ℤ pos 0) add
+added_up (amount ∷ amounts) start sum add =
+    let first = taken_is (start +ℤ (amount.new -ℤ amount.old)) add.0 add.1 in
+    let rest = added_up amounts add.0 sum add.2 in
+    let gains = sum_by-cons gain_of amount amounts in
+    let losses = sum_by-cons loss_of amount amounts in
+    let balanced = balance (amount.new -ℤ amount.old) in
+    omega (arith, ints, first, rest, gains, losses, balanced)
 
 pub sums_are_the_same : AmountsAddInAnyOrder
-sums_are_the_same old₁ new₁ old₂ new₂ start sum other add turned =
-    let one = added_up old₁ new₁ old₂ new₂ start sum add in
-    let two = added_up old₂ new₂ old₁ new₁ start other turned in
-    omega (arith, ints, one, two)
+sums_are_the_same amounts turned start sum other same add added =
+    let one = added_up amounts start sum add in
+    let two = added_up turned start other added in
+    let gains = sum_by-IsPermutation gain_of amounts turned same in
+    let losses = sum_by-IsPermutation loss_of amounts turned same in
+    omega (arith, ints, one, two, gains, losses)
 
 pub means_are_the_same : MeanIsTheSameFromEitherSide
 means_are_the_same None None = refl

@@ -1,6 +1,7 @@
 -- Laws of what the methods decide.
 use Rattle.std.specs.Prelude.{◌≡◌, ℕ, ℤ, List, [], ◌∷◌, Option, Some, slice_get}
 use Rattle.std.specs.List.{AllByRecursion}
+use Rattle.std.specs.List.Sorted.{IsPermutation}
 use Rattle.std.specs.Int.{int_max, int_min}
 use Rattle.rep_schema.specs.declared.schema.Schema.{Schema}
 use Rattle.rep_schema.specs.declared.schema.Method.{Method}
@@ -50,15 +51,19 @@ EitherSideEndsTheSame = (schema : Schema) (table : ℕ) (here there : Cells) (to
     → (AllByRecursion (λ m. number_after (decided_by schema table to_here here m) b a ≡ number_after (decided_by schema table to_there there m) a b) (greater_methods column))
     × (AllByRecursion (λ m. number_after (decided_by schema table to_here here m) b a ≡ number_after (decided_by schema table to_there there m) a b) (lesser_methods column))
 
--- two amounts are added one after the other to a number, both sums in range
-pub record AddUp (old₁ new₁ old₂ new₂ start sum : ℤ) : Type 0 where
-  pub between : ℤ
-  pub first : added (Some old₁) (Some new₁) (Some start) ≡ TakeNumber between
-  pub second : added (Some old₂) (Some new₂) (Some between) ≡ TakeNumber sum
+-- the old and the new number of an amount that is added
+pub record Amount : Type 0 where
+  pub old : ℤ
+  pub new : ℤ
 
--- in either order they add up to the same sum
+-- amounts that are added one after the other to a number lead to the sum, each time in range
+abbrev pub AddUp : List Amount → ℤ → ℤ → Type 0
+AddUp [] start sum = start ≡ sum
+AddUp (amount ∷ amounts) start sum = (next : ℤ) × (added (Some amount.old) (Some amount.new) (Some start) ≡ TakeNumber next) × AddUp amounts next sum
+
+-- in every order they lead to the same sum
 abbrev pub AmountsAddInAnyOrder : Type 0
-AmountsAddInAnyOrder = (old₁ new₁ old₂ new₂ start sum other : ℤ) → AddUp old₁ new₁ old₂ new₂ start sum → AddUp old₂ new₂ old₁ new₁ start other → sum ≡ other
+AmountsAddInAnyOrder = (amounts turned : List Amount) (start sum other : ℤ) → IsPermutation amounts turned → AddUp amounts start sum → AddUp turned start other → sum ≡ other
 
 -- the mean is the same from either side
 abbrev pub MeanIsTheSameFromEitherSide : Type 0

@@ -16,7 +16,7 @@ pub fn either_side_ends_the_same()
     ensures { EitherSideEndsTheSame }
 {}
 
-/// By additive two amounts in either order lead to the same number, where each sum lies in range.
+/// By additive, amounts in every order lead to the same number, where each sum lies in range.
 pub fn amounts_add_in_any_order()
     ensures { AmountsAddInAnyOrder }
 {}
