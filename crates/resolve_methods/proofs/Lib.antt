@@ -4,3 +4,4 @@ mod Over
 mod InRange
 pub mod TakenNumber
 mod Orders
+mod WorkedDecisions
