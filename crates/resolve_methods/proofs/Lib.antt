@@ -3,3 +3,5 @@ mod Places
 mod Over
 mod InRange
 pub mod TakenNumber
+mod Orders
+mod WorkedDecisions

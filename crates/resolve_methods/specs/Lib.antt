@@ -3,3 +3,4 @@ pub mod Ranks
 pub mod Decide
 pub mod OrderCases
 pub mod WrittenOver
+pub mod Laws
