@@ -1,1 +1,2 @@
--- The lemmas of this crate.
+-- The worked examples of this crate.
+mod RuleExamples

@@ -1,11 +1,10 @@
 -- The rules of uniqueness constraints.
-use Rattle.std.specs.Prelude.{ℕ, Bool, not, ◌&&◌, List, is_none}
+use Rattle.std.specs.Prelude.{Bool, not, ◌&&◌, List, is_none}
 use Rattle.std.specs.List.{list_all}
 use Rattle.rep_schema.specs.declared.schema.Schema.{Schema}
 use Rattle.rep_schema.specs.declared.schema.TableEntry.{TableEntry}
 use Rattle.rep_schema.specs.declared.schema.Column.{Column}
 use Rattle.rep_schema.specs.declared.schema.Constraint.{Constraint}
-use Rattle.rep_schema.specs.declared.schema.UniqueMethod.{UniqueMethod}
 use Rattle.rep_schema.specs.Shape.{unique_column}
 use Rattle.schema_rules.specs.Columns.{is_none_or, is_text, is_plain, has_kind, is_key_at, has_place}
 

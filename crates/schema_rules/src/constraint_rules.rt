@@ -8,19 +8,13 @@ ghost use Rattle.schema_rules.specs.ConstraintRules.{each_constraint, has_plain_
 use crate::columns::{is_key_at, is_plain_at, is_text_at};
 use rep_schema::{Column, Constraint, Schema, TableEntry, UniqueMethod, has_place};
 
-fn is_plain_value(columns: &[Column], place: u32) -> bool
-    ensures { result ≡ (not (is_key_at columns.now place) && has_kind is_plain columns.now place) }
-{
-    !is_key_at(columns, place) && is_plain_at(columns, place)
-}
-
 fn has_plain_columns(columns: &[Column], constraint: &Constraint) -> bool
     ensures { result ≡ has_plain_columns columns.now constraint.now }
 {
     constraint
         .columns
         .iter()
-        .all(|place| is_plain_value(columns, *place))
+        .all(|place| !is_key_at(columns, *place) && is_plain_at(columns, *place))
 }
 
 /// Whether the columns of a secondary constraint are no key columns and are NUMBER, TEXT or DATE.

@@ -27,17 +27,11 @@ fn is_keyed_by_site(table: &TableEntry) -> bool
     }
 }
 
-fn is_keyed_rightly(table: &TableEntry) -> bool
-    ensures { result ≡ (not table.now.convergent || is_keyed_by_site table.now) }
-{
-    !table.convergent || is_keyed_by_site(table)
-}
-
 /// Whether the first key column of a convergent table is a SITE.
 pub(crate) fn each_is_keyed_by_site(schema: &Schema) -> bool
     ensures { result ≡ each_convergent is_keyed_by_site schema.now }
 {
-    schema.tables.iter().all(|table| is_keyed_rightly(table))
+    schema.tables.iter().all(|table| !table.convergent || is_keyed_by_site(table))
 }
 
 fn is_grouped(groups: &[Group], column: usize) -> bool
@@ -68,17 +62,11 @@ fn has_groups_alone(table: &TableEntry) -> bool
         && table.key_methods.len() == 0
 }
 
-fn is_made_rightly(table: &TableEntry) -> bool
-    ensures { result ≡ (not table.now.convergent || has_groups_alone table.now) }
-{
-    !table.convergent || has_groups_alone(table)
-}
-
 /// Whether a convergent table has no secondary constraint, no shadow column and no method of the key.
 pub(crate) fn each_has_groups_alone(schema: &Schema) -> bool
     ensures { result ≡ each_convergent has_groups_alone schema.now }
 {
-    schema.tables.iter().all(|table| is_made_rightly(table))
+    schema.tables.iter().all(|table| !table.convergent || has_groups_alone(table))
 }
 
 fn is_additive(method: &Method) -> bool
@@ -205,25 +193,21 @@ fn has_convergent_form(columns: &[Column], group: &Group) -> bool
         || is_latest_group(columns, group)
 }
 
-fn have_convergent_form(columns: &[Column], groups: &[Group]) -> bool
-    ensures { result ≡ list_all (has_convergent_form columns.now) groups.now }
+fn have_convergent_form(table: &TableEntry) -> bool
+    ensures { result ≡ list_all (has_convergent_form table.now.columns) table.now.groups }
 {
-    groups
+    let columns = table.columns.as_slice();
+    table
+        .groups
         .iter()
         .all(|group| has_convergent_form(columns, group))
-}
-
-fn is_grouped_rightly(table: &TableEntry) -> bool
-    ensures { result ≡ (not table.now.convergent || list_all (has_convergent_form table.now.columns) table.now.groups) }
-{
-    !table.convergent || have_convergent_form(table.columns.as_slice(), table.groups.as_slice())
 }
 
 /// Whether every group of a convergent table has one of the four forms.
 pub(crate) fn each_has_convergent_forms(schema: &Schema) -> bool
     ensures { result ≡ each_convergent (λ table. list_all (has_convergent_form table.columns) table.groups) schema.now }
 {
-    schema.tables.iter().all(|table| is_grouped_rightly(table))
+    schema.tables.iter().all(|table| !table.convergent || have_convergent_form(table))
 }
 
 fn has_convergent(tables: &[TableEntry]) -> bool

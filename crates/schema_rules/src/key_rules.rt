@@ -8,16 +8,10 @@ ghost use Rattle.schema_rules.specs.MethodRules.{each_group};
 use crate::columns::{is_key_at, is_stamp};
 use rep_schema::{Column, Group, Schema, TableEntry, key_count};
 
-fn is_stamp_key(column: &Column) -> bool
-    ensures { result ≡ (column.now.key && is_stamp column.now.kind) }
-{
-    column.key && is_stamp(column.kind)
-}
-
 fn has_no_stamp_key(columns: &[Column]) -> bool
     ensures { result ≡ list_all (λ column. not (column.key && is_stamp column.kind)) columns.now }
 {
-    columns.iter().all(|column| !is_stamp_key(column))
+    columns.iter().all(|column| !(column.key && is_stamp(column.kind)))
 }
 
 fn is_well_keyed(table: &TableEntry) -> bool

@@ -280,22 +280,22 @@ fn group_ranks_plain_values(priorities: &[PriorityGroup], columns: &[Column], gr
         .all(|method| ranks_plain_values(priorities, columns, method))
 }
 
-fn table_ranks_plain_values(priorities: &[PriorityGroup], table: &TableEntry) -> bool
-    ensures { result ≡ list_all (λ group. list_all (ranks_plain_values priorities.now table.now.columns) group.methods) table.now.groups }
-{
-    let columns = table.columns.as_slice();
-    table.groups.iter().all(|group| group_ranks_plain_values(priorities, columns, group))
-}
-
 /// Whether the column of priority is always a NUMBER, TEXT or DATE, and the priority group has a level.
 pub(crate) fn each_ranks_plain_values(schema: &Schema) -> bool
     ensures { result ≡ each_method (ranks_plain_values schema.now.priorities) schema.now }
 {
     let priorities = schema.priorities.as_slice();
-    schema
-        .tables
-        .iter()
-        .all(|table| table_ranks_plain_values(priorities, table))
+    schema.tables.iter().all(
+        |table: &TableEntry| -> bool
+            ensures { result ≡ list_all (λ group. list_all (ranks_plain_values priorities.entry.now table.now.columns) group.methods) table.now.groups }
+        {
+            let columns = table.columns.as_slice();
+            table
+                .groups
+                .iter()
+                .all(|group| group_ranks_plain_values(priorities, columns, group))
+        },
+    )
 }
 
 fn compares_sites(columns: &[Column], method: &Method) -> bool
