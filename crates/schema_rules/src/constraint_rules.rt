@@ -11,10 +11,8 @@ use rep_schema::{Column, Constraint, Schema, TableEntry, UniqueMethod, has_place
 fn has_plain_columns(columns: &[Column], constraint: &Constraint) -> bool
     ensures { result ≡ has_plain_columns columns.now constraint.now }
 {
-    constraint
-        .columns
-        .iter()
-        .all(|place| !is_key_at(columns, *place) && is_plain_at(columns, *place))
+    constraint.columns.iter().all(|place| !is_key_at(columns, *place)
+        && is_plain_at(columns, *place))
 }
 
 /// Whether the columns of a secondary constraint are no key columns and are NUMBER, TEXT or DATE.

@@ -31,7 +31,10 @@ fn is_keyed_by_site(table: &TableEntry) -> bool
 pub(crate) fn each_is_keyed_by_site(schema: &Schema) -> bool
     ensures { result ≡ each_convergent is_keyed_by_site schema.now }
 {
-    schema.tables.iter().all(|table| !table.convergent || is_keyed_by_site(table))
+    schema
+        .tables
+        .iter()
+        .all(|table| !table.convergent || is_keyed_by_site(table))
 }
 
 fn is_grouped(groups: &[Group], column: usize) -> bool
@@ -66,7 +69,10 @@ fn has_groups_alone(table: &TableEntry) -> bool
 pub(crate) fn each_has_groups_alone(schema: &Schema) -> bool
     ensures { result ≡ each_convergent has_groups_alone schema.now }
 {
-    schema.tables.iter().all(|table| !table.convergent || has_groups_alone(table))
+    schema
+        .tables
+        .iter()
+        .all(|table| !table.convergent || has_groups_alone(table))
 }
 
 fn is_additive(method: &Method) -> bool
@@ -207,7 +213,10 @@ fn have_convergent_form(table: &TableEntry) -> bool
 pub(crate) fn each_has_convergent_forms(schema: &Schema) -> bool
     ensures { result ≡ each_convergent (λ table. list_all (has_convergent_form table.columns) table.groups) schema.now }
 {
-    schema.tables.iter().all(|table| !table.convergent || have_convergent_form(table))
+    schema
+        .tables
+        .iter()
+        .all(|table| !table.convergent || have_convergent_form(table))
 }
 
 fn has_convergent(tables: &[TableEntry]) -> bool

@@ -11,7 +11,9 @@ use rep_schema::{Column, Group, Schema, TableEntry, key_count};
 fn has_no_stamp_key(columns: &[Column]) -> bool
     ensures { result ≡ list_all (λ column. not (column.key && is_stamp column.kind)) columns.now }
 {
-    columns.iter().all(|column| !(column.key && is_stamp(column.kind)))
+    columns
+        .iter()
+        .all(|column| !(column.key && is_stamp(column.kind)))
 }
 
 fn is_well_keyed(table: &TableEntry) -> bool

@@ -9,3 +9,6 @@ mod method_rules;
 mod rules;
 
 pub use rules::check;
+
+#[cfg(test)]
+mod tests;

@@ -290,10 +290,7 @@ pub(crate) fn each_ranks_plain_values(schema: &Schema) -> bool
             ensures { result ≡ list_all (λ group. list_all (ranks_plain_values priorities.entry.now table.now.columns) group.methods) table.now.groups }
         {
             let columns = table.columns.as_slice();
-            table
-                .groups
-                .iter()
-                .all(|group| group_ranks_plain_values(priorities, columns, group))
+            table.groups.iter().all(|group| group_ranks_plain_values(priorities, columns, group))
         },
     )
 }
