@@ -38,5 +38,5 @@ broken_from n [] = None
 broken_from n (holds ∷ rules) = cond holds (broken_from (n + 1) rules) (Some n)
 
 -- the lowest broken rule of a schema
-abbrev pub broken_rule : Schema → Option ℕ
+unfoldable pub broken_rule : Schema → Option ℕ
 broken_rule schema = broken_from 1 (rules_of schema)

@@ -51,6 +51,25 @@ fn first_broken(rules: &[bool]) -> Option<usize>
 }
 
 /// The number of the lowest rule that is broken, if one is. It takes no memory.
+///
+///  1. There is a master.
+///  2. Every table has a key column, and no key column is a STAMP.
+///  3. No column of a named group is a key column.
+///  4. The column named by a group's method is in the group.
+///  5. A group with additive or average has exactly one column, of type NUMBER.
+///  6. The column of latest and earliest is a DATE or a STAMP.
+///  7. The column of maximum and minimum is a NUMBER or a DATE.
+///  8. The column of priority is a NUMBER, TEXT or DATE, and the priority group has a level.
+///  9. The column of site-priority is a SITE.
+/// 10. The columns of a secondary constraint are no key columns and are NUMBER, TEXT or DATE.
+/// 11. An append method stands on a secondary constraint and names a TEXT column of it.
+/// 12. The first key column of a convergent table is a SITE.
+/// 13. A convergent table has no secondary constraint, no shadow column and no method of its key.
+/// 14. Every group of a convergent table has these columns and these methods: one NUMBER column, additive; one NUMBER
+///     column, its maximum or its minimum, then discard; or a STAMP and a SITE column, with any others, latest of the
+///     one, then site-priority of the other.
+/// 15. Where there is a convergent table, every site has a level, and all levels differ.
+#[tactic(auto, unfolding(crate::specs::Rules::broken_rule))]
 pub fn check(schema: &Schema) -> Result<(), u8>
     ensures sound { OnOk result (broken_rule schema.now ≡ None) }
     ensures broken { IfErr result (λ rule. broken_rule schema.now ≡ Some rule) }
