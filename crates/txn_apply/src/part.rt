@@ -71,7 +71,6 @@ fn settle_part(schema: &Schema, table: u32, part: &Part, row: &mut Row) -> Resul
     requires row { RowFits (columns_of schema.now table) row.old }
     ensures ok { OnOk result (settled_part schema.now table part.now row.old ≡ Ok row.new) }
     ensures err { IfErr result (λ error. settled_part schema.now table part.now row.old ≡ Err error) }
-    ensures fits { OnOk result (RowFits (columns_of schema.now table) row.new) }
 {
     let columns = group_columns(schema, table, part.group);
     match decision_for(schema, table, part, row) {
@@ -106,7 +105,6 @@ pub(crate) fn settle_parts(
     requires row { RowFits (columns_of schema.now table) row.old }
     ensures ok { OnOk result (settled_parts schema.now table parts.now row.old ≡ Ok row.new) }
     ensures err { IfErr result (λ error. settled_parts schema.now table parts.now row.old ≡ Err error) }
-    ensures fits { OnOk result (RowFits (columns_of schema.now table) row.new) }
 {
     for part in parts {
         settle_part(schema, table, part, row)?;

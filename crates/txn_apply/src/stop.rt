@@ -52,3 +52,14 @@ pub(crate) fn stop_at(call: u32, stop: CallStop) -> ApplyStop
         CallStop::Memory => ApplyStop::Memory,
     }
 }
+
+impl From<NoMemory> for ApplyStop {
+    ghost use Rattle.std.specs.Prelude.{◌≡◌};
+    ghost use Rattle.txn_apply.specs.declared.stop.ApplyStop.{ApplyStop};
+
+    ghost from_gives = { λ _ stop. stop ≡ ApplyStop.Memory };
+
+    fn from(_: NoMemory) -> ApplyStop {
+        ApplyStop::Memory
+    }
+}
