@@ -1,5 +1,5 @@
 -- The value at one place of a row while values are written at several.
-use Rattle.std.specs.Prelude.{ℕ, Bool, ◌==◌, cond, List, [], ◌∷◌, Option, Some, None, map}
+use Rattle.std.specs.Prelude.{ℕ, Bool, ◌==◌, cond, List, [], ◌∷◌, Option, Some, None}
 use Rattle.rep_values.specs.declared.value.Value.{Value}
 use Rattle.rep_schema.specs.Tables.{Cells}
 
