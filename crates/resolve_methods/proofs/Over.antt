@@ -6,7 +6,13 @@ use Rattle.std.proofs.lemmas.Bool.Decides.{eqb_tells}
 use Rattle.rep_values.specs.declared.value.Value.{Value}
 use Rattle.rep_schema.specs.Tables.{Cells}
 use Rattle.rep_schema.specs.Groups.{with_values}
-use Rattle.resolve_methods.specs.WrittenOver.{written, written_over}
+use Rattle.resolve_methods.specs.Written.{written}
+
+-- the value at a place after these values were written at these places
+abbrev pub written_over : ℕ → List ℕ → Cells → Option Value → Option Value
+written_over k [] values before = before
+written_over k (p ∷ ps) [] before = before
+written_over k (p ∷ ps) (v ∷ vs) before = written_over k ps vs (written (p == k) before v)
 
 -- a write elsewhere changes nothing
 written-apart : (before : Option Value) (v : Value) → written false before v ≡ before
