@@ -2,3 +2,4 @@
 pub mod Numbers
 pub mod Appending
 pub mod Settling
+pub mod Trying

@@ -1,6 +1,16 @@
 //! How uniqueness is settled.
+ghost use Rattle.std.specs.Prelude.{◌≡◌, ◌<◌, ◌&&◌, List, length, is_some, slice_get};
+ghost use Rattle.std.specs.List.{list_any};
+ghost use Rattle.rep_schema.specs.Shape.{HasShape, key_name};
+ghost use Rattle.rep_schema.specs.Tables.{columns_of, key_of, find_row, rows_of, IsKeyed, RowFits};
+ghost use Rattle.unique_resolve.specs.Numbers.{AreCounters};
+ghost use Rattle.unique_resolve.specs.Settling.{is_discard, key_methods_in, key_taken, settlement_of};
+ghost use Rattle.unique_resolve.specs.Trying.{settled_as};
 
-use rep_values::{Name, Row};
+use crate::Counters;
+use crate::trying::Ruling;
+use rep_schema::{RowStore, Schema, UniqueMethod, columns_of, key_of};
+use rep_values::{Name, Row, SiteName};
 
 /// What becomes of a row that is to be put into a table.
 #[derive(Drop)]
@@ -11,4 +21,107 @@ pub enum Settled {
     Dropped,
     /// No method helps with this constraint, `key` being the primary key's.
     Conflict(Name),
+}
+
+/// The name of the primary key's constraint.
+fn key_name() -> Name
+    ensures { result ≡ key_name }
+{
+    match Name::of(b"key") {
+        Some(name) => name,
+        None => unreachable!(),
+    }
+}
+
+fn is_discard(method: &UniqueMethod) -> bool
+    ensures { result ≡ is_discard method.now }
+{
+    match method {
+        UniqueMethod::Discard => true,
+        UniqueMethod::AppendSite(_) | UniqueMethod::AppendSequence(_) => false,
+    }
+}
+
+fn has_discard(methods: &[UniqueMethod]) -> bool
+    ensures { result ≡ list_any is_discard methods.now }
+{
+    methods.iter().any(|method| is_discard(method))
+}
+
+/// What becomes of a row whose key is taken. Of the methods discard alone helps, since appends change no key.
+fn key_taken(methods: &[UniqueMethod]) -> Settled
+    ensures { result ≡ key_taken methods.now }
+{
+    if has_discard(methods) {
+        Settled::Dropped
+    } else {
+        Settled::Conflict(key_name())
+    }
+}
+
+/// The methods of the constraint of a table's primary key.
+fn key_methods(schema: &Schema, table: u32) -> &[UniqueMethod]
+    requires { table < length schema.now.tables }
+    ensures { result.now ≡ key_methods_in (slice_get schema.now.tables table) }
+{
+    schema.tables.at(table as usize).key_methods.as_slice()
+}
+
+/// Whether a row of the table has the row's key.
+fn has_key_of<R: RowStore>(store: &R, table: u32, row: &Row) -> bool
+    requires table { table < length (R.schema store.now).tables }
+    requires keyed { IsKeyed (columns_of (R.schema store.now) table) }
+    requires fits { RowFits (columns_of (R.schema store.now) table) row.now }
+    ensures { result ≡ is_some (find_row (columns_of (R.schema store.now) table) (key_of (columns_of (R.schema store.now) table) row.now) (rows_of (R.tables store.now) table)) }
+{
+    let key = key_of(columns_of(store.schema(), table), row.values());
+    store.get(table, &key).is_some()
+}
+
+/// Whether the primary key bars a row, which it does for new ones alone.
+fn is_barred<R: RowStore>(store: &R, table: u32, row: &Row, inserting: bool) -> bool
+    requires table { table < length (R.schema store.now).tables }
+    requires keyed { IsKeyed (columns_of (R.schema store.now) table) }
+    requires fits { RowFits (columns_of (R.schema store.now) table) row.now }
+    ensures { result ≡ (inserting && is_some (find_row (columns_of (R.schema store.now) table) (key_of (columns_of (R.schema store.now) table) row.now) (rows_of (R.tables store.now) table))) }
+{
+    inserting && has_key_of(store, table, row)
+}
+
+/// The ruling with the row.
+fn ruled(ruling: Ruling, row: Row) -> Settled
+    ensures { result ≡ settled_as ruling row }
+{
+    match ruling {
+        Ruling::Fits => Settled::Fits(row),
+        Ruling::Dropped => Settled::Dropped,
+        Ruling::Conflict(name) => Settled::Conflict(name),
+    }
+}
+
+/// What becomes of a row that is to be put into a table, as a new one or not, from an origin. For a new one the
+/// primary key comes first, then the secondary constraints in declared order, each against rows with another key. The
+/// methods of a violated constraint are tried in sequence, and append-sequence raises the constraint's counter at each
+/// try. It takes no memory.
+pub fn settle_unique<R: RowStore>(
+    store: &R,
+    table: u32,
+    mut row: Row,
+    inserting: bool,
+    origin: &SiteName,
+    counters: &mut Counters,
+) -> Settled
+    requires table { table < length (R.schema store.now).tables }
+    requires shape { HasShape (R.schema store.now) }
+    requires keyed { IsKeyed (columns_of (R.schema store.now) table) }
+    requires fits { RowFits (columns_of (R.schema store.now) table) row }
+    requires counters { AreCounters (R.schema store.now) counters.old }
+    ensures settled { result ≡ (settlement_of (R.schema store.now) (R.tables store.now) counters.old origin.now table inserting row).settled }
+    ensures counters { counters.new ≡ (settlement_of (R.schema store.now) (R.tables store.now) counters.old origin.now table inserting row).numbers }
+{
+    if is_barred(store, table, &row, inserting) {
+        return key_taken(key_methods(store.schema(), table));
+    }
+    let ruling = counters.settle(store, table, &mut row, origin);
+    ruled(ruling, row)
 }

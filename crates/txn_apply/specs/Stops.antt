@@ -1,0 +1,29 @@
+-- How an answer that isn't success stands beside what a call or a transaction does.
+use Rattle.std.specs.Prelude.{◌≡◌, ℕ, List, [], ◌∷◌, Option, Some, None, Result, Err}
+use Rattle.rep_values.specs.declared.refusal.ApplyError.{ApplyError}
+use Rattle.rep_schema.specs.declared.change.Change.{Change}
+use Rattle.txn_effects.specs.Calls.{Effect}
+use Rattle.txn_effects.specs.Transactions.{Failure}
+use Rattle.txn_apply.specs.declared.stop.ApplyStop.{ApplyStop}
+use Rattle.txn_apply.specs.declared.stop.ApplyStop.TheVariants.{Failed, Memory}
+use Rattle.txn_apply.specs.declared.stop.CallStop.{CallStop}
+use Rattle.txn_apply.specs.declared.stop.CallStop.TheVariants.{Failed as CallFailed, Memory as NoMemoryLeft}
+
+-- no change, or one
+abbrev pub changes_of : Option Change → List Change
+changes_of None = []
+changes_of (Some change) = change ∷ []
+
+-- with the error that there is; want of memory needs no cause
+abbrev pub CallStopsAs : {A : Type 0} → Result A ApplyError → CallStop → Type 0
+CallStopsAs outcome (CallFailed error) = outcome ≡ Err error
+CallStopsAs outcome NoMemoryLeft = Unit {0}
+
+-- with the call that fails and its error; want of memory needs no cause
+abbrev pub StopsAs : Result Effect Failure → ApplyStop → Type 0
+StopsAs outcome (Failed call error) = outcome ≡ Err (record { call = call; error = error })
+StopsAs outcome Memory = Unit {0}
+
+abbrev pub stop_of : ℕ → CallStop → ApplyStop
+stop_of call (CallFailed error) = Failed call error
+stop_of call NoMemoryLeft = Memory

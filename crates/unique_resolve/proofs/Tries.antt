@@ -1,0 +1,48 @@
+-- Steps of settling.
+use Rattle.std.proofs.Common.{◌≡◌, ℕ, zero, suc, ◌+◌, ◌<◌, Bool, true, false, cond, List, [], ◌∷◌, length, get_or, set, Some, None, refl, sym, ap, ◌∙◌, subst, arith}
+use Rattle.std.specs.Prelude.{Option, IfSome, ◌↔◌, IsTrue, option_map, slice_get}
+use Rattle.std.proofs.lemmas.Bool.Decides.{same_from_decides}
+use Rattle.std.proofs.lemmas.Option.{slice_get_within}
+use Rattle.rep_values.specs.declared.value.Value.{Value}
+use Rattle.rep_values.specs.declared.value.Value.TheVariants.{Words}
+use Rattle.rep_schema.specs.declared.schema.Schema.{Schema}
+use Rattle.rep_schema.specs.Tables.{Cells, Rows, columns_of, constraint_columns_of, rows_of, RowFits, IsHeldElsewhere}
+use Rattle.unique_resolve.specs.Appending.{appended}
+use Rattle.unique_resolve.specs.Settling.{is_held, helping}
+use Rattle.unique_resolve.specs.Trying.{IsTestable}
+use Rattle.unique_resolve.proofs.HeldValues.{held_test}
+use Rattle.unique_resolve.proofs.AppendedTexts.{IsAppend-appended, RowFits-append}
+
+-- a value that is put back
+pub set_back : {X : Type 0} (xs : List X) (p : ℕ) (y x : X) → x ≡ get_or xs p x → set (set xs p y) p x ≡ xs
+set_back [] p y x is = refl
+set_back (z ∷ zs) zero y x is = cc
+set_back (z ∷ zs) (suc p) y x is = ap (λ ys. z ∷ ys) (set_back zs p y x is)
+
+module _ (schema : Schema) (tables : List Rows) (table place : ℕ) (row : Cells) (testable : IsTestable schema tables table place row) where
+  -- the store's answer and the test are one
+  pub is_held-answer : (answer : Bool) → (IsTrue answer ↔ IsHeldElsewhere (columns_of schema table) (constraint_columns_of schema table place) row (rows_of tables table))
+      → answer ≡ is_held (columns_of schema table) (constraint_columns_of schema table place) (rows_of tables table) row
+  is_held-answer answer means =
+      same_from_decides answer (is_held (columns_of schema table) (constraint_columns_of schema table place) (rows_of tables table) row) means
+      (held_test (columns_of schema table) (constraint_columns_of schema table place) row testable.fits (rows_of tables table) (testable.are.each table testable.of_table).fit)
+
+  module _ (column : ℕ) (bytes : List ℕ) (longer : Value)
+      (gives : appended (columns_of schema table) (constraint_columns_of schema table place) column bytes row ≡ Some (set row column longer)) where
+    -- where an append gives a row, the column is one of the row's
+    pub appended_within : column < length row
+    appended_within =
+        let append = IsAppend-appended (columns_of schema table) (constraint_columns_of schema table place) column row bytes (set row column longer) gives in
+        slice_get_within row column (Words append.old) append.there
+
+    -- and the row that it gives can be tested
+    pub testable-appended : IsTestable schema tables table place (set row column longer)
+    testable-appended =
+        let append = IsAppend-appended (columns_of schema table) (constraint_columns_of schema table place) column row bytes (set row column longer) gives in
+        record {
+          are = testable.are;
+          of_table = testable.of_table;
+          keyed = testable.keyed;
+          of_constraint = testable.of_constraint;
+          fits = RowFits-append (columns_of schema table) (constraint_columns_of schema table place) column row (set row column longer) append testable.fits;
+        }

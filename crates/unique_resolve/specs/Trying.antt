@@ -1,0 +1,44 @@
+-- What the steps of settling tell.
+use Rattle.std.specs.Prelude.{ℕ, ◌<◌, Bool, true, false, List, length}
+use Rattle.rep_schema.specs.declared.schema.Schema.{Schema}
+use Rattle.rep_schema.specs.Shape.{HasShape}
+use Rattle.rep_schema.specs.Tables.{Cells, Rows, columns_of, constraints_of, IsKeyed, RowFits, AreTables}
+use Rattle.unique_resolve.specs.declared.settled.Settled.{Settled}
+use Rattle.unique_resolve.specs.declared.settled.Settled.TheVariants.{Fits, Dropped, Conflict}
+use Rattle.unique_resolve.specs.declared.trying.Tried.{Tried}
+use Rattle.unique_resolve.specs.declared.trying.Tried.TheVariants.{Helps, GivesUp, Fails}
+use Rattle.unique_resolve.specs.declared.trying.Ruling.{Ruling}
+use Rattle.unique_resolve.specs.declared.trying.Ruling.TheVariants as ruling
+use Rattle.unique_resolve.specs.Settling.{Outcome}
+
+-- a row that is to be put into a table of a schema
+pub record IsAsked (schema : Schema) (table : ℕ) (row : Cells) : Type 0 where
+  pub shape : HasShape schema
+  pub of_table : table < length schema.tables
+  pub keyed : IsKeyed (columns_of schema table)
+  pub fits : RowFits (columns_of schema table) row
+
+-- a row that can be tested for a secondary constraint of a table
+pub record IsTestable (schema : Schema) (tables : List Rows) (table place : ℕ) (row : Cells) : Type 0 where
+  pub are : AreTables schema tables
+  pub of_table : table < length schema.tables
+  pub keyed : IsKeyed (columns_of schema table)
+  pub of_constraint : place < length (constraints_of schema table)
+  pub fits : RowFits (columns_of schema table) row
+
+-- what came of an append
+abbrev pub tried_by : Bool → Tried
+tried_by true = Helps
+tried_by false = Fails
+
+-- a method that helps or gives the row up settles the constraint, and else the following ones do
+abbrev pub followed : Tried → Cells → ℕ → Outcome → Outcome
+followed Helps row number following = record { settled = Fits row; number = number }
+followed GivesUp row number following = record { settled = Dropped; number = number }
+followed Fails row number following = following
+
+-- a ruling, and the row as it is then
+abbrev pub settled_as : Ruling → Cells → Settled
+settled_as ruling.Fits row = Fits row
+settled_as ruling.Dropped row = Dropped
+settled_as (ruling.Conflict name) row = Conflict name
