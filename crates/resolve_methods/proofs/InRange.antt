@@ -1,7 +1,6 @@
 -- The one number of a group lies within ±10^15.
-use Rattle.std.proofs.Common.{List, [], ◌∷◌, Some, None}
-use Rattle.std.specs.Prelude.{ℕ, ℤ, Option, IfSome}
-use Rattle.rep_values.specs.declared.value.Value.{Value}
+use Rattle.std.proofs.Common.{List, [], ◌∷◌}
+use Rattle.std.specs.Prelude.{ℕ, ℤ, IfSome}
 use Rattle.rep_values.specs.declared.value.Value.TheVariants.{Num, Words}
 use Rattle.rep_schema.specs.declared.schema.Schema.{Schema}
 use Rattle.rep_schema.specs.declared.schema.Column.{Column}

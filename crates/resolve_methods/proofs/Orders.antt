@@ -1,11 +1,11 @@
 -- What the methods leave that compare numbers, add amounts or take a mean.
 use Rattle.std.proofs.Common.{◌≡◌, ℕ, List, [], ◌∷◌, Bool, true, false, Some, None, cond, refl, sym, ap, ◌∙◌, arith, pos, negsuc, ◌+◌}
-use Rattle.std.specs.Prelude.{ℤ, ◌+ℤ◌, ◌-ℤ◌, int_lt, int_div, Option, slice_get}
-use Rattle.std.specs.List.{AllByRecursion, sum_by}
+use Rattle.std.specs.Prelude.{ℤ, ◌+ℤ◌, ◌-ℤ◌, int_lt, int_div, slice_get}
+use Rattle.std.specs.List.{sum_by}
 use Rattle.std.proofs.lemmas.List.Sums.{sum_by-cons}
 use Rattle.std.proofs.lemmas.List.Sorted.{sum_by-IsPermutation}
 use Rattle.std.specs.Int.{int_max, int_min}
-use Rattle.std.specs.Ordering.{int_cmp, MatchOrdering}
+use Rattle.std.specs.Ordering.{int_cmp}
 use Rattle.std.specs.declared.cmp.Ordering.{Ordering}
 use Rattle.std.specs.declared.cmp.Ordering.TheVariants.{Less, Equal, Greater}
 use Rattle.std.proofs.lemmas.Int.{ints}
@@ -14,9 +14,9 @@ use Rattle.rep_schema.specs.Tables.{Cells}
 use Rattle.rep_schema.specs.Fitting.{is_in_range}
 use Rattle.rep_calls.specs.declared.call.Part.{Part}
 use Rattle.resolve_methods.specs.declared.decision.Decision.{Decision}
-use Rattle.resolve_methods.specs.declared.decision.Decision.TheVariants.{TakeNew, TakeNumber, Keep, Undecided, Range}
+use Rattle.resolve_methods.specs.declared.decision.Decision.TheVariants.{TakeNumber, Range}
 use Rattle.resolve_methods.specs.Ranks.{number_of}
-use Rattle.resolve_methods.specs.Decide.{greater_stays, lesser_stays, by_order, new_in, taken_in_range, added, averaged}
+use Rattle.resolve_methods.specs.Decide.{greater_stays, lesser_stays, by_order, new_in, taken_in_range, added}
 use Rattle.resolve_methods.specs.Laws.{AreCompared, number_after, Amount, AddUp, GreaterNumberStays, LesserNumberStays, EitherSideEndsTheSame, AmountsAddInAnyOrder, MeanIsTheSameFromEitherSide}
 
 greater_after : (new current : ℤ) → number_after (greater_stays (int_cmp new current)) new current ≡ int_max new current

@@ -1,12 +1,18 @@
 -- The value at one place of a row with other values at some places.
-use Rattle.std.proofs.Common.{◌≡◌, ◌≢◌, ℕ, zero, suc, ◌+◌, ◌<◌, ◌≤◌, List, [], ◌∷◌, length, get_or, set, drop, Bool, true, false, Some, None, refl, sym, ap, ◌∙◌, inl, inr, arith}
+use Rattle.std.proofs.Common.{◌≡◌, ◌≢◌, ℕ, zero, suc, ◌+◌, ◌<◌, ◌≤◌, List, [], ◌∷◌, length, get_or, set, drop, true, false, Some, None, refl, sym, ap, ◌∙◌, inl, inr, arith}
 use Rattle.std.specs.Prelude.{Option, slice_get, ◌==◌, min}
 use Rattle.std.proofs.lemmas.Bool.{eq-eqb, ne_eqb}
 use Rattle.std.proofs.lemmas.Bool.Decides.{eqb_tells}
 use Rattle.rep_values.specs.declared.value.Value.{Value}
 use Rattle.rep_schema.specs.Tables.{Cells}
 use Rattle.rep_schema.specs.Groups.{with_values}
-use Rattle.resolve_methods.specs.WrittenOver.{written, written_over}
+use Rattle.resolve_methods.specs.Written.{written}
+
+-- the value at a place after these values were written at these places
+abbrev pub written_over : ℕ → List ℕ → Cells → Option Value → Option Value
+written_over k [] values before = before
+written_over k (p ∷ ps) [] before = before
+written_over k (p ∷ ps) (v ∷ vs) before = written_over k ps vs (written (p == k) before v)
 
 -- a write elsewhere changes nothing
 written-apart : (before : Option Value) (v : Value) → written false before v ≡ before

@@ -1,13 +1,11 @@
 -- What the methods decide, worked out by hand.
 use Rattle.std.proofs.Common.{◌≡◌, List, [], ◌∷◌, true, false, refl, pos, negsuc, map}
 use Rattle.std.specs.Prelude.{ℕ, ℤ, codes, Some, None}
-use Rattle.rep_values.specs.declared.value.Value.{Value}
 use Rattle.rep_values.specs.declared.value.Value.TheVariants.{Num, Words}
 use Rattle.rep_schema.specs.declared.schema.Schema.{Schema}
 use Rattle.rep_schema.specs.declared.schema.SiteEntry.{SiteEntry}
 use Rattle.rep_schema.specs.declared.schema.TableEntry.{TableEntry}
 use Rattle.rep_schema.specs.declared.schema.Column.{Column}
-use Rattle.rep_schema.specs.declared.schema.Group.{Group}
 use Rattle.rep_schema.specs.declared.schema.PriorityGroup.{PriorityGroup}
 use Rattle.rep_schema.specs.declared.schema.Kind.TheVariants as kind
 use Rattle.rep_schema.specs.declared.schema.Method.{Method}

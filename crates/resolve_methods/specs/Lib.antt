@@ -2,5 +2,5 @@
 pub mod Ranks
 pub mod Decide
 pub mod OrderCases
-pub mod WrittenOver
+pub mod Written
 pub mod Laws

@@ -1,7 +1,7 @@
 //! The row that a part's new values would make.
 ghost use Rattle.std.specs.Prelude.{◌≡◌, slice_get, option_copied};
 ghost use Rattle.rep_schema.specs.Groups.{with_values};
-ghost use Rattle.resolve_methods.specs.WrittenOver.{written, written_over};
+ghost use Rattle.resolve_methods.specs.Written.{written};
 
 use rep_values::Value;
 

@@ -34,7 +34,7 @@ const CASES: CaseTable<8, 3> = cases! {
 };
 
 /// The methods that go by an order or by none, as rows of the table of cases.
-#[derive(Clone, Copy, Debug, PartialEq, Eq)]
+#[derive(Clone, Copy)]
 pub(crate) enum OrderMethod {
     Latest,
     Earliest,

@@ -1,5 +1,4 @@
-use Rattle.std.proofs.Common.{sym, ap, ◌∙◌, arith, option_copied}
-use Rattle.resolve_methods.specs.WrittenOver.{written_over}
+use Rattle.std.proofs.Common.{sym, ◌∙◌, arith, option_copied}
 use Rattle.resolve_methods.proofs.Over.{slice_get-with_values, written_over-drop, written_over-past}
 use Rattle.resolve_methods.proofs.new_values.value_with.Goals as goal
 

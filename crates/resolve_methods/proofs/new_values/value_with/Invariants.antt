@@ -1,6 +1,6 @@
 -- Writing value by value.
 use Rattle.std.proofs.Common.{◌≡◌, slice_get, option_copied, drop}
-use Rattle.resolve_methods.specs.WrittenOver.{written_over}
+use Rattle.resolve_methods.proofs.Over.{written_over}
 use Rattle.resolve_methods.proofs.new_values.value_with.Given as goal
 
 -- what is left to be written leads to what all leads to

@@ -1,4 +1,4 @@
-use Rattle.std.proofs.Common.{◌≡◌, length, sym, ◌∙◌, arith}
+use Rattle.std.proofs.Common.{sym, ◌∙◌, arith}
 use Rattle.resolve_methods.proofs.Places.{only-one_place, only-more_places}
 use Rattle.resolve_methods.proofs.numbers.only_at.Goals as goal
 
