@@ -150,6 +150,13 @@ fn store(
     Ok(store)
 }
 
+// New counters of a store's schema.
+fn counters(alloc: Global, store: &ListTables) -> Result<Counters, NoMemory>
+    ensures { IfOk result (AreCounters store.now.schema) }
+{
+    Ok(Counters::make(alloc, store.schema())?)
+}
+
 // What becomes of the row (id, code) from site B.
 fn settle(
     rt: &impl Abort,
@@ -195,7 +202,7 @@ fn is_settled(
     expected: &[u8],
 ) -> Result<bool, NoMemory> {
     let store = store(rt, alloc, b"", letters, more)?;
-    let mut counters = Counters::make(alloc, store.schema())?;
+    let mut counters = counters(alloc, &store)?;
     let id = if inserting { 8 } else { 9 };
     let settled = settle(rt, alloc, &store, &mut counters, inserting, id, code)?;
     Ok(shown(&settled) == expected)
@@ -208,6 +215,15 @@ fn methods_are_tried_in_sequence(rt: HostRuntime) -> Result<(), Fail> {
         ("s", "kB", "u"),
         ("q", "k1", "u"),
         ("d", "-", "-"),
+        ("ss", "kB", "u"),
+        ("sq", "kB", "u"),
+        ("sd", "kB", "-"),
+        ("qs", "k1", "u"),
+        ("qq", "k1", "k2"),
+        ("qd", "k1", "-"),
+        ("ds", "-", "-"),
+        ("dq", "-", "-"),
+        ("dd", "-", "-"),
     ] {
         for inserting in [false, true] {
             let letters = letters.as_bytes();
@@ -216,5 +232,66 @@ fn methods_are_tried_in_sequence(rt: HostRuntime) -> Result<(), Fail> {
             assert!(rt; is_settled(&rt, rt.alloc(), letters, true, inserting, b"k", twice.as_bytes())?);
         }
     }
+    Ok(())
+}
+
+// What becomes of a new row whose code another row has.
+fn is_settled_where_taken(
+    rt: &impl Abort,
+    alloc: Global,
+    letters: &[u8],
+    code: &[u8],
+    expected: &[u8],
+) -> Result<bool, NoMemory> {
+    let mut store = store(rt, alloc, b"", letters, false)?;
+    put(rt, alloc, &mut store, 2, code)?;
+    let mut counters = counters(alloc, &store)?;
+    let settled = settle(rt, alloc, &store, &mut counters, true, 8, code)?;
+    Ok(shown(&settled) == expected)
+}
+
+#[test]
+fn appends_to_at_most_64_bytes(rt: HostRuntime) -> Result<(), Fail> {
+    let long = [b'x'; 64];
+    let mut full = long;
+    full[63] = b'1';
+    assert!(rt; is_settled_where_taken(&rt, rt.alloc(), b"q", &long[..63], &full)?);
+    assert!(rt; is_settled_where_taken(&rt, rt.alloc(), b"q", &long, b"u")?);
+    assert!(rt; is_settled_where_taken(&rt, rt.alloc(), b"sd", &long, b"-")?);
+    Ok(())
+}
+
+// What becomes of a new row whose key and code are taken.
+fn is_barred_as(
+    rt: &impl Abort,
+    alloc: Global,
+    key_letters: &[u8],
+    expected: &[u8],
+) -> Result<bool, NoMemory> {
+    let store = store(rt, alloc, key_letters, b"", false)?;
+    let mut counters = counters(alloc, &store)?;
+    let settled = settle(rt, alloc, &store, &mut counters, true, 9, b"k")?;
+    Ok(shown(&settled) == expected)
+}
+
+#[test]
+fn key_comes_first(rt: HostRuntime) -> Result<(), Fail> {
+    assert!(rt; is_barred_as(&rt, rt.alloc(), b"", b"key")?);
+    assert!(rt; is_barred_as(&rt, rt.alloc(), b"s", b"key")?);
+    assert!(rt; is_barred_as(&rt, rt.alloc(), b"sd", b"-")?);
+    Ok(())
+}
+
+#[test]
+fn copied_counters_go_on_alike(rt: HostRuntime) -> Result<(), Fail> {
+    let store = store(&rt, rt.alloc(), b"", b"q", false)?;
+    let mut first = counters(rt.alloc(), &store)?;
+    let settled = settle(&rt, rt.alloc(), &store, &mut first, true, 8, b"k")?;
+    assert!(rt; shown(&settled) == b"k1".as_slice());
+    let mut second = first.copy(rt.alloc())?;
+    let settled = settle(&rt, rt.alloc(), &store, &mut first, true, 8, b"k")?;
+    assert!(rt; shown(&settled) == b"k2".as_slice());
+    let settled = settle(&rt, rt.alloc(), &store, &mut second, true, 8, b"k")?;
+    assert!(rt; shown(&settled) == b"k2".as_slice());
     Ok(())
 }
