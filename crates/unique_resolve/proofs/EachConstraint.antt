@@ -1,6 +1,5 @@
 -- Settling constraint by constraint.
-use Rattle.std.proofs.Common.{◌≡◌, ℕ, zero, suc, ◌+◌, ◌<◌, ◌≤◌, List, [], ◌∷◌, ◌++◌, length, take, drop, get_or, set, Some, None, refl, sym, ap, ◌∙◌, subst, append_assoc, arith}
-use Rattle.std.specs.Prelude.{slice_get}
+use Rattle.std.proofs.Common.{◌≡◌, ℕ, suc, ◌+◌, ◌<◌, List, ◌∷◌, ◌++◌, length, take, drop, get_or, set, refl, sym, arith}
 use Rattle.std.proofs.lemmas.List.{drop_more, set_split}
 use Rattle.rep_lists.proofs.Places.{drop_from_place}
 use Rattle.rep_values.specs.declared.name.SiteName.{SiteName}
@@ -11,7 +10,6 @@ use Rattle.rep_schema.specs.Tables.{Cells, Rows}
 use Rattle.unique_resolve.specs.declared.settled.Settled.{Settled}
 use Rattle.unique_resolve.specs.declared.settled.Settled.TheVariants.{Dropped, Conflict}
 use Rattle.unique_resolve.specs.Settling.{TableOutcome, go_on, settled_one, settled_each}
-use Rattle.unique_resolve.specs.Trying.{settled_as}
 
 -- an outcome with further numbers before its own
 abbrev pub behind : List ℕ → TableOutcome → TableOutcome

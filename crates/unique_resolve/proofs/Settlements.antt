@@ -3,7 +3,6 @@ use Rattle.std.proofs.Common.{◌≡◌, ℕ, zero, suc, ◌<◌, Bool, true, fa
 use Rattle.std.specs.Prelude.{Option, IfSome, ◌&&◌, is_some, slice_get, decimal}
 use Rattle.std.specs.List.{AllByRecursion, AllPairs, list_any}
 use Rattle.std.proofs.lemmas.Bool.Decides.{not_from_Decides}
-
 use Rattle.std.proofs.lemmas.List.{length-replicate}
 use Rattle.std.proofs.Math.Seq.{map-set_same}
 use Rattle.std.proofs.lemmas.List.Elements.{recursion_from_All}
@@ -120,7 +119,7 @@ module _ (columns : List Column) (rows : Rows) (origin : SiteName) where
       → IsFree columns c.columns rows row one → AreFree columns cs rows one after → AreFree columns (c ∷ cs) rows row after
   AreFree-cons c cs row one after apart first rest =
       let back : AllByRecursion (λ (d : Constraint). ShareNone d.columns c.columns) cs =
-          each_then (λ (d : Constraint). ShareNone c.columns d.columns) (λ (d : Constraint). ShareNone d.columns c.columns) (λ d none x here there. none x there here) cs apart in
+      each_then (λ (d : Constraint). ShareNone c.columns d.columns) (λ (d : Constraint). ShareNone d.columns c.columns) (λ d none x here there. none x there here) cs apart in
       record {
         fits = rest.fits;
         key = rest.key ∙ first.key;

@@ -41,11 +41,7 @@ fn method(letter: u8) -> UniqueMethod
     }
 }
 
-fn methods(
-    rt: &impl Abort,
-    alloc: Global,
-    letters: &[u8],
-) -> Result<Items<UniqueMethod>, NoMemory>
+fn methods(rt: &impl Abort, alloc: Global, letters: &[u8]) -> Result<Items<UniqueMethod>, NoMemory>
     ensures { IfOk result (HaveMethodShape 2) }
 {
     assert!(rt; letters.len() <= 2);
@@ -228,8 +224,28 @@ fn methods_are_tried_in_sequence(rt: HostRuntime) -> Result<(), Fail> {
         for inserting in [false, true] {
             let letters = letters.as_bytes();
             assert!(rt; is_settled(&rt, rt.alloc(), letters, false, inserting, b"f", b"f")?);
-            assert!(rt; is_settled(&rt, rt.alloc(), letters, false, inserting, b"k", once.as_bytes())?);
-            assert!(rt; is_settled(&rt, rt.alloc(), letters, true, inserting, b"k", twice.as_bytes())?);
+            assert!(rt;
+                is_settled(
+                    &rt,
+                    rt.alloc(),
+                    letters,
+                    false,
+                    inserting,
+                    b"k",
+                    once.as_bytes()
+                )?
+            );
+            assert!(rt;
+                is_settled(
+                    &rt,
+                    rt.alloc(),
+                    letters,
+                    true,
+                    inserting,
+                    b"k",
+                    twice.as_bytes()
+                )?
+            );
         }
     }
     Ok(())
