@@ -53,7 +53,7 @@ pub(crate) fn differing_groups(schema: &Schema, table: u32, a: &[Value], b: &[Va
 }
 
 /// Whether a row has a part's old values.
-fn is_matched(schema: &Schema, table: u32, row: &[Value], part: &Part) -> bool
+pub fn is_matched(schema: &Schema, table: u32, row: &[Value], part: &Part) -> bool
     requires table { table < length schema.now.tables }
     requires shape { HasShape schema.now }
     ensures { result ≡ is_matched schema.now table row.now part.now }

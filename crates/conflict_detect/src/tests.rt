@@ -134,7 +134,7 @@ fn a_text_for_a_number_is_told(rt: HostRuntime) -> Result<(), Fail> {
     Ok(())
 }
 
-// Whether an update of one part of row 1 fits.
+// Whether an update of one part of the row with key 1 fits.
 fn part_fit(
     rt: &impl Abort,
     schema: &Schema,

@@ -1,2 +1,14 @@
 -- The lemmas of this crate.
 pub mod NamedColumns
+mod Changed
+mod PriorityNames
+mod NoRefusal
+mod ListNames
+mod SiteShapes
+mod TableShapes
+mod PriorityShapes
+mod PlacesNamed
+mod GroupShapes
+mod MethodShapes
+mod UniqueMethodShapes
+pub mod DeclaredShapes

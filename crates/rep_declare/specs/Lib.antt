@@ -1,3 +1,4 @@
 -- The definitions of this crate.
 pub mod Named
 pub mod Refusals
+pub mod Additions

@@ -15,9 +15,7 @@ use crate::named::{
     has_master, is_taken,
 };
 use crate::{Declare, MethodWords, UniqueWords};
-use rep_schema::{
-    Column, PriorityLevel, Schema, SiteEntry, TableEntry, is_in_range, key_count,
-};
+use rep_schema::{Column, PriorityLevel, Schema, SiteEntry, TableEntry, is_in_range, key_count};
 use rep_values::{Limit, Literal, Name, Refusal, SiteName, TableName, Value, same_value};
 
 fn master_count(sites: &[SiteEntry]) -> usize
@@ -195,7 +193,7 @@ fn is_shadow(name: &Name) -> bool
     name.bytes() == b"shadow".as_slice()
 }
 
-fn is_key(name: &Name) -> bool
+pub fn is_key(name: &Name) -> bool
     ensures { result ≡ same_bytes name.now key_name }
 {
     name.bytes() == b"key".as_slice()

@@ -1,9 +1,9 @@
 -- What is found by key among a table's rows, after a put and after a take, and that it determines the rows.
-use Rattle.std.proofs.Common.{◌≡◌, ◌≢◌, List, [], ◌∷◌, Some, None, refl, subst}
+use Rattle.std.proofs.Common.{◌≡◌, ◌≢◌, List, [], ◌∷◌, Some, None, refl, ap, subst}
 use Rattle.std.specs.List.{AllByRecursion}
 use Rattle.std.specs.declared.cmp.Ordering.{Ordering}
 use Rattle.std.specs.declared.cmp.Ordering.TheVariants.{Less, Equal, Greater}
-use Rattle.rep_lists.specs.Rising.{IsRising, find_at, found_here}
+use Rattle.rep_lists.specs.Rising.{IsRising, find_at, found_here, take_at, taken_here}
 use Rattle.rep_lists.proofs.FoundByKey.{find_put_own, find_put_other, find_take, find_take_other, same_from_finds}
 use Rattle.rep_values.specs.Order.{key_cmp}
 use Rattle.rep_values.specs.OrderLaws.{key_cmp_total, exact_keys}
@@ -54,3 +54,16 @@ module _ (columns : List Column) (key row : Cells) (rows : Rows) (found : find_r
       all_units : (xs : Rows) → AllByRecursion (λ x. Unit {0}) xs
       all_units [] = tt
       all_units (x ∷ xs) = (tt, all_units xs)
+
+-- where nothing is found, nothing is taken
+take_absent : {X : Type 0} (at : X → Ordering) (xs : List X) → find_at at xs ≡ None → take_at at xs ≡ xs
+take_absent at [] absent = refl
+take_absent at (x ∷ xs) absent = go (at x) absent (take_absent at xs)
+  where
+    go : (o : Ordering) → found_here o x (find_at at xs) ≡ None → (find_at at xs ≡ None → take_at at xs ≡ xs) → taken_here o x xs (take_at at xs) ≡ x ∷ xs
+    go Less none later = ap (λ ys. x ∷ ys) (later none)
+    go Equal none later = cc
+    go Greater none later = refl
+
+pub take_row-absent : (columns : List Column) (key : Cells) (rows : Rows) → find_row columns key rows ≡ None → take_row columns key rows ≡ rows
+take_row-absent columns key rows absent = take_absent (beside columns key) rows absent

@@ -1,12 +1,12 @@
 -- Changes one after another: what they lead to, the room that taking them back wants, and what each of them is.
-use Rattle.std.proofs.Common.{◌≡◌, ◌≢◌, ℕ, ◌+◌, List, [], ◌∷◌, ◌++◌, Some, None, cond, sym, subst}
+use Rattle.std.proofs.Common.{◌≡◌, ◌≢◌, ℕ, ◌+◌, ◌<◌, List, [], ◌∷◌, ◌++◌, length, set, Some, None, cond, sym, ap, subst}
 use Rattle.std.specs.Prelude.{Option, IfSome}
 use Rattle.std.proofs.lemmas.List.Sums.{sum_by-append}
 use Rattle.rep_schema.specs.declared.schema.Schema.{Schema}
 use Rattle.rep_schema.specs.declared.change.Change.{Change}
-use Rattle.rep_schema.specs.Tables.{Cells, Rows, columns_of, key_of, find_row, rows_of, RowFits, AreTables}
-use Rattle.rep_schema.specs.Changes.{made, IsChange, ChangeFits, LeadsTo, is_taken_from, room_for}
-use Rattle.rep_schema.proofs.FoundRows.{found_row, key_of-found}
+use Rattle.rep_schema.specs.Tables.{Cells, Rows, columns_of, key_of, find_row, take_row, rows_of, RowFits, IsUniqueRow, IsKeyed, AreTables}
+use Rattle.rep_schema.specs.Changes.{made_in, made, row_like, IsChange, ChangeFits, LeadsTo, is_taken_from, room_for}
+use Rattle.rep_schema.proofs.FoundRows.{found_row, key_of-found, take_row-absent}
 use Rattle.rep_schema.proofs.TakingBack.{AreTables-made}
 
 module _ (schema : Schema) where
@@ -45,3 +45,41 @@ module _ (schema : Schema) where
 -- the room for changes and for others behind them
 pub room_for-append : (table : ℕ) (changes others : List Change) → room_for table (changes ++ others) ≡ room_for table changes + room_for table others
 room_for-append table changes others = sum_by-append (λ change. cond (is_taken_from table change) 1 0) changes others
+
+-- what a store does to a row is a change of its tables
+module _ (schema : Schema) (table : ℕ) (tables : List Rows) (below : table < length schema.tables) (keyed : IsKeyed (columns_of schema table)) where
+  -- a row that fits and is unique was put
+  pub IsChange-put : (row : Cells) (before : Option Cells) → RowFits (columns_of schema table) row → IsUniqueRow schema table row (rows_of tables table)
+      → before ≡ row_like (columns_of schema table) row (rows_of tables table) → IsChange schema (record { table = table; before = before; after = Some row }) tables
+  IsChange-put row before fits unique was = record {
+    table = below;
+    keyed = keyed;
+    before = there before was;
+    after = sym was;
+    fits = fits;
+    unique = unique;
+  }
+    where
+      there : (old : Option Cells) → old ≡ row_like (columns_of schema table) row (rows_of tables table) → IfSome old (λ x. row_like (columns_of schema table) x (rows_of tables table) ≡ Some x)
+      there None is = tt
+      there (Some x) is =
+          let own : key_of (columns_of schema table) x ≡ key_of (columns_of schema table) row = key_of-found (columns_of schema table) (key_of (columns_of schema table) row) x (rows_of tables table) (sym is) in
+          rw own (sym is)
+
+  -- the row with a key was taken away, where there was one
+  module _ (key : Cells) (before : Option Cells) (was : before ≡ find_row (columns_of schema table) key (rows_of tables table)) where
+    pub IsChange-take : IsChange schema (record { table = table; before = before; after = None }) tables
+    IsChange-take = record { table = below; keyed = keyed; before = there before was; after = tt; fits = tt; unique = tt }
+      where
+        there : (old : Option Cells) → old ≡ find_row (columns_of schema table) key (rows_of tables table) → IfSome old (λ x. row_like (columns_of schema table) x (rows_of tables table) ≡ Some x)
+        there None is = tt
+        there (Some x) is =
+            let own : key_of (columns_of schema table) x ≡ key = key_of-found (columns_of schema table) key x (rows_of tables table) (sym is) in
+            rw own (sym is)
+
+    pub made-take : made schema (record { table = table; before = before; after = None }) tables ≡ set tables table (take_row (columns_of schema table) key (rows_of tables table))
+    made-take = ap (set tables table) (go before was)
+      where
+        go : (old : Option Cells) → old ≡ find_row (columns_of schema table) key (rows_of tables table) → made_in (columns_of schema table) old None (rows_of tables table) ≡ take_row (columns_of schema table) key (rows_of tables table)
+        go None is = sym (take_row-absent (columns_of schema table) key (rows_of tables table) (sym is))
+        go (Some x) is = ap (λ k. take_row (columns_of schema table) k (rows_of tables table)) (key_of-found (columns_of schema table) key x (rows_of tables table) (sym is))

@@ -88,9 +88,7 @@ pub fn has_place(columns: &[u32], place: usize) -> bool
 fn is_grouped(groups: &[Group], column: u32) -> bool
     ensures { result ≡ is_grouped groups.now column }
 {
-    groups
-        .iter()
-        .any(|group| has_place(group.columns.as_slice(), column as usize))
+    groups.iter().any(|group| has_place(group.columns.as_slice(), column as usize))
 }
 
 /// The columns that are no key columns and in no named group.

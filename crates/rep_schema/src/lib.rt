@@ -14,7 +14,8 @@ pub use compare::{
 };
 pub use conditions::{fits_kind, is_in_range, is_keyed, is_unique, key_count, row_fits};
 pub use groups::{
-    GroupColumns, SHADOW, group_columns, groups_of, has_place, has_values, same_values_at, values_at,
+    GroupColumns, SHADOW, group_columns, groups_of, has_place, has_values, same_values_at,
+    values_at,
 };
 pub use schema::{
     Column, Constraint, Group, Kind, Method, PriorityGroup, PriorityLevel, Schema, SiteEntry,

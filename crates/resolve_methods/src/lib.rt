@@ -2,5 +2,19 @@
 #![tactic(auto)]
 
 mod decision;
+mod laws;
+mod methods;
+mod new_values;
+mod numbers;
+mod order_cases;
+mod ranks;
 
 pub use decision::Decision;
+pub use laws::{
+    amounts_add_in_any_order, either_side_ends_the_same, greater_number_stays, lesser_number_stays,
+    mean_is_the_same_from_either_side, order_is_ignored,
+};
+pub use methods::decide;
+
+#[cfg(test)]
+mod tests;

@@ -8,3 +8,5 @@ pub use list_tables::ListTables;
 
 #[cfg(test)]
 mod tests;
+#[cfg(test)]
+mod undo_tests;

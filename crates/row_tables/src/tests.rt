@@ -50,7 +50,7 @@ fn schema(rt: &impl Abort, alloc: Global) -> Result<Schema, NoMemory> {
     })
 }
 
-fn row(rt: &impl Abort, alloc: Global, id: i64, code: &[u8]) -> Result<Row, NoMemory> {
+pub(crate) fn row(rt: &impl Abort, alloc: Global, id: i64, code: &[u8]) -> Result<Row, NoMemory> {
     let text = Text::of(code).expect(rt, "a text");
     let row = Row::of(alloc, &[Value::Num(id), Value::Words(text)])?;
     Ok(row.expect(rt, "a row"))
@@ -91,7 +91,7 @@ fn is_held(
 }
 
 // A store with the rows (4, b) and (7, c); an earlier row (7, a) was replaced.
-fn filled(rt: &impl Abort, alloc: Global) -> Result<ListTables, NoMemory> {
+pub(crate) fn filled(rt: &impl Abort, alloc: Global) -> Result<ListTables, NoMemory> {
     let mut store = ListTables::make(alloc, schema(rt, alloc)?)?;
     assert!(rt; put(rt, alloc, &mut store, 7, b"a")?.is_none());
     assert!(rt; put(rt, alloc, &mut store, 4, b"b")?.is_none());
@@ -100,7 +100,7 @@ fn filled(rt: &impl Abort, alloc: Global) -> Result<ListTables, NoMemory> {
 }
 
 // The id of the row at a place in the order of keys, or -1 past the last row.
-fn id_at(rt: &impl Abort, store: &ListTables, place: u64) -> i64 {
+pub(crate) fn id_at(rt: &impl Abort, store: &ListTables, place: u64) -> i64 {
     assert!(rt; store.schema().tables.len() == 1);
     match store.row_in_order(0, place) {
         Some(row) => match row.values().first() {

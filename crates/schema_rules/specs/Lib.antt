@@ -1,2 +1,7 @@
--- The definitions of this crate.
+-- The definitions of this crate, from the bottom up.
+pub mod Columns
+pub mod KeyRules
+pub mod MethodRules
+pub mod ConstraintRules
+pub mod ConvergentRules
 pub mod Rules

@@ -1,10 +1,19 @@
 //! The rules of a schema, which are tested when its declarations end.
-ghost use Rattle.std.specs.Prelude.{◌≡◌, ◌&&◌, Some, None, not, slice_get, IfErr, OnOk};
-ghost use Rattle.std.specs.List.{list_any, list_all};
+ghost use Rattle.std.specs.Prelude.{◌≡◌, Some, None, IfErr, OnOk, not};
+ghost use Rattle.std.specs.List.{list_any, list_all, position};
 ghost use Rattle.rep_schema.specs.Shape.{is_master};
-ghost use Rattle.schema_rules.specs.Rules.{has_some_master, is_well_keyed, is_key, is_stamp, is_off_the_key, are_off_the_key, broken_rule};
+ghost use Rattle.schema_rules.specs.Rules.{rules_of, broken_rule};
 
-use rep_schema::{Column, Group, Kind, Schema, SiteEntry, TableEntry, key_count};
+use crate::constraint_rules::{each_has_plain_columns, have_good_appends};
+use crate::convergent_rules::{
+    each_has_convergent_forms, each_has_groups_alone, each_is_keyed_by_site, has_levels,
+};
+use crate::key_rules::{are_well_keyed, each_off_the_key};
+use crate::method_rules::{
+    each_adds_one_number, each_compares_amounts, each_compares_sites, each_compares_times,
+    each_names_own_columns, each_ranks_plain_values,
+};
+use rep_schema::{Schema, SiteEntry};
 
 fn has_some_master(sites: &[SiteEntry]) -> bool
     ensures { result ≡ list_any is_master sites.now }
@@ -12,84 +21,61 @@ fn has_some_master(sites: &[SiteEntry]) -> bool
     sites.iter().any(|site| site.master.is_none())
 }
 
-fn is_stamp_key(column: &Column) -> bool
-    ensures { result ≡ (column.now.key && is_stamp column.now.kind) }
+/// Whether each rule holds, in the order of their numbers.
+fn rules_of(schema: &Schema) -> [bool; 15]
+    ensures { result ≡ rules_of schema.now }
 {
-    if !column.key {
-        return false;
-    }
-    match column.kind {
-        Kind::Stamp => true,
-        Kind::Number | Kind::Words | Kind::Date | Kind::Site => false,
-    }
+    [
+        has_some_master(schema.sites.as_slice()),
+        are_well_keyed(schema.tables.as_slice()),
+        each_off_the_key(schema),
+        each_names_own_columns(schema),
+        each_adds_one_number(schema),
+        each_compares_times(schema),
+        each_compares_amounts(schema),
+        each_ranks_plain_values(schema),
+        each_compares_sites(schema),
+        each_has_plain_columns(schema),
+        have_good_appends(schema.tables.as_slice()),
+        each_is_keyed_by_site(schema),
+        each_has_groups_alone(schema),
+        each_has_convergent_forms(schema),
+        has_levels(schema),
+    ]
 }
 
-fn has_no_stamp_key(columns: &[Column]) -> bool
-    ensures { result ≡ list_all (λ column. not (column.key && is_stamp column.kind)) columns.now }
+fn first_broken(rules: &[bool]) -> Option<usize>
+    ensures { result ≡ position not rules.now }
 {
-    columns.iter().all(|column| !is_stamp_key(column))
+    rules.iter().position(|holds| !*holds)
 }
 
-fn is_well_keyed(table: &TableEntry) -> bool
-    ensures { result ≡ is_well_keyed table.now }
-{
-    if key_count(table.columns.as_slice()) < 1 {
-        return false;
-    }
-    has_no_stamp_key(table.columns.as_slice())
-}
-
-fn are_well_keyed(tables: &[TableEntry]) -> bool
-    ensures { result ≡ list_all is_well_keyed tables.now }
-{
-    tables.iter().all(|table| is_well_keyed(table))
-}
-
-fn is_key(columns: &[Column], place: u32) -> bool
-    ensures { result ≡ is_key (slice_get columns.now place) }
-{
-    match columns.get(place as usize) {
-        None => false,
-        Some(column) => column.key,
-    }
-}
-
-fn is_off_the_key(columns: &[Column], group: &Group) -> bool
-    ensures { result ≡ is_off_the_key columns.now group.now }
-{
-    group.columns.iter().all(|place| !is_key(columns, *place))
-}
-
-fn are_off_the_key(table: &TableEntry) -> bool
-    ensures { result ≡ are_off_the_key table.now }
-{
-    let columns = table.columns.as_slice();
-    table
-        .groups
-        .iter()
-        .all(|group| is_off_the_key(columns, group))
-}
-
-fn all_off_the_key(tables: &[TableEntry]) -> bool
-    ensures { result ≡ list_all are_off_the_key tables.now }
-{
-    tables.iter().all(|table| are_off_the_key(table))
-}
-
-/// The number of the lowest rule that is broken, if one is. 1: there is a master. 2: every table has a key column,
-/// and no key column is a STAMP. 3: no column of a named group is a key column. It takes no memory.
+/// The number of the lowest rule that is broken, if one is. It takes no memory.
+///
+///  1. There is a master.
+///  2. Every table has a key column, and no key column is a STAMP.
+///  3. No column of a named group is a key column.
+///  4. The column named by a group's method is in the group.
+///  5. A group with additive or average has exactly one column, of type NUMBER.
+///  6. The column of latest and earliest is a DATE or a STAMP.
+///  7. The column of maximum and minimum is a NUMBER or a DATE.
+///  8. The column of priority is a NUMBER, TEXT or DATE, and the priority group has a level.
+///  9. The column of site-priority is a SITE.
+/// 10. The columns of a secondary constraint are no key columns and are NUMBER, TEXT or DATE.
+/// 11. An append method stands on a secondary constraint and names a TEXT column of it.
+/// 12. The first key column of a convergent table is a SITE.
+/// 13. A convergent table has no secondary constraint, no shadow column and no method of its key.
+/// 14. Every group of a convergent table has these columns and these methods: one NUMBER column, additive; one NUMBER
+///     column, its maximum or its minimum, then discard; or a STAMP and a SITE column, with any others, latest of the
+///     one, then site-priority of the other.
+/// 15. Where there is a convergent table, every site has a level, and all levels differ.
+#[tactic(auto, unfolding(crate::specs::Rules::broken_rule))]
 pub fn check(schema: &Schema) -> Result<(), u8>
     ensures sound { OnOk result (broken_rule schema.now ≡ None) }
     ensures broken { IfErr result (λ rule. broken_rule schema.now ≡ Some rule) }
 {
-    if !has_some_master(schema.sites.as_slice()) {
-        return Err(1);
+    match first_broken(&rules_of(schema)) {
+        None => Ok(()),
+        Some(place) => Err(place as u8 + 1),
     }
-    if !are_well_keyed(schema.tables.as_slice()) {
-        return Err(2);
-    }
-    if !all_off_the_key(schema.tables.as_slice()) {
-        return Err(3);
-    }
-    Ok(())
 }

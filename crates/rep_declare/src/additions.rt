@@ -1,0 +1,280 @@
+//! What declarations add to a schema.
+ghost use Rattle.std.specs.Prelude.{◌≡◌, ◌⊎◌, ◌++◌, [], ◌∷◌, None, Some, IfErr, IfOk, OnOk, OnErr};
+ghost use Rattle.rep_values.specs.declared.refusal.Refusal.TheVariants.{Memory};
+ghost use Rattle.rep_values.specs.Literal.{value_of_literal};
+ghost use Rattle.rep_schema.specs.Shape.{HasShape};
+ghost use Rattle.rep_declare.specs.Named.{is_priority};
+ghost use Rattle.rep_declare.specs.Refusals.{refusal_of};
+ghost use Rattle.rep_declare.specs.Additions.{ColumnNamed, declared, with_priority, with_words_priority, with_changed, with_level, with_sites};
+
+use crate::changes::change_one;
+use crate::named::find_priority;
+use crate::priority_changes::LevelAdded;
+use crate::site_changes::SiteLevelled;
+use crate::table_changes::{
+    MadeConvergent, MethodIn, OneMoreConstraint, OneMoreGroup, UniqueMethodIn,
+};
+use crate::{Declare, MethodWords, UniqueWords, refusal_of};
+use rep_lists::{Copies, Items, NoMemory};
+use rep_schema::{Column, PriorityGroup, Schema, SiteEntry, TableEntry};
+use rep_values::{Literal, Name, Refusal, SiteName, TableName};
+use std::alloc::Global;
+
+fn add_site(schema: &mut Schema, name: SiteName, master: Option<SiteName>) -> Result<(), NoMemory>
+    ensures ok { OnOk result (schema.new ≡ with_sites (schema.old.sites ++ record { name = name; master = master; level = None } ∷ []) schema.old) }
+    ensures err { OnErr result (schema.new ≡ schema.old) }
+{
+    schema.sites.push(SiteEntry {
+        name,
+        master,
+        level: None,
+    })?;
+    Ok(())
+}
+
+fn add_table(
+    alloc: Global,
+    schema: &mut Schema,
+    name: TableName,
+    columns: &Items<Column>,
+) -> Result<(), NoMemory>
+    ensures ok { OnOk result (schema.new ≡ declared (Declare.Table name columns.now) schema.old) }
+    ensures err { OnErr result (schema.new ≡ schema.old) }
+{
+    let columns = columns.copy(alloc)?;
+    schema.tables.push(TableEntry {
+        name,
+        columns,
+        groups: Items::new(alloc),
+        key_methods: Items::new(alloc),
+        constraints: Items::new(alloc),
+        convergent: false,
+    })?;
+    Ok(())
+}
+
+// The priority groups, with an empty one of this name where there was none.
+fn with_priority(
+    alloc: Global,
+    groups: &Items<PriorityGroup>,
+    name: &Name,
+) -> Result<Items<PriorityGroup>, NoMemory>
+    ensures { IfOk result (λ more. more ≡ with_priority name.now groups.now) }
+{
+    let mut more = groups.copy(alloc)?;
+    if let Some(_found) = find_priority(groups.as_slice(), name) {
+        return Ok(more);
+    }
+    more.push(PriorityGroup {
+        name: *name,
+        levels: Items::new(alloc),
+    })?;
+    Ok(more)
+}
+
+// A method comes with the priority group that it names.
+fn with_words_priority(
+    alloc: Global,
+    groups: &Items<PriorityGroup>,
+    words: &MethodWords,
+) -> Result<Items<PriorityGroup>, NoMemory>
+    ensures { IfOk result (λ more. more ≡ with_words_priority words.now groups.now) }
+{
+    match *words {
+        MethodWords::Priority { column: _, group } => with_priority(alloc, groups, &group),
+        MethodWords::Latest(_)
+        | MethodWords::Earliest(_)
+        | MethodWords::Overwrite
+        | MethodWords::Discard
+        | MethodWords::Additive
+        | MethodWords::Average
+        | MethodWords::Maximum(_)
+        | MethodWords::Minimum(_)
+        | MethodWords::SitePriority(_) => groups.copy(alloc),
+    }
+}
+
+fn add_method(
+    alloc: Global,
+    schema: &mut Schema,
+    table: TableName,
+    group: Name,
+    words: &MethodWords,
+) -> Result<(), NoMemory>
+    ensures ok { OnOk result (schema.new ≡ declared (Declare.Method table group words.now) schema.old) }
+    ensures err { OnErr result (schema.new ≡ schema.old) }
+{
+    let priorities = with_words_priority(alloc, &schema.priorities, words)?;
+    let method = MethodIn {
+        table,
+        group,
+        words: *words,
+        priorities: priorities.as_slice(),
+    };
+    change_one(alloc, &method, &mut schema.tables)?;
+    schema.priorities = priorities;
+    Ok(())
+}
+
+fn add_level(
+    alloc: Global,
+    schema: &mut Schema,
+    group: &Name,
+    value: &Literal,
+    level: i64,
+) -> Result<(), NoMemory>
+    ensures ok { OnOk result (schema.new ≡ declared (Declare.Priority group.now value.now level) schema.old) }
+    ensures err { OnErr result (schema.new ≡ schema.old) }
+{
+    let mut priorities = with_priority(alloc, &schema.priorities, group)?;
+    let added = LevelAdded {
+        group: *group,
+        value: value.value(),
+        level,
+    };
+    change_one(alloc, &added, &mut priorities)?;
+    schema.priorities = priorities;
+    Ok(())
+}
+
+fn add_group(
+    alloc: Global,
+    schema: &mut Schema,
+    table: TableName,
+    group: Name,
+    columns: &[Name],
+) -> Result<(), NoMemory>
+    ensures ok { OnOk result (schema.new ≡ declared (Declare.Group table group columns.now) schema.old) }
+    ensures err { OnErr result (schema.new ≡ schema.old) }
+{
+    let more = OneMoreGroup {
+        table,
+        group,
+        columns,
+    };
+    change_one(alloc, &more, &mut schema.tables)?;
+    Ok(())
+}
+
+fn add_constraint(
+    alloc: Global,
+    schema: &mut Schema,
+    table: TableName,
+    constraint: Name,
+    columns: &[Name],
+) -> Result<(), NoMemory>
+    ensures ok { OnOk result (schema.new ≡ declared (Declare.Unique table constraint columns.now) schema.old) }
+    ensures err { OnErr result (schema.new ≡ schema.old) }
+{
+    let more = OneMoreConstraint {
+        table,
+        constraint,
+        columns,
+    };
+    change_one(alloc, &more, &mut schema.tables)?;
+    Ok(())
+}
+
+fn add_unique_method(
+    alloc: Global,
+    schema: &mut Schema,
+    table: TableName,
+    constraint: Name,
+    words: UniqueWords,
+) -> Result<(), NoMemory>
+    ensures ok { OnOk result (schema.new ≡ declared (Declare.UniqueMethod table constraint words) schema.old) }
+    ensures err { OnErr result (schema.new ≡ schema.old) }
+{
+    let method = UniqueMethodIn {
+        table,
+        constraint,
+        words,
+    };
+    change_one(alloc, &method, &mut schema.tables)?;
+    Ok(())
+}
+
+fn add_site_level(
+    alloc: Global,
+    schema: &mut Schema,
+    site: SiteName,
+    level: i64,
+) -> Result<(), NoMemory>
+    ensures ok { OnOk result (schema.new ≡ declared (Declare.SiteLevel site level) schema.old) }
+    ensures err { OnErr result (schema.new ≡ schema.old) }
+{
+    let levelled = SiteLevelled { site, level };
+    change_one(alloc, &levelled, &mut schema.sites)?;
+    Ok(())
+}
+
+fn make_convergent(alloc: Global, schema: &mut Schema, table: TableName) -> Result<(), NoMemory>
+    ensures ok { OnOk result (schema.new ≡ declared (Declare.Convergent table) schema.old) }
+    ensures err { OnErr result (schema.new ≡ schema.old) }
+{
+    let made = MadeConvergent { table };
+    change_one(alloc, &made, &mut schema.tables)?;
+    Ok(())
+}
+
+// Adds a declaration that isn't refused.
+fn add(schema: &mut Schema, alloc: Global, declaration: &Declare) -> Result<(), NoMemory>
+    ensures ok { OnOk result (schema.new ≡ declared declaration.now schema.old) }
+    ensures err { OnErr result (schema.new ≡ schema.old) }
+{
+    match declaration {
+        Declare::Site { name } => add_site(schema, *name, None),
+        Declare::SnapSite { name, master } => add_site(schema, *name, Some(*master)),
+        Declare::Table { name, columns } => add_table(alloc, schema, *name, columns),
+        Declare::Group {
+            table,
+            group,
+            columns,
+        } => add_group(alloc, schema, *table, *group, columns.as_slice()),
+        Declare::Method {
+            table,
+            group,
+            method,
+        } => add_method(alloc, schema, *table, *group, method),
+        Declare::Priority {
+            group,
+            value,
+            level,
+        } => add_level(alloc, schema, group, value, *level),
+        Declare::SiteLevel { site, level } => add_site_level(alloc, schema, *site, *level),
+        Declare::Unique {
+            table,
+            constraint,
+            columns,
+        } => add_constraint(alloc, schema, *table, *constraint, columns.as_slice()),
+        Declare::UniqueMethod {
+            table,
+            constraint,
+            method,
+        } => add_unique_method(alloc, schema, *table, *constraint, *method),
+        Declare::Convergent { table } => make_convergent(alloc, schema, *table),
+    }
+}
+
+/// Adds a declaration to a schema, or says why it is refused, the first reason in order, or that there is no memory;
+/// then the schema is as it was. A group or a constraint has to name a column.
+pub fn add_declaration(
+    schema: &mut Schema,
+    alloc: Global,
+    declaration: &Declare,
+) -> Result<(), Refusal>
+    requires shape { HasShape schema.old }
+    requires columns { ColumnNamed declaration.now }
+    ensures ok { OnOk result ((refusal_of schema.old declaration.now ≡ None) × (schema.new ≡ declared declaration.now schema.old)) }
+    ensures err { IfErr result (λ why. (refusal_of schema.old declaration.now ≡ Some why) ⊎ ((refusal_of schema.old declaration.now ≡ None) × (why ≡ Memory))) }
+    ensures kept { OnErr result (schema.new ≡ schema.old) }
+    ensures shape { HasShape schema.new }
+{
+    if let Some(why) = refusal_of(schema, declaration) {
+        return Err(why);
+    }
+    match add(schema, alloc, declaration) {
+        Ok(()) => Ok(()),
+        Err(NoMemory) => Err(Refusal::Memory),
+    }
+}

@@ -1,0 +1,2 @@
+-- The worked examples of this crate.
+mod RuleExamples

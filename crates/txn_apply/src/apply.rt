@@ -1,0 +1,114 @@
+//! A transaction on a store, all of it or nothing.
+ghost use Rattle.std.specs.Prelude.{◌≡◌, ◌≢◌, ℕ, ◌+◌, ◌<◌, ◌≤◌, ◌^◌, ◌++◌, length, slice_index, vec_len, vec_capacity, Ok, IfOk, IfErr, OnOk, OnErr};
+ghost use Rattle.rep_schema.specs.Shape.{HasShape};
+ghost use Rattle.rep_schema.specs.Tables.{AreTables};
+ghost use Rattle.rep_schema.specs.Changes.{LeadsTo, room_for};
+ghost use Rattle.conflict_detect.specs.Fits.{table_of, TxnFits};
+ghost use Rattle.unique_resolve.specs.Numbers.{AreCounters};
+ghost use Rattle.txn_effects.specs.Calls.{HasKeys, KeysStandAlone, call_effect};
+ghost use Rattle.txn_effects.specs.Transactions.{made_all, txn_effect};
+ghost use Rattle.txn_apply.specs.Stops.{changes_of, CallStopsAs, CallsAs, CanCall, StopsAs};
+
+use crate::ApplyStop;
+use crate::call::apply_call;
+use crate::stop::{CallStop, stop_at};
+use conflict_detect::table_of;
+use rep_calls::{Call, Txn};
+use rep_lists::{Copies, Items};
+use rep_schema::{Change, Changes, RowStore, undo};
+use rep_values::SiteName;
+use std::alloc::Global;
+use unique_resolve::Counters;
+
+// A store's rows are tables of its schema.
+fn holds_tables<R: RowStore>(store: &R)
+    ensures { AreTables (R.schema store.now) (R.tables store.now) }
+{
+    let _schema = store.schema();
+}
+
+/// Applies one call, after it took room for so many further rows of its table.
+fn apply_in_room<R: RowStore>(
+    store: &mut R,
+    alloc: Global,
+    origin: &SiteName,
+    call: &Call,
+    counters: &mut Counters,
+    rows: usize,
+) -> Result<Option<Change>, CallStop>
+    requires able { CanCall (R.schema store.old) (R.tables store.old) counters.old call.now }
+    requires few { rows < 2 ^ 32 }
+    ensures ok { IfOk result (λ change. CallsAs (call_effect (R.schema store.old) (R.tables store.old) counters.old origin.now call.now) (changes_of change) counters.new) }
+    ensures tables { IfOk result (λ change. R.tables store.new ≡ made_all (R.schema store.old) (changes_of change) (R.tables store.old)) }
+    ensures err { IfErr result (CallStopsAs (call_effect (R.schema store.old) (R.tables store.old) counters.old origin.now call.now)) }
+    ensures same { OnErr result (R.tables store.new ≡ R.tables store.old) }
+    ensures schema { R.schema store.new ≡ R.schema store.old }
+    ensures room { OnOk result (rows ≤ slice_index (R.spare store.new) (table_of call.now)) }
+    ensures others { (t : ℕ) → t ≢ table_of call.now → slice_index (R.spare store.old) t ≤ slice_index (R.spare store.new) t }
+    ensures kept { OnErr result (slice_index (R.spare store.old) (table_of call.now) ≤ slice_index (R.spare store.new) (table_of call.now)) }
+{
+    store.reserve(table_of(call), rows as u64 + 1)?;
+    let change = apply_call(store, alloc, origin, call, counters)?;
+    Ok(change)
+}
+
+// Adds a change, where there is one.
+fn push_change(done: &mut Vec<Change>, change: Option<Change>)
+    requires { vec_len done.old < vec_capacity done.old }
+    ensures items { done.new.items ≡ done.old.items ++ changes_of change }
+    ensures number { vec_len done.new ≤ vec_len done.old + 1 }
+    ensures capacity { vec_capacity done.new ≡ vec_capacity done.old }
+{
+    if let Some(change) = change {
+        done.push_reserved(change);
+    }
+}
+
+/// Applies a transaction from an origin: its calls in order, each by what it is settled to, or none of them. It
+/// answers the rows that changed, in order, and there is room in the store to undo them. Where a call fails, the
+/// answer names the first one, from 1, with its error; then, and where there is no memory, the store's rows and the
+/// counters are as before.
+pub fn apply_txn<R: RowStore>(
+    store: &mut R,
+    alloc: Global,
+    counters: &mut Counters,
+    origin: &SiteName,
+    txn: &Txn,
+) -> Result<Changes, ApplyStop>
+    requires shape { HasShape (R.schema store.old) }
+    requires keys { HasKeys (R.schema store.old) }
+    requires apart { KeysStandAlone (R.schema store.old) }
+    requires counters { AreCounters (R.schema store.old) counters.old }
+    requires fits { TxnFits (R.schema store.old) txn.now }
+    requires few { length txn.now.calls ≤ 1000 }
+    ensures ok { IfOk result (λ changes. txn_effect (R.schema store.old) origin.now txn.now (R.tables store.old) counters.old
+        ≡ Ok (record { changes = changes.rows; numbers = counters.new })) }
+    ensures tables { IfOk result (λ changes. R.tables store.new ≡ made_all (R.schema store.old) changes.rows (R.tables store.old)) }
+    ensures leads { IfOk result (λ changes. LeadsTo (R.schema store.old) changes.rows (R.tables store.old) (R.tables store.new)) }
+    ensures room { IfOk result (λ changes. (t : ℕ) → room_for t changes.rows ≤ slice_index (R.spare store.new) t) }
+    ensures err { IfErr result (StopsAs (txn_effect (R.schema store.old) origin.now txn.now (R.tables store.old) counters.old)) }
+    ensures kept { OnErr result (R.tables store.new ≡ R.tables store.old) }
+    ensures counters_kept { OnErr result (counters.new ≡ counters.old) }
+    ensures schema { R.schema store.new ≡ R.schema store.old }
+{
+    holds_tables(store);
+    let before = counters.copy(alloc)?;
+    let calls = txn.calls.as_slice();
+    let Ok(mut done) = Vec::with_capacity(alloc, calls.len()) else {
+        return Err(ApplyStop::Memory);
+    };
+    for i in 0..calls.len() {
+        match apply_in_room(store, alloc, origin, &calls[i], counters, calls.len()) {
+            Ok(change) => push_change(&mut done, change),
+            Err(stop) => {
+                let rows = Items::from_vec(done);
+                undo(store, Changes { rows });
+                *counters = before;
+                return Err(stop_at(i as u32 + 1, stop));
+            }
+        }
+    }
+    Ok(Changes {
+        rows: Items::from_vec(done),
+    })
+}

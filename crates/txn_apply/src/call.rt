@@ -1,0 +1,232 @@
+//! One call on a store.
+ghost use Rattle.std.specs.Prelude.{◌≡◌, ◌≢◌, ◌⊎◌, ℕ, ◌+◌, ◌<◌, ◌≤◌, ◌==◌, cond, length, slice_index, slice_set, Some, Ok, IsSome, IfOk, IfErr, OnOk, OnErr};
+ghost use Rattle.rep_schema.specs.Shape.{HasShape};
+ghost use Rattle.rep_schema.specs.Tables.{columns_of, key_of, find_row, put_row, rows_of, RowFits, IsKeyed, IsUniqueRow};
+ghost use Rattle.rep_schema.specs.Changes.{row_like};
+ghost use Rattle.conflict_detect.specs.Fits.{table_of, CallFits};
+ghost use Rattle.unique_resolve.specs.Numbers.{AreCounters};
+ghost use Rattle.txn_effects.specs.Calls.{HasKeys, KeysStandAlone, is_unchanged, changes_between, call_effect};
+ghost use Rattle.txn_effects.specs.Transactions.{made_all};
+ghost use Rattle.txn_apply.specs.Stops.{changes_of, CallStopsAs, CallsAs, CanCall, NoRowAs};
+ghost use Rattle.txn_apply.specs.Putting.{IsPuttable, PutsAs, ConflictsAs};
+
+use crate::part::settle_parts;
+use crate::stop::CallStop;
+use rep_calls::{Call, Part};
+use rep_lists::{Copies, Items, NoMemory};
+use rep_schema::{Change, RowStore, columns_of, key_of};
+use rep_values::{ApplyError, Key, Row, SiteName, same_values};
+use std::alloc::Global;
+use unique_resolve::{Counters, Settled, settle_unique};
+
+/// The key of a row that fits a table.
+fn key_in<R: RowStore>(store: &R, table: u32, row: &Row) -> Key
+    requires table { table < length (R.schema store.now).tables }
+    requires keyed { IsKeyed (columns_of (R.schema store.now) table) }
+    requires fits { RowFits (columns_of (R.schema store.now) table) row.now }
+    ensures { result ≡ key_of (columns_of (R.schema store.now) table) row.now }
+{
+    key_of(columns_of(store.schema(), table), row.values())
+}
+
+/// Whether the very same row stands in a table.
+fn is_there<R: RowStore>(store: &R, table: u32, row: &Row) -> bool
+    requires table { table < length (R.schema store.now).tables }
+    requires keyed { IsKeyed (columns_of (R.schema store.now) table) }
+    requires fits { RowFits (columns_of (R.schema store.now) table) row.now }
+    ensures { result ≡ is_unchanged (row_like (columns_of (R.schema store.now) table) row.now (rows_of (R.tables store.now) table)) (Some row.now) }
+{
+    match store.get(table, &key_in(store, table, row)) {
+        Some(found) => same_values(found.values(), row.values()),
+        None => false,
+    }
+}
+
+/// Puts a row where it isn't there yet, and answers the change.
+fn put_if_changed<R: RowStore>(
+    store: &mut R,
+    alloc: Global,
+    table: u32,
+    row: Row,
+) -> Result<Option<Change>, NoMemory>
+    requires table { table < length (R.schema store.old).tables }
+    requires keyed { IsKeyed (columns_of (R.schema store.old) table) }
+    requires fits { RowFits (columns_of (R.schema store.old) table) row }
+    requires unique { IsUniqueRow (R.schema store.old) table row (rows_of (R.tables store.old) table) }
+    requires room { 1 ≤ slice_index (R.spare store.old) table }
+    ensures ok { IfOk result (λ change. changes_of change
+        ≡ changes_between table (row_like (columns_of (R.schema store.old) table) row (rows_of (R.tables store.old) table)) (Some row)) }
+    ensures tables { IfOk result (λ change. R.tables store.new ≡ made_all (R.schema store.old) (changes_of change) (R.tables store.old)) }
+    ensures same { OnErr result (R.tables store.new ≡ R.tables store.old) }
+    ensures schema { R.schema store.new ≡ R.schema store.old }
+    ensures same_room { OnErr result (R.spare store.new ≡ R.spare store.old) }
+    ensures room { (t : ℕ) → slice_index (R.spare store.old) t ≤ slice_index (R.spare store.new) t + cond (t == table) 1 0 }
+{
+    if is_there(store, table, &row) {
+        return Ok(None);
+    }
+    let kept = row.copy(alloc)?;
+    let before = store.put(table, row);
+    Ok(Some(Change {
+        table,
+        before,
+        after: Some(kept),
+    }))
+}
+
+/// What settling uniqueness leaves to be put.
+fn put_settled<R: RowStore>(
+    store: &mut R,
+    alloc: Global,
+    table: u32,
+    settled: Settled,
+) -> Result<Option<Change>, CallStop>
+    requires table { table < length (R.schema store.old).tables }
+    requires keyed { IsKeyed (columns_of (R.schema store.old) table) }
+    requires fits { IsPuttable (R.schema store.old) (R.tables store.old) table settled }
+    requires room { 1 ≤ slice_index (R.spare store.old) table }
+    ensures ok { IfOk result (λ change. PutsAs (R.schema store.old) (R.tables store.old) table settled (changes_of change)) }
+    ensures tables { IfOk result (λ change. R.tables store.new ≡ made_all (R.schema store.old) (changes_of change) (R.tables store.old)) }
+    ensures err { IfErr result (λ stop. ConflictsAs settled stop) }
+    ensures same { OnErr result (R.tables store.new ≡ R.tables store.old) }
+    ensures schema { R.schema store.new ≡ R.schema store.old }
+    ensures same_room { OnErr result (R.spare store.new ≡ R.spare store.old) }
+    ensures room { (t : ℕ) → slice_index (R.spare store.old) t ≤ slice_index (R.spare store.new) t + cond (t == table) 1 0 }
+{
+    match settled {
+        Settled::Fits(row) => {
+            let change = put_if_changed(store, alloc, table, row)?;
+            Ok(change)
+        }
+        Settled::Dropped => Ok(None),
+        Settled::Conflict(name) => Err(CallStop::Failed(ApplyError::UniqueConflict(name))),
+    }
+}
+
+fn insert_row<R: RowStore>(
+    store: &mut R,
+    alloc: Global,
+    table: u32,
+    row: &Row,
+    origin: &SiteName,
+    counters: &mut Counters,
+) -> Result<Option<Change>, CallStop>
+    requires able { CanCall (R.schema store.old) (R.tables store.old) counters.old (Call.Insert table row.now) }
+    requires room { 1 ≤ slice_index (R.spare store.old) table }
+    ensures ok { IfOk result (λ change. CallsAs (call_effect (R.schema store.old) (R.tables store.old) counters.old origin.now (Call.Insert table row.now)) (changes_of change) counters.new) }
+    ensures tables { IfOk result (λ change. R.tables store.new ≡ made_all (R.schema store.old) (changes_of change) (R.tables store.old)) }
+    ensures err { IfErr result (CallStopsAs (call_effect (R.schema store.old) (R.tables store.old) counters.old origin.now (Call.Insert table row.now))) }
+    ensures same { OnErr result (R.tables store.new ≡ R.tables store.old) }
+    ensures schema { R.schema store.new ≡ R.schema store.old }
+    ensures same_room { OnErr result (R.spare store.new ≡ R.spare store.old) }
+    ensures room { (t : ℕ) → slice_index (R.spare store.old) t ≤ slice_index (R.spare store.new) t + cond (t == table) 1 0 }
+{
+    let candidate = row.copy(alloc)?;
+    let settled = settle_unique(store, table, candidate, true, origin, counters);
+    let change = put_settled(store, alloc, table, settled)?;
+    Ok(change)
+}
+
+/// A copy of the row with a key.
+fn copy_of_row<R: RowStore>(
+    store: &R,
+    alloc: Global,
+    table: u32,
+    key: &Key,
+) -> Result<Row, CallStop>
+    requires { table < length (R.schema store.now).tables }
+    ensures ok { IfOk result (λ row. find_row (columns_of (R.schema store.now) table) key.now (rows_of (R.tables store.now) table) ≡ Some row) }
+    ensures err { IfErr result (NoRowAs (find_row (columns_of (R.schema store.now) table) key.now (rows_of (R.tables store.now) table))) }
+{
+    match store.get(table, key) {
+        None => Err(CallStop::Failed(ApplyError::NoRow)),
+        Some(found) => {
+            let row = found.copy(alloc)?;
+            Ok(row)
+        }
+    }
+}
+
+fn update_row<R: RowStore>(
+    store: &mut R,
+    alloc: Global,
+    table: u32,
+    key: &Key,
+    parts: &Items<Part>,
+    origin: &SiteName,
+    counters: &mut Counters,
+) -> Result<Option<Change>, CallStop>
+    requires able { CanCall (R.schema store.old) (R.tables store.old) counters.old (Call.Update table key.now parts.now) }
+    requires room { 1 ≤ slice_index (R.spare store.old) table }
+    ensures ok { IfOk result (λ change. CallsAs (call_effect (R.schema store.old) (R.tables store.old) counters.old origin.now (Call.Update table key.now parts.now)) (changes_of change) counters.new) }
+    ensures tables { IfOk result (λ change. R.tables store.new ≡ made_all (R.schema store.old) (changes_of change) (R.tables store.old)) }
+    ensures err { IfErr result (CallStopsAs (call_effect (R.schema store.old) (R.tables store.old) counters.old origin.now (Call.Update table key.now parts.now))) }
+    ensures same { OnErr result (R.tables store.new ≡ R.tables store.old) }
+    ensures schema { R.schema store.new ≡ R.schema store.old }
+    ensures same_room { OnErr result (R.spare store.new ≡ R.spare store.old) }
+    ensures room { (t : ℕ) → slice_index (R.spare store.old) t ≤ slice_index (R.spare store.new) t + cond (t == table) 1 0 }
+{
+    let mut row = copy_of_row(store, alloc, table, key)?;
+    settle_parts(store.schema(), table, parts.as_slice(), &mut row)?;
+    let settled = settle_unique(store, table, row, false, origin, counters);
+    let change = put_settled(store, alloc, table, settled)?;
+    Ok(change)
+}
+
+fn delete_row<R: RowStore>(
+    store: &mut R,
+    table: u32,
+    row: &Row,
+    origin: &SiteName,
+    counters: &mut Counters,
+) -> Result<Option<Change>, CallStop>
+    requires able { CanCall (R.schema store.old) (R.tables store.old) counters.old (Call.Delete table row.now) }
+    ensures ok { IfOk result (λ change. CallsAs (call_effect (R.schema store.old) (R.tables store.old) counters.old origin.now (Call.Delete table row.now)) (changes_of change) counters.new) }
+    ensures tables { IfOk result (λ change. R.tables store.new ≡ made_all (R.schema store.old) (changes_of change) (R.tables store.old)) }
+    ensures err { IfErr result (CallStopsAs (call_effect (R.schema store.old) (R.tables store.old) counters.old origin.now (Call.Delete table row.now))) }
+    ensures same { OnErr result (R.tables store.new ≡ R.tables store.old) }
+    ensures schema { R.schema store.new ≡ R.schema store.old }
+    ensures same_room { OnErr result (R.spare store.new ≡ R.spare store.old) }
+    ensures room { (t : ℕ) → slice_index (R.spare store.old) t ≤ slice_index (R.spare store.new) t + cond (t == table) 1 0 }
+{
+    let key = key_in(store, table, row);
+    let Some(found) = store.get(table, &key) else {
+        return Err(CallStop::Failed(ApplyError::NoRow));
+    };
+    if !same_values(found.values(), row.values()) {
+        return Err(CallStop::Failed(ApplyError::DeleteConflict));
+    }
+    let before = store.take(table, &key);
+    Ok(Some(Change {
+        table,
+        before,
+        after: None,
+    }))
+}
+
+/// Applies one call from an origin. Where it stops, the store is as before, and the counters are open.
+pub(crate) fn apply_call<R: RowStore>(
+    store: &mut R,
+    alloc: Global,
+    origin: &SiteName,
+    call: &Call,
+    counters: &mut Counters,
+) -> Result<Option<Change>, CallStop>
+    requires able { CanCall (R.schema store.old) (R.tables store.old) counters.old call.now }
+    requires room { 1 ≤ slice_index (R.spare store.old) (table_of call.now) }
+    ensures ok { IfOk result (λ change. CallsAs (call_effect (R.schema store.old) (R.tables store.old) counters.old origin.now call.now) (changes_of change) counters.new) }
+    ensures tables { IfOk result (λ change. R.tables store.new ≡ made_all (R.schema store.old) (changes_of change) (R.tables store.old)) }
+    ensures err { IfErr result (CallStopsAs (call_effect (R.schema store.old) (R.tables store.old) counters.old origin.now call.now)) }
+    ensures same { OnErr result (R.tables store.new ≡ R.tables store.old) }
+    ensures schema { R.schema store.new ≡ R.schema store.old }
+    ensures same_room { OnErr result (R.spare store.new ≡ R.spare store.old) }
+    ensures room { (t : ℕ) → slice_index (R.spare store.old) t ≤ slice_index (R.spare store.new) t + cond (t == table_of call.now) 1 0 }
+{
+    match call {
+        Call::Insert { table, row } => insert_row(store, alloc, *table, row, origin, counters),
+        Call::Update { table, key, parts } => {
+            update_row(store, alloc, *table, key, parts, origin, counters)
+        }
+        Call::Delete { table, row } => delete_row(store, *table, row, origin, counters),
+    }
+}

@@ -1,0 +1,7 @@
+-- The lemmas of this crate, from the bottom up.
+pub mod Results
+pub mod PartEffects
+pub mod CallEffects
+pub mod TransactionEffects
+pub mod RoomForChanges
+mod WorkedTransactions

@@ -1,0 +1,87 @@
+-- What one call does: what becomes of the row that it names, and of the counters.
+use Rattle.std.specs.Prelude.{◌≡◌, ℕ, ◌<◌, Bool, true, false, cond, List, [], ◌∷◌, length, Option, Some, None, IfSome, Result, Ok, Err, slice_get}
+use Rattle.std.specs.List.{AllByRecursion}
+use Rattle.rep_values.specs.declared.name.SiteName.{SiteName}
+use Rattle.rep_values.specs.declared.refusal.ApplyError.{ApplyError}
+use Rattle.rep_values.specs.declared.refusal.ApplyError.TheVariants.{NoRow, DeleteConflict, UniqueConflict}
+use Rattle.rep_schema.specs.declared.schema.Schema.{Schema}
+use Rattle.rep_schema.specs.declared.schema.Column.{Column}
+use Rattle.rep_schema.specs.declared.change.Change.{Change}
+use Rattle.rep_schema.specs.Tables.{Cells, Rows, columns_of, key_of, find_row, rows_of, IsKeyed}
+use Rattle.rep_schema.specs.Groups.{groups_of, named_columns, are_same}
+use Rattle.rep_calls.specs.declared.call.Call.{Call}
+use Rattle.rep_calls.specs.declared.call.Call.TheVariants.{Insert, Update, Delete}
+use Rattle.conflict_detect.specs.Fits.{table_of}
+use Rattle.unique_resolve.specs.declared.settled.Settled.{Settled}
+use Rattle.unique_resolve.specs.declared.settled.Settled.TheVariants.{Fits, Dropped, Conflict}
+use Rattle.unique_resolve.specs.Numbers.{Numbers}
+use Rattle.unique_resolve.specs.Settling.{Settlement, settlement_of}
+use Rattle.txn_effects.specs.Parts.{result_then, settled_parts}
+
+-- every table has 1 to 4 key columns
+abbrev pub HasKeys : Schema → Type 0
+HasKeys schema = (table : ℕ) → table < length schema.tables → IsKeyed (columns_of schema table)
+
+-- a column at this place is no key column
+abbrev pub IsOffTheKey : List Column → ℕ → Type 0
+IsOffTheKey columns place = IfSome (slice_get columns place) (λ column. column.key ≡ false)
+
+-- no column of a named group is a key column
+abbrev pub KeysStandAlone : Schema → Type 0
+KeysStandAlone schema = (table : ℕ) → table < length schema.tables → (group : ℕ)
+    → AllByRecursion (IsOffTheKey (columns_of schema table)) (named_columns (slice_get (groups_of schema table) group))
+
+-- the key of the row that a call names
+abbrev pub key_named : Schema → Call → Cells
+key_named schema (Insert table row) = key_of (columns_of schema table) row
+key_named schema (Update table key parts) = key
+key_named schema (Delete table row) = key_of (columns_of schema table) row
+
+-- the row that a call names, where it is there
+abbrev pub row_named : Schema → List Rows → Call → Option Cells
+row_named schema tables call = find_row (columns_of schema (table_of call)) (key_named schema call) (rows_of tables (table_of call))
+
+-- a row after a call, and the counters
+pub record RowEffect : Type 0 where
+  pub after : Option Cells
+  pub numbers : Numbers
+
+-- the row as its uniqueness was settled, or as it was where it is given up
+abbrev pub effect_by : Settled → Option Cells → Numbers → Result RowEffect ApplyError
+effect_by (Fits row) before numbers = Ok (record { after = Some row; numbers = numbers })
+effect_by Dropped before numbers = Ok (record { after = before; numbers = numbers })
+effect_by (Conflict name) before numbers = Err (UniqueConflict name)
+
+abbrev pub settled_effect : Settlement → Option Cells → Result RowEffect ApplyError
+settled_effect settlement before = effect_by settlement.settled before settlement.numbers
+
+-- what becomes of the row that a call from an origin names: an insert's row is settled as a new one; an update's parts
+-- are settled against the row, and then the row that they give; a delete takes the row that was sent
+abbrev pub row_effect : Schema → List Rows → Numbers → SiteName → Call → Option Cells → Result RowEffect ApplyError
+row_effect schema tables numbers origin (Insert table row) before = settled_effect (settlement_of schema tables numbers origin table true row) before
+row_effect schema tables numbers origin (Update table key parts) None = Err NoRow
+row_effect schema tables numbers origin (Update table key parts) (Some found) = result_then (settled_parts schema table parts found)
+    (λ row. settled_effect (settlement_of schema tables numbers origin table false row) (Some found))
+row_effect schema tables numbers origin (Delete table row) None = Err NoRow
+row_effect schema tables numbers origin (Delete table row) (Some found) = cond (are_same found row) (Ok (record { after = None; numbers = numbers })) (Err DeleteConflict)
+
+-- the same row, or none both times
+abbrev pub is_unchanged : Option Cells → Option Cells → Bool
+is_unchanged None None = true
+is_unchanged None (Some row) = false
+is_unchanged (Some row) None = false
+is_unchanged (Some row) (Some other) = are_same row other
+
+-- the change of a row, where it changed
+abbrev pub changes_between : ℕ → Option Cells → Option Cells → List Change
+changes_between table before after = cond (is_unchanged before after) [] (record { table = table; before = before; after = after } ∷ [])
+
+-- what changed, and the counters
+pub record Effect : Type 0 where
+  pub changes : List Change
+  pub numbers : Numbers
+
+-- what a call does to tables and counters
+abbrev pub call_effect : Schema → List Rows → Numbers → SiteName → Call → Result Effect ApplyError
+call_effect schema tables numbers origin call = result_then (row_effect schema tables numbers origin call (row_named schema tables call))
+    (λ effect. Ok (record { changes = changes_between (table_of call) (row_named schema tables call) effect.after; numbers = effect.numbers }))

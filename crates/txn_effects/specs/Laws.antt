@@ -1,0 +1,34 @@
+-- Laws of transactions.
+use Rattle.std.specs.Prelude.{◌≡◌, ◌≢◌, List, Ok}
+use Rattle.std.specs.List.{AllByRecursion}
+use Rattle.rep_values.specs.declared.name.SiteName.{SiteName}
+use Rattle.rep_schema.specs.declared.schema.Schema.{Schema}
+use Rattle.rep_schema.specs.Shape.{HasShape}
+use Rattle.rep_schema.specs.Tables.{Rows, AreTables}
+use Rattle.rep_schema.specs.Changes.{LeadsTo}
+use Rattle.rep_calls.specs.declared.call.Txn.{Txn}
+use Rattle.conflict_detect.specs.Fits.{TxnFits}
+use Rattle.unique_resolve.specs.Numbers.{Numbers, AreCounters}
+use Rattle.txn_effects.specs.Calls.{HasKeys, KeysStandAlone, Effect}
+use Rattle.txn_effects.specs.Transactions.{made_all, txn_effect}
+
+-- a schema with shape and keys, which are in no group, its tables, its counters, and a transaction that fits it
+pub record CanApply (schema : Schema) (tables : List Rows) (numbers : Numbers) (txn : Txn) : Type 0 where
+  pub shape : HasShape schema
+  pub keys : HasKeys schema
+  pub apart : KeysStandAlone schema
+  pub are : AreTables schema tables
+  pub counters : AreCounters schema numbers
+  pub fits : TxnFits schema txn
+
+-- what a transaction that succeeds leaves: its changes lead to the tables after it, each of them changed a row, and there
+-- is still a counter for each constraint
+pub record IsApplied (schema : Schema) (tables : List Rows) (effect : Effect) : Type 0 where
+  pub leads : LeadsTo schema effect.changes tables (made_all schema effect.changes tables)
+  pub differ : AllByRecursion (λ change. change.before ≢ change.after) effect.changes
+  pub are : AreTables schema (made_all schema effect.changes tables)
+  pub counters : AreCounters schema effect.numbers
+
+abbrev pub TransactionsLeadToTheirTables : Type 0
+TransactionsLeadToTheirTables = (schema : Schema) (origin : SiteName) (txn : Txn) (tables : List Rows) (numbers : Numbers) (effect : Effect)
+    → CanApply schema tables numbers txn → txn_effect schema origin txn tables numbers ≡ Ok effect → IsApplied schema tables effect

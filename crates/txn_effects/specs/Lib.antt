@@ -1,0 +1,5 @@
+-- The definitions of this crate.
+pub mod Parts
+pub mod Calls
+pub mod Transactions
+pub mod Laws

@@ -1,0 +1,6 @@
+//! What one call and one whole transaction do to tables and counters: definitions, and laws over them.
+#![tactic(auto)]
+
+mod laws;
+
+pub use laws::transactions_lead_to_their_tables;
