@@ -1,6 +1,5 @@
 -- Settling constraint by constraint.
-use Rattle.std.proofs.Common.{◌≡◌, ℕ, zero, suc, ◌+◌, ◌<◌, ◌≤◌, List, [], ◌∷◌, ◌++◌, length, take, drop, get_or, set, Some, None, refl, sym, ap, ◌∙◌, subst, append_assoc, arith}
-use Rattle.std.specs.Prelude.{slice_get}
+use Rattle.std.proofs.Common.{◌≡◌, ℕ, suc, ◌+◌, ◌<◌, List, ◌∷◌, ◌++◌, length, take, drop, get_or, set, refl, sym, arith}
 use Rattle.std.proofs.lemmas.List.{drop_more, set_split}
 use Rattle.rep_lists.proofs.Places.{drop_from_place}
 use Rattle.rep_values.specs.declared.name.SiteName.{SiteName}
@@ -11,7 +10,6 @@ use Rattle.rep_schema.specs.Tables.{Cells, Rows}
 use Rattle.unique_resolve.specs.declared.settled.Settled.{Settled}
 use Rattle.unique_resolve.specs.declared.settled.Settled.TheVariants.{Dropped, Conflict}
 use Rattle.unique_resolve.specs.Settling.{TableOutcome, go_on, settled_one, settled_each}
-use Rattle.unique_resolve.specs.Trying.{settled_as}
 
 -- an outcome with further numbers before its own
 abbrev pub behind : List ℕ → TableOutcome → TableOutcome
@@ -20,7 +18,8 @@ behind numbers outcome = record { settled = outcome.settled; numbers = numbers +
 -- one constraint more, of those from a place on
 module _ (columns : List Column) (rows : Rows) (origin : SiteName) (constraints : List Constraint) (numbers : List ℕ) (i : ℕ) (c : Constraint) (row : Cells)
     (within : i < length constraints) (is : c ≡ get_or constraints i c) (long : length numbers ≡ length constraints) (settled : Settled) (number : ℕ)
-    (one : settled_one columns rows origin c row (get_or numbers i 0) ≡ record { settled = settled; number = number }) where
+    (one : settled_one columns rows origin c row (get_or numbers i 0) ≡ record { settled = settled; number = number })
+    (whole : TableOutcome) (rest : whole ≡ behind (take i numbers) (settled_each columns rows origin (drop i constraints) (drop i numbers) row)) where
   -- it comes first
   settled_first : settled_each columns rows origin (drop i constraints) (drop i numbers) row ≡ go_on settled number (drop (i + 1) numbers) (settled_each columns rows origin (drop (i + 1) constraints) (drop (i + 1) numbers))
   settled_first =
@@ -34,9 +33,9 @@ module _ (columns : List Column) (rows : Rows) (origin : SiteName) (constraints 
       rw next (sym (set_split numbers i number below))
 
   -- a row that is given up
-  pub each-dropped : settled ≡ Dropped → behind (take i numbers) (settled_each columns rows origin (drop i constraints) (drop i numbers) row) ≡ record { settled = Dropped; numbers = set numbers i number }
-  each-dropped dropped = rw (settled_first, dropped, written_split) refl
+  pub each-dropped : settled ≡ Dropped → whole ≡ record { settled = Dropped; numbers = set numbers i number }
+  each-dropped dropped = rw (rest, settled_first, dropped, written_split) refl
 
   -- a constraint with which no method helps
-  pub each-conflict : (name : Name) → settled ≡ Conflict name → behind (take i numbers) (settled_each columns rows origin (drop i constraints) (drop i numbers) row) ≡ record { settled = Conflict name; numbers = set numbers i number }
-  each-conflict name conflict = rw (settled_first, conflict, written_split) refl
+  pub each-conflict : (name : Name) → settled ≡ Conflict name → whole ≡ record { settled = Conflict name; numbers = set numbers i number }
+  each-conflict name conflict = rw (rest, settled_first, conflict, written_split) refl

@@ -6,3 +6,4 @@ mod TextBytes
 mod Tries
 mod EachConstraint
 mod TableCounters
+mod SettlingExamples

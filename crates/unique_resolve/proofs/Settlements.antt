@@ -1,9 +1,9 @@
 -- What holds of a row that fits after its settlement, and of the counters after it.
-use Rattle.std.proofs.Common.{◌≡◌, ℕ, zero, suc, ◌<◌, Bool, true, false, cond, List, [], ◌∷◌, length, map, get_or, Some, None, refl, sym, ap, ◌∙◌, subst, arith}
+use Rattle.std.proofs.Common.{◌≡◌, ℕ, zero, suc, ◌<◌, Bool, true, false, cond, List, [], ◌∷◌, length, map, get_or, Some, None, refl, sym, ap, ◌∙◌, subst, arith, replicate}
 use Rattle.std.specs.Prelude.{Option, IfSome, ◌&&◌, is_some, slice_get, decimal}
 use Rattle.std.specs.List.{AllByRecursion, AllPairs, list_any}
 use Rattle.std.proofs.lemmas.Bool.Decides.{not_from_Decides}
-
+use Rattle.std.proofs.lemmas.List.{length-replicate}
 use Rattle.std.proofs.Math.Seq.{map-set_same}
 use Rattle.std.proofs.lemmas.List.Elements.{recursion_from_All}
 use Rattle.rep_lists.proofs.Each.{each_then, each_found}
@@ -20,7 +20,7 @@ use Rattle.rep_schema.specs.Shape.{key_name, ShareNone, HasTableShape, HasShape}
 use Rattle.rep_schema.proofs.Shapes.{table_shape}
 use Rattle.unique_resolve.specs.declared.settled.Settled.{Settled}
 use Rattle.unique_resolve.specs.declared.settled.Settled.TheVariants.{Fits, Dropped, Conflict}
-use Rattle.unique_resolve.specs.Numbers.{Numbers, AreCounters, raised}
+use Rattle.unique_resolve.specs.Numbers.{Numbers, AreCounters, first_numbers, raised}
 use Rattle.unique_resolve.specs.Appending.{appended}
 use Rattle.unique_resolve.specs.Settling.{is_held, helping, or_following, settled_by, settled_one, TableOutcome, go_on, settled_each, is_discard, key_methods_in, key_taken, Settlement, with_numbers, settlement_of}
 use Rattle.unique_resolve.proofs.HeldValues.{held_test}
@@ -119,7 +119,7 @@ module _ (columns : List Column) (rows : Rows) (origin : SiteName) where
       → IsFree columns c.columns rows row one → AreFree columns cs rows one after → AreFree columns (c ∷ cs) rows row after
   AreFree-cons c cs row one after apart first rest =
       let back : AllByRecursion (λ (d : Constraint). ShareNone d.columns c.columns) cs =
-          each_then (λ (d : Constraint). ShareNone c.columns d.columns) (λ (d : Constraint). ShareNone d.columns c.columns) (λ d none x here there. none x there here) cs apart in
+      each_then (λ (d : Constraint). ShareNone c.columns d.columns) (λ (d : Constraint). ShareNone d.columns c.columns) (λ d none x here there. none x there here) cs apart in
       record {
         fits = rest.fits;
         key = rest.key ∙ first.key;
@@ -170,6 +170,14 @@ length-counters schema numbers table counted = go numbers schema.tables table co
     go (n ∷ ns) [] table same = cc
     go (n ∷ ns) (e ∷ es) zero same = let first : length n ≡ length e.constraints = cc in sym first
     go (n ∷ ns) (e ∷ es) (suc table) same = let rest : map length ns ≡ map (λ (entry : TableEntry). length entry.constraints) es = cc in go ns es table rest
+
+-- the first counters are those of the schema's constraints
+pub AreCounters-first : (schema : Schema) → AreCounters schema (first_numbers schema)
+AreCounters-first schema = go schema.tables
+  where
+    go : (entries : List TableEntry) → map length (map (λ (entry : TableEntry). replicate {A = ℕ} (length entry.constraints) 0) entries) ≡ map (λ (entry : TableEntry). length entry.constraints) entries
+    go [] = refl
+    go (e ∷ es) = rw (length-replicate {A = ℕ} (length e.constraints) 0) (ap (λ ns. length e.constraints ∷ ns) (go es))
 
 -- no two constraints of a table share a column
 AreApart-constraints_of : (schema : Schema) (table : ℕ) → HasShape schema → AreApart (constraints_of schema table)

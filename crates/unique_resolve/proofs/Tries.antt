@@ -1,14 +1,14 @@
 -- Steps of settling.
-use Rattle.std.proofs.Common.{◌≡◌, ℕ, zero, suc, ◌+◌, ◌<◌, Bool, true, false, cond, List, [], ◌∷◌, length, get_or, set, Some, None, refl, sym, ap, ◌∙◌, subst, arith}
-use Rattle.std.specs.Prelude.{Option, IfSome, ◌↔◌, IsTrue, option_map, slice_get}
+use Rattle.std.proofs.Common.{◌≡◌, ℕ, zero, suc, ◌<◌, Bool, List, [], ◌∷◌, length, get_or, set, Some, refl, ap}
+use Rattle.std.specs.Prelude.{◌↔◌, IsTrue}
 use Rattle.std.proofs.lemmas.Bool.Decides.{same_from_decides}
 use Rattle.std.proofs.lemmas.Option.{slice_get_within}
 use Rattle.rep_values.specs.declared.value.Value.{Value}
 use Rattle.rep_values.specs.declared.value.Value.TheVariants.{Words}
 use Rattle.rep_schema.specs.declared.schema.Schema.{Schema}
-use Rattle.rep_schema.specs.Tables.{Cells, Rows, columns_of, constraint_columns_of, rows_of, RowFits, IsHeldElsewhere}
+use Rattle.rep_schema.specs.Tables.{Cells, Rows, columns_of, constraint_columns_of, rows_of, IsHeldElsewhere}
 use Rattle.unique_resolve.specs.Appending.{appended}
-use Rattle.unique_resolve.specs.Settling.{is_held, helping}
+use Rattle.unique_resolve.specs.Settling.{is_held}
 use Rattle.unique_resolve.specs.Trying.{IsTestable}
 use Rattle.unique_resolve.proofs.HeldValues.{held_test}
 use Rattle.unique_resolve.proofs.AppendedTexts.{IsAppend-appended, RowFits-append}

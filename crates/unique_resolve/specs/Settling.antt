@@ -43,10 +43,10 @@ settled_by columns constraint rows origin [] row number = record { settled = Con
 settled_by columns constraint rows origin (method.Discard ∷ methods) row number = record { settled = Dropped; number = number }
 settled_by columns constraint rows origin (method.AppendSite column ∷ methods) row number =
     or_following (helping columns constraint.columns rows (appended columns constraint.columns column origin.0 row)) number
-      (settled_by columns constraint rows origin methods row number)
+    (settled_by columns constraint rows origin methods row number)
 settled_by columns constraint rows origin (method.AppendSequence column ∷ methods) row number =
     or_following (helping columns constraint.columns rows (appended columns constraint.columns column (decimal (raised number)) row)) (raised number)
-      (settled_by columns constraint rows origin methods row (raised number))
+    (settled_by columns constraint rows origin methods row (raised number))
 
 -- one constraint: a row that doesn't violate it fits
 abbrev pub settled_one : List Column → Rows → SiteName → Constraint → Cells → ℕ → Outcome
@@ -104,5 +104,5 @@ settlement_of schema tables numbers origin table inserting row =
     let columns = columns_of schema table in
     let rows = rows_of tables table in
     cond (inserting && is_some (find_row columns (key_of columns row) rows))
-      (record { settled = key_taken (key_methods_in (slice_get schema.tables table)); numbers = numbers })
-      (with_numbers table numbers (settled_each columns rows origin (constraints_of schema table) (slice_index_or numbers table []) row))
+    (record { settled = key_taken (key_methods_in (slice_get schema.tables table)); numbers = numbers })
+    (with_numbers table numbers (settled_each columns rows origin (constraints_of schema table) (slice_index_or numbers table []) row))

@@ -58,7 +58,7 @@ impl Counters {
         requires asked { IsAsked (R.schema store.now) table row.old }
         requires counters { AreCounters (R.schema store.now) self.old }
         ensures { with_numbers table self.old (settled_each (columns_of (R.schema store.now) table) (rows_of (R.tables store.now) table) origin.now
-                (constraints_of (R.schema store.now) table) (slice_index_or self.old table []) row.old)
+            (constraints_of (R.schema store.now) table) (slice_index_or self.old table []) row.old)
             ≡ record { settled = settled_as result row.new; numbers = self.new } }
     {
         settle_each(store, table, row, origin, &mut self.tables[table as usize])

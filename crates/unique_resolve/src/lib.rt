@@ -8,3 +8,6 @@ mod trying;
 
 pub use counters::Counters;
 pub use settled::{Settled, settle_unique};
+
+#[cfg(test)]
+mod tests;

@@ -61,7 +61,7 @@ fn append_helps<R: RowStore>(
     requires testable { IsTestable (R.schema store.now) (R.tables store.now) table place row.old }
     requires bytes { list_all is_text_byte bytes.now ≡ true }
     ensures helped { helping (columns_of (R.schema store.now) table) (constraint_columns_of (R.schema store.now) table place) (rows_of (R.tables store.now) table)
-            (appended (columns_of (R.schema store.now) table) (constraint_columns_of (R.schema store.now) table place) column bytes.now row.old)
+        (appended (columns_of (R.schema store.now) table) (constraint_columns_of (R.schema store.now) table place) column bytes.now row.old)
         ≡ (if result then Some row.new else None) }
     ensures kept { result ≡ false → row.new ≡ row.old }
     ensures testable { IsTestable (R.schema store.now) (R.tables store.now) table place row.new }
@@ -90,7 +90,7 @@ fn append_name<R: RowStore>(
 ) -> bool
     requires { IsTestable (R.schema store.now) (R.tables store.now) table place row.old }
     ensures helped { helping (columns_of (R.schema store.now) table) (constraint_columns_of (R.schema store.now) table place) (rows_of (R.tables store.now) table)
-            (appended (columns_of (R.schema store.now) table) (constraint_columns_of (R.schema store.now) table place) column origin.now.0 row.old)
+        (appended (columns_of (R.schema store.now) table) (constraint_columns_of (R.schema store.now) table place) column origin.now.0 row.old)
         ≡ (if result then Some row.new else None) }
     ensures kept { result ≡ false → row.new ≡ row.old }
     ensures testable { IsTestable (R.schema store.now) (R.tables store.now) table place row.new }
@@ -109,7 +109,7 @@ fn append_number<R: RowStore>(
 ) -> bool
     requires { IsTestable (R.schema store.now) (R.tables store.now) table place row.old }
     ensures helped { helping (columns_of (R.schema store.now) table) (constraint_columns_of (R.schema store.now) table place) (rows_of (R.tables store.now) table)
-            (appended (columns_of (R.schema store.now) table) (constraint_columns_of (R.schema store.now) table place) column (decimal number) row.old)
+        (appended (columns_of (R.schema store.now) table) (constraint_columns_of (R.schema store.now) table place) column (decimal number) row.old)
         ≡ (if result then Some row.new else None) }
     ensures kept { result ≡ false → row.new ≡ row.old }
     ensures testable { IsTestable (R.schema store.now) (R.tables store.now) table place row.new }

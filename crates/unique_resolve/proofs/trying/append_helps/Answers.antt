@@ -1,8 +1,4 @@
-use Rattle.std.proofs.Common.{◌≡◌, ◌<◌, length, set, Some}
 use Rattle.std.proofs.lemmas.List.{length-set}
-use Rattle.rep_schema.specs.Tables.{columns_of, constraint_columns_of}
-use Rattle.unique_resolve.specs.Appending.{appended}
-use Rattle.unique_resolve.specs.Trying.{IsTestable}
 use Rattle.unique_resolve.proofs.Tries.{appended_within, testable-appended}
 use Rattle.unique_resolve.proofs.trying.append_helps.Goals as goal
 

@@ -1,4 +1,3 @@
-use Rattle.std.proofs.Common.{◌∙◌}
 use Rattle.unique_resolve.proofs.TextBytes.{decimal_bytes}
 use Rattle.unique_resolve.proofs.trying.append_number.Goals as goal
 

@@ -1,4 +1,3 @@
-use Rattle.std.proofs.Common.{◌≡◌, get_or}
 use Rattle.unique_resolve.proofs.Tries.{set_back}
 use Rattle.unique_resolve.proofs.trying.replace.Goals as goal
 
