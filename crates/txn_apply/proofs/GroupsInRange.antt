@@ -33,7 +33,7 @@ module _ (schema : Schema) (shape : HasShape schema) (table group : ℕ) (row : 
 
       go : (b : Bool) (decision : Decision) → cond b TakeNew decision ≡ Keep
           → result_then (cond b (Ok part.new) (values_by decision (group_name schema table part.group) part.new (group_values schema table part.group row)))
-            (λ values. Ok (with_group_values schema table part.group values row)) ≡ Ok (with_group_values schema table part.group (group_values schema table part.group row) row)
+          (λ values. Ok (with_group_values schema table part.group values row)) ≡ Ok (with_group_values schema table part.group (group_values schema table part.group row) row)
       go true decision keep = cc
       go false TakeNew keep = cc
       go false (TakeNumber n) keep = cc

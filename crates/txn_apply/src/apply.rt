@@ -89,6 +89,7 @@ pub fn apply_txn<R: RowStore>(
     ensures err { IfErr result (StopsAs (txn_effect (R.schema store.old) origin.now txn.now (R.tables store.old) counters.old)) }
     ensures kept { OnErr result (R.tables store.new ≡ R.tables store.old) }
     ensures counters_kept { OnErr result (counters.new ≡ counters.old) }
+    ensures counted { AreCounters (R.schema store.old) counters.new }
     ensures schema { R.schema store.new ≡ R.schema store.old }
 {
     holds_tables(store);

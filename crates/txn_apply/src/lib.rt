@@ -8,3 +8,6 @@ mod stop;
 
 pub use apply::apply_txn;
 pub use stop::ApplyStop;
+
+#[cfg(test)]
+mod tests;

@@ -84,9 +84,7 @@ fn settle_part(schema: &Schema, table: u32, part: &Part, row: &mut Row) -> Resul
         }
         Decision::Keep => Ok(()),
         Decision::Undecided => Err(ApplyError::UpdateConflict(group_name(
-            schema,
-            table,
-            part.group,
+            schema, table, part.group,
         ))),
         Decision::Range => Err(ApplyError::ValueRange),
     }

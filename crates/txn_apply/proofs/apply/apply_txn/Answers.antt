@@ -38,8 +38,8 @@ loop-i-preserved g c =
       made = rw c.push_change.ensures.items (tables ∙ made_all-more schema c.args.origin.now c.requires.shape c.requires.keys c.requires.apart calls fit before now c.loop-i.counters done c.loop-i.i call c.loop-i-test.true c.index-calls-i.is c.loop-i.invariant.made c.loop-i.invariant.applied changes);
       applied = rw c.push_change.ensures.items (IsApplied-more schema c.args.origin.now c.requires.shape c.requires.keys c.requires.apart calls fit before now c.loop-i.counters done c.loop-i.i call c.loop-i-test.true c.index-calls-i.is c.loop-i.invariant.made c.loop-i.invariant.applied one gives);
       room = λ t. rw c.push_change.ensures.items
-        (room_for-more schema now c.loop-i.counters c.args.origin.now call one t done (slice_index (g.R.RowStore.spare c.loop-i.store) t) (slice_index (g.R.RowStore.spare c.apply_in_room.new.store) t) (length calls)
-        gives (c.loop-i.invariant.room t) (c.in-Ok-apply_in_room.ensures.others t) (λ at. rw at c.in-Ok-apply_in_room.ensures.room) few);
+          (room_for-more schema now c.loop-i.counters c.args.origin.now call one t done (slice_index (g.R.RowStore.spare c.loop-i.store) t) (slice_index (g.R.RowStore.spare c.apply_in_room.new.store) t) (length calls)
+          gives (c.loop-i.invariant.room t) (c.in-Ok-apply_in_room.ensures.others t) (λ at. rw at c.in-Ok-apply_in_room.ensures.room) few);
       outcome = rw (c.push_change.ensures.items, tables)
-        (so_far-Ok schema c.args.origin.now calls before now c.args.counters.now c.loop-i.counters done c.loop-i.i c.loop-i.invariant.outcome call one here gives);
+          (so_far-Ok schema c.args.origin.now calls before now c.args.counters.now c.loop-i.counters done c.loop-i.i c.loop-i.invariant.outcome call one here gives);
     }

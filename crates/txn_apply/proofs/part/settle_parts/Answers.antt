@@ -13,5 +13,5 @@ loop-part-preserved c =
     record {
       fits = RowFits-settled_part schema c.args.table c.requires.shape c.part-item.result c.loop-part.row c.settle_part.new.row part_fits c.loop-part.invariant.fits c.in_ok-settle_part.ensures.ok;
       rest = sym (settled_parts-more schema c.args.table c.args.parts.now c.loop-part.part-index c.part-item.result c.loop-part.row c.settle_part.new.row c.loop-part-test.true c.part-item.is c.in_ok-settle_part.ensures.ok)
-        ∙ c.loop-part.invariant.rest;
+          ∙ c.loop-part.invariant.rest;
     }
