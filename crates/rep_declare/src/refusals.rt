@@ -193,6 +193,7 @@ fn is_shadow(name: &Name) -> bool
     name.bytes() == b"shadow".as_slice()
 }
 
+/// Whether a name is that of the primary key.
 pub fn is_key(name: &Name) -> bool
     ensures { result ≡ same_bytes name.now key_name }
 {
