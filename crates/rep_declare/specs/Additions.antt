@@ -1,5 +1,5 @@
 -- What a declaration adds to a schema.
-use Rattle.std.specs.Prelude.{ℕ, ◌≤◌, ℤ, Bool, true, false, cond, List, [], ◌∷◌, ◌++◌, length, Option, Some, None, is_some}
+use Rattle.std.specs.Prelude.{ℕ, ◌≤◌, ℤ, Bool, true, false, cond, List, [], ◌∷◌, ◌++◌, length, Option, Some, None}
 use Rattle.std.specs.List.{position}
 use Rattle.rep_values.specs.declared.name.TableName.{TableName}
 use Rattle.rep_values.specs.declared.value.Value.{Value}
@@ -12,7 +12,6 @@ use Rattle.rep_schema.specs.declared.schema.Column.{Column}
 use Rattle.rep_schema.specs.declared.schema.Group.{Group}
 use Rattle.rep_schema.specs.declared.schema.Constraint.{Constraint}
 use Rattle.rep_schema.specs.declared.schema.PriorityGroup.{PriorityGroup}
-use Rattle.rep_schema.specs.declared.schema.PriorityLevel.{PriorityLevel}
 use Rattle.rep_schema.specs.declared.schema.Method.{Method}
 use Rattle.rep_schema.specs.declared.schema.Method.TheVariants as method
 use Rattle.rep_schema.specs.declared.schema.UniqueMethod.{UniqueMethod}
@@ -24,7 +23,7 @@ use Rattle.rep_declare.specs.declared.declaration.MethodWords.TheVariants as wor
 use Rattle.rep_declare.specs.declared.declaration.UniqueWords.{UniqueWords}
 use Rattle.rep_declare.specs.declared.declaration.UniqueWords.TheVariants as unique_words
 use Rattle.rep_schema.specs.Shape.{key_name}
-use Rattle.rep_declare.specs.Named.{is_site, is_table, is_group, is_constraint, is_priority, priority_named, column_place, places_named}
+use Rattle.rep_declare.specs.Named.{is_site, is_table, is_group, is_constraint, is_priority, column_place, places_named}
 
 -- the list with the first element that passes the test changed
 abbrev pub with_changed : {X : Type 0} → (X → Bool) → (X → X) → List X → List X

@@ -1,5 +1,5 @@
 -- The schema with a declaration.
-use Rattle.std.proofs.Common.{sym, subst, ◌∙◌}
+use Rattle.std.proofs.Common.{sym, subst}
 use Rattle.rep_schema.specs.Shape.{HasShape}
 use Rattle.rep_declare.proofs.DeclaredShapes.{HasShape-declared}
 use Rattle.rep_declare.proofs.additions.add_declaration.Goals as goal
