@@ -1,5 +1,5 @@
 -- What a call does, by what was found and settled.
-use Rattle.std.proofs.Common.{◌≡◌, ℕ, ◌<◌, Bool, true, false, cond, List, [], ◌∷◌, length, Option, Some, None, Ok, Err, refl, sym, ap, ◌∙◌, subst}
+use Rattle.std.proofs.Common.{◌≡◌, ℕ, ◌<◌, Bool, true, false, cond, List, [], ◌∷◌, length, Option, Some, None, Ok, Err, refl, sym, ap, ◌∙◌}
 use Rattle.rep_values.specs.declared.name.SiteName.{SiteName}
 use Rattle.rep_values.specs.declared.refusal.ApplyError.TheVariants.{DeleteConflict}
 use Rattle.rep_schema.specs.declared.schema.Schema.{Schema}
@@ -9,7 +9,6 @@ use Rattle.rep_schema.specs.Tables.{Cells, Rows, columns_of, key_of, find_row, r
 use Rattle.rep_schema.specs.Groups.{are_same}
 use Rattle.rep_schema.specs.Changes.{row_like}
 use Rattle.rep_schema.proofs.FoundRows.{found_row, key_of-found}
-use Rattle.rep_schema.proofs.ValuesAt.{are_same-Decides}
 use Rattle.rep_calls.specs.declared.call.Part.{Part}
 use Rattle.rep_calls.specs.declared.call.Call.TheVariants.{Insert, Update, Delete}
 use Rattle.conflict_detect.specs.Fits.{CallFits}
@@ -19,10 +18,9 @@ use Rattle.unique_resolve.specs.Numbers.{Numbers, AreCounters}
 use Rattle.unique_resolve.specs.Settling.{settlement_of}
 use Rattle.unique_resolve.proofs.Settlements.{RowFits-settled, key_of-settled, IsUniqueRow-settled}
 use Rattle.txn_effects.specs.Parts.{result_then, settled_parts}
-use Rattle.txn_effects.specs.Calls.{HasKeys, KeysStandAlone, RowEffect, effect_by, is_unchanged, changes_between, Effect, call_effect}
+use Rattle.txn_effects.specs.Calls.{KeysStandAlone, RowEffect, effect_by, is_unchanged, changes_between, Effect, call_effect}
 use Rattle.txn_effects.proofs.PartEffects.{key_of-settled_parts, RowFits-settled_parts}
 use Rattle.txn_effects.proofs.CallEffects.{is_unchanged-Decides}
-use Rattle.txn_apply.specs.Stops.{CanCall}
 use Rattle.txn_apply.specs.Putting.{IsPuttable, PutsAs}
 
 -- a row that stays as it was is no change

@@ -1,15 +1,11 @@
 -- Applying the calls one after the other.
-use Rattle.std.proofs.Common.{◌≡◌, ◌<◌, ◌≤◌, ◌++◌, ◌∷◌, ◌+◌, ℕ, length, drop, Ok, sym, subst, ap, ◌∙◌, arith}
+use Rattle.std.proofs.Common.{◌≡◌, ◌≤◌, ◌++◌, ◌∷◌, ◌+◌, length, drop, Ok, ◌∙◌, arith}
 use Rattle.std.specs.List.{AllByRecursion}
 use Rattle.std.specs.Prelude.{slice_index}
 use Rattle.rep_lists.proofs.Places.{drop_from_place}
-use Rattle.rep_calls.specs.declared.call.Call.{Call}
-use Rattle.rep_schema.specs.Tables.{Rows}
-use Rattle.rep_schema.specs.Changes.{room_for}
-use Rattle.conflict_detect.specs.Fits.{table_of, CallFits}
+use Rattle.conflict_detect.specs.Fits.{CallFits}
 use Rattle.txn_effects.specs.Calls.{Effect, call_effect}
-use Rattle.txn_effects.specs.Laws.{IsApplied}
-use Rattle.txn_effects.specs.Transactions.{behind, calls_effect, made_all}
+use Rattle.txn_effects.specs.Transactions.{made_all}
 use Rattle.txn_effects.proofs.TransactionEffects.{so_far-Ok}
 use Rattle.txn_apply.specs.Stops.{changes_of}
 use Rattle.txn_apply.proofs.Stepping.{room_for-more, IsApplied-more, made_all-more}

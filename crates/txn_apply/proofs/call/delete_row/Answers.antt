@@ -1,5 +1,5 @@
 -- Taking a row away.
-use Rattle.std.proofs.Common.{◌≡◌, true, false, Some, refl, sym, ◌∙◌}
+use Rattle.std.proofs.Common.{◌≡◌, true, false, Some, sym, ◌∙◌}
 use Rattle.std.specs.Bool.{one_answer}
 use Rattle.rep_schema.specs.Tables.{columns_of, key_of, find_row, rows_of}
 use Rattle.rep_schema.specs.Groups.{are_same}

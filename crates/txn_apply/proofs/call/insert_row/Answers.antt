@@ -1,6 +1,5 @@
 -- Inserting a row.
 use Rattle.std.proofs.Common.{◌≡◌, true, sym, subst}
-use Rattle.rep_schema.specs.Tables.{Cells, columns_of, RowFits}
 use Rattle.unique_resolve.specs.declared.settled.Settled.{Settled}
 use Rattle.unique_resolve.specs.Numbers.{Numbers}
 use Rattle.unique_resolve.specs.Settling.{settlement_of}

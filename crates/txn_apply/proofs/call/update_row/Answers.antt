@@ -1,6 +1,6 @@
 -- Changing a row by parts.
 use Rattle.std.proofs.Common.{◌≡◌, Ok, false, sym, subst}
-use Rattle.rep_schema.specs.Tables.{Cells, columns_of, RowFits}
+use Rattle.rep_schema.specs.Tables.{columns_of, RowFits}
 use Rattle.rep_schema.specs.declared.schema.Schema.{Schema}
 use Rattle.unique_resolve.specs.declared.settled.Settled.{Settled}
 use Rattle.unique_resolve.specs.Numbers.{Numbers}
