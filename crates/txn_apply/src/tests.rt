@@ -1,6 +1,7 @@
 //! Transactions on a small table, applied whole or not at all.
-ghost use Rattle.std.specs.Prelude.{◌≡◌, length, IfOk};
-ghost use Rattle.rep_schema.specs.Shape.{HasShape, HasTableShape};
+ghost use Rattle.std.specs.Prelude.{◌≡◌, ◌≤◌, length, IfOk};
+ghost use Rattle.std.specs.List.{All};
+ghost use Rattle.rep_schema.specs.Shape.{HasShape, IsPlaceIn, method_column, method_priority};
 ghost use Rattle.txn_effects.specs.Calls.{HasKeys, KeysStandAlone};
 
 use crate::{ApplyStop, apply_txn};
@@ -31,9 +32,28 @@ fn column(rt: &impl Abort, bytes: &[u8], key: bool) -> Column
     }
 }
 
-// The schema of the table T of the key column ID and the column Q, which is the group g with this method.
-fn schema(rt: &impl Abort, alloc: Global, method: Method) -> Result<Schema, NoMemory>
-    requires { method ≡ Method.Additive }
+// How conflicts are settled.
+#[derive(Clone, Copy, Debug, PartialEq, Eq)]
+enum Way {
+    Nothing,
+    Sum,
+    Greatest,
+}
+
+fn methods(alloc: Global, way: Way) -> Result<Items<Method>, NoMemory>
+    ensures number { IfOk result (λ methods. length methods ≤ 16) }
+    ensures columns { IfOk result (λ methods. All (λ m. IsPlaceIn 2 (method_column m)) methods) }
+    ensures priorities { IfOk result (λ methods. All (λ m. IsPlaceIn 0 (method_priority m)) methods) }
+{
+    match way {
+        Way::Nothing => Ok(Items::new(alloc)),
+        Way::Sum => Ok(Items::from_vec(vec![in alloc; Method::Additive]?)),
+        Way::Greatest => Ok(Items::from_vec(vec![in alloc; Method::Maximum(1), Method::Discard]?)),
+    }
+}
+
+// The schema of the table T of the key column ID and the column Q, which is the group g.
+fn schema(rt: &impl Abort, alloc: Global, way: Way) -> Result<Schema, NoMemory>
     ensures shape { IfOk result HasShape }
     ensures keys { IfOk result HasKeys }
     ensures apart { IfOk result KeysStandAlone }
@@ -42,7 +62,7 @@ fn schema(rt: &impl Abort, alloc: Global, method: Method) -> Result<Schema, NoMe
     let group = Group {
         name: name(rt, b"g"),
         columns: Items::from_vec(vec![in alloc; 1]?),
-        methods: Items::from_vec(vec![in alloc; method]?),
+        methods: methods(alloc, way)?,
     };
     let table = TableEntry {
         name: TableName(name(rt, b"T")),
@@ -127,10 +147,11 @@ fn answer(
 fn outcome(
     rt: &impl Abort,
     alloc: Global,
+    way: Way,
     calls: &[(&str, i64, i64, i64)],
     changes: usize,
 ) -> Result<((u32, &'static str), [i64; 3]), NoMemory> {
-    let schema = schema(rt, alloc, Method::Additive)?;
+    let schema = schema(rt, alloc, way)?;
     let mut counters = Counters::make(alloc, &schema)?;
     let mut store = ListTables::make(alloc, schema)?;
     let origin = SiteName(name(rt, b"A"));
@@ -162,24 +183,91 @@ fn outcome(
 
 #[test]
 fn a_call_does_what_its_row_allows(rt: HostRuntime) -> Result<(), Fail> {
-    for (line, changes, answer, values) in [
-        (("insert", 3, 30, 0), 1, (0, "done"), [10, 20, 30]),
-        (("insert", 1, 10, 0), 0, (1, "unique"), [10, 20, -1]),
-        (("update", 1, 10, 11), 1, (0, "done"), [11, 20, -1]),
-        (("update", 1, 9, 12), 1, (0, "done"), [13, 20, -1]),
+    let most = 1_000_000_000_000_000;
+    for (way, line, changes, answer, values) in [
+        (Way::Sum, ("insert", 3, 30, 0), 1, (0, "done"), [10, 20, 30]),
         (
-            ("update", 1, 0, 1_000_000_000_000_000),
+            Way::Sum,
+            ("insert", 1, 10, 0),
+            0,
+            (1, "unique"),
+            [10, 20, -1],
+        ),
+        (
+            Way::Sum,
+            ("update", 1, 10, 11),
+            1,
+            (0, "done"),
+            [11, 20, -1],
+        ),
+        (Way::Sum, ("update", 1, 9, 12), 1, (0, "done"), [13, 20, -1]),
+        (Way::Sum, ("update", 1, 8, 10), 1, (0, "done"), [12, 20, -1]),
+        (
+            Way::Sum,
+            ("update", 1, 0, most),
             0,
             (1, "range"),
             [10, 20, -1],
         ),
-        (("update", 3, 9, 12), 0, (1, "no row"), [10, 20, -1]),
-        (("delete", 1, 10, 0), 1, (0, "done"), [-1, 20, -1]),
-        (("delete", 1, 9, 0), 0, (1, "delete"), [10, 20, -1]),
-        (("delete", 3, 9, 0), 0, (1, "no row"), [10, 20, -1]),
+        (
+            Way::Sum,
+            ("update", 3, 9, 12),
+            0,
+            (1, "no row"),
+            [10, 20, -1],
+        ),
+        (
+            Way::Greatest,
+            ("update", 1, 8, 10),
+            0,
+            (0, "done"),
+            [10, 20, -1],
+        ),
+        (
+            Way::Greatest,
+            ("update", 1, 8, 11),
+            1,
+            (0, "done"),
+            [11, 20, -1],
+        ),
+        (
+            Way::Nothing,
+            ("update", 1, 10, 11),
+            1,
+            (0, "done"),
+            [11, 20, -1],
+        ),
+        (
+            Way::Nothing,
+            ("update", 1, 8, 10),
+            0,
+            (1, "update"),
+            [10, 20, -1],
+        ),
+        (
+            Way::Nothing,
+            ("delete", 1, 10, 0),
+            1,
+            (0, "done"),
+            [-1, 20, -1],
+        ),
+        (
+            Way::Nothing,
+            ("delete", 1, 9, 0),
+            0,
+            (1, "delete"),
+            [10, 20, -1],
+        ),
+        (
+            Way::Nothing,
+            ("delete", 3, 9, 0),
+            0,
+            (1, "no row"),
+            [10, 20, -1],
+        ),
     ] {
-        let found = outcome(&rt, rt.alloc(), &[line], changes)?;
-        assert_eq!(rt; found, (answer, values), "{line:?}");
+        let found = outcome(&rt, rt.alloc(), way, &[line], changes)?;
+        assert_eq!(rt; found, (answer, values), "{way:?} {line:?}");
     }
     Ok(())
 }
@@ -201,7 +289,7 @@ fn all_calls_are_applied_or_none(rt: HostRuntime) -> Result<(), Fail> {
             [10, -1, -1],
         ),
     ] {
-        let found = outcome(&rt, rt.alloc(), &lines, changes)?;
+        let found = outcome(&rt, rt.alloc(), Way::Nothing, &lines, changes)?;
         assert_eq!(rt; found, (answer, values), "{lines:?}");
     }
     Ok(())
