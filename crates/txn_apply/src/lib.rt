@@ -10,4 +10,6 @@ pub use apply::apply_txn;
 pub use stop::ApplyStop;
 
 #[cfg(test)]
+mod append_tests;
+#[cfg(test)]
 mod tests;

@@ -38,6 +38,7 @@ enum Way {
     Nothing,
     Sum,
     Greatest,
+    GreatestAlone,
 }
 
 fn methods(alloc: Global, way: Way) -> Result<Items<Method>, NoMemory>
@@ -48,6 +49,7 @@ fn methods(alloc: Global, way: Way) -> Result<Items<Method>, NoMemory>
     match way {
         Way::Nothing => Ok(Items::new(alloc)),
         Way::Sum => Ok(Items::from_vec(vec![in alloc; Method::Additive]?)),
+        Way::GreatestAlone => Ok(Items::from_vec(vec![in alloc; Method::Maximum(1)]?)),
         Way::Greatest => Ok(Items::from_vec(vec![in alloc; Method::Maximum(1), Method::Discard]?)),
     }
 }
@@ -181,91 +183,102 @@ fn outcome(
     Ok((answer, values))
 }
 
+const MOST: i64 = 1_000_000_000_000_000;
+
+// How conflicts are settled, a call, how many rows change, what comes of it, and the values of Q afterwards.
+const CALLS: [(Way, (&str, i64, i64, i64), usize, (u32, &str), [i64; 3]); 15] = [
+    (Way::Sum, ("insert", 3, 30, 0), 1, (0, "done"), [10, 20, 30]),
+    (
+        Way::Sum,
+        ("insert", 1, 10, 0),
+        0,
+        (1, "unique"),
+        [10, 20, -1],
+    ),
+    (
+        Way::Sum,
+        ("update", 1, 10, 11),
+        1,
+        (0, "done"),
+        [11, 20, -1],
+    ),
+    (Way::Sum, ("update", 1, 9, 12), 1, (0, "done"), [13, 20, -1]),
+    (Way::Sum, ("update", 1, 8, 10), 1, (0, "done"), [12, 20, -1]),
+    (
+        Way::Sum,
+        ("update", 1, 0, MOST),
+        0,
+        (1, "range"),
+        [10, 20, -1],
+    ),
+    (
+        Way::Sum,
+        ("update", 3, 9, 12),
+        0,
+        (1, "no row"),
+        [10, 20, -1],
+    ),
+    (
+        Way::Greatest,
+        ("update", 1, 8, 10),
+        0,
+        (0, "done"),
+        [10, 20, -1],
+    ),
+    (
+        Way::Greatest,
+        ("update", 1, 8, 11),
+        1,
+        (0, "done"),
+        [11, 20, -1],
+    ),
+    (
+        Way::GreatestAlone,
+        ("update", 1, 8, 10),
+        0,
+        (1, "update"),
+        [10, 20, -1],
+    ),
+    (
+        Way::Nothing,
+        ("update", 1, 10, 11),
+        1,
+        (0, "done"),
+        [11, 20, -1],
+    ),
+    (
+        Way::Nothing,
+        ("update", 1, 8, 10),
+        0,
+        (1, "update"),
+        [10, 20, -1],
+    ),
+    (
+        Way::Nothing,
+        ("delete", 1, 10, 0),
+        1,
+        (0, "done"),
+        [-1, 20, -1],
+    ),
+    (
+        Way::Nothing,
+        ("delete", 1, 9, 0),
+        0,
+        (1, "delete"),
+        [10, 20, -1],
+    ),
+    (
+        Way::Nothing,
+        ("delete", 3, 9, 0),
+        0,
+        (1, "no row"),
+        [10, 20, -1],
+    ),
+];
+
 #[test]
 fn a_call_does_what_its_row_allows(rt: HostRuntime) -> Result<(), Fail> {
-    let most = 1_000_000_000_000_000;
-    for (way, line, changes, answer, values) in [
-        (Way::Sum, ("insert", 3, 30, 0), 1, (0, "done"), [10, 20, 30]),
-        (
-            Way::Sum,
-            ("insert", 1, 10, 0),
-            0,
-            (1, "unique"),
-            [10, 20, -1],
-        ),
-        (
-            Way::Sum,
-            ("update", 1, 10, 11),
-            1,
-            (0, "done"),
-            [11, 20, -1],
-        ),
-        (Way::Sum, ("update", 1, 9, 12), 1, (0, "done"), [13, 20, -1]),
-        (Way::Sum, ("update", 1, 8, 10), 1, (0, "done"), [12, 20, -1]),
-        (
-            Way::Sum,
-            ("update", 1, 0, most),
-            0,
-            (1, "range"),
-            [10, 20, -1],
-        ),
-        (
-            Way::Sum,
-            ("update", 3, 9, 12),
-            0,
-            (1, "no row"),
-            [10, 20, -1],
-        ),
-        (
-            Way::Greatest,
-            ("update", 1, 8, 10),
-            0,
-            (0, "done"),
-            [10, 20, -1],
-        ),
-        (
-            Way::Greatest,
-            ("update", 1, 8, 11),
-            1,
-            (0, "done"),
-            [11, 20, -1],
-        ),
-        (
-            Way::Nothing,
-            ("update", 1, 10, 11),
-            1,
-            (0, "done"),
-            [11, 20, -1],
-        ),
-        (
-            Way::Nothing,
-            ("update", 1, 8, 10),
-            0,
-            (1, "update"),
-            [10, 20, -1],
-        ),
-        (
-            Way::Nothing,
-            ("delete", 1, 10, 0),
-            1,
-            (0, "done"),
-            [-1, 20, -1],
-        ),
-        (
-            Way::Nothing,
-            ("delete", 1, 9, 0),
-            0,
-            (1, "delete"),
-            [10, 20, -1],
-        ),
-        (
-            Way::Nothing,
-            ("delete", 3, 9, 0),
-            0,
-            (1, "no row"),
-            [10, 20, -1],
-        ),
-    ] {
+    for (way, line, changes, answer, values) in CALLS {
         let found = outcome(&rt, rt.alloc(), way, &[line], changes)?;
         assert_eq!(rt; found, (answer, values), "{way:?} {line:?}");
     }
