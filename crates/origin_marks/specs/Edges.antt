@@ -1,4 +1,4 @@
--- Edges, at which finished positions and others meet.
+-- Edges of finished positions: of an edge and the number behind it, one is finished and the other isn't.
 use Rattle.std.specs.Prelude.{◌≡◌, ℕ, ◌%◌, ◌==◌, Bool, false, List, [], ◌∷◌, length, nat_lt}
 use Rattle.std.specs.List.{count_by}
 use Rattle.std.specs.Ordering.{nat_cmp}
@@ -6,6 +6,7 @@ use Rattle.std.specs.declared.cmp.Ordering.{Ordering}
 use Rattle.std.specs.declared.cmp.Ordering.TheVariants.{Less, Equal, Greater}
 use Rattle.rep_lists.specs.Rising.{IsRising}
 
+-- whether a number is odd
 abbrev pub is_odd : ℕ → Bool
 is_odd n = n % 2 == 1
 
@@ -13,7 +14,7 @@ is_odd n = n % 2 == 1
 abbrev pub count_below : ℕ → List ℕ → ℕ
 count_below p edges = count_by (λ e. nat_lt e p) edges
 
--- whether a position lies between two edges: an odd number of them is below it
+-- whether a position lies between two edges that belong together: an odd number of edges is below it
 abbrev pub is_between : List ℕ → ℕ → Bool
 is_between edges p = is_odd (count_below p edges)
 
@@ -30,6 +31,7 @@ pub record IsEdges (edges : List ℕ) : Type 0 where
   pub falling : IsFalling edges
   pub paired : is_odd (length edges) ≡ false
 
+-- the edges from x on, by where the edge that is flipped stands beside x
 abbrev pub flipped_here : Ordering → ℕ → ℕ → List ℕ → List ℕ → List ℕ
 flipped_here Less edge x xs rest = x ∷ rest
 flipped_here Equal edge x xs rest = xs

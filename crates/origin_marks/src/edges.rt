@@ -20,7 +20,7 @@ fn search(edges: &[u64], edge: u64) -> Result<usize, usize>
 }
 
 /// How many edges lie below a position.
-pub(crate) fn below(edges: &[u64], position: u64) -> usize
+pub(crate) fn edges_below(edges: &[u64], position: u64) -> usize
     requires { IsFalling edges.now }
     ensures { result ≡ count_below position edges.now }
 {
@@ -64,7 +64,7 @@ fn is_free(edges: &[u64], place: usize, position: u64) -> bool
 }
 
 /// Flips both edges beside a position, so that it is finished and no other one changes.
-pub(crate) fn set_apart(edges: &mut Vec<u64>, position: u64)
+pub(crate) fn flip_beside(edges: &mut Vec<u64>, position: u64)
     requires falling { IsFalling edges.old.items }
     requires from_one { 1 ≤ position }
     requires room { 2 ≤ vec_capacity edges.old - vec_len edges.old }

@@ -2,7 +2,7 @@
 ghost use Rattle.std.specs.Prelude.{◌≡◌, ℕ, ◌+◌, ◌<◌, ◌≤◌, ◌==◌, ◌||◌, ◌&&◌, false, not, nat_le, OnOk};
 ghost use Rattle.origin_marks.specs.Marks.{finished, IsLowWater};
 
-use crate::edges::{below, set_apart};
+use crate::edges::{edges_below, flip_beside};
 use rep_lists::NoMemory;
 use std::alloc::Global;
 use std::marker::Model;
@@ -10,8 +10,8 @@ use std::marker::Model;
 /// The positions of one sender, from 1, that are done or in error.
 #[derive(Drop)]
 pub struct Finished {
-    // The edges of the intervals of finished positions, so a position far ahead costs two edges.
-    // The highest edge comes first: what is finished behind the low-water mark moves only edges at the end.
+    // The edges of the intervals of finished positions: 0 and 2 where 1 and 2 are finished. A position far ahead
+    // costs two edges. The highest comes first, so what is finished behind the low-water mark moves only edges at the end.
     edges: Vec<u64>,
 }
 
@@ -55,14 +55,14 @@ impl Finished {
         ensures finished { (p : ℕ) → finished self.new p ≡ (p == position || finished self.old p) }
         ensures room { self.old.room ≤ self.new.room + 1 }
     {
-        set_apart(&mut self.edges, position);
+        flip_beside(&mut self.edges, position);
     }
 
     /// Whether a position is finished.
     pub fn is_finished(&self, position: u64) -> bool
         ensures { result ≡ finished self.now position }
     {
-        below(&self.edges, position) % 2 == 1
+        edges_below(&self.edges, position) % 2 == 1
     }
 
     /// The greatest number with all positions from 1 up to it finished.

@@ -11,4 +11,4 @@ pub returns : goal.returns
 returns c =
     let facts = c.binary_search_by.ensures in
     let by_edge = facts.position (nat_cmp c.args.edge) (always_returns_same _ _ _ (λ a r g called. search rules)) in
-    searched (λ x. x) falling_cmp falling_cmp_total c.args.edge _ c.requires _ facts.bound by_edge
+    searched (λ x. x) falling_cmp falling_cmp_total c.args.edge c.args.edges.now c.requires c.binary_search_by.result facts.bound by_edge

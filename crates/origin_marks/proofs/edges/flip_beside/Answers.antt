@@ -1,7 +1,7 @@
 use Rattle.std.proofs.Common.{◌≡◌, ◌-◌, ◌==◌, true, get_or}
 use Rattle.std.specs.Prelude.{nat_lt, ◌||◌}
 use Rattle.origin_marks.proofs.Flips.{flipped_free, falling_flipped}
-use Rattle.origin_marks.proofs.edges.set_apart.Goals as goal
+use Rattle.origin_marks.proofs.edges.flip_beside.Goals as goal
 
 pub flip-requires-in_default-clause-falling : goal.flip-requires-in_default-clause-falling
 flip-requires-in_default-clause-falling c = rw c.flip.ensures.edges (falling_flipped _ _ c.requires.falling)
