@@ -1,0 +1,6 @@
+-- The lemmas of this crate, from the bottom up.
+pub mod Marks
+pub mod Counts
+pub mod Flips
+pub mod Low
+mod MarkExamples

@@ -1,0 +1,12 @@
+-- What holds of every low-water mark.
+use Rattle.std.specs.Prelude.{◌≡◌, ℕ, ◌≤◌, ◌==◌, ◌||◌, Bool}
+use Rattle.origin_marks.specs.Marks.{IsLowWater}
+
+-- two numbers that are both the low-water mark are equal
+abbrev pub LowWaterIsOne : Type 0
+LowWaterIsOne = (is_finished : ℕ → Bool) (m n : ℕ) → IsLowWater is_finished m → IsLowWater is_finished n → m ≡ n
+
+-- where one more position is finished, the mark isn't lower
+abbrev pub FinishKeepsLowWater : Type 0
+FinishKeepsLowWater = (before after : ℕ → Bool) (position m n : ℕ) → ((p : ℕ) → after p ≡ (p == position || before p))
+    → IsLowWater before m → IsLowWater after n → m ≤ n
