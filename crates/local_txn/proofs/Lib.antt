@@ -1,0 +1,3 @@
+-- The lemmas of this crate, from the bottom up.
+mod Marks
+mod WorkedStatements
