@@ -1,3 +1,4 @@
 -- The lemmas of this crate, from the bottom up.
 mod Marks
+mod LiteralWalk
 mod WorkedStatements

@@ -1,5 +1,5 @@
 -- A script's literals beside columns: kinds, declared sites and ranges.
-use Rattle.std.specs.Prelude.{Bool, true, false, not, ◌&&◌, ◌||◌, List, [], ◌∷◌, map}
+use Rattle.std.specs.Prelude.{Bool, true, false, not, ◌&&◌, ◌||◌, List, [], ◌∷◌, map, Option, Some, None}
 use Rattle.std.specs.List.{list_any, list_all}
 use Rattle.rep_values.specs.declared.literal.Literal.{Literal}
 use Rattle.rep_values.specs.declared.literal.Literal.TheVariants as literal
@@ -50,6 +50,10 @@ names_site schema (literal.Words t) = list_any (λ site. same_bytes site.name.0 
 -- a literal for a column: of its kind, and in a SITE key column the name of a declared site
 abbrev pub literal_fits : Schema → Column → Literal → Bool
 literal_fits schema column literal = is_of_kind column.kind literal && (not (column.key && is_site_kind column.kind) || names_site schema literal)
+
+abbrev pub literal_there : Schema → Column → Option Literal → Bool
+literal_there schema column None = false
+literal_there schema column (Some literal) = literal_fits schema column literal
 
 -- a literal for each column
 abbrev pub literals_fit : Schema → List Column → List Literal → Bool
