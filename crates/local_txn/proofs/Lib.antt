@@ -1,4 +1,6 @@
 -- The lemmas of this crate, from the bottom up.
 mod Marks
 mod LiteralWalk
+mod RowShapes
+mod FreeRows
 mod WorkedStatements

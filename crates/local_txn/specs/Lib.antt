@@ -4,3 +4,4 @@ pub mod Literals
 pub mod Sets
 pub mod Statements
 pub mod Locals
+pub mod Running

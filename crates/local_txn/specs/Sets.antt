@@ -1,5 +1,5 @@
 -- What an update sets: which columns, and to what.
-use Rattle.std.specs.Prelude.{ℕ, ◌+ℤ◌, Bool, true, false, not, ◌&&◌, ◌||◌, List, [], ◌∷◌, Option, Some, None}
+use Rattle.std.specs.Prelude.{ℕ, ◌+ℤ◌, Bool, true, false, cond, not, ◌&&◌, ◌||◌, List, [], ◌∷◌, Option, Some, None}
 use Rattle.std.specs.List.{find, list_any, list_all}
 use Rattle.rep_values.specs.declared.value.Value.{Value}
 use Rattle.rep_values.specs.declared.value.Value.TheVariants.{Num, Words}
@@ -11,7 +11,7 @@ use Rattle.rep_calls.specs.declared.statement.Set.{Set}
 use Rattle.rep_calls.specs.declared.statement.How.{How}
 use Rattle.rep_calls.specs.declared.statement.How.TheVariants.{To, Add}
 use Rattle.rep_declare.specs.Named.{is_column}
-use Rattle.local_txn.specs.Literals.{is_of_kind, takes_amounts}
+use Rattle.local_txn.specs.Literals.{is_of_kind, takes_amounts, value_in_range, row_in_range}
 
 -- each name is that of a column
 abbrev pub names_columns : List Column → List Set → Bool
@@ -55,3 +55,11 @@ abbrev pub row_with : List Set → List Column → Cells → Cells
 row_with sets [] row = row
 row_with sets (c ∷ cs) [] = []
 row_with sets (c ∷ cs) (v ∷ vs) = value_by (find (is_about c.name) sets) v ∷ row_with sets cs vs
+
+-- a value that lies in range
+abbrev pub where_in_range : Value → Option Value
+where_in_range value = cond (value_in_range value) (Some value) None
+
+-- a row whose numbers lie in range
+abbrev pub row_where_in_range : Cells → Option Cells
+row_where_in_range row = cond (row_in_range row) (Some row) None

@@ -4,7 +4,10 @@
 mod held;
 mod literals;
 mod local;
+mod rows;
 mod sets;
+mod statement;
+mod stop;
 mod table_set;
 
 pub use local::{Here, Local, LocalStop, Stamps};

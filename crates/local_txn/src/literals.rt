@@ -139,7 +139,7 @@ pub(crate) fn key_of_literals(literals: &[Literal]) -> Key
     }
 }
 
-fn value_in_range(value: &Value) -> bool
+pub(crate) fn value_in_range(value: &Value) -> bool
     ensures { result ≡ value_in_range value.now }
 {
     match value {

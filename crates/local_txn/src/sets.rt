@@ -1,14 +1,13 @@
 //! What an update sets.
-ghost use Rattle.std.specs.Prelude.{◌≡◌, false, option_copied, length};
+ghost use Rattle.std.specs.Prelude.{◌≡◌, option_copied, length};
 ghost use Rattle.std.specs.List.{find, list_any, list_all};
 ghost use Rattle.rep_declare.specs.Named.{is_column};
-ghost use Rattle.local_txn.specs.Sets.{names_columns, is_about, names_one_twice, takes_how, takes_set, sets_fit, value_after, value_by, row_with};
-ghost use Rattle.local_txn.specs.Literals.{value_in_range, row_in_range};
+ghost use Rattle.local_txn.specs.Sets.{names_columns, is_about, names_one_twice, takes_how, takes_set, sets_fit, value_after, value_by, row_with, where_in_range, row_where_in_range};
 
-use crate::literals::{is_of_kind, takes_amounts};
+use crate::literals::{is_of_kind, takes_amounts, value_in_range};
 use rep_calls::{How, Set};
 use rep_schema::Column;
-use rep_values::Name;
+use rep_values::{Name, Row, Value};
 
 fn has_column(columns: &[Column], name: &Name) -> bool
     ensures { result ≡ list_any (is_column name.now) columns.now }
@@ -76,4 +75,48 @@ pub(crate) fn sets_fit(columns: &[Column], sets: &[Set]) -> bool
     ensures { result ≡ sets_fit columns.now sets.now }
 {
     takes_sets(columns, sets) && !names_one_twice(sets)
+}
+
+fn where_in_range(value: Value) -> Option<Value>
+    ensures { result ≡ where_in_range value }
+{
+    if value_in_range(&value) {
+        Some(value)
+    } else {
+        None
+    }
+}
+
+fn value_after(how: &How, old: &Value) -> Option<Value>
+    ensures { result ≡ where_in_range (value_after how.now old.now) }
+{
+    match (how, old) {
+        (How::To(literal), Value::Num(_) | Value::Words(_)) => where_in_range(literal.value()),
+        (How::Add(amount), Value::Num(number)) => {
+            where_in_range(Value::Num(number.checked_add(*amount)?))
+        }
+        (How::Add(_), Value::Words(_)) => Some(*old),
+    }
+}
+
+fn value_by(set: Option<&Set>, old: &Value) -> Option<Value>
+    ensures { result ≡ where_in_range (value_by (option_copied set.entry) old.now) }
+{
+    match set {
+        None => where_in_range(*old),
+        Some(set) => value_after(&set.how, old),
+    }
+}
+
+/// The row with what is set of its columns; None where a number leaves its range.
+pub(crate) fn set_row(columns: &[Column], sets: &[Set], row: Row) -> Option<Row>
+    requires { length columns.now ≡ length row }
+    ensures { result ≡ row_where_in_range (row_with sets.now columns.now row) }
+{
+    let mut row = row;
+    for i in 0..columns.len() {
+        let value = value_by(find_set(sets, &columns[i].name), &row.values()[i])?;
+        row.set(i, value);
+    }
+    Some(row)
 }
