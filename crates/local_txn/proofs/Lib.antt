@@ -3,4 +3,5 @@ mod Marks
 mod LiteralWalk
 mod RowShapes
 mod FreeRows
+mod StatementSteps
 mod WorkedStatements

@@ -28,7 +28,7 @@ use Rattle.local_txn.specs.Statements.{taken_step}
 use Rattle.local_txn.specs.Literals.{takes_numbers, takes_amounts, is_of_kind, literal_fits, literals_fit, values_of, value_in_range, row_in_range}
 use Rattle.local_txn.specs.Sets.{is_about, takes_how, takes_set, value_after, value_by, row_with}
 
-both_true : (a b : Bool) → (a && b) ≡ true → (a ≡ true) × (b ≡ true)
+pub both_true : (a b : Bool) → (a && b) ≡ true → (a ≡ true) × (b ≡ true)
 both_true true b e = (refl, e)
 both_true false b e = cc
 
@@ -117,7 +117,7 @@ key-set c None v takes is_key = refl
 key-set c (Some s) v takes is_key = let plain = not_true c.key (both_true (not c.key) (takes_how c s.how) takes).0 in cc
 
 module _ (sets : List Set) where
-  abbrev takes : Column → Bool
+  abbrev pub takes : Column → Bool
   takes c = takes_set c (find (is_about c.name) sets)
 
   fit-row_with : (columns : List Column) (row : Cells) → list_all takes columns ≡ true → row_fits columns row ≡ true → row_in_range (row_with sets columns row) ≡ true → row_fits columns (row_with sets columns row) ≡ true
@@ -176,3 +176,7 @@ module _ (schema : Schema) (tables : List Rows) (table : ℕ) (row : Cells) (pla
 pub found_at : {X : Type 0} (xs : List X) (i : ℕ) → i < length xs → (x : X) × (slice_get xs i ≡ Some x)
 found_at [] i below = absurd (omega (arith, below))
 found_at (x ∷ xs) i below = (get_or (x ∷ xs) i x, slice_get-get_or (x ∷ xs) i x below)
+
+pub length-values_of : (literals : List Literal) → length (values_of literals) ≡ length literals
+length-values_of [] = refl
+length-values_of (l ∷ ls) = let rest = length-values_of ls in omega (arith, rest)

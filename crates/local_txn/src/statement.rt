@@ -1,10 +1,11 @@
 //! One statement on a store.
-ghost use Rattle.std.specs.Prelude.{◌≡◌, ◌≢◌, ℕ, ◌+◌, ◌<◌, ◌≤◌, ◌^◌, ◌==◌, cond, length, slice_index, Some, None, IfOk, IfErr, OnOk, OnErr};
+ghost use Rattle.std.specs.Prelude.{◌≡◌, ◌≢◌, ℕ, ◌+◌, ◌<◌, ◌≤◌, ◌^◌, ◌==◌, ◌&&◌, cond, length, slice_index, Some, None, IfOk, IfErr, OnOk, OnErr};
 ghost use Rattle.rep_schema.specs.Tables.{columns_of, key_of};
 ghost use Rattle.rep_declare.specs.Refusals.{first_refusal};
 ghost use Rattle.txn_effects.specs.Calls.{changes_between};
 ghost use Rattle.txn_effects.specs.Transactions.{made_all};
-ghost use Rattle.local_txn.specs.Literals.{values_of};
+ghost use Rattle.local_txn.specs.Literals.{key_literals_fit, values_of};
+ghost use Rattle.local_txn.specs.Sets.{sets_fit};
 ghost use Rattle.local_txn.specs.Statements.{row_at, row_set, insert_steps, update_steps, delete_steps, steps_in, change_in};
 ghost use Rattle.local_txn.specs.Running.{CanRun, changes_of, RunsAs, StopsAs};
 
@@ -13,7 +14,7 @@ use crate::rows::{copy_of_row, has_row, key_in, put_free};
 use crate::sets::{names_columns, set_row, sets_fit};
 use crate::stop::Stop;
 use rep_calls::{Set, Statement};
-use rep_schema::{Change, RowStore, columns_of};
+use rep_schema::{Change, Column, RowStore, Schema, columns_of};
 use rep_values::{Literal, Refusal};
 use std::alloc::Global;
 
@@ -48,6 +49,13 @@ fn insert_row<R: RowStore>(
     Ok(change)
 }
 
+/// Whether the key and what is set fit.
+fn update_fits(schema: &Schema, columns: &[Column], key: &[Literal], sets: &[Set]) -> bool
+    ensures { result ≡ (key_literals_fit schema.now columns.now key.now && sets_fit columns.now sets.now) }
+{
+    key_literals_fit(schema, columns, key) && sets_fit(columns, sets)
+}
+
 fn update_row<R: RowStore>(
     store: &mut R,
     alloc: Global,
@@ -71,7 +79,7 @@ fn update_row<R: RowStore>(
     if !names_columns(columns, sets) {
         return Err(Stop::Refused(Refusal::UnknownName));
     }
-    if !(key_literals_fit(store.schema(), columns, key) && sets_fit(columns, sets)) {
+    if !update_fits(store.schema(), columns, key, sets) {
         return Err(Stop::Refused(Refusal::RowShape));
     }
     let row = copy_of_row(store, alloc, table, &key_of_literals(key))?;
@@ -100,13 +108,17 @@ fn delete_row<R: RowStore>(
     if !key_literals_fit(store.schema(), columns_of(store.schema(), table), key) {
         return Err(Stop::Refused(Refusal::RowShape));
     }
-    match store.take(table, &key_of_literals(key)) {
-        None => Err(Stop::Refused(Refusal::NoRow)),
+    let key = key_of_literals(key);
+    if !has_row(store, table, &key) {
+        return Err(Stop::Refused(Refusal::NoRow));
+    }
+    match store.take(table, &key) {
         Some(before) => Ok(Some(Change {
             table,
             before: Some(before),
             after: None,
         })),
+        None => unreachable!(),
     }
 }
 
