@@ -4,4 +4,5 @@ mod LiteralWalk
 mod RowShapes
 mod FreeRows
 mod StatementSteps
+mod StatementEffects
 mod WorkedStatements

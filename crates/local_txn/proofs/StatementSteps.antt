@@ -89,7 +89,7 @@ module _ (schema : Schema) (tables : List Rows) (table : ℕ) (able : CanRun sch
       pub RowFits-updated : RowFits (columns_of schema table) row
       RowFits-updated = subst (RowFits (columns_of schema table)) (sym in_range.0) (RowFits-row_with sets (columns_of schema table) found taken RowFits-here in_range.1)
 
-      same_row : row_like (columns_of schema table) row (rows_of tables table) ≡ row_at schema tables table (values_of key)
+      pub same_row : row_like (columns_of schema table) row (rows_of tables table) ≡ row_at schema tables table (values_of key)
       same_row = ap (λ k. find_row (columns_of schema table) k (rows_of tables table))
           (ap (key_of (columns_of schema table)) in_range.0 ∙ key_of-row_with sets (columns_of schema table) found taken ∙ key_of-found (columns_of schema table) (values_of key) found (rows_of tables table) there)
 

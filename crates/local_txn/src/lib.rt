@@ -5,6 +5,7 @@ mod held;
 mod literals;
 mod local;
 mod rows;
+mod run;
 mod sets;
 mod statement;
 mod stop;
