@@ -5,4 +5,5 @@ mod RowShapes
 mod FreeRows
 mod StatementSteps
 mod StatementEffects
+mod BlockSteps
 mod WorkedStatements
