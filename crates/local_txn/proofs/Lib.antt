@@ -6,4 +6,5 @@ mod FreeRows
 mod StatementSteps
 mod StatementEffects
 mod BlockSteps
+mod BlockCalls
 mod WorkedStatements

@@ -16,11 +16,12 @@ ghost use Rattle.local_txn.specs.Running.{changes_of, RunsAs, StopsAs, EndsAs};
 use crate::held::held_table;
 use crate::statement::run_in;
 use crate::stop::{Stop, stop_at};
-use crate::{Here, LocalStop};
-use rep_calls::Statement;
-use rep_lists::Items;
-use rep_schema::{Change, Changes, RowStore, undo};
-use rep_values::Refusal;
+use crate::{Here, Local, LocalStop, Stamps};
+use conflict_detect::call_of;
+use rep_calls::{Call, Statement, Txn};
+use rep_lists::{Items, NoMemory};
+use rep_schema::{Change, Changes, RowStore, Schema, undo};
+use rep_values::{Limit, Refusal};
 use std::alloc::Global;
 
 // A store's rows are tables of its schema.
@@ -109,4 +110,61 @@ fn run_statements<R: RowStore>(
     Ok(Changes {
         rows: Items::from_vec(done),
     })
+}
+
+/// The calls of changed rows.
+fn calls_of(alloc: Global, schema: &Schema, changes: &[Change]) -> Result<Items<Call>, NoMemory>
+    requires shape { HasShape schema.now }
+    requires fits { AllByRecursion (ChangeFits schema.now) changes.now }
+    ensures { IfOk result (λ calls. calls ≡ map (call_of schema.now) changes.now) }
+{
+    let mut calls = Items::new(alloc);
+    for change in changes {
+        calls.push(call_of(alloc, schema, change)?)?;
+    }
+    Ok(calls)
+}
+
+/// Runs the statements of a block at a site as one local transaction: all of them, or none. It answers the
+/// transaction, with one call for each row that a statement changed, and those changes; there is room in the store to
+/// undo them. Where a statement is refused, the answer names the first one, from 1, with its refusal; then, and where
+/// there is no memory, the store's rows are as before.
+pub fn run_local<R: RowStore>(
+    store: &mut R,
+    alloc: Global,
+    stamps: &mut Stamps,
+    here: &Here,
+    statements: &[Statement],
+) -> Result<Local, LocalStop>
+    requires shape { HasShape (R.schema store.old) }
+    requires keys { HasKeys (R.schema store.old) }
+    requires apart { KeysStandAlone (R.schema store.old) }
+    ensures ok { IfOk result (λ local. local_effect (R.schema store.old) here.now statements.now (R.tables store.old) ≡ Ok local.changes.rows) }
+    ensures txn { IfOk result (λ local. local.txn.calls ≡ map (call_of (R.schema store.old)) local.changes.rows) }
+    ensures tables { IfOk result (λ local. R.tables store.new ≡ made_all (R.schema store.old) local.changes.rows (R.tables store.old)) }
+    ensures leads { IfOk result (λ local. LeadsTo (R.schema store.old) local.changes.rows (R.tables store.old) (R.tables store.new)) }
+    ensures room { IfOk result (λ local. (t : ℕ) → room_for t local.changes.rows ≤ slice_index (R.spare store.new) t) }
+    ensures fits { IfOk result (λ local. TxnFits (R.schema store.old) local.txn) }
+    ensures err { IfErr result (EndsAs (local_effect (R.schema store.old) here.now statements.now (R.tables store.old))) }
+    ensures kept { OnErr result (R.tables store.new ≡ R.tables store.old) }
+    ensures stamps { stamps.new ≡ stamps.old }
+    ensures schema { R.schema store.new ≡ R.schema store.old }
+{
+    if statements.len() > 1_000 {
+        return Err(LocalStop {
+            statement: 1_001,
+            refusal: Refusal::LimitReached(Limit::Statements),
+        });
+    }
+    let changes = run_statements(store, alloc, here, statements)?;
+    match calls_of(alloc, store.schema(), changes.rows.as_slice()) {
+        Ok(calls) => Ok(Local {
+            txn: Txn { calls },
+            changes,
+        }),
+        Err(_) => {
+            undo(store, changes);
+            Err(stop_at(0, Stop::NoRoom))
+        }
+    }
 }
