@@ -7,4 +7,6 @@ mod StatementSteps
 mod StatementEffects
 mod BlockSteps
 mod BlockCalls
+mod PartsApart
+mod Applying
 mod WorkedStatements

@@ -7,6 +7,7 @@ ghost use Rattle.rep_schema.specs.Tables.{AreTables};
 ghost use Rattle.rep_schema.specs.Changes.{ChangeFits, LeadsTo, room_for};
 ghost use Rattle.conflict_detect.specs.Fits.{TxnFits};
 ghost use Rattle.conflict_detect.specs.ChangeCalls.{call_of};
+ghost use Rattle.unique_resolve.specs.Numbers.{Numbers};
 ghost use Rattle.txn_effects.specs.Calls.{HasKeys, KeysStandAlone};
 ghost use Rattle.txn_effects.specs.Transactions.{made_all, txn_effect};
 ghost use Rattle.local_txn.specs.Statements.{statement_refusal, statement_changes};
@@ -145,6 +146,8 @@ pub fn run_local<R: RowStore>(
     ensures leads { IfOk result (λ local. LeadsTo (R.schema store.old) local.changes.rows (R.tables store.old) (R.tables store.new)) }
     ensures room { IfOk result (λ local. (t : ℕ) → room_for t local.changes.rows ≤ slice_index (R.spare store.new) t) }
     ensures fits { IfOk result (λ local. TxnFits (R.schema store.old) local.txn) }
+    ensures applies { IfOk result (λ local. (origin : SiteNameValue) (numbers : Numbers)
+        → txn_effect (R.schema store.old) origin local.txn (R.tables store.old) numbers ≡ Ok (record { changes = local.changes.rows; numbers = numbers })) }
     ensures err { IfErr result (EndsAs (local_effect (R.schema store.old) here.now statements.now (R.tables store.old))) }
     ensures kept { OnErr result (R.tables store.new ≡ R.tables store.old) }
     ensures stamps { stamps.new ≡ stamps.old }
