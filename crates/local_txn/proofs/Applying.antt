@@ -1,0 +1,132 @@
+-- A block's calls, applied as a transaction, make the block's changes.
+use Rattle.std.proofs.Common.{◌≡◌, ◌≢◌, ℕ, suc, ◌+◌, ◌<◌, Bool, true, false, cond, List, [], ◌∷◌, ◌++◌, length, map, set, get_or, Ok, refl, sym, ap, ◌∙◌, subst}
+use Rattle.std.specs.Prelude.{Option, Some, None, Result, IfSome, ◌&&◌, is_some, slice_get, slice_set, slice_index_or}
+use Rattle.std.specs.List.{AllByRecursion}
+use Rattle.std.proofs.lemmas.List.{set-get_or}
+use Rattle.std.proofs.lemmas.Option.{slice_get_within}
+use Rattle.rep_values.specs.declared.name.SiteName.{SiteName}
+use Rattle.rep_values.specs.declared.refusal.ApplyError.{ApplyError}
+use Rattle.rep_schema.specs.declared.schema.Schema.{Schema}
+use Rattle.rep_schema.specs.declared.schema.Column.{Column}
+use Rattle.rep_schema.specs.declared.schema.Constraint.{Constraint}
+use Rattle.rep_schema.specs.declared.change.Change.{Change}
+use Rattle.rep_schema.specs.Shape.{HasShape}
+use Rattle.rep_schema.specs.Tables.{Cells, Rows, columns_of, constraints_of, constraint_columns_of, key_of, find_row, rows_of, RowFits, IsUniqueRow, AreTables}
+use Rattle.rep_schema.specs.Groups.{are_same}
+use Rattle.rep_schema.specs.Changes.{made, row_like, IsChange, LeadsTo}
+use Rattle.rep_schema.proofs.TakingBack.{AreTables-made}
+use Rattle.rep_schema.proofs.Leading.{ChangeFits-from_IsChange}
+use Rattle.rep_schema.proofs.FoundRows.{found_row, key_of-found}
+use Rattle.rep_schema.proofs.ValuesAt.{are_same-Decides}
+use Rattle.rep_calls.specs.declared.call.Call.{Call}
+use Rattle.rep_calls.specs.declared.call.Call.TheVariants.{Insert, Update, Delete}
+use Rattle.conflict_detect.specs.Fits.{CallFits}
+use Rattle.conflict_detect.proofs.CallFit.{CallFits-call_of}
+use Rattle.conflict_detect.specs.ChangeCalls.{call_between, call_of, parts_between}
+use Rattle.conflict_detect.specs.Laws.{AreOneRow}
+use Rattle.unique_resolve.specs.declared.settled.Settled.TheVariants.{Fits}
+use Rattle.unique_resolve.specs.Numbers.{Numbers}
+use Rattle.unique_resolve.specs.Settling.{is_held, TableOutcome, settled_each, Settlement, settlement_of}
+use Rattle.unique_resolve.proofs.HeldValues.{held_test}
+use Rattle.txn_effects.specs.Parts.{result_then, settled_parts}
+use Rattle.txn_effects.specs.Calls.{RowEffect, settled_effect, changes_between, Effect, call_effect}
+use Rattle.txn_effects.specs.Transactions.{behind, calls_effect}
+use Rattle.txn_effects.proofs.CallEffects.{is_unchanged-Decides}
+use Rattle.txn_effects.proofs.TransactionEffects.{calls_effect-Ok}
+use Rattle.local_txn.proofs.PartsApart.{settled_parts-own}
+
+-- a row that holds nothing that another has fits as it is, and no counter moves
+settled_each-free : (columns : List Column) (rows : Rows) (origin : SiteName) (constraints : List Constraint) (numbers : List ℕ) (row : Cells)
+    → AllByRecursion (λ constraint. is_held columns constraint.columns rows row ≡ false) constraints
+    → settled_each columns rows origin constraints numbers row ≡ record { settled = Fits row; numbers = numbers }
+settled_each-free columns rows origin [] numbers row free = refl
+settled_each-free columns rows origin (c ∷ cs) [] row free = refl
+settled_each-free columns rows origin (c ∷ cs) (n ∷ ns) row free = rw (free.0, settled_each-free columns rows origin cs ns row free.1) refl
+
+each_by_place : {X : Type 0} (P : X → Type 0) (xs : List X) → ((i : ℕ) (x : X) → slice_get xs i ≡ Some x → P x) → AllByRecursion P xs
+each_by_place P [] each = tt
+each_by_place P (x ∷ xs) each = (each 0 x refl, each_by_place P xs (λ i y there. each (suc i) y there))
+
+-- what never passes fails
+not_true : (b : Bool) → (b ≡ true → ⊥) → b ≡ false
+not_true true never = absurd (never refl)
+not_true false never = refl
+
+module _ (schema : Schema) (tables : List Rows) (origin : SiteName) (numbers : Numbers) where
+  module _ (table : ℕ) (row : Cells) (below : table < length schema.tables) (are : AreTables schema tables) (fits : RowFits (columns_of schema table) row) (unique : IsUniqueRow schema table row (rows_of tables table)) where
+    free_at : (i : ℕ) (c : Constraint) → slice_get (constraints_of schema table) i ≡ Some c → is_held (columns_of schema table) c.columns (rows_of tables table) row ≡ false
+    free_at i c there =
+        let within : i < length (constraints_of schema table) = slice_get_within (constraints_of schema table) i c there in
+        let none = not_true (is_held (columns_of schema table) (constraint_columns_of schema table i) (rows_of tables table) row)
+        (λ held. unique.unheld i within ((held_test (columns_of schema table) (constraint_columns_of schema table i) row fits (rows_of tables table) (are.each table below).fit).0 held)) in
+        rw there at none
+
+    free : AllByRecursion (λ constraint. is_held (columns_of schema table) constraint.columns (rows_of tables table) row ≡ false) (constraints_of schema table)
+    free = each_by_place (λ (constraint : Constraint). is_held (columns_of schema table) constraint.columns (rows_of tables table) row ≡ false) (constraints_of schema table) free_at
+
+    -- a row that violates nothing is settled as itself
+    settlement_of-free : (inserting : Bool) → (inserting && is_some (row_like (columns_of schema table) row (rows_of tables table))) ≡ false
+        → settlement_of schema tables numbers origin table inserting row ≡ record { settled = Fits row; numbers = numbers }
+    settlement_of-free inserting new =
+        rw (new, settled_each-free (columns_of schema table) (rows_of tables table) origin (constraints_of schema table) (slice_index_or numbers table []) row free, set-get_or numbers table []) refl
+
+  module _ (table : ℕ) (below : table < length schema.tables) (are : AreTables schema tables) (shape : HasShape schema) where
+    abbrev change_of : Option Cells → Option Cells → Change
+    change_of before after = record { table = table; before = before; after = after }
+
+    abbrev changed : Option Cells → Option Cells → Result Effect ApplyError
+    changed before after = Ok (record { changes = change_of before after ∷ []; numbers = numbers })
+
+    own_Insert : (row : Cells) → row_like (columns_of schema table) row (rows_of tables table) ≡ None → RowFits (columns_of schema table) row → IsUniqueRow schema table row (rows_of tables table)
+        → call_effect schema tables numbers origin (Insert table row) ≡ changed None (Some row)
+    own_Insert row gone fits unique = rw (settlement_of-free table row below are fits unique true (rw gone refl), gone) refl
+
+    own_Delete : (row : Cells) → row_like (columns_of schema table) row (rows_of tables table) ≡ Some row → call_effect schema tables numbers origin (Delete table row) ≡ changed (Some row) None
+    own_Delete row there =
+        let same : are_same row row ≡ true = (are_same-Decides row row).1 refl in
+        rw (there, same) refl
+
+    own_Update : (a b : Cells) → row_like (columns_of schema table) a (rows_of tables table) ≡ Some a → row_like (columns_of schema table) b (rows_of tables table) ≡ Some a
+        → RowFits (columns_of schema table) b → IsUniqueRow schema table b (rows_of tables table) → a ≢ b
+        → CallFits schema (Update table (key_of (columns_of schema table) a) (parts_between schema table a b))
+        → call_effect schema tables numbers origin (Update table (key_of (columns_of schema table) a) (parts_between schema table a b)) ≡ changed (Some a) (Some b)
+    own_Update a b there was fits unique differ call_fits =
+        let one : AreOneRow schema table a b = record {
+          first = found_row (columns_of schema table) (key_of (columns_of schema table) a) a (rows_of tables table) there (RowFits (columns_of schema table)) (are.each table below).fit;
+          second = fits;
+          same_key = key_of-found (columns_of schema table) (key_of (columns_of schema table) b) a (rows_of tables table) was;
+        } in
+        let gives : settled_parts schema table (parts_between schema table a b) a ≡ Ok b = settled_parts-own schema shape table a b (key_of (columns_of schema table) a) one call_fits.content in
+        let other : are_same a b ≡ false = not_true (are_same a b) (λ same. differ ((are_same-Decides a b).0 same)) in
+        let put : result_then {B = Effect} (settled_effect (settlement_of schema tables numbers origin table false b) (Some a))
+            (λ (effect : RowEffect). Ok (record { changes = changes_between table (Some a) effect.after; numbers = effect.numbers })) ≡ changed (Some a) (Some b) =
+        ap (λ (x : Settlement). result_then {B = Effect} (settled_effect x (Some a)) (λ (effect : RowEffect). Ok (record { changes = changes_between table (Some a) effect.after; numbers = effect.numbers })))
+        (settlement_of-free table b below are fits unique false refl) ∙ rw other refl in
+        rw (there, gives) put
+
+  -- the call of a change makes the change
+  call_effect-own : (change : Change) → AreTables schema tables → HasShape schema → IsChange schema change tables → change.before ≢ change.after
+      → call_effect schema tables numbers origin (call_of schema change) ≡ Ok (record { changes = change ∷ []; numbers = numbers })
+  call_effect-own change are shape is differ = go change.before change.after is.before is.after is.fits is.unique differ
+      (CallFits-call_of schema change shape (ChangeFits-from_IsChange schema change tables are is differ))
+    where
+      go : (before after : Option Cells) → IfSome before (λ row. row_like (columns_of schema change.table) row (rows_of tables change.table) ≡ Some row)
+          → IfSome after (λ row. row_like (columns_of schema change.table) row (rows_of tables change.table) ≡ before)
+          → IfSome after (λ row. RowFits (columns_of schema change.table) row) → IfSome after (λ row. IsUniqueRow schema change.table row (rows_of tables change.table)) → before ≢ after
+          → CallFits schema (call_between schema change.table before after)
+          → call_effect schema tables numbers origin (call_between schema change.table before after) ≡ changed change.table is.table are shape before after
+      go None None there was fits unique differ call_fits = absurd (differ refl)
+      go None (Some row) there was fits unique differ call_fits = own_Insert change.table is.table are shape row was fits unique
+      go (Some row) None there was fits unique differ call_fits = own_Delete change.table is.table are shape row there
+      go (Some a) (Some b) there was fits unique differ call_fits = own_Update change.table is.table are shape a b there was fits unique (λ same. differ (ap Some same)) call_fits
+
+-- and those of changes that lead from tables to others make them all
+pub calls_effect-own : (schema : Schema) (origin : SiteName) (numbers : Numbers) (number : ℕ) (changes : List Change) (tables later : List Rows) → HasShape schema → AreTables schema tables
+    → LeadsTo schema changes tables later → AllByRecursion (λ change. change.before ≢ change.after) changes
+    → calls_effect schema origin number (map (call_of schema) changes) tables numbers ≡ Ok (record { changes = changes; numbers = numbers })
+calls_effect-own schema origin numbers number [] tables later shape are lead differ = refl
+calls_effect-own schema origin numbers number (change ∷ changes) tables later shape are lead differ =
+    let one = call_effect-own schema tables origin numbers change are shape lead.0 differ.0 in
+    let rest = calls_effect-own schema origin numbers (number + 1) changes (made schema change tables) later shape (AreTables-made schema change tables are lead.0) lead.1 differ.1 in
+    calls_effect-Ok schema origin (call_of schema change) tables numbers number (map (call_of schema) changes) (record { changes = change ∷ []; numbers = numbers }) one
+    ∙ ap (behind (change ∷ [])) rest

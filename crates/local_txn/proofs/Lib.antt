@@ -1,0 +1,12 @@
+-- The lemmas of this crate, from the bottom up.
+mod Marks
+mod LiteralWalk
+mod RowShapes
+mod FreeRows
+mod StatementSteps
+mod StatementEffects
+mod BlockSteps
+mod BlockCalls
+mod PartsApart
+mod Applying
+mod WorkedStatements

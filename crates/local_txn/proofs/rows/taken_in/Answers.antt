@@ -1,0 +1,14 @@
+use Rattle.std.proofs.Common.{◌≡◌, Some, true, false, sym, ◌∙◌}
+use Rattle.rep_schema.specs.Tables.{columns_of, constraints_of, rows_of}
+use Rattle.unique_resolve.specs.Settling.{is_held}
+use Rattle.local_txn.proofs.RowShapes.{taken_step-held, taken_step-free}
+use Rattle.local_txn.proofs.rows.taken_in.Goals as goal
+
+pub returns-then-is_held : goal.returns-then-is_held
+returns-then-is_held g c constraint there =
+    let found = rw c.schema.ensures.value at c.constraint_at.ensures in
+    taken_step-held (g.R.RowStore.schema c.args.store.now) (g.R.RowStore.tables c.args.store.now) c.args.table c.args.row.now c.args.place constraint c.constraint_at.result.now there found (sym c.is_held.ensures ∙ c.if-is_held.true)
+
+pub returns : goal.returns
+returns g c constraint there =
+    taken_step-free (g.R.RowStore.schema c.args.store.now) (g.R.RowStore.tables c.args.store.now) c.args.table c.args.row.now c.args.place constraint there (sym c.is_held.ensures ∙ c.if-is_held.false)

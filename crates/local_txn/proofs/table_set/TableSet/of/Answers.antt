@@ -1,0 +1,13 @@
+use Rattle.std.proofs.Common.{length, arith, ◌∙◌}
+use Rattle.std.proofs.lemmas.List.{length-set}
+use Rattle.local_txn.proofs.Marks.{marked-more, marked-all}
+use Rattle.local_txn.proofs.table_set.TableSet.of.Goals as goal
+
+pub loop-i-preserved : goal.loop-i-preserved
+loop-i-preserved c = record {
+  whole = length-set c.loop-i.held c.loop-i.i c.has_number.result ∙ c.loop-i.invariant.whole;
+  marked = marked-more c.args.tables.now c.loop-i.held c.loop-i.i c.loop-i.invariant.whole c.loop-i.invariant.marked c.has_number.result c.has_number.ensures c.loop-i-test.true;
+}
+
+pub returns : goal.returns
+returns c = marked-all c.args.tables.now c.loop-i.held c.loop-i.i c.loop-i.invariant.whole c.loop-i.invariant.marked (omega (arith, c.loop-i-test.false)) c.requires

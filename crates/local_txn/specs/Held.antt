@@ -1,0 +1,31 @@
+-- The table that a statement names.
+use Rattle.std.specs.Prelude.{ℕ, Bool, false, cond, List, Option, Some, None, slice_index_or}
+use Rattle.std.specs.List.{position}
+use Rattle.rep_values.specs.declared.name.TableName.{TableName}
+use Rattle.rep_schema.specs.declared.schema.Schema.{Schema}
+use Rattle.rep_calls.specs.declared.statement.Statement.{Statement}
+use Rattle.rep_calls.specs.declared.statement.Statement.TheVariants.{Insert, Update, Delete}
+use Rattle.rep_declare.specs.Named.{is_table}
+use Rattle.local_txn.specs.declared.local.Here.{Here}
+
+-- the name of the table that a statement is about
+abbrev pub table_name : Statement → TableName
+table_name (Insert table values) = table
+table_name (Update table key sets) = table
+table_name (Delete table key) = table
+
+-- the number of the table of this name
+abbrev pub table_place : Schema → TableName → Option ℕ
+table_place schema name = position (is_table name) schema.tables
+
+-- a site holds the table of a number
+abbrev pub holds : Here → ℕ → Bool
+holds here table = slice_index_or here.tables table false
+
+abbrev pub held_of : Here → Option ℕ → Option ℕ
+held_of here None = None
+held_of here (Some table) = cond (holds here table) (Some table) None
+
+-- the number of the table that a statement names, where it is known and held here
+abbrev pub held_table : Schema → Here → Statement → Option ℕ
+held_table schema here statement = held_of here (table_place schema (table_name statement))

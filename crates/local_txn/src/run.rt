@@ -1,0 +1,173 @@
+//! A block of statements on a store, all of it or nothing.
+ghost use Rattle.std.specs.Prelude.{◌≡◌, ◌≢◌, ◌⊎◌, ℕ, ◌+◌, ◌<◌, ◌≤◌, ◌^◌, ◌++◌, map, length, slice_index, vec_len, vec_capacity, Ok, IfOk, IfErr, OnErr};
+ghost use Rattle.std.specs.List.{AllByRecursion};
+ghost use Rattle.rep_values.specs.declared.name.SiteName.{SiteName as SiteNameValue};
+ghost use Rattle.rep_schema.specs.Shape.{HasShape};
+ghost use Rattle.rep_schema.specs.Tables.{AreTables};
+ghost use Rattle.rep_schema.specs.Changes.{ChangeFits, LeadsTo, room_for};
+ghost use Rattle.conflict_detect.specs.Fits.{TxnFits};
+ghost use Rattle.conflict_detect.specs.ChangeCalls.{call_of};
+ghost use Rattle.unique_resolve.specs.Numbers.{Numbers};
+ghost use Rattle.txn_effects.specs.Calls.{HasKeys, KeysStandAlone};
+ghost use Rattle.txn_effects.specs.Transactions.{made_all, txn_effect};
+ghost use Rattle.local_txn.specs.Statements.{statement_refusal, statement_changes};
+ghost use Rattle.local_txn.specs.Locals.{statements_effect, local_effect};
+ghost use Rattle.local_txn.specs.Running.{changes_of, RunsAs, StopsAs, EndsAs};
+
+use crate::held::held_table;
+use crate::statement::run_in;
+use crate::stop::{Stop, stop_at};
+use crate::{Here, Local, LocalStop, Stamps};
+use conflict_detect::call_of;
+use rep_calls::{Call, Statement, Txn};
+use rep_lists::{Items, NoMemory};
+use rep_schema::{Change, Changes, RowStore, Schema, undo};
+use rep_values::{Limit, Refusal};
+use std::alloc::Global;
+
+// A store's rows are tables of its schema.
+fn holds_tables<R: RowStore>(store: &R)
+    ensures { AreTables (R.schema store.now) (R.tables store.now) }
+{
+    let _schema = store.schema();
+}
+
+/// Runs one statement, after it took room for so many further rows of its table.
+fn run_in_room<R: RowStore>(
+    store: &mut R,
+    alloc: Global,
+    here: &Here,
+    statement: &Statement,
+    rows: usize,
+) -> Result<Option<Change>, Stop>
+    requires shape { HasShape (R.schema store.old) }
+    requires keys { HasKeys (R.schema store.old) }
+    requires are { AreTables (R.schema store.old) (R.tables store.old) }
+    requires few { rows < 2 ^ 32 }
+    ensures ok { IfOk result (λ change. RunsAs (statement_refusal (R.schema store.old) here.now (R.tables store.old) statement.now)
+        (statement_changes (R.schema store.old) (R.tables store.old) statement.now) (changes_of change)) }
+    ensures tables { IfOk result (λ change. R.tables store.new ≡ made_all (R.schema store.old) (changes_of change) (R.tables store.old)) }
+    ensures err { IfErr result (StopsAs (statement_refusal (R.schema store.old) here.now (R.tables store.old) statement.now)) }
+    ensures same { OnErr result (R.tables store.new ≡ R.tables store.old) }
+    ensures schema { R.schema store.new ≡ R.schema store.old }
+    ensures room { IfOk result (λ change. (t : ℕ) → (rows ≤ slice_index (R.spare store.new) t)
+        ⊎ ((slice_index (R.spare store.old) t ≤ slice_index (R.spare store.new) t) × (room_for t (changes_of change) ≡ 0))) }
+    ensures kept { OnErr result ((t : ℕ) → slice_index (R.spare store.old) t ≤ slice_index (R.spare store.new) t) }
+{
+    let Some(table) = held_table(store.schema(), here, statement) else {
+        return Err(Stop::Refused(Refusal::UnknownName));
+    };
+    store.reserve(table, rows as u64 + 1)?;
+    let change = run_in(store, alloc, table, statement)?;
+    Ok(change)
+}
+
+// Adds a change, where there is one.
+fn push_change(done: &mut Vec<Change>, change: Option<Change>)
+    requires { vec_len done.old < vec_capacity done.old }
+    ensures items { done.new.items ≡ done.old.items ++ changes_of change }
+    ensures number { vec_len done.new ≤ vec_len done.old + 1 }
+    ensures capacity { vec_capacity done.new ≡ vec_capacity done.old }
+{
+    if let Some(change) = change {
+        done.push_reserved(change);
+    }
+}
+
+/// Runs the statements, or none of them.
+fn run_statements<R: RowStore>(
+    store: &mut R,
+    alloc: Global,
+    here: &Here,
+    statements: &[Statement],
+) -> Result<Changes, LocalStop>
+    requires shape { HasShape (R.schema store.old) }
+    requires keys { HasKeys (R.schema store.old) }
+    requires few { length statements.now ≤ 1000 }
+    ensures ok { IfOk result (λ changes. statements_effect (R.schema store.old) here.now 1 statements.now (R.tables store.old) ≡ Ok changes.rows) }
+    ensures tables { IfOk result (λ changes. R.tables store.new ≡ made_all (R.schema store.old) changes.rows (R.tables store.old)) }
+    ensures leads { IfOk result (λ changes. LeadsTo (R.schema store.old) changes.rows (R.tables store.old) (R.tables store.new)) }
+    ensures differ { IfOk result (λ changes. AllByRecursion (λ change. change.before ≢ change.after) changes.rows) }
+    ensures were { AreTables (R.schema store.old) (R.tables store.old) }
+    ensures room { IfOk result (λ changes. (t : ℕ) → room_for t changes.rows ≤ slice_index (R.spare store.new) t) }
+    ensures err { IfErr result (EndsAs (statements_effect (R.schema store.old) here.now 1 statements.now (R.tables store.old))) }
+    ensures kept { OnErr result (R.tables store.new ≡ R.tables store.old) }
+    ensures schema { R.schema store.new ≡ R.schema store.old }
+{
+    holds_tables(store);
+    let Ok(mut done) = Vec::with_capacity(alloc, statements.len()) else {
+        return Err(stop_at(0, Stop::NoRoom));
+    };
+    for i in 0..statements.len() {
+        match run_in_room(store, alloc, here, &statements[i], statements.len()) {
+            Ok(change) => push_change(&mut done, change),
+            Err(stop) => {
+                let rows = Items::from_vec(done);
+                undo(store, Changes { rows });
+                return Err(stop_at(i as u32 + 1, stop));
+            }
+        }
+    }
+    Ok(Changes {
+        rows: Items::from_vec(done),
+    })
+}
+
+/// The calls of changed rows.
+fn calls_of(alloc: Global, schema: &Schema, changes: &[Change]) -> Result<Items<Call>, NoMemory>
+    requires shape { HasShape schema.now }
+    requires fits { AllByRecursion (ChangeFits schema.now) changes.now }
+    ensures { IfOk result (λ calls. calls ≡ map (call_of schema.now) changes.now) }
+{
+    let mut calls = Items::new(alloc);
+    for change in changes {
+        calls.push(call_of(alloc, schema, change)?)?;
+    }
+    Ok(calls)
+}
+
+/// Runs the statements of a block at a site as one local transaction: all of them, or none. It answers the
+/// transaction, with one call for each row that a statement changed, and those changes; there is room in the store to
+/// undo them. Where a statement is refused, the answer names the first one, from 1, with its refusal; then, and where
+/// there is no memory, the store's rows are as before.
+pub fn run_local<R: RowStore>(
+    store: &mut R,
+    alloc: Global,
+    stamps: &mut Stamps,
+    here: &Here,
+    statements: &[Statement],
+) -> Result<Local, LocalStop>
+    requires shape { HasShape (R.schema store.old) }
+    requires keys { HasKeys (R.schema store.old) }
+    requires apart { KeysStandAlone (R.schema store.old) }
+    ensures ok { IfOk result (λ local. local_effect (R.schema store.old) here.now statements.now (R.tables store.old) ≡ Ok local.changes.rows) }
+    ensures txn { IfOk result (λ local. local.txn.calls ≡ map (call_of (R.schema store.old)) local.changes.rows) }
+    ensures tables { IfOk result (λ local. R.tables store.new ≡ made_all (R.schema store.old) local.changes.rows (R.tables store.old)) }
+    ensures leads { IfOk result (λ local. LeadsTo (R.schema store.old) local.changes.rows (R.tables store.old) (R.tables store.new)) }
+    ensures room { IfOk result (λ local. (t : ℕ) → room_for t local.changes.rows ≤ slice_index (R.spare store.new) t) }
+    ensures fits { IfOk result (λ local. TxnFits (R.schema store.old) local.txn) }
+    ensures applies { IfOk result (λ local. (origin : SiteNameValue) (numbers : Numbers)
+        → txn_effect (R.schema store.old) origin local.txn (R.tables store.old) numbers ≡ Ok (record { changes = local.changes.rows; numbers = numbers })) }
+    ensures err { IfErr result (EndsAs (local_effect (R.schema store.old) here.now statements.now (R.tables store.old))) }
+    ensures kept { OnErr result (R.tables store.new ≡ R.tables store.old) }
+    ensures stamps { stamps.new ≡ stamps.old }
+    ensures schema { R.schema store.new ≡ R.schema store.old }
+{
+    if statements.len() > 1_000 {
+        return Err(LocalStop {
+            statement: 1_001,
+            refusal: Refusal::LimitReached(Limit::Statements),
+        });
+    }
+    let changes = run_statements(store, alloc, here, statements)?;
+    match calls_of(alloc, store.schema(), changes.rows.as_slice()) {
+        Ok(calls) => Ok(Local {
+            txn: Txn { calls },
+            changes,
+        }),
+        Err(_) => {
+            undo(store, changes);
+            Err(stop_at(0, Stop::NoRoom))
+        }
+    }
+}
