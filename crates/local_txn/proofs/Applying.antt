@@ -99,7 +99,7 @@ module _ (schema : Schema) (tables : List Rows) (origin : SiteName) (numbers : N
         let gives : settled_parts schema table (parts_between schema table a b) a ≡ Ok b = settled_parts-own schema shape table a b (key_of (columns_of schema table) a) one call_fits.content in
         let other : are_same a b ≡ false = not_true (are_same a b) (λ same. differ ((are_same-Decides a b).0 same)) in
         let put : result_then {B = Effect} (settled_effect (settlement_of schema tables numbers origin table false b) (Some a))
-            (λ (effect : RowEffect). Ok (record { changes = changes_between table (Some a) effect.after; numbers = effect.numbers })) ≡ changed (Some a) (Some b) =
+        (λ (effect : RowEffect). Ok (record { changes = changes_between table (Some a) effect.after; numbers = effect.numbers })) ≡ changed (Some a) (Some b) =
         ap (λ (x : Settlement). result_then {B = Effect} (settled_effect x (Some a)) (λ (effect : RowEffect). Ok (record { changes = changes_between table (Some a) effect.after; numbers = effect.numbers })))
         (settlement_of-free table b below are fits unique false refl) ∙ rw other refl in
         rw (there, gives) put

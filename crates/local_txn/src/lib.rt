@@ -17,3 +17,5 @@ pub use table_set::TableSet;
 
 #[cfg(test)]
 mod tests;
+#[cfg(test)]
+mod two_sites_tests;
