@@ -13,7 +13,9 @@ use rep_values::TableName;
 fn place_of(tables: &[TableEntry], name: &TableName) -> Option<usize>
     ensures { result ≡ position (is_table name.now) tables.now }
 {
-    tables.iter().position(|table| table.name.0.is_same(&name.0))
+    tables
+        .iter()
+        .position(|table| table.name.0.is_same(&name.0))
 }
 
 fn table_name(statement: &Statement) -> TableName

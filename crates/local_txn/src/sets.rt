@@ -67,7 +67,9 @@ fn takes_set(column: &Column, set: Option<&Set>) -> bool
 fn takes_sets(columns: &[Column], sets: &[Set]) -> bool
     ensures { result ≡ list_all (λ c. takes_set c (find (is_about c.name) sets.now)) columns.now }
 {
-    columns.iter().all(|column| takes_set(column, find_set(sets, &column.name)))
+    columns
+        .iter()
+        .all(|column| takes_set(column, find_set(sets, &column.name)))
 }
 
 /// Whether each column takes what is set of it, and none is set twice.
