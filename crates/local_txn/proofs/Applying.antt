@@ -1,6 +1,6 @@
 -- A block's calls, applied as a transaction, make the block's changes.
-use Rattle.std.proofs.Common.{◌≡◌, ◌≢◌, ℕ, suc, ◌+◌, ◌<◌, Bool, true, false, cond, List, [], ◌∷◌, ◌++◌, length, map, set, get_or, Ok, refl, sym, ap, ◌∙◌, subst}
-use Rattle.std.specs.Prelude.{Option, Some, None, Result, IfSome, ◌&&◌, is_some, slice_get, slice_set, slice_index_or}
+use Rattle.std.proofs.Common.{◌≡◌, ◌≢◌, ℕ, suc, ◌+◌, ◌<◌, Bool, true, false, List, [], ◌∷◌, length, map, Ok, refl, ap, ◌∙◌}
+use Rattle.std.specs.Prelude.{Option, Some, None, Result, IfSome, ◌&&◌, is_some, slice_get, slice_index_or}
 use Rattle.std.specs.List.{AllByRecursion}
 use Rattle.std.proofs.lemmas.List.{set-get_or}
 use Rattle.std.proofs.lemmas.Option.{slice_get_within}
@@ -11,14 +11,13 @@ use Rattle.rep_schema.specs.declared.schema.Column.{Column}
 use Rattle.rep_schema.specs.declared.schema.Constraint.{Constraint}
 use Rattle.rep_schema.specs.declared.change.Change.{Change}
 use Rattle.rep_schema.specs.Shape.{HasShape}
-use Rattle.rep_schema.specs.Tables.{Cells, Rows, columns_of, constraints_of, constraint_columns_of, key_of, find_row, rows_of, RowFits, IsUniqueRow, AreTables}
+use Rattle.rep_schema.specs.Tables.{Cells, Rows, columns_of, constraints_of, constraint_columns_of, key_of, rows_of, RowFits, IsUniqueRow, AreTables}
 use Rattle.rep_schema.specs.Groups.{are_same}
 use Rattle.rep_schema.specs.Changes.{made, row_like, IsChange, LeadsTo}
 use Rattle.rep_schema.proofs.TakingBack.{AreTables-made}
 use Rattle.rep_schema.proofs.Leading.{ChangeFits-from_IsChange}
 use Rattle.rep_schema.proofs.FoundRows.{found_row, key_of-found}
 use Rattle.rep_schema.proofs.ValuesAt.{are_same-Decides}
-use Rattle.rep_calls.specs.declared.call.Call.{Call}
 use Rattle.rep_calls.specs.declared.call.Call.TheVariants.{Insert, Update, Delete}
 use Rattle.conflict_detect.specs.Fits.{CallFits}
 use Rattle.conflict_detect.proofs.CallFit.{CallFits-call_of}
@@ -26,12 +25,11 @@ use Rattle.conflict_detect.specs.ChangeCalls.{call_between, call_of, parts_betwe
 use Rattle.conflict_detect.specs.Laws.{AreOneRow}
 use Rattle.unique_resolve.specs.declared.settled.Settled.TheVariants.{Fits}
 use Rattle.unique_resolve.specs.Numbers.{Numbers}
-use Rattle.unique_resolve.specs.Settling.{is_held, TableOutcome, settled_each, Settlement, settlement_of}
+use Rattle.unique_resolve.specs.Settling.{is_held, settled_each, Settlement, settlement_of}
 use Rattle.unique_resolve.proofs.HeldValues.{held_test}
 use Rattle.txn_effects.specs.Parts.{result_then, settled_parts}
 use Rattle.txn_effects.specs.Calls.{RowEffect, settled_effect, changes_between, Effect, call_effect}
 use Rattle.txn_effects.specs.Transactions.{behind, calls_effect}
-use Rattle.txn_effects.proofs.CallEffects.{is_unchanged-Decides}
 use Rattle.txn_effects.proofs.TransactionEffects.{calls_effect-Ok}
 use Rattle.local_txn.proofs.PartsApart.{settled_parts-own}
 

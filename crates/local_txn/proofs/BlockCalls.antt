@@ -1,5 +1,5 @@
 -- The calls of a block's changes.
-use Rattle.std.proofs.Common.{◌≡◌, ◌≢◌, List, [], ◌∷◌, map, refl}
+use Rattle.std.proofs.Common.{◌≢◌, List, [], ◌∷◌, map}
 use Rattle.std.specs.List.{AllByRecursion}
 use Rattle.rep_schema.specs.declared.schema.Schema.{Schema}
 use Rattle.rep_schema.specs.declared.change.Change.{Change}
@@ -9,7 +9,7 @@ use Rattle.rep_schema.specs.Changes.{made, ChangeFits, LeadsTo}
 use Rattle.rep_schema.proofs.TakingBack.{AreTables-made}
 use Rattle.rep_schema.proofs.Leading.{ChangeFits-from_IsChange}
 use Rattle.conflict_detect.specs.ChangeCalls.{call_of}
-use Rattle.conflict_detect.specs.Fits.{CallFits, TxnFits}
+use Rattle.conflict_detect.specs.Fits.{CallFits}
 use Rattle.conflict_detect.proofs.CallFit.{CallFits-call_of}
 
 module _ (schema : Schema) where

@@ -1,9 +1,8 @@
 -- One statement after another.
-use Rattle.std.proofs.Common.{◌≡◌, ◌≢◌, ◌⊎◌, ℕ, ◌+◌, ◌<◌, ◌≤◌, Bool, true, false, cond, List, [], ◌∷◌, ◌++◌, length, drop, Ok, Err, refl, sym, ap, ◌∙◌, subst, inl, inr, arith, append_assoc}
+use Rattle.std.proofs.Common.{◌≡◌, ◌⊎◌, ℕ, ◌+◌, ◌<◌, ◌≤◌, Bool, true, false, cond, List, [], ◌∷◌, ◌++◌, length, drop, Ok, Err, refl, sym, ap, ◌∙◌, subst, inl, inr, arith, append_assoc}
 use Rattle.std.specs.Prelude.{Option, Some, None, Result}
 use Rattle.std.specs.List.{position}
 use Rattle.std.proofs.lemmas.List.Quantifiers.{position-Some}
-use Rattle.rep_values.specs.declared.refusal.Refusal.{Refusal}
 use Rattle.rep_schema.specs.declared.schema.Schema.{Schema}
 use Rattle.rep_schema.specs.declared.change.Change.{Change}
 use Rattle.rep_schema.specs.Shape.{HasShape}
@@ -12,8 +11,6 @@ use Rattle.rep_schema.specs.Changes.{is_taken_from, room_for}
 use Rattle.rep_schema.proofs.Leading.{room_for-append}
 use Rattle.rep_calls.specs.declared.statement.Statement.{Statement}
 use Rattle.rep_declare.specs.Named.{is_table}
-use Rattle.rep_declare.specs.Refusals.{first_refusal, known}
-use Rattle.unique_resolve.specs.Numbers.{first_numbers}
 use Rattle.txn_effects.specs.Calls.{HasKeys}
 use Rattle.txn_effects.specs.Transactions.{made_all}
 use Rattle.txn_effects.specs.Laws.{IsApplied}
@@ -23,8 +20,8 @@ use Rattle.local_txn.specs.declared.local.LocalStop.{LocalStop}
 use Rattle.local_txn.specs.declared.stop.Stop.{Stop}
 use Rattle.local_txn.specs.declared.stop.Stop.TheVariants.{Refused, NoRoom}
 use Rattle.local_txn.specs.Held.{table_name, table_place, held_table}
-use Rattle.local_txn.specs.Statements.{steps_in, statement_refusal, statement_changes}
-use Rattle.local_txn.specs.Locals.{behind, unless_refused, statements_effect}
+use Rattle.local_txn.specs.Statements.{statement_refusal, statement_changes}
+use Rattle.local_txn.specs.Locals.{behind, statements_effect}
 use Rattle.local_txn.specs.Running.{CanRun, StopsAs, EndsAs, stop_of}
 use Rattle.local_txn.proofs.StatementEffects.{effect_with, IsApplied-statement, place-held, refusal-held, changes-held}
 

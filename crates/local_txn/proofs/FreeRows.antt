@@ -1,7 +1,6 @@
 -- A row that no constraint refuses is unique.
-use Rattle.std.proofs.Common.{◌≡◌, ℕ, zero, suc, ◌<◌, Bool, true, false, List, [], ◌∷◌, length, map, refl, sym, ◌∙◌, arith}
+use Rattle.std.proofs.Common.{◌≡◌, ℕ, zero, suc, Bool, true, false, List, [], ◌∷◌, map, refl}
 use Rattle.std.specs.Prelude.{Option, Some, None, slice_get}
-use Rattle.std.proofs.lemmas.Option.{slice_get-map}
 use Rattle.rep_values.specs.declared.refusal.Refusal.{Refusal}
 use Rattle.rep_schema.specs.declared.schema.Schema.{Schema}
 use Rattle.rep_schema.specs.declared.schema.Constraint.{Constraint}

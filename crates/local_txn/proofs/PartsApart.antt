@@ -1,11 +1,9 @@
 -- The parts of an update that is made of two rows lead from the one to the other, each of them matching.
-use Rattle.std.proofs.Common.{◌≡◌, ◌≢◌, ◌⊎◌, ℕ, zero, suc, ◌+◌, ◌<◌, ◌≤◌, ◌==◌, Bool, true, false, cond, List, [], ◌∷◌, ◌++◌, length, get_or, set, map, Ok, refl, sym, ap, ◌∙◌, subst, inl, inr, arith}
+use Rattle.std.proofs.Common.{◌≡◌, ◌≢◌, ℕ, zero, suc, ◌+◌, ◌<◌, ◌==◌, Bool, true, false, cond, List, [], ◌∷◌, length, get_or, set, map, Ok, refl, ap, ◌∙◌, subst, inl, inr, arith}
 use Rattle.std.specs.Prelude.{Option, Some, None, IfSome, slice_get, Contains, ◌||◌}
 use Rattle.std.specs.List.{AllByRecursion, AllPairs, list_any}
 use Rattle.std.specs.List.Sorted.{IsStrictlyIncreasing}
-use Rattle.std.proofs.lemmas.Bool.{cases_lt, eqb-true, eq-eqb}
-use Rattle.std.proofs.lemmas.Bool.Decides.{eqb_tells}
-use Rattle.std.proofs.lemmas.List.{get_or_default}
+use Rattle.std.proofs.lemmas.Bool.{eq-eqb}
 use Rattle.std.proofs.lemmas.List.Kept.{AllPairs-from_increasing}
 use Rattle.std.proofs.lemmas.List.Elements.{recursion_from_All}
 use Rattle.std.proofs.lemmas.List.Folds.{list_any-from_Any}
@@ -15,10 +13,9 @@ use Rattle.rep_schema.specs.declared.schema.Schema.{Schema}
 use Rattle.rep_schema.specs.declared.schema.TableEntry.{TableEntry}
 use Rattle.rep_schema.specs.declared.schema.Column.{Column}
 use Rattle.rep_schema.specs.declared.schema.Group.{Group}
-use Rattle.rep_schema.specs.Limits.{most_columns}
 use Rattle.rep_schema.specs.Tables.{Cells, columns_of}
 use Rattle.rep_schema.specs.Shape.{ShareNone, HasShape, HasTableShape}
-use Rattle.rep_schema.specs.Groups.{shadow_group, groups_in, groups_of, is_grouped, shadow_from, named_columns, group_columns_of, group_numbers_of, values_at, with_values, group_values, with_group_values, are_same, differing_groups}
+use Rattle.rep_schema.specs.Groups.{shadow_group, groups_in, groups_of, is_grouped, shadow_from, named_columns, group_columns_of, values_at, with_values, group_values, with_group_values, are_same, differing_groups}
 use Rattle.rep_schema.proofs.Shapes.{table_shape}
 use Rattle.rep_schema.proofs.GroupShapes.{group_columns_of-shadow, group_columns_of-named, length-groups_of}
 use Rattle.rep_schema.proofs.Coverage.{group_number_cases}
@@ -28,7 +25,7 @@ use Rattle.conflict_detect.specs.Fits.{IsGroupOf, PartFits, UpdateFits}
 use Rattle.conflict_detect.specs.ChangeCalls.{part_between, parts_between, with_parts}
 use Rattle.conflict_detect.specs.Laws.{AreOneRow}
 use Rattle.conflict_detect.proofs.RowAfter.{with_parts-parts_between}
-use Rattle.txn_effects.specs.Parts.{result_then, settled_values, settled_part, settled_parts}
+use Rattle.txn_effects.specs.Parts.{settled_parts}
 use Rattle.local_txn.proofs.RowShapes.{found_at}
 
 -- what is listed by the test is there, and the other way round

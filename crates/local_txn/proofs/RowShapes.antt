@@ -1,6 +1,6 @@
 -- Rows beside columns: as many values, of their kinds, and in range.
-use Rattle.std.proofs.Common.{◌≡◌, ℕ, ◌+◌, ◌<◌, Bool, true, false, List, [], ◌∷◌, length, drop, get_or, map, refl, sym, ap, ◌∙◌, arith}
-use Rattle.std.specs.Prelude.{Option, Some, None, ◌&&◌, cond, not, slice_get, option_map}
+use Rattle.std.proofs.Common.{◌≡◌, ℕ, ◌+◌, ◌<◌, Bool, true, false, List, [], ◌∷◌, length, drop, get_or, map, refl, sym, ◌∙◌, arith}
+use Rattle.std.specs.Prelude.{Option, Some, None, ◌&&◌, cond, not, slice_get}
 use Rattle.std.specs.List.{find, list_all}
 use Rattle.std.proofs.lemmas.Option.{slice_get-get_or}
 use Rattle.rep_lists.proofs.Places.{drop_from_found}
@@ -22,10 +22,10 @@ use Rattle.rep_schema.proofs.FittingTests.{row_test}
 use Rattle.rep_calls.specs.declared.statement.Set.{Set}
 use Rattle.rep_calls.specs.declared.statement.How.{How}
 use Rattle.rep_calls.specs.declared.statement.How.TheVariants.{To, Add}
-use Rattle.rep_declare.specs.Refusals.{first_refusal, or_then}
+use Rattle.rep_declare.specs.Refusals.{first_refusal}
 use Rattle.unique_resolve.specs.Settling.{is_held}
 use Rattle.local_txn.specs.Statements.{taken_step}
-use Rattle.local_txn.specs.Literals.{takes_numbers, takes_amounts, is_of_kind, literal_fits, literals_fit, values_of, value_in_range, row_in_range}
+use Rattle.local_txn.specs.Literals.{takes_amounts, is_of_kind, literal_fits, literals_fit, values_of, value_in_range, row_in_range}
 use Rattle.local_txn.specs.Sets.{is_about, takes_how, takes_set, value_after, value_by, row_with}
 
 pub both_true : (a b : Bool) → (a && b) ≡ true → (a ≡ true) × (b ≡ true)
@@ -49,6 +49,19 @@ length-key_of_long (c ∷ cs) (v ∷ vs) long = go c.key (length-key_of_long cs 
     go true rest = omega (arith, rest)
     go false rest = rest
 
+-- a literal in range that is of a kind may be held by a column of that kind
+kind-literal : (k : Kind) (l : Literal) → is_of_kind k l ≡ true → value_in_range (value_of_literal l) ≡ true → fits_kind k (value_of_literal l) ≡ true
+kind-literal kind.Number (literal.Num n) of range = range
+kind-literal kind.Date (literal.Num n) of range = range
+kind-literal kind.Stamp (literal.Num n) of range = range
+kind-literal kind.Words (literal.Num n) of range = cc
+kind-literal kind.Site (literal.Num n) of range = cc
+kind-literal kind.Number (literal.Words t) of range = cc
+kind-literal kind.Date (literal.Words t) of range = cc
+kind-literal kind.Stamp (literal.Words t) of range = cc
+kind-literal kind.Words (literal.Words t) of range = refl
+kind-literal kind.Site (literal.Words t) of range = refl
+
 module _ (schema : Schema) where
   -- there are as many literals as columns
   pub length-literals_fit : (columns : List Column) (literals : List Literal) → literals_fit schema columns literals ≡ true → length columns ≡ length literals
@@ -56,18 +69,6 @@ module _ (schema : Schema) where
   length-literals_fit [] (l ∷ ls) fits = cc
   length-literals_fit (c ∷ cs) [] fits = cc
   length-literals_fit (c ∷ cs) (l ∷ ls) fits = let rest = length-literals_fit cs ls (both_true (literal_fits schema c l) (literals_fit schema cs ls) fits).1 in omega (arith, rest)
-
-  kind-literal : (k : Kind) (l : Literal) → is_of_kind k l ≡ true → value_in_range (value_of_literal l) ≡ true → fits_kind k (value_of_literal l) ≡ true
-  kind-literal kind.Number (literal.Num n) of range = range
-  kind-literal kind.Date (literal.Num n) of range = range
-  kind-literal kind.Stamp (literal.Num n) of range = range
-  kind-literal kind.Words (literal.Num n) of range = cc
-  kind-literal kind.Site (literal.Num n) of range = cc
-  kind-literal kind.Number (literal.Words t) of range = cc
-  kind-literal kind.Date (literal.Words t) of range = cc
-  kind-literal kind.Stamp (literal.Words t) of range = cc
-  kind-literal kind.Words (literal.Words t) of range = refl
-  kind-literal kind.Site (literal.Words t) of range = refl
 
   fit-values_of : (columns : List Column) (literals : List Literal) → literals_fit schema columns literals ≡ true → row_in_range (values_of literals) ≡ true → row_fits columns (values_of literals) ≡ true
   fit-values_of [] [] fits range = refl
@@ -85,19 +86,7 @@ module _ (schema : Schema) where
 
 -- what is set of a column fits it
 kind-how : (c : Column) (how : How) (v : Value) → takes_how c how ≡ true → fits_kind c.kind v ≡ true → value_in_range (value_after how v) ≡ true → fits_kind c.kind (value_after how v) ≡ true
-kind-how c (To l) v takes fits range = of_literal c.kind l takes range
-  where
-    of_literal : (k : Kind) (l : Literal) → is_of_kind k l ≡ true → value_in_range (value_of_literal l) ≡ true → fits_kind k (value_of_literal l) ≡ true
-    of_literal kind.Number (literal.Num n) of range = range
-    of_literal kind.Date (literal.Num n) of range = range
-    of_literal kind.Stamp (literal.Num n) of range = range
-    of_literal kind.Words (literal.Num n) of range = cc
-    of_literal kind.Site (literal.Num n) of range = cc
-    of_literal kind.Number (literal.Words t) of range = cc
-    of_literal kind.Date (literal.Words t) of range = cc
-    of_literal kind.Stamp (literal.Words t) of range = cc
-    of_literal kind.Words (literal.Words t) of range = refl
-    of_literal kind.Site (literal.Words t) of range = refl
+kind-how c (To l) v takes fits range = kind-literal c.kind l takes range
 kind-how c (Add amount) (Num n) takes fits range = go c.kind takes range
   where
     go : (k : Kind) → takes_amounts k ≡ true → value_in_range (value_after (Add amount) (Num n)) ≡ true → fits_kind k (value_after (Add amount) (Num n)) ≡ true

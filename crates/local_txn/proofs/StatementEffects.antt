@@ -1,35 +1,30 @@
 -- A statement that isn't refused changes its tables soundly.
-use Rattle.std.proofs.Common.{◌≡◌, ◌≢◌, ◌⊎◌, ℕ, ◌+◌, ◌<◌, ◌≤◌, Bool, true, false, List, [], ◌∷◌, ◌++◌, length, drop, refl, sym, ap, ◌∙◌, subst, inl, inr, arith, append_assoc}
-use Rattle.std.specs.Prelude.{Option, Some, None, Result, Ok, Err, ◌&&◌, cond, not, is_some, ◌==◌}
-use Rattle.std.proofs.lemmas.Bool.{cases_eq, eq-eqb, eqb-true}
+use Rattle.std.proofs.Common.{◌≡◌, ℕ, Bool, true, false, List, [], ◌∷◌, refl, sym, ◌∙◌}
+use Rattle.std.specs.Prelude.{Option, Some, None, ◌&&◌, cond, not, is_some}
 use Rattle.std.proofs.lemmas.Bool.Decides.{not_from_Decides}
-use Rattle.std.proofs.lemmas.List.{append-nil}
 use Rattle.rep_values.specs.declared.refusal.Refusal.{Refusal}
 use Rattle.rep_values.specs.declared.literal.Literal.{Literal}
 use Rattle.rep_schema.specs.declared.schema.Schema.{Schema}
 use Rattle.rep_schema.specs.declared.change.Change.{Change}
-use Rattle.rep_schema.specs.Shape.{HasShape}
-use Rattle.rep_schema.specs.Changes.{row_like, IsChange, room_for}
-use Rattle.rep_schema.specs.Tables.{Cells, Rows, columns_of, key_of, rows_of, RowFits, AreTables}
+use Rattle.rep_schema.specs.Changes.{row_like, IsChange}
+use Rattle.rep_schema.specs.Tables.{Cells, Rows, columns_of, key_of, rows_of, RowFits}
 use Rattle.rep_schema.proofs.TakingBack.{AreTables-made}
 use Rattle.rep_schema.proofs.Leading.{IsChange-put, IsChange-take}
 use Rattle.rep_calls.specs.declared.statement.Statement.{Statement}
 use Rattle.rep_calls.specs.declared.statement.Statement.TheVariants.{Insert, Update, Delete}
 use Rattle.rep_calls.specs.declared.statement.Set.{Set}
-use Rattle.rep_declare.specs.Refusals.{first_refusal, or_then, refused, known}
+use Rattle.rep_declare.specs.Refusals.{first_refusal, refused, known}
 use Rattle.unique_resolve.specs.Numbers.{first_numbers}
 use Rattle.unique_resolve.proofs.Settlements.{AreCounters-first}
-use Rattle.txn_effects.specs.Calls.{HasKeys, Effect, is_unchanged, changes_between}
-use Rattle.txn_effects.specs.Transactions.{made_all}
+use Rattle.txn_effects.specs.Calls.{Effect, is_unchanged}
 use Rattle.txn_effects.specs.Laws.{IsApplied}
 use Rattle.txn_effects.proofs.CallEffects.{is_unchanged-Decides}
 use Rattle.txn_effects.proofs.TransactionEffects.{IsApplied-none}
-use Rattle.txn_effects.proofs.RoomForChanges.{room_for-changes_elsewhere}
 use Rattle.local_txn.specs.declared.local.Here.{Here}
 use Rattle.local_txn.specs.Held.{table_name, table_place, held_of, holds, held_table}
 use Rattle.local_txn.specs.Literals.{literals_fit, key_literals_fit, values_of, row_in_range}
-use Rattle.local_txn.specs.Sets.{names_columns, sets_fit, row_with, row_where_in_range}
-use Rattle.local_txn.specs.Statements.{row_at, row_set, row_before, row_after, row_steps, unique_steps, there, steps_in, change_in, change_at, statement_refusal, statement_changes}
+use Rattle.local_txn.specs.Sets.{names_columns, sets_fit, row_with}
+use Rattle.local_txn.specs.Statements.{row_at, row_set, row_before, row_after, row_steps, unique_steps, there, steps_in, change_in, statement_refusal, statement_changes}
 use Rattle.local_txn.specs.Running.{CanRun}
 use Rattle.local_txn.proofs.RowShapes.{RowFits-values_of}
 use Rattle.local_txn.proofs.FreeRows.{or_then-None, IsUniqueRow-free}

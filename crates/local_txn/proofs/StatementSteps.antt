@@ -1,9 +1,8 @@
 -- What is known of a statement's literals and rows, step by step.
-use Rattle.std.proofs.Common.{◌≡◌, ℕ, ◌+◌, ◌<◌, ◌≤◌, Bool, true, false, List, [], ◌∷◌, length, map, refl, sym, ap, ◌∙◌, subst, arith}
-use Rattle.std.specs.Prelude.{Option, Some, None, ◌&&◌, cond, not, filter, is_some}
-use Rattle.std.specs.List.{find, list_all}
+use Rattle.std.proofs.Common.{◌≡◌, ℕ, ◌+◌, ◌≤◌, Bool, true, false, List, [], ◌∷◌, length, refl, sym, ap, ◌∙◌, subst, arith}
+use Rattle.std.specs.Prelude.{Some, None, ◌&&◌, cond, not}
+use Rattle.std.specs.List.{list_all}
 use Rattle.rep_values.specs.Number.{IsKeyLen, IsRowLen}
-use Rattle.rep_values.specs.declared.refusal.Refusal.{Refusal}
 use Rattle.rep_values.specs.declared.literal.Literal.{Literal}
 use Rattle.rep_schema.specs.declared.schema.Schema.{Schema}
 use Rattle.rep_schema.specs.declared.schema.Column.{Column}
@@ -11,7 +10,6 @@ use Rattle.rep_schema.specs.declared.change.Change.{Change}
 use Rattle.rep_schema.specs.Changes.{row_like, made_in}
 use Rattle.rep_schema.specs.Tables.{Cells, Rows, columns_of, rows_of, key_of, key_count, key_columns, find_row, take_row, RowFits}
 use Rattle.rep_schema.proofs.Shapes.{length-columns_of}
-use Rattle.rep_schema.proofs.RowFit.{length-fits}
 use Rattle.rep_schema.proofs.FoundRows.{found_row, key_of-found}
 use Rattle.rep_calls.specs.declared.statement.Set.{Set}
 use Rattle.rep_declare.specs.Refusals.{first_refusal}
@@ -20,7 +18,7 @@ use Rattle.local_txn.specs.Literals.{literals_fit, key_literals_fit, values_of, 
 use Rattle.local_txn.specs.Sets.{names_columns, names_one_twice, sets_fit, row_with, row_where_in_range}
 use Rattle.local_txn.specs.Statements.{row_at, row_set, unique_steps, update_steps}
 use Rattle.local_txn.specs.Running.{CanRun, RunsAs}
-use Rattle.local_txn.proofs.RowShapes.{both_true, length-literals_fit, RowFits-values_of, takes, RowFits-row_with, key_of-row_with}
+use Rattle.local_txn.proofs.RowShapes.{both_true, length-literals_fit, takes, RowFits-row_with, key_of-row_with}
 
 length-key_columns : (columns : List Column) → length (key_columns columns) ≡ key_count columns
 length-key_columns [] = refl

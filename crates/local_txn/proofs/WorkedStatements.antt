@@ -1,8 +1,6 @@
 -- Statements on a table of two rows, worked out by hand.
 use Rattle.std.proofs.Common.{◌≡◌, ℕ, List, [], ◌∷◌, Bool, true, false, Ok, Err, refl, pos, negsuc}
 use Rattle.std.specs.Prelude.{ℤ, codes, Option, Some, None, Result, replicate}
-use Rattle.rep_values.specs.declared.name.SiteName.{SiteName}
-use Rattle.rep_values.specs.declared.name.TableName.{TableName}
 use Rattle.rep_values.specs.declared.literal.Literal.{Literal}
 use Rattle.rep_values.specs.declared.literal.Literal.TheVariants as literal
 use Rattle.rep_values.specs.declared.value.Value.TheVariants.{Num, Words}

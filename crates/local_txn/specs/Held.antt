@@ -1,5 +1,5 @@
 -- The table that a statement names.
-use Rattle.std.specs.Prelude.{ℕ, Bool, false, cond, List, Option, Some, None, slice_index_or}
+use Rattle.std.specs.Prelude.{ℕ, Bool, false, cond, Option, Some, None, slice_index_or}
 use Rattle.std.specs.List.{position}
 use Rattle.rep_values.specs.declared.name.TableName.{TableName}
 use Rattle.rep_schema.specs.declared.schema.Schema.{Schema}

@@ -1,5 +1,5 @@
 -- What one statement does: why it is refused, or which row it changes and how.
-use Rattle.std.specs.Prelude.{ℕ, Bool, not, ◌&&◌, List, [], ◌∷◌, map, Option, Some, None, is_some}
+use Rattle.std.specs.Prelude.{ℕ, not, ◌&&◌, List, [], ◌∷◌, map, Option, Some, None, is_some}
 use Rattle.rep_values.specs.declared.literal.Literal.{Literal}
 use Rattle.rep_values.specs.declared.refusal.Refusal.{Refusal}
 use Rattle.rep_values.specs.declared.refusal.Refusal.TheVariants as refusal

@@ -8,7 +8,7 @@ ghost use Rattle.rep_schema.specs.Changes.{ChangeFits, LeadsTo, room_for};
 ghost use Rattle.conflict_detect.specs.Fits.{TxnFits};
 ghost use Rattle.conflict_detect.specs.ChangeCalls.{call_of};
 ghost use Rattle.unique_resolve.specs.Numbers.{Numbers};
-ghost use Rattle.txn_effects.specs.Calls.{HasKeys, KeysStandAlone};
+ghost use Rattle.txn_effects.specs.Calls.{HasKeys};
 ghost use Rattle.txn_effects.specs.Transactions.{made_all, txn_effect};
 ghost use Rattle.local_txn.specs.Statements.{statement_refusal, statement_changes};
 ghost use Rattle.local_txn.specs.Locals.{statements_effect, local_effect};
@@ -139,7 +139,6 @@ pub fn run_local<R: RowStore>(
 ) -> Result<Local, LocalStop>
     requires shape { HasShape (R.schema store.old) }
     requires keys { HasKeys (R.schema store.old) }
-    requires apart { KeysStandAlone (R.schema store.old) }
     ensures ok { IfOk result (λ local. local_effect (R.schema store.old) here.now statements.now (R.tables store.old) ≡ Ok local.changes.rows) }
     ensures txn { IfOk result (λ local. local.txn.calls ≡ map (call_of (R.schema store.old)) local.changes.rows) }
     ensures tables { IfOk result (λ local. R.tables store.new ≡ made_all (R.schema store.old) local.changes.rows (R.tables store.old)) }

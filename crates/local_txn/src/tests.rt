@@ -1,7 +1,7 @@
 //! Blocks on two small tables, run whole or not at all.
 ghost use Rattle.std.specs.Prelude.{◌≡◌, length, IfOk};
 ghost use Rattle.rep_schema.specs.Shape.{HasShape};
-ghost use Rattle.txn_effects.specs.Calls.{HasKeys, KeysStandAlone};
+ghost use Rattle.txn_effects.specs.Calls.{HasKeys};
 
 use crate::{Here, Local, LocalStop, Stamps, TableSet, run_local};
 use rep_calls::{How, Set, Statement};
@@ -42,7 +42,6 @@ fn column(rt: &impl Abort, bytes: &[u8], key: bool) -> Column
 fn schema(rt: &impl Abort, alloc: Global) -> Result<Schema, NoMemory>
     ensures shape { IfOk result HasShape }
     ensures keys { IfOk result HasKeys }
-    ensures apart { IfOk result KeysStandAlone }
 {
     let columns = vec![in alloc; column(rt, b"ID", true), column(rt, b"Q", false)]?;
     let constraint = Constraint {
@@ -201,5 +200,14 @@ fn all_statements_run_or_none(rt: HostRuntime) -> Result<(), Fail> {
         let found = outcome(&rt, rt.alloc(), &lines)?;
         assert_eq!(rt; found, (answer, values), "{lines:?}");
     }
+    Ok(())
+}
+
+#[test]
+fn a_thousand_statements_are_the_most(rt: HostRuntime) -> Result<(), Fail> {
+    let (answer, _) = outcome(&rt, rt.alloc(), &[("delete", 3, 0); 1_000])?;
+    assert!(rt; answer == (1, 6, 0));
+    let (answer, _) = outcome(&rt, rt.alloc(), &[("delete", 3, 0); 1_001])?;
+    assert!(rt; answer == (1_001, 19, 0));
     Ok(())
 }

@@ -1,8 +1,8 @@
-use Rattle.std.proofs.Common.{◌≡◌, ◌+◌, refl, length, drop, true, false, sym, ◌∙◌, arith}
+use Rattle.std.proofs.Common.{◌≡◌, ◌+◌, drop, true, false, sym, ◌∙◌, arith}
 use Rattle.std.specs.Prelude.{slice_get}
 use Rattle.std.proofs.lemmas.List.{drop_all}
 use Rattle.rep_schema.specs.Tables.{key_columns}
-use Rattle.local_txn.specs.Literals.{literal_there, literals_fit}
+use Rattle.local_txn.specs.Literals.{literal_there}
 use Rattle.local_txn.proofs.LiteralWalk.{fails-here, fits-here, counted, literals_fit-end, key_columns-more, key_columns-other}
 use Rattle.local_txn.proofs.literals.key_literals_fit.Goals as goal
 use Rattle.local_txn.proofs.literals.key_literals_fit.Goals.{then-column+else-not-fits_there, else-column}

@@ -1,7 +1,7 @@
 use Rattle.std.proofs.Common.{◌≡◌, ◌+◌, ◌==◌, length, drop, true, false, sym, ap, ◌∙◌, arith}
 use Rattle.std.specs.Prelude.{slice_get}
 use Rattle.std.proofs.lemmas.List.{drop_all}
-use Rattle.local_txn.specs.Literals.{literal_there, literals_fit}
+use Rattle.local_txn.specs.Literals.{literal_there}
 use Rattle.local_txn.proofs.LiteralWalk.{fails-here, fits-here, counted, literals_fit-end, columns-more}
 use Rattle.local_txn.proofs.literals.literals_fit.Goals as goal
 

@@ -1,6 +1,4 @@
-use Rattle.std.proofs.Common.{◌≡◌, Some, true, false, sym, ◌∙◌}
-use Rattle.rep_schema.specs.Tables.{columns_of, constraints_of, rows_of}
-use Rattle.unique_resolve.specs.Settling.{is_held}
+use Rattle.std.proofs.Common.{sym, ◌∙◌}
 use Rattle.local_txn.proofs.RowShapes.{taken_step-held, taken_step-free}
 use Rattle.local_txn.proofs.rows.taken_in.Goals as goal
 

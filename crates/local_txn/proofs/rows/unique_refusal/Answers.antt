@@ -1,7 +1,4 @@
-use Rattle.std.proofs.Common.{◌≡◌, ◌<◌, ◌≤◌, [], map, drop, length, Some, None, refl, sym, ◌∙◌, arith}
-use Rattle.std.specs.Prelude.{slice_get}
-use Rattle.std.proofs.lemmas.List.{drop_all}
-use Rattle.rep_lists.proofs.Each.{each_found}
+use Rattle.std.proofs.Common.{◌≡◌, ◌<◌, length, Some, None, sym, ◌∙◌}
 use Rattle.rep_schema.specs.Tables.{constraints_of}
 use Rattle.local_txn.specs.Statements.{taken_step}
 use Rattle.local_txn.proofs.RowShapes.{found_at, first_refusal-here, first_refusal-more}

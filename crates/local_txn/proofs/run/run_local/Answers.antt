@@ -1,5 +1,5 @@
 -- Running a block: its changes fit, and so do their calls.
-use Rattle.std.proofs.Common.{sym, ◌∙◌, subst}
+use Rattle.std.proofs.Common.{sym, subst}
 use Rattle.std.specs.Prelude.{◌≡◌, map}
 use Rattle.conflict_detect.specs.ChangeCalls.{call_of}
 use Rattle.std.specs.List.{AllByRecursion}

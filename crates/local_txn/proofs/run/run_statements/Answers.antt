@@ -1,19 +1,13 @@
 -- Running the statements one after the other.
-use Rattle.std.proofs.Common.{◌≡◌, ◌<◌, ◌≤◌, ◌++◌, [], ◌∷◌, ◌+◌, ℕ, length, drop, Ok, refl, sym, subst, ap, ◌∙◌, arith}
-use Rattle.std.specs.Prelude.{List, Option, None, slice_index}
+use Rattle.std.proofs.Common.{◌≡◌, ◌≤◌, ◌++◌, ◌∷◌, ◌+◌, length, drop, refl, ap, ◌∙◌, arith}
+use Rattle.std.specs.Prelude.{None, slice_index}
 use Rattle.rep_lists.proofs.Places.{drop_from_place}
-use Rattle.rep_schema.specs.declared.change.Change.{Change}
-use Rattle.rep_schema.specs.Tables.{Rows}
-use Rattle.rep_schema.specs.Changes.{room_for}
-use Rattle.txn_effects.specs.Laws.{IsApplied}
 use Rattle.txn_effects.specs.Transactions.{made_all}
 use Rattle.txn_effects.proofs.TransactionEffects.{IsApplied-none}
 use Rattle.unique_resolve.specs.Numbers.{first_numbers}
 use Rattle.unique_resolve.proofs.Settlements.{AreCounters-first}
-use Rattle.local_txn.specs.Locals.{behind, statements_effect}
 use Rattle.local_txn.specs.Statements.{statement_refusal, statement_changes}
-use Rattle.local_txn.specs.Running.{changes_of, EndsAs, StopsAs}
-use Rattle.local_txn.proofs.StatementEffects.{effect_with}
+use Rattle.local_txn.specs.Running.{changes_of, StopsAs}
 use Rattle.local_txn.proofs.BlockSteps.{room_for-more, IsApplied-more, made_all-more, so_far-none, so_far-Ok, so_far-Err}
 use Rattle.local_txn.proofs.run.run_statements.Goals as goal
 

@@ -1,7 +1,5 @@
 use Rattle.std.proofs.Common.{◌≡◌, true, length, sym, ap, ◌∙◌, subst}
-use Rattle.std.specs.Prelude.{map}
-use Rattle.rep_values.specs.Literal.{value_of_literal}
-use Rattle.rep_schema.specs.Tables.{Cells, columns_of, RowFits}
+use Rattle.rep_schema.specs.Tables.{columns_of, RowFits}
 use Rattle.local_txn.specs.Literals.{literals_fit, values_of, row_in_range}
 use Rattle.local_txn.proofs.RowShapes.{length-literals_fit, length-values_of, RowFits-values_of}
 use Rattle.local_txn.proofs.StatementSteps.{IsRowLen-fits}

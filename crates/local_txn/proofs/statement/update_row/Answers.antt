@@ -1,4 +1,4 @@
-use Rattle.std.proofs.Common.{◌≡◌, Some, true, length, sym, ◌∙◌, ◌&&◌}
+use Rattle.std.proofs.Common.{◌≡◌, Some, true, sym, ◌∙◌, ◌&&◌}
 use Rattle.rep_schema.specs.Tables.{columns_of}
 use Rattle.rep_schema.proofs.RowFit.{length-fits}
 use Rattle.local_txn.specs.Literals.{key_literals_fit, values_of}

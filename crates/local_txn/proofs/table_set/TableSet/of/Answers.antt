@@ -1,4 +1,4 @@
-use Rattle.std.proofs.Common.{length, arith, ◌∙◌}
+use Rattle.std.proofs.Common.{arith, ◌∙◌}
 use Rattle.std.proofs.lemmas.List.{length-set}
 use Rattle.local_txn.proofs.Marks.{marked-more, marked-all}
 use Rattle.local_txn.proofs.table_set.TableSet.of.Goals as goal
