@@ -76,7 +76,7 @@ fn set(rt: &impl Abort, column: &[u8], how: How) -> Set {
     }
 }
 
-// An update of the row 1.
+// An update of the row of ID 1.
 fn update(rt: &impl Abort, alloc: Global, sets: &[Set]) -> Result<Statement, NoMemory> {
     let mut all = Items::new(alloc);
     for set in sets {
@@ -174,7 +174,7 @@ fn failure(
     }
 }
 
-// Whether a store has the row 1 with these values.
+// Whether a store has the row of ID 1 with these values.
 fn has_row(rt: &impl Abort, store: &ListTables, number: i64, note: &str) -> bool {
     assert!(rt; store.schema().tables.len() == 1);
     let key = Key::of(&[Value::Num(1)]).expect(rt, "a key");

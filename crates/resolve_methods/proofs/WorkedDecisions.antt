@@ -194,3 +194,20 @@ range_ends_the_sequence = refl
 
 no_methods_are_undecided : decision_of (schema [] []) 0 (part_q (pos 0) (pos 1)) (row (pos 5) (codes "low") (codes "L") (pos 9)) ≡ Undecided
 no_methods_are_undecided = refl
+
+mean_of_minus_7_and_4_is_minus_1 : of_q method.Average (pos 0) (negsuc 6) (pos 4) ≡ TakeNumber (negsuc 0)
+unfolding group_columns_of
+mean_of_minus_7_and_4_is_minus_1 = refl
+
+greatest_number_and_1_are_out_of_range : of_q method.Additive (pos 0) (pos 1000000000000000) (pos 1) ≡ Range
+unfolding group_columns_of
+greatest_number_and_1_are_out_of_range = refl
+
+-- priority, and overwrite where the current rank has no level
+missing_level_goes_to_the_next : decision_of (schema (method.Priority 2 0 ∷ method.Overwrite ∷ []) []) 0 (part_g (pos 4) (codes "high") (codes "L")) (row (pos 5) (codes "other") (codes "L") (pos 0)) ≡ TakeNew
+unfolding group_columns_of
+missing_level_goes_to_the_next = refl
+
+tie_of_minimum_alone_is_undecided : decision_of (schema (method.Minimum 1 ∷ []) []) 0 (part_g (pos 5) (codes "low") (codes "L")) (row (pos 5) (codes "low") (codes "L") (pos 0)) ≡ Undecided
+unfolding group_columns_of
+tie_of_minimum_alone_is_undecided = refl

@@ -136,7 +136,7 @@ fn schema(
     })
 }
 
-// What is decided of an update of row 1 from one value of A to another.
+// What is decided of an update of a row from one value of A to another.
 fn decided(rt: &impl Abort, schema: &Schema, call: &Call, row: &Row) -> Decision
     requires { HasShape schema.now }
 {
@@ -276,6 +276,7 @@ fn sums_and_means_are_taken_in_range(rt: HostRuntime) -> Result<(), Fail> {
             Decision::TakeNumber(EDGE),
         ),
         (Method::Additive, (0, 1, EDGE), Decision::Range),
+        (Method::Additive, (0, EDGE, 1), Decision::Range),
         (
             Method::Additive,
             (1, 0, 1 - EDGE),
@@ -284,6 +285,7 @@ fn sums_and_means_are_taken_in_range(rt: HostRuntime) -> Result<(), Fail> {
         (Method::Additive, (1, 0, -EDGE), Decision::Range),
         (Method::Average, (9, -3, 0), Decision::TakeNumber(-1)),
         (Method::Average, (9, 3, 0), Decision::TakeNumber(1)),
+        (Method::Average, (0, -7, 4), Decision::TakeNumber(-1)),
         (Method::Average, (0, EDGE, EDGE), Decision::TakeNumber(EDGE)),
         (
             Method::Average,
