@@ -233,6 +233,34 @@ fn methods_name_what_is_there_and_bring_a_priority_group(rt: HostRuntime) -> Res
     Ok(())
 }
 
+// How many methods a constraint of the first table has.
+fn methods_of_constraint(schema: &Schema, place: usize) -> Option<usize> {
+    let constraint = schema
+        .tables
+        .as_slice()
+        .first()?
+        .constraints
+        .as_slice()
+        .get(place)?;
+    Some(constraint.methods.len())
+}
+
+#[test]
+fn a_method_comes_to_the_constraint_that_it_names(rt: HostRuntime) -> Result<(), Fail> {
+    let alloc = rt.alloc();
+    let mut schema = first_schema(&rt, alloc)?;
+    for (constraint, column) in [("u", "b"), ("v", "c")] {
+        let line = declaration(&rt, alloc, "unique", ["T", constraint, column], 0)?;
+        assert_eq!(rt; add(&mut schema, alloc, &line), 0);
+    }
+    let line = method(&rt, "append-site", ["T", "v", "c"]);
+    assert_eq!(rt; add(&mut schema, alloc, &line), 0);
+    assert!(rt; methods_of_constraint(&schema, 0) == Some(0));
+    assert!(rt; methods_of_constraint(&schema, 1) == Some(1));
+    assert_eq!(rt; outline(&schema), [0, 2, 0, 0]);
+    Ok(())
+}
+
 #[test]
 fn values_get_one_level_each(rt: HostRuntime) -> Result<(), Fail> {
     let alloc = rt.alloc();
