@@ -1,0 +1,4 @@
+-- The definitions of this crate.
+pub mod Limits
+pub mod Spelling
+pub mod Laws

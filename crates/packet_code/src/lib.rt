@@ -1,0 +1,8 @@
+//! Packets between sites as bytes, version 1.
+#![tactic(auto)]
+
+mod laws;
+mod packet;
+
+pub use laws::no_encoding_begins_another;
+pub use packet::Packet;
