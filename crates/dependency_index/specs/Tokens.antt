@@ -1,5 +1,5 @@
 -- What a transaction touches, and when two transactions are independent.
-use Rattle.std.specs.Prelude.{◌≡◌, ℕ, ◌==◌, ◌&&◌, Bool, true, false, not, cond, List, [], ◌∷◌, length, flat_map}
+use Rattle.std.specs.Prelude.{◌≡◌, ℕ, ◌==◌, ◌&&◌, Bool, false, not, cond, List, [], ◌∷◌, length, flat_map}
 use Rattle.std.specs.List.{list_any}
 use Rattle.rep_schema.specs.declared.schema.Schema.{Schema}
 use Rattle.rep_schema.specs.declared.schema.Constraint.{Constraint}

@@ -1,0 +1,93 @@
+-- The transactions of a queue with their destinations, and the streams that they make.
+use Rattle.std.specs.Prelude.{◌≡◌, ◌≢◌, ℕ, ◌+◌, ◌≤◌, ◌==◌, Bool, cond, max, List, [], ◌∷◌, length, map, filter_map, Option, Some, None, option_map}
+use Rattle.rep_values.specs.declared.name.SiteName.{SiteName}
+use Rattle.rep_values.specs.Name.{same_bytes}
+use Rattle.rep_calls.specs.declared.call.Txn.{Txn}
+use Rattle.deferred_queue.specs.declared.destination.Destination.{Destination}
+
+-- a transaction and its destinations, in the order in which the queue has them
+pub record Deferred : Type 0 where
+  pub txn : Txn
+  pub to : List Destination
+
+-- how far a destination has acknowledged its stream
+pub record Mark : Type 0 where
+  pub site : SiteName
+  pub acked : ℕ
+
+-- what a contract sees of a queue: its transactions, the newest first; a mark for each destination; and how many
+-- transactions can be queued without memory
+pub record Deferrals : Type 0 where
+  pub deferred : List Deferred
+  pub marks : List Mark
+  pub spare : ℕ
+
+abbrev pub is_same_site : SiteName → SiteName → Bool
+is_same_site site other = same_bytes site.0 other.0
+
+-- a destination among others, by its site
+abbrev pub destination_to : SiteName → List Destination → Option Destination
+destination_to site [] = None
+destination_to site (d ∷ ds) = cond (is_same_site d.site site) (Some d) (destination_to site ds)
+
+-- a transaction in a stream: its number in the queue, the position that it depends on, and its calls
+pub record InStream : Type 0 where
+  pub number : ℕ
+  pub dep : ℕ
+  pub txn : Txn
+
+abbrev pub with_one : Option Destination → ℕ → Txn → List InStream → List InStream
+with_one None number txn stream = stream
+with_one (Some d) number txn stream = record { number = number; dep = d.dep; txn = txn } ∷ stream
+
+-- the stream to a destination, the newest first: the transactions that have it among theirs; a transaction's number is
+-- its place in the queue, from 1
+abbrev pub stream_to : SiteName → List Deferred → List InStream
+stream_to site [] = []
+stream_to site (deferred ∷ older) = with_one (destination_to site deferred.to) (length older + 1) deferred.txn (stream_to site older)
+
+-- what stands at a position, the oldest at 1, of a list with the newest first
+abbrev pub at_position : {X : Type 0} → ℕ → List X → Option X
+at_position position [] = None
+at_position position (x ∷ xs) = cond (position == length xs + 1) (Some x) (at_position position xs)
+
+-- the last position of the stream to a site, 0 where there is none
+abbrev pub last_position : SiteName → List Deferred → ℕ
+last_position site deferred = length (stream_to site deferred)
+
+-- how far a site has acknowledged its stream, 0 for a site that is no destination
+abbrev pub acked_by : SiteName → List Mark → ℕ
+acked_by site [] = 0
+acked_by site (m ∷ ms) = cond (is_same_site m.site site) m.acked (acked_by site ms)
+
+-- a mark counts where it is higher than the one before
+abbrev pub raised_mark : SiteName → ℕ → Mark → Mark
+raised_mark site mark m = cond (is_same_site m.site site) (record { site = m.site; acked = max m.acked mark }) m
+
+-- the destinations of a transaction in the order in which the queue has them
+abbrev pub in_order : List Mark → List Destination → List Destination
+in_order marks to = filter_map (λ (m : Mark). option_map (λ (d : Destination). record { site = m.site; dep = d.dep }) (destination_to m.site to)) marks
+
+-- a site is one of the queue's destinations
+abbrev pub IsDestination : List Mark → SiteName → Type 0
+IsDestination marks site = destination_to site (map (λ (m : Mark). record { site = m.site; dep = 0 }) marks) ≢ None
+
+-- a destination of the queue, and a position before the one that comes next in its stream
+pub record CanBeSent (queue : Deferrals) (d : Destination) : Type 0 where
+  pub destination : IsDestination queue.marks d.site
+  pub earlier : d.dep ≤ last_position d.site queue.deferred
+
+-- no two of these destinations are the same site
+abbrev pub AreApart : List Destination → Type 0
+AreApart [] = Unit {0}
+AreApart (d ∷ ds) = (destination_to d.site ds ≡ None) × AreApart ds
+
+-- the queued transactions, each at its number
+pub record Numbered : Type 0 where
+  pub number : ℕ
+  pub txn : Txn
+
+-- the transactions with their numbers, the newest first
+abbrev pub numbered : List Deferred → List Numbered
+numbered [] = []
+numbered (deferred ∷ older) = record { number = length older + 1; txn = deferred.txn } ∷ numbered older

@@ -1,0 +1,6 @@
+//! The queue of a site: its transactions, the streams to its destinations, and how far these have acknowledged them.
+#![tactic(auto)]
+
+mod destination;
+
+pub use destination::{Destination, Queued, Sent};
