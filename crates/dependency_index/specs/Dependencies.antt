@@ -3,7 +3,7 @@ use Rattle.std.specs.Prelude.{◌≡◌, ◌≢◌, ℕ, ◌+◌, Bool, cond, Li
 use Rattle.rep_values.specs.declared.name.SiteName.{SiteName}
 use Rattle.rep_values.specs.Name.{same_bytes}
 use Rattle.dependency_index.specs.declared.token.Token.{Token}
-use Rattle.dependency_index.specs.Tokens.{has_token, share_token}
+use Rattle.dependency_index.specs.Tokens.{is_same_token, has_token, share_token}
 
 -- the last position of a stream, the newest first, at which something holds; 0 where it holds nowhere
 abbrev pub last_where : {X : Type 0} → (X → Bool) → List X → ℕ
@@ -56,7 +56,7 @@ room_for streams site = room_in (noted_to site streams)
 -- the last position at which a token was noted, 0 where it never was
 abbrev pub last_noted : Token → List Noted → ℕ
 last_noted token [] = 0
-last_noted token (n ∷ ns) = cond (has_token (n.token ∷ []) token) n.position (last_noted token ns)
+last_noted token (n ∷ ns) = cond (is_same_token token n.token) n.position (last_noted token ns)
 
 -- an index has an entry for a site
 abbrev pub IsIndexed : List NotedStream → SiteName → Type 0
