@@ -3,3 +3,4 @@ pub mod SharedTokens
 pub mod SameContent
 pub mod ContentAfter
 pub mod EitherOrder
+mod WorkedIndependence
