@@ -1,5 +1,5 @@
 -- Tables and counters in which the same is found everywhere are the same.
-use Rattle.std.proofs.Common.{◌≡◌, ℕ, ◌<◌, List, [], length, map, refl, sym, ap, ◌∙◌, subst}
+use Rattle.std.proofs.Common.{◌≡◌, ℕ, ◌<◌, List, [], length, sym, ap, ◌∙◌, subst}
 use Rattle.std.proofs.lemmas.List.{ext_get_or, length-map}
 use Rattle.rep_lists.proofs.FoundByKey.{same_from_finds}
 use Rattle.rep_values.specs.Order.{key_cmp}
