@@ -1,0 +1,7 @@
+-- The lemmas of this crate, from the bottom up.
+pub mod TokenTests
+pub mod ConstrainedValues
+pub mod RowsAlike
+pub mod SettledAlike
+pub mod SettledFree
+pub mod ChangedRows
