@@ -5,3 +5,4 @@ pub mod RowsAlike
 pub mod SettledAlike
 pub mod SettledFree
 pub mod ChangedRows
+pub mod RowEffects
