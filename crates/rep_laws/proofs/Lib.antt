@@ -6,3 +6,4 @@ pub mod SettledAlike
 pub mod SettledFree
 pub mod ChangedRows
 pub mod RowEffects
+pub mod RowsEndAlike
