@@ -7,3 +7,5 @@ pub mod SettledFree
 pub mod ChangedRows
 pub mod RowEffects
 pub mod RowsEndAlike
+pub mod CallTouches
+pub mod TransactionTouches
