@@ -1,6 +1,6 @@
 -- One call at two contents that agree on its tokens: they agree on them afterwards, and all else is as it was.
-use Rattle.std.proofs.Common.{◌≡◌, ◌≢◌, ℕ, List, [], ◌∷◌, get_or, Bool, true, false, Ok, Err, refl, sym, ap, ◌∙◌, subst, inl, inr}
-use Rattle.std.specs.Prelude.{Option, Result}
+use Rattle.std.proofs.Common.{◌≡◌, ◌≢◌, ℕ, List, [], get_or, Bool, true, false, Ok, Err, refl, sym, ap, ◌∙◌, subst, inl, inr}
+use Rattle.std.specs.Prelude.{Result}
 use Rattle.std.proofs.lemmas.Bool.{cases_eq}
 use Rattle.rep_values.specs.declared.name.SiteName.{SiteName}
 use Rattle.rep_values.specs.declared.refusal.ApplyError.{ApplyError}
@@ -85,8 +85,7 @@ module _ (schema : Schema) (origin : SiteName) (tokens : List Token) (shape : Ha
             × (counters_at (content_by_row content effect) table ≡ counters_at content table)
         untouched off =
             let stays = plain-row_effect schema content.tables content.numbers origin shape is.counters apart is.tables call (row_named schema content.tables call) effect fits refl
-            (plain off (touches_constraints schema call) refl) gives in
-            (
+            (plain off (touches_constraints schema call) refl) gives in (
               λ other_key. elim (place_cases table other_key table key) [
                 | inl same ↦ rw (same.1) (ap (constrained_in schema table) row_here ∙ stays.1)
                 | inr elsewhere ↦ ap (constrained_in schema table) (row_elsewhere table other_key elsewhere)

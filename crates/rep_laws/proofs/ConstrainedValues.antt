@@ -1,6 +1,6 @@
 -- Values in the columns of a table's secondary constraints, and that an update of other groups leaves them.
-use Rattle.std.proofs.Common.{◌≡◌, ◌≢◌, ℕ, zero, suc, List, [], ◌∷◌, ◌++◌, set, Bool, true, false, cond, Some, None, Ok, refl, sym, ap, ◌∙◌, subst, arith}
-use Rattle.std.specs.Prelude.{Option, slice_get, flat_map, ◌||◌, ◌==◌, not, length}
+use Rattle.std.proofs.Common.{◌≡◌, ◌≢◌, ℕ, zero, suc, List, [], ◌∷◌, ◌++◌, set, Bool, true, false, Ok, refl, sym, ap, ◌∙◌, arith}
+use Rattle.std.specs.Prelude.{slice_get, flat_map, ◌||◌, ◌==◌, not, length}
 use Rattle.std.specs.List.{AllByRecursion, list_any, cons_option}
 use Rattle.std.proofs.lemmas.Bool.{eqb-false, ne_eqb}
 use Rattle.rep_values.specs.declared.value.Value.{Value}
@@ -11,7 +11,7 @@ use Rattle.rep_schema.specs.Groups.{group_columns_of, values_at, with_values, wi
 use Rattle.rep_calls.specs.declared.call.Part.{Part}
 use Rattle.txn_effects.specs.Parts.{settled_values, settled_part, settled_parts}
 use Rattle.txn_effects.proofs.Results.{result_then-Ok}
-use Rattle.dependency_index.specs.Tokens.{has_constraints, constrained_columns, is_constrained, has_constrained_column}
+use Rattle.dependency_index.specs.Tokens.{has_constraints, constrained_columns, has_constrained_column}
 
 -- rows with the same values, or none, at some places have the same values there
 pub values_at-picked : (places : List ℕ) (a b : Cells) → picked places a ≡ picked places b → values_at places a ≡ values_at places b

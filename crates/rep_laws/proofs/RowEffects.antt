@@ -1,6 +1,6 @@
 -- What one call leaves of the row that it names, and of the counters of each table.
-use Rattle.std.proofs.Common.{◌≡◌, ◌≢◌, ℕ, ◌<◌, List, [], ◌∷◌, length, get_or, Bool, true, false, cond, Some, None, Ok, Err, refl, sym, ap, ◌∙◌, subst}
-use Rattle.std.specs.Prelude.{Option, IfSome, option_map, ◌&&◌, is_some, slice_get}
+use Rattle.std.proofs.Common.{◌≡◌, ◌≢◌, ℕ, List, [], get_or, Bool, true, false, cond, Some, None, Ok, Err, refl, sym, ap, ◌∙◌, subst}
+use Rattle.std.specs.Prelude.{Option, IfSome, option_map}
 use Rattle.std.specs.List.{AllByRecursion, list_any}
 use Rattle.rep_values.specs.declared.name.SiteName.{SiteName}
 use Rattle.rep_values.specs.declared.value.Value.{Value}
@@ -17,10 +17,10 @@ use Rattle.conflict_detect.specs.Fits.{table_of, CallFits}
 use Rattle.unique_resolve.specs.declared.settled.Settled.{Settled}
 use Rattle.unique_resolve.specs.declared.settled.Settled.TheVariants.{Fits, Dropped, Conflict}
 use Rattle.unique_resolve.specs.Numbers.{Numbers, AreCounters}
-use Rattle.unique_resolve.specs.Settling.{key_methods_in, key_taken, Settlement, settlement_of}
+use Rattle.unique_resolve.specs.Settling.{Settlement, settlement_of}
 use Rattle.unique_resolve.proofs.Settlements.{key_of-settled}
 use Rattle.txn_effects.specs.Parts.{settled_parts}
-use Rattle.txn_effects.specs.Calls.{HasKeys, KeysStandAlone, key_named, row_named, RowEffect, effect_by, settled_effect, row_effect}
+use Rattle.txn_effects.specs.Calls.{KeysStandAlone, key_named, row_named, RowEffect, effect_by, settled_effect, row_effect}
 use Rattle.txn_effects.proofs.Results.{result_then-Ok}
 use Rattle.txn_effects.proofs.PartEffects.{RowFits-settled_parts, key_of-settled_parts}
 use Rattle.dependency_index.specs.Tokens.{has_constraints, constrained_columns, has_constrained_column, touches_constraints}
@@ -135,8 +135,7 @@ module _ (schema : Schema) (tables : List Rows) (numbers : Numbers) (origin : Si
           let settled = result_then-Ok (settled_parts schema table parts found) (λ row. settled_effect (settlement_of schema tables numbers origin table false row) (Some found)) effect gives in
           let free = settlement_of-free schema tables numbers origin table false settled.0 (free-settled_parts table key parts found settled.0 fits was plain settled.1) in
           let one : settled_effect (record { settled = Fits settled.0; numbers = numbers }) (Some found) ≡ Ok effect = subst (λ s. settled_effect s (Some found) ≡ Ok effect) free settled.2 in
-          let is : record { after = Some settled.0; numbers = numbers } ≡ effect = cc (one) in
-          (
+          let is : record { after = Some settled.0; numbers = numbers } ≡ effect = cc (one) in (
             ap (λ (x : RowEffect). x.numbers) (sym is),
             ap (λ (x : RowEffect). constrained_in schema table x.after) (sym is)
                 ∙ ap (λ values. cond (has_constraints schema table) (Some values) None) (picked-settled_parts schema table parts found settled.0 plain settled.1),

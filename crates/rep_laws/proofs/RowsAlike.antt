@@ -1,6 +1,6 @@
 -- Rows of two tables that have, key by key, the same values in some columns, and what tests can tell of them.
 use Rattle.std.proofs.Common.{◌≡◌, ℕ, List, [], ◌∷◌, map, Bool, Some, None, refl, sym, ap, ◌∙◌}
-use Rattle.std.specs.Prelude.{Option, option_map, ◌||◌}
+use Rattle.std.specs.Prelude.{Option, option_map}
 use Rattle.std.specs.List.{AllByRecursion, list_any}
 use Rattle.std.specs.declared.cmp.Ordering.{Ordering}
 use Rattle.std.specs.declared.cmp.Ordering.TheVariants.{Less, Equal, Greater}
@@ -74,8 +74,8 @@ module _ (columns : List Column) (places : List ℕ) where
       (IsRising-map seen (λ a b. key_cmp a.0 b.0) rows rising)
       (IsRising-map seen (λ a b. key_cmp a.0 b.0) others rising_others)
       (λ key. find_at-map seen (λ image. key_cmp image.0 key) rows
-          ∙ found key (find_row columns key rows) (find_row columns key others) refl refl (finds key)
-          ∙ sym (find_at-map seen (λ image. key_cmp image.0 key) others)))
+      ∙ found key (find_row columns key rows) (find_row columns key others) refl refl (finds key)
+      ∙ sym (find_at-map seen (λ image. key_cmp image.0 key) others)))
     where
       found : (key : Cells) (one other : Option Cells) → find_row columns key rows ≡ one → find_row columns key others ≡ other → option_map (picked places) one ≡ option_map (picked places) other → option_map seen one ≡ option_map seen other
       found key None None here there same = refl

@@ -1,29 +1,28 @@
 -- One call at two contents that agree on its tokens: it ends alike at the row that it names.
-use Rattle.std.proofs.Common.{◌≡◌, ℕ, ◌<◌, List, [], ◌∷◌, length, get_or, Bool, true, false, cond, Some, None, Ok, Err, refl, sym, ap, ◌∙◌, subst, arith}
-use Rattle.std.specs.Prelude.{Option, Result, option_map, ◌&&◌, is_some, slice_get}
-use Rattle.std.specs.List.{AllByRecursion, list_any}
+use Rattle.std.proofs.Common.{◌≡◌, ℕ, ◌<◌, List, [], length, get_or, Bool, true, false, cond, Some, None, Ok, Err, refl, sym, ap, ◌∙◌, arith}
+use Rattle.std.specs.Prelude.{Option, Result, ◌&&◌, is_some, slice_get}
+use Rattle.std.specs.List.{AllByRecursion}
 use Rattle.std.proofs.lemmas.List.{length-map}
 use Rattle.rep_values.specs.declared.name.SiteName.{SiteName}
 use Rattle.rep_values.specs.declared.refusal.ApplyError.{ApplyError}
 use Rattle.rep_values.specs.declared.refusal.ApplyError.TheVariants.{DeleteConflict}
 use Rattle.rep_schema.specs.declared.schema.Schema.{Schema}
 use Rattle.rep_schema.specs.declared.schema.TableEntry.{TableEntry}
-use Rattle.rep_schema.specs.Tables.{Cells, Rows, columns_of, constraints_of, key_of, find_row, rows_of, picked}
+use Rattle.rep_schema.specs.Tables.{Cells, columns_of, constraints_of, key_of, find_row, rows_of}
 use Rattle.rep_schema.specs.Shape.{HasShape}
 use Rattle.rep_schema.specs.Groups.{are_same}
 use Rattle.rep_calls.specs.declared.call.Call.{Call}
 use Rattle.rep_calls.specs.declared.call.Call.TheVariants.{Insert, Update, Delete}
-use Rattle.rep_calls.specs.declared.call.Part.{Part}
 use Rattle.conflict_detect.specs.Fits.{table_of, CallFits}
 use Rattle.unique_resolve.specs.declared.settled.Settled.{Settled}
 use Rattle.unique_resolve.specs.declared.settled.Settled.TheVariants.{Fits, Dropped, Conflict}
 use Rattle.unique_resolve.specs.Numbers.{Numbers, AreCounters}
 use Rattle.unique_resolve.specs.Settling.{key_methods_in, key_taken, Settlement, settlement_of}
 use Rattle.txn_effects.specs.Parts.{settled_parts, result_then}
-use Rattle.txn_effects.specs.Calls.{KeysStandAlone, key_named, row_named, RowEffect, effect_by, settled_effect, row_effect}
+use Rattle.txn_effects.specs.Calls.{KeysStandAlone, row_named, RowEffect, effect_by, settled_effect, row_effect}
 use Rattle.dependency_index.specs.declared.token.Token.{Token}
 use Rattle.dependency_index.specs.declared.token.Token.TheVariants as token
-use Rattle.dependency_index.specs.Tokens.{has_constraints, constrained_columns, has_constrained_column, touches_constraints, has_token}
+use Rattle.dependency_index.specs.Tokens.{has_constraints, constrained_columns, touches_constraints, has_token}
 use Rattle.rep_laws.specs.Commuting.{Content, IsContent, AgreeOn, counters_at}
 use Rattle.rep_laws.proofs.TokenTests.{Covers}
 use Rattle.rep_laws.proofs.RowsAlike.{alike_from_finds}
@@ -70,7 +69,7 @@ module _ (schema : Schema) (origin : SiteName) (tokens : List Token) (one other 
 
   module _ (table : ℕ) (below : table < length schema.tables) (inserting : Bool) (row : Cells)
       (found : (inserting && is_some (find_row (columns_of schema table) (key_of (columns_of schema table) row) (rows_of one.tables table)))
-          ≡ (inserting && is_some (find_row (columns_of schema table) (key_of (columns_of schema table) row) (rows_of other.tables table)))) where
+      ≡ (inserting && is_some (find_row (columns_of schema table) (key_of (columns_of schema table) row) (rows_of other.tables table)))) where
     -- a row of a table whose constraints are among the tokens is settled alike
     settles_by_constraints : has_constraints schema table ≡ true → has_token tokens (token.Unique table) ≡ true
         → SettlesAlike table one other (settlement_of schema one.tables one.numbers origin table inserting row) (settlement_of schema other.tables other.numbers origin table inserting row)
@@ -134,8 +133,8 @@ module _ (schema : Schema) (origin : SiteName) (tokens : List Token) (one other 
 
         parted : (settled : Result Cells ApplyError) → settled_parts schema table parts found ≡ settled
             → RowEndsAlike table one other
-                (result_then settled (λ row. settled_effect (settlement_of schema one.tables one.numbers origin table false row) (Some found)))
-                (result_then settled (λ row. settled_effect (settlement_of schema other.tables other.numbers origin table false row) (Some found)))
+            (result_then settled (λ row. settled_effect (settlement_of schema one.tables one.numbers origin table false row) (Some found)))
+            (result_then settled (λ row. settled_effect (settlement_of schema other.tables other.numbers origin table false row) (Some found)))
         parted (Ok row) gives = settled_effect-alike table one other _ _ (Some found) (settles row gives (touches_constraints schema (Update table key parts)) refl)
         parted (Err error) gives = refl
     row_effect-alike (Delete table row) None fits covers was last_was = refl

@@ -1,5 +1,5 @@
 -- How uniqueness is settled among rows of two tables, where each constraint's test answers alike at both.
-use Rattle.std.proofs.Common.{◌≡◌, ℕ, ◌<◌, List, [], ◌∷◌, get_or, set, Bool, true, false, cond, Some, None, refl, sym, ap, ◌∙◌}
+use Rattle.std.proofs.Common.{◌≡◌, ℕ, ◌<◌, List, [], ◌∷◌, get_or, Bool, true, false, cond, Some, None, refl, sym, ap, ◌∙◌}
 use Rattle.std.specs.Prelude.{Option, ◌&&◌, is_some, slice_get, decimal, not, length}
 use Rattle.std.specs.List.{AllByRecursion}
 use Rattle.std.proofs.lemmas.List.{get_or-set_same}
@@ -14,7 +14,7 @@ use Rattle.rep_schema.specs.Tables.{Cells, Rows, columns_of, constraints_of, key
 use Rattle.rep_schema.specs.Groups.{values_at, are_same}
 use Rattle.unique_resolve.specs.declared.settled.Settled.{Settled}
 use Rattle.unique_resolve.specs.declared.settled.Settled.TheVariants.{Fits, Dropped, Conflict}
-use Rattle.unique_resolve.specs.Numbers.{Numbers, AreCounters, raised}
+use Rattle.unique_resolve.specs.Numbers.{Numbers, raised}
 use Rattle.unique_resolve.specs.Appending.{appended}
 use Rattle.unique_resolve.specs.Settling.{is_held, helping, settled_by, settled_one, TableOutcome, with_number, go_on, settled_each, key_methods_in, key_taken, with_numbers, settlement_of}
 use Rattle.dependency_index.specs.Tokens.{constrained_columns}
@@ -64,13 +64,13 @@ tests_alike schema table rows others alike =
     each_then (λ (c : Constraint). (a b : Cells) → picked (constrained_columns schema table) a ≡ picked (constrained_columns schema table) b → values_at c.columns a ≡ values_at c.columns b)
     (TestsAlike (columns_of schema table) rows others)
     (λ c same row. list_any-StandAlike (AreAlike (columns_of schema table) (constrained_columns schema table))
-        (λ one. not (are_same (key_of (columns_of schema table) one) (key_of (columns_of schema table) row)) && are_same (values_at c.columns one) (values_at c.columns row))
-        (λ x y both. rw (both.0, same x y both.1) refl) rows others alike)
+    (λ one. not (are_same (key_of (columns_of schema table) one) (key_of (columns_of schema table) row)) && are_same (values_at c.columns one) (values_at c.columns row))
+    (λ x y both. rw (both.0, same x y both.1) refl) rows others alike)
     (constraints_of schema table) (constrained_values_same schema table)
 
 module _ (schema : Schema) (tables other_tables : List Rows) (numbers other_numbers : Numbers) (origin : SiteName) (table : ℕ) (inserting : Bool) (row : Cells)
     (taken : (inserting && is_some (find_row (columns_of schema table) (key_of (columns_of schema table) row) (rows_of tables table)))
-        ≡ (inserting && is_some (find_row (columns_of schema table) (key_of (columns_of schema table) row) (rows_of other_tables table))))
+    ≡ (inserting && is_some (find_row (columns_of schema table) (key_of (columns_of schema table) row) (rows_of other_tables table))))
     (alike : AllByRecursion (TestsAlike (columns_of schema table) (rows_of tables table) (rows_of other_tables table)) (constraints_of schema table))
     (counters : get_or numbers table [] ≡ get_or other_numbers table []) where
   by_constraints_alike : settled_each (columns_of schema table) (rows_of tables table) origin (constraints_of schema table) (get_or numbers table []) row
@@ -84,9 +84,9 @@ module _ (schema : Schema) (tables other_tables : List Rows) (numbers other_numb
   settled-alike = rw taken (go (inserting && is_some (find_row (columns_of schema table) (key_of (columns_of schema table) row) (rows_of other_tables table))))
     where
       go : (b : Bool) → (cond b (record { settled = key_taken (key_methods_in (slice_get schema.tables table)); numbers = numbers })
-              (with_numbers table numbers (settled_each (columns_of schema table) (rows_of tables table) origin (constraints_of schema table) (get_or numbers table []) row))).settled
+          (with_numbers table numbers (settled_each (columns_of schema table) (rows_of tables table) origin (constraints_of schema table) (get_or numbers table []) row))).settled
           ≡ (cond b (record { settled = key_taken (key_methods_in (slice_get schema.tables table)); numbers = other_numbers })
-              (with_numbers table other_numbers (settled_each (columns_of schema table) (rows_of other_tables table) origin (constraints_of schema table) (get_or other_numbers table []) row))).settled
+          (with_numbers table other_numbers (settled_each (columns_of schema table) (rows_of other_tables table) origin (constraints_of schema table) (get_or other_numbers table []) row))).settled
       go true = refl
       go false = ap (λ (outcome : TableOutcome). outcome.settled) by_constraints_alike
 
@@ -96,8 +96,8 @@ module _ (schema : Schema) (tables other_tables : List Rows) (numbers other_numb
   counters-alike below other_below = rw taken (go (inserting && is_some (find_row (columns_of schema table) (key_of (columns_of schema table) row) (rows_of other_tables table))))
     where
       go : (b : Bool) → get_or (cond b (record { settled = key_taken (key_methods_in (slice_get schema.tables table)); numbers = numbers })
-              (with_numbers table numbers (settled_each (columns_of schema table) (rows_of tables table) origin (constraints_of schema table) (get_or numbers table []) row))).numbers table []
+          (with_numbers table numbers (settled_each (columns_of schema table) (rows_of tables table) origin (constraints_of schema table) (get_or numbers table []) row))).numbers table []
           ≡ get_or (cond b (record { settled = key_taken (key_methods_in (slice_get schema.tables table)); numbers = other_numbers })
-              (with_numbers table other_numbers (settled_each (columns_of schema table) (rows_of other_tables table) origin (constraints_of schema table) (get_or other_numbers table []) row))).numbers table []
+          (with_numbers table other_numbers (settled_each (columns_of schema table) (rows_of other_tables table) origin (constraints_of schema table) (get_or other_numbers table []) row))).numbers table []
       go true = counters
       go false = get_or-set_same numbers table _ [] below ∙ ap (λ (outcome : TableOutcome). outcome.numbers) by_constraints_alike ∙ sym (get_or-set_same other_numbers table _ [] other_below)

@@ -1,6 +1,6 @@
 -- A row whose values no other row has: it fits as it is, and counters stay.
-use Rattle.std.proofs.Common.{◌≡◌, ◌≢◌, ℕ, ◌<◌, List, [], ◌∷◌, length, get_or, set, Bool, true, false, cond, Some, None, refl, sym, ap, ◌∙◌, subst}
-use Rattle.std.specs.Prelude.{Option, ◌&&◌, is_some, slice_get}
+use Rattle.std.proofs.Common.{◌≡◌, ◌≢◌, ℕ, List, [], ◌∷◌, get_or, Bool, true, false, cond, refl, sym, ap, subst}
+use Rattle.std.specs.Prelude.{◌&&◌, is_some, slice_get}
 use Rattle.std.specs.List.{AllByRecursion}
 use Rattle.std.proofs.lemmas.Bool.{false_from_ne_true}
 use Rattle.std.proofs.lemmas.List.{set-get_or, get_or-set_other}
@@ -10,13 +10,11 @@ use Rattle.rep_values.specs.declared.name.SiteName.{SiteName}
 use Rattle.rep_schema.specs.declared.schema.Schema.{Schema}
 use Rattle.rep_schema.specs.declared.schema.Column.{Column}
 use Rattle.rep_schema.specs.declared.schema.Constraint.{Constraint}
-use Rattle.rep_schema.specs.Tables.{Cells, Rows, columns_of, constraints_of, places_in, constraint_columns_of, key_of, find_row, rows_of, picked, RowFits, IsHeldElsewhere, IsUniqueRow, IsTable}
+use Rattle.rep_schema.specs.Tables.{Cells, Rows, columns_of, constraints_of, places_in, constraint_columns_of, key_of, find_row, rows_of, picked, RowFits, IsHeldElsewhere, IsUniqueRow}
 use Rattle.rep_schema.specs.Groups.{values_at}
-use Rattle.rep_lists.proofs.Each.{each_then}
-use Rattle.unique_resolve.specs.declared.settled.Settled.{Settled}
-use Rattle.unique_resolve.specs.declared.settled.Settled.TheVariants.{Fits, Dropped, Conflict}
+use Rattle.unique_resolve.specs.declared.settled.Settled.TheVariants.{Fits}
 use Rattle.unique_resolve.specs.Numbers.{Numbers}
-use Rattle.unique_resolve.specs.Settling.{is_held, settled_one, TableOutcome, with_number, go_on, settled_each, key_methods_in, key_taken, Settlement, with_numbers, settlement_of}
+use Rattle.unique_resolve.specs.Settling.{is_held, with_number, settled_each, key_methods_in, key_taken, with_numbers, settlement_of}
 use Rattle.unique_resolve.proofs.HeldValues.{held_test}
 use Rattle.dependency_index.specs.Tokens.{has_constraints, constrained_columns}
 use Rattle.rep_laws.proofs.ConstrainedValues.{constrained_values_same, constraints_of-none}
@@ -39,7 +37,7 @@ module _ (schema : Schema) (tables : List Rows) (numbers : Numbers) (origin : Si
   settlement_of-free free = go (inserting && is_some (find_row (columns_of schema table) (key_of (columns_of schema table) row) (rows_of tables table)))
     where
       go : (b : Bool) → cond b (record { settled = key_taken (key_methods_in (slice_get schema.tables table)); numbers = numbers })
-              (with_numbers table numbers (settled_each (columns_of schema table) (rows_of tables table) origin (constraints_of schema table) (get_or numbers table []) row))
+          (with_numbers table numbers (settled_each (columns_of schema table) (rows_of tables table) origin (constraints_of schema table) (get_or numbers table []) row))
           ≡ record { settled = cond b (key_taken (key_methods_in (slice_get schema.tables table))) (Fits row); numbers = numbers }
       go true = refl
       go false = rw (settled_each-free (columns_of schema table) (rows_of tables table) origin (constraints_of schema table) (get_or numbers table []) row free, set-get_or numbers table []) refl
@@ -49,7 +47,7 @@ module _ (schema : Schema) (tables : List Rows) (numbers : Numbers) (origin : Si
   counters-other other apart = go (inserting && is_some (find_row (columns_of schema table) (key_of (columns_of schema table) row) (rows_of tables table)))
     where
       go : (b : Bool) → get_or (cond b (record { settled = key_taken (key_methods_in (slice_get schema.tables table)); numbers = numbers })
-              (with_numbers table numbers (settled_each (columns_of schema table) (rows_of tables table) origin (constraints_of schema table) (get_or numbers table []) row))).numbers other []
+          (with_numbers table numbers (settled_each (columns_of schema table) (rows_of tables table) origin (constraints_of schema table) (get_or numbers table []) row))).numbers other []
           ≡ get_or numbers other []
       go true = refl
       go false = get_or-set_other numbers table other _ [] apart
@@ -64,11 +62,11 @@ module _ (schema : Schema) (table : ℕ) (rows : Rows) (row : Cells) where
       → AllByRecursion (IsFree (columns_of schema table) rows row) (constraints_of schema table)
   free-unique fit fits unique = recursion_from_All (IsFree (columns_of schema table) rows row) (constraints_of schema table)
       (λ k d below. false_from_ne_true (is_held (columns_of schema table) (get_or (constraints_of schema table) k d).columns rows row)
-          (λ held.
-              let there : constraint_columns_of schema table k ≡ (get_or (constraints_of schema table) k d).columns = ap places_in (slice_get-get_or (constraints_of schema table) k d below) in
-              unique.unheld k below
-              (subst (λ places. IsHeldElsewhere (columns_of schema table) places row rows) (sym there)
-              ((held_test (columns_of schema table) (get_or (constraints_of schema table) k d).columns row fits rows fit).0 held))))
+      (λ held.
+      let there : constraint_columns_of schema table k ≡ (get_or (constraints_of schema table) k d).columns = ap places_in (slice_get-get_or (constraints_of schema table) k d below) in
+      unique.unheld k below
+      (subst (λ places. IsHeldElsewhere (columns_of schema table) places row rows) (sym there)
+      ((held_test (columns_of schema table) (get_or (constraints_of schema table) k d).columns row fits rows fit).0 held))))
 
   -- and so is a row with its key and its values in constrained columns
   pub free-like : (after : Cells) → AllByRecursion (RowFits (columns_of schema table)) rows → RowFits (columns_of schema table) row → IsUniqueRow schema table row rows

@@ -1,16 +1,15 @@
 -- A transaction at two contents that agree on its tokens: it ends alike, they agree on them afterwards, and all else is as it was.
-use Rattle.std.proofs.Common.{◌≡◌, ℕ, ◌+◌, List, [], ◌∷◌, ◌++◌, Ok, Err, refl, sym, ap, ◌∙◌, subst}
+use Rattle.std.proofs.Common.{◌≡◌, ℕ, ◌+◌, List, [], ◌∷◌, ◌++◌, Ok, Err, refl, ap, ◌∙◌}
 use Rattle.std.specs.Prelude.{Result}
 use Rattle.std.specs.List.{AllByRecursion}
 use Rattle.rep_values.specs.declared.name.SiteName.{SiteName}
 use Rattle.rep_values.specs.declared.refusal.ApplyError.{ApplyError}
 use Rattle.rep_schema.specs.declared.schema.Schema.{Schema}
-use Rattle.rep_schema.specs.declared.change.Change.{Change}
 use Rattle.rep_schema.specs.Tables.{Rows}
 use Rattle.rep_schema.specs.Shape.{HasShape}
 use Rattle.rep_calls.specs.declared.call.Call.{Call}
 use Rattle.rep_calls.specs.declared.call.Txn.{Txn}
-use Rattle.conflict_detect.specs.Fits.{CallFits, TxnFits}
+use Rattle.conflict_detect.specs.Fits.{CallFits}
 use Rattle.txn_effects.specs.Parts.{result_then}
 use Rattle.txn_effects.specs.Calls.{HasKeys, KeysStandAlone, Effect, call_effect}
 use Rattle.txn_effects.specs.Transactions.{made_all, Failure, failing_at, behind, calls_effect, tables_by, numbers_by}
@@ -18,7 +17,7 @@ use Rattle.txn_effects.proofs.TransactionEffects.{made_all-append, IsApplied-cal
 use Rattle.txn_effects.proofs.SoundSchemas.{HasKeys-sound, KeysStandAlone-sound}
 use Rattle.dependency_index.specs.declared.token.Token.{Token}
 use Rattle.dependency_index.specs.Tokens.{txn_tokens}
-use Rattle.rep_laws.specs.Commuting.{Content, effect_on, content_after, IsContent, IsSound, AgreeOn, AgreeOff, EndAlike, TouchesItsTokens, TransactionsTouchTheirTokens}
+use Rattle.rep_laws.specs.Commuting.{Content, effect_on, IsContent, AgreeOn, AgreeOff, EndAlike, TouchesItsTokens, TransactionsTouchTheirTokens}
 use Rattle.rep_laws.proofs.TokenTests.{Covers, each_covered}
 use Rattle.rep_laws.proofs.CallTouches.{content_by, AgreeAfter, EndsAlikeOn, call_touches}
 
@@ -75,16 +74,16 @@ module _ (schema : Schema) (origin : SiteName) (tokens : List Token) (shape : Ha
       go (call_effect schema one.tables one.numbers origin call) (call_effect schema other.tables other.numbers origin call) refl refl
       (call_touches schema origin tokens shape apart call fit.0 cover.0 one other is_one is_other agree)
       (λ effect last gives last_gives first. calls_touch (number + 1) calls (content_by schema effect one) (content_by schema last other)
-          (IsContent-call_effect call one effect is_one fit.0 gives) (IsContent-call_effect call other last is_other fit.0 last_gives) fit.1 cover.1 first.own)
+      (IsContent-call_effect call one effect is_one fit.0 gives) (IsContent-call_effect call other last is_other fit.0 last_gives) fit.1 cover.1 first.own)
     where
       go : (result last : Result Effect ApplyError) → call_effect schema one.tables one.numbers origin call ≡ result → call_effect schema other.tables other.numbers origin call ≡ last → EndsAlikeOn schema tokens one other result last
           → ((effect later : Effect) → call_effect schema one.tables one.numbers origin call ≡ Ok effect → call_effect schema other.tables other.numbers origin call ≡ Ok later → AgreeAfter schema tokens one other effect later
-              → EndsAlikeOn schema tokens (content_by schema effect one) (content_by schema later other)
-                  (calls_effect schema origin (number + 1) calls (made_all schema effect.changes one.tables) effect.numbers)
-                  (calls_effect schema origin (number + 1) calls (made_all schema later.changes other.tables) later.numbers))
+          → EndsAlikeOn schema tokens (content_by schema effect one) (content_by schema later other)
+          (calls_effect schema origin (number + 1) calls (made_all schema effect.changes one.tables) effect.numbers)
+          (calls_effect schema origin (number + 1) calls (made_all schema later.changes other.tables) later.numbers))
           → EndsAlikeOn schema tokens one other
-              (result_then (failing_at number result) (λ effect. behind effect.changes (calls_effect schema origin (number + 1) calls (made_all schema effect.changes one.tables) effect.numbers)))
-              (result_then (failing_at number last) (λ effect. behind effect.changes (calls_effect schema origin (number + 1) calls (made_all schema effect.changes other.tables) effect.numbers)))
+          (result_then (failing_at number result) (λ effect. behind effect.changes (calls_effect schema origin (number + 1) calls (made_all schema effect.changes one.tables) effect.numbers)))
+          (result_then (failing_at number last) (λ effect. behind effect.changes (calls_effect schema origin (number + 1) calls (made_all schema effect.changes other.tables) effect.numbers)))
       go (Ok effect) (Ok last) gives last_gives ends rest =
           ends_behind one other effect last ends (calls_effect schema origin (number + 1) calls (made_all schema effect.changes one.tables) effect.numbers)
           (calls_effect schema origin (number + 1) calls (made_all schema last.changes other.tables) last.numbers)

@@ -1,5 +1,5 @@
 -- What a transaction's tokens stand for, and when two transactions may be applied in either order.
-use Rattle.std.specs.Prelude.{◌≡◌, ℕ, Bool, true, false, cond, List, [], Option, None, Result, Ok, Err, option_map, slice_index_or}
+use Rattle.std.specs.Prelude.{◌≡◌, ℕ, true, false, cond, List, [], Option, None, Result, Ok, Err, option_map, slice_index_or}
 use Rattle.rep_values.specs.declared.name.SiteName.{SiteName}
 use Rattle.rep_values.specs.declared.value.Value.{Value}
 use Rattle.rep_schema.specs.declared.schema.Schema.{Schema}
