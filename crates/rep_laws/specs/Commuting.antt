@@ -1,5 +1,5 @@
 -- What a transaction's tokens stand for, and when two transactions may be applied in either order.
-use Rattle.std.specs.Prelude.{◌≡◌, ℕ, Bool, true, false, List, [], Option, None, Result, Ok, Err, option_map, slice_index_or}
+use Rattle.std.specs.Prelude.{◌≡◌, ℕ, true, false, cond, List, [], Option, None, Result, Ok, Err, option_map, slice_index_or}
 use Rattle.rep_values.specs.declared.name.SiteName.{SiteName}
 use Rattle.rep_values.specs.declared.value.Value.{Value}
 use Rattle.rep_schema.specs.declared.schema.Schema.{Schema}
@@ -13,7 +13,7 @@ use Rattle.txn_effects.specs.Calls.{Effect}
 use Rattle.txn_effects.specs.Transactions.{Failure, txn_effect, tables_by, numbers_by}
 use Rattle.dependency_index.specs.declared.token.Token.{Token}
 use Rattle.dependency_index.specs.declared.token.Token.TheVariants as token
-use Rattle.dependency_index.specs.Tokens.{constrained_columns, txn_tokens, has_token, AreIndependent}
+use Rattle.dependency_index.specs.Tokens.{has_constraints, constrained_columns, txn_tokens, has_token, AreIndependent}
 
 -- the tables and the counters of a site
 pub record Content : Type 0 where
@@ -45,9 +45,10 @@ pub record IsSound (schema : Schema) : Type 0 where
 abbrev pub row_at : Schema → Content → ℕ → Cells → Option Cells
 row_at schema content table key = find_row (columns_of schema table) key (rows_of content.tables table)
 
--- what the row of a table that has a key has in the columns of secondary constraints, if there is such a row
+-- what the row of a table that has a key has in the columns of secondary constraints, if there is such a row; none where
+-- the table has no constraint
 abbrev pub constrained_at : Schema → Content → ℕ → Cells → Option (List (Option Value))
-constrained_at schema content table key = option_map (picked (constrained_columns schema table)) (row_at schema content table key)
+constrained_at schema content table key = cond (has_constraints schema table) (option_map (picked (constrained_columns schema table)) (row_at schema content table key)) None
 
 -- the counters of a table
 abbrev pub counters_at : Content → ℕ → List ℕ
