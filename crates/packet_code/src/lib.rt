@@ -3,8 +3,10 @@
 
 mod encoding;
 mod laws;
+mod limits;
 mod packet;
 
 pub use encoding::encode;
 pub use laws::no_encoding_begins_another;
+pub use limits::is_packet;
 pub use packet::Packet;
