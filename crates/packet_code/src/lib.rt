@@ -10,3 +10,6 @@ pub use encoding::encode;
 pub use laws::no_encoding_begins_another;
 pub use limits::is_packet;
 pub use packet::Packet;
+
+#[cfg(test)]
+mod tests;
