@@ -1,3 +1,4 @@
+//! Packets as bytes, written out by hand, and the limits on packets.
 use crate::{Packet, encode, is_packet};
 use rep_calls::{Call, Part, Txn};
 use rep_lists::{Copies, Items, NoMemory};
@@ -40,6 +41,13 @@ fn update(rt: &impl Abort, table: u32, key: i64, parts: Items<Part>) -> Call {
     }
 }
 
+fn delete(rt: &impl Abort, alloc: Global, table: u32, number: i64) -> Result<Call, NoMemory> {
+    Ok(Call::Delete {
+        table,
+        row: row(rt, alloc, &[Value::Num(number)])?,
+    })
+}
+
 fn carry(rt: &impl Abort, places: (u64, u64, u64), calls: Items<Call>) -> Packet {
     Packet::Carry {
         from: site(rt, b"A"),
@@ -51,7 +59,7 @@ fn carry(rt: &impl Abort, places: (u64, u64, u64), calls: Items<Call>) -> Packet
     }
 }
 
-// The bytes of a packet and of its copy.
+// Whether a packet and its copy have these bytes.
 fn is_spelled(
     rt: &impl Abort,
     alloc: Global,
@@ -69,12 +77,11 @@ fn is_sent(rt: &impl Abort, alloc: Global, call: Call) -> Result<bool, NoMemory>
     Ok(is_packet(&carry(rt, (1, 1, 0), one(alloc, call)?)))
 }
 
-// Whether an update of these parts may be sent.
-fn is_updated(rt: &impl Abort, alloc: Global, parts: [Part; 2]) -> Result<bool, NoMemory> {
-    let [first, second] = parts;
-    let mut items = one(alloc, first)?;
-    items.push(second)?;
-    is_sent(rt, alloc, update(rt, 0, 1, items))
+// Whether an update of two parts may be sent.
+fn is_updated(rt: &impl Abort, alloc: Global, first: Part, second: Part) -> Result<bool, NoMemory> {
+    let mut parts = one(alloc, first)?;
+    parts.push(second)?;
+    is_sent(rt, alloc, update(rt, 0, 1, parts))
 }
 
 #[test]
@@ -111,13 +118,6 @@ fn updates_and_deletes_are_spelled_out(rt: HostRuntime) -> Result<(), Fail> {
         b"\x01\x01\x01A\x01B\0\0\0\0\0\0\x02\x03\0\0\0\0\0\0\x02\x02\0\0\0\0\0\0\x02\x01\0\0\0\x02\x02\x01\x02\x01\x01\0\0\0\0\0\0\0\x07\x01\xff\x01\x01\xff\xff\xff\xff\xff\xff\xff\xff\x02\0\x03\xff\xff\x01\x02\x01~";
     assert!(rt; is_spelled(&rt, alloc, &packet, bytes)?);
     Ok(())
-}
-
-fn delete(rt: &impl Abort, alloc: Global, table: u32, number: i64) -> Result<Call, NoMemory> {
-    Ok(Call::Delete {
-        table,
-        row: row(rt, alloc, &[Value::Num(number)])?,
-    })
 }
 
 #[test]
@@ -163,7 +163,7 @@ fn groups_rise_and_old_and_new_values_differ(rt: HostRuntime) -> Result<(), Fail
     ] {
         let first = part(alloc, low, five, Value::Num(6))?;
         let second = part(alloc, high, five, Value::Num(new))?;
-        assert_eq!(rt; is_updated(&rt, alloc, [first, second])?, sent);
+        assert_eq!(rt; is_updated(&rt, alloc, first, second)?, sent);
     }
     assert!(rt; !is_sent(&rt, alloc, update(&rt, 0, 1, Items::new(alloc)))?);
     let mut longer = part(alloc, 0, five, five)?;
