@@ -1,7 +1,9 @@
 //! What sites send each other.
 
 use rep_calls::Txn;
+use rep_lists::{Copies, NoMemory};
 use rep_values::SiteName;
+use std::alloc::Global;
 
 /// A packet on its way from one site to another.
 #[derive(Drop)]
@@ -22,4 +24,31 @@ pub enum Packet {
         to: SiteName,
         mark: u64,
     },
+}
+
+impl Copies for Packet {
+    fn copy(&self, alloc: Global) -> Result<Packet, NoMemory> {
+        match self {
+            Packet::Carry {
+                from,
+                to,
+                number,
+                position,
+                dep,
+                txn,
+            } => Ok(Packet::Carry {
+                from: *from,
+                to: *to,
+                number: *number,
+                position: *position,
+                dep: *dep,
+                txn: txn.copy(alloc)?,
+            }),
+            Packet::Mark { from, to, mark } => Ok(Packet::Mark {
+                from: *from,
+                to: *to,
+                mark: *mark,
+            }),
+        }
+    }
 }

@@ -1,0 +1,188 @@
+//! The bytes of a packet, one piece behind the other.
+ghost use Rattle.std.specs.Prelude.{◌≡◌, ◌∷◌, ◌++◌, length, IfOk, OnOk};
+ghost use Rattle.std.specs.Int.{w16, w32, w64, to_be_bytes};
+ghost use Rattle.std.specs.List.{AllByRecursion, flat_map};
+ghost use Rattle.packet_code.specs.Limits.{IsPlainPart, ArePlainParts, IsPlainTable, IsPlainCall, IsPlainTxn, IsPacket};
+ghost use Rattle.packet_code.specs.Spelling.{name_bytes, value_bytes, values_bytes, part_bytes, parts_bytes, call_bytes, txn_bytes, packet_bytes};
+ghost use Rattle.rep_values.specs.Number.{IsRowLen};
+
+use crate::Packet;
+use rep_calls::{Call, Part, Txn};
+use rep_lists::NoMemory;
+use rep_values::{SiteName, Value};
+use std::alloc::Global;
+
+/// Its eight bytes.
+fn push_number(out: &mut Vec<u8>, number: u64) -> Result<(), NoMemory>
+    ensures { OnOk result (out.new.items ≡ out.old.items ++ to_be_bytes w64 number) }
+{
+    out.extend_from_slice(&number.to_be_bytes())?;
+    Ok(())
+}
+
+/// The number of a table in two bytes.
+fn push_table(out: &mut Vec<u8>, table: u32) -> Result<(), NoMemory>
+    requires { IsPlainTable table }
+    ensures { OnOk result (out.new.items ≡ out.old.items ++ to_be_bytes w16 table) }
+{
+    out.extend_from_slice(&(table as u16).to_be_bytes())?;
+    Ok(())
+}
+
+fn push_name(out: &mut Vec<u8>, site: SiteName) -> Result<(), NoMemory>
+    ensures { OnOk result (out.new.items ≡ out.old.items ++ name_bytes site) }
+{
+    let bytes = site.0.bytes();
+    out.push(bytes.len() as u8)?;
+    out.extend_from_slice(bytes)?;
+    Ok(())
+}
+
+fn push_value(out: &mut Vec<u8>, value: &Value) -> Result<(), NoMemory>
+    ensures { OnOk result (out.new.items ≡ out.old.items ++ value_bytes value.now) }
+{
+    match value {
+        Value::Num(number) => {
+            out.push(1)?;
+            push_number(out, number.cast_unsigned())
+        }
+        Value::Words(text) => {
+            let bytes = text.bytes();
+            out.push(2)?;
+            out.push(bytes.len() as u8)?;
+            out.extend_from_slice(bytes)?;
+            Ok(())
+        }
+    }
+}
+
+fn push_each_value(out: &mut Vec<u8>, values: &[Value]) -> Result<(), NoMemory>
+    ensures { OnOk result (out.new.items ≡ out.old.items ++ flat_map value_bytes values.now) }
+{
+    for value in values {
+        push_value(out, value)?;
+    }
+    Ok(())
+}
+
+fn push_values(out: &mut Vec<u8>, values: &[Value]) -> Result<(), NoMemory>
+    requires { IsRowLen (length values.now) }
+    ensures { OnOk result (out.new.items ≡ out.old.items ++ values_bytes values.now) }
+{
+    out.push(values.len() as u8)?;
+    push_each_value(out, values)
+}
+
+fn push_part(out: &mut Vec<u8>, part: &Part) -> Result<(), NoMemory>
+    requires { IsPlainPart part.now }
+    ensures { OnOk result (out.new.items ≡ out.old.items ++ part_bytes part.now) }
+{
+    out.push(part.group)?;
+    push_values(out, part.old.as_slice())?;
+    push_each_value(out, part.new.as_slice())
+}
+
+fn push_each_part(out: &mut Vec<u8>, parts: &[Part]) -> Result<(), NoMemory>
+    requires { AllByRecursion IsPlainPart parts.now }
+    ensures { OnOk result (out.new.items ≡ out.old.items ++ flat_map part_bytes parts.now) }
+{
+    for part in parts {
+        push_part(out, part)?;
+    }
+    Ok(())
+}
+
+fn push_parts(out: &mut Vec<u8>, parts: &[Part]) -> Result<(), NoMemory>
+    requires { ArePlainParts parts.now }
+    ensures { OnOk result (out.new.items ≡ out.old.items ++ parts_bytes parts.now) }
+{
+    out.push(parts.len() as u8)?;
+    push_each_part(out, parts)
+}
+
+fn push_call(out: &mut Vec<u8>, call: &Call) -> Result<(), NoMemory>
+    requires { IsPlainCall call.now }
+    ensures { OnOk result (out.new.items ≡ out.old.items ++ call_bytes call.now) }
+{
+    match call {
+        Call::Insert { table, row } => {
+            out.push(1)?;
+            push_table(out, *table)?;
+            push_values(out, row.values())
+        }
+        Call::Update { table, key, parts } => {
+            out.push(2)?;
+            push_table(out, *table)?;
+            push_values(out, key.values())?;
+            push_parts(out, parts.as_slice())
+        }
+        Call::Delete { table, row } => {
+            out.push(3)?;
+            push_table(out, *table)?;
+            push_values(out, row.values())
+        }
+    }
+}
+
+fn push_each_call(out: &mut Vec<u8>, calls: &[Call]) -> Result<(), NoMemory>
+    requires { AllByRecursion IsPlainCall calls.now }
+    ensures { OnOk result (out.new.items ≡ out.old.items ++ flat_map call_bytes calls.now) }
+{
+    for call in calls {
+        push_call(out, call)?;
+    }
+    Ok(())
+}
+
+fn push_txn(out: &mut Vec<u8>, txn: &Txn) -> Result<(), NoMemory>
+    requires { IsPlainTxn txn.now }
+    ensures { OnOk result (out.new.items ≡ out.old.items ++ txn_bytes txn.now) }
+{
+    out.extend_from_slice(&(txn.calls.len() as u32).to_be_bytes())?;
+    push_each_call(out, txn.calls.as_slice())
+}
+
+/// The version, what the packet is, and its sites.
+fn push_head(out: &mut Vec<u8>, kind: u8, from: SiteName, to: SiteName) -> Result<(), NoMemory>
+    ensures { OnOk result (out.new.items ≡ out.old.items ++ 1 ∷ kind ∷ name_bytes from ++ name_bytes to) }
+{
+    out.extend_from_slice(&[1, kind])?;
+    push_name(out, from)?;
+    push_name(out, to)
+}
+
+fn push_packet(out: &mut Vec<u8>, packet: &Packet) -> Result<(), NoMemory>
+    requires { IsPacket packet.now }
+    ensures { OnOk result (out.new.items ≡ out.old.items ++ packet_bytes packet.now) }
+{
+    match packet {
+        Packet::Carry {
+            from,
+            to,
+            number,
+            position,
+            dep,
+            txn,
+        } => {
+            push_head(out, 1, *from, *to)?;
+            push_number(out, *number)?;
+            push_number(out, *position)?;
+            push_number(out, *dep)?;
+            push_txn(out, txn)
+        }
+        Packet::Mark { from, to, mark } => {
+            push_head(out, 2, *from, *to)?;
+            push_number(out, *mark)
+        }
+    }
+}
+
+/// The bytes of a packet.
+pub fn encode(alloc: Global, packet: &Packet) -> Result<Vec<u8>, NoMemory>
+    requires { IsPacket packet.now }
+    ensures { IfOk result (λ bytes. bytes.items ≡ packet_bytes packet.now) }
+{
+    let mut out = Vec::new(alloc);
+    push_packet(&mut out, packet)?;
+    Ok(out)
+}

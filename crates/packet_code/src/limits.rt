@@ -1,0 +1,166 @@
+//! The test of the limits on a packet.
+ghost use Rattle.std.specs.Prelude.{◌≡◌, ◌↔◌, map, true, IsTrue};
+ghost use Rattle.std.specs.List.{AllByRecursion};
+ghost use Rattle.std.specs.List.Sorted.{IsStrictlyIncreasing};
+ghost use Rattle.packet_code.specs.Limits.{IsPlainValue, IsPlainRow, IsPlainKey, is_group_number, IsPlainPart, ArePlainParts, IsPlainTable, IsPlainCall, IsPlainTxn, IsPlace, IsSiteName, IsPacket};
+
+use crate::Packet;
+use rep_calls::{Call, Part, Txn};
+use rep_schema::{SHADOW, is_in_range};
+use rep_values::{SiteName, Value, same_values};
+
+/// A text has the form of one, whatever it is.
+fn is_plain_value(value: &Value) -> bool
+    ensures { IsTrue result ↔ IsPlainValue value.now }
+{
+    match value {
+        Value::Num(number) => is_in_range(*number),
+        Value::Words(text) => text.bytes().len() <= 64,
+    }
+}
+
+fn are_plain_values(values: &[Value]) -> bool
+    ensures { IsTrue result ↔ AllByRecursion IsPlainValue values.now }
+{
+    for value in values {
+        if !is_plain_value(value) {
+            return false;
+        }
+    }
+    true
+}
+
+fn is_plain_row(row: &[Value]) -> bool
+    ensures { IsTrue result ↔ IsPlainRow row.now }
+{
+    1 <= row.len() && row.len() <= 32 && are_plain_values(row)
+}
+
+fn is_plain_key(key: &[Value]) -> bool
+    ensures { IsTrue result ↔ IsPlainKey key.now }
+{
+    1 <= key.len() && key.len() <= 4 && are_plain_values(key)
+}
+
+fn is_group_number(group: u8) -> bool
+    ensures { result ≡ is_group_number group }
+{
+    group <= 31 || group == SHADOW
+}
+
+fn is_plain_part(part: &Part) -> bool
+    ensures { IsTrue result ↔ IsPlainPart part.now }
+{
+    let old = part.old.as_slice();
+    let new = part.new.as_slice();
+    is_group_number(part.group)
+        && is_plain_row(old)
+        && is_plain_row(new)
+        && new.len() == old.len()
+        && !same_values(old, new)
+}
+
+fn is_each_part_plain(parts: &[Part]) -> bool
+    ensures { IsTrue result ↔ AllByRecursion IsPlainPart parts.now }
+{
+    for part in parts {
+        if !is_plain_part(part) {
+            return false;
+        }
+    }
+    true
+}
+
+/// Whether each part's group is above the one before it.
+fn groups_rise(parts: &[Part]) -> bool
+    ensures { IsTrue result ↔ IsStrictlyIncreasing (map (λ part. part.group) parts.now) }
+{
+    for i in 1..parts.len() {
+        if parts[i].group <= parts[i - 1].group {
+            return false;
+        }
+    }
+    true
+}
+
+fn are_plain_parts(parts: &[Part]) -> bool
+    ensures { IsTrue result ↔ ArePlainParts parts.now }
+{
+    1 <= parts.len() && parts.len() <= 33 && is_each_part_plain(parts) && groups_rise(parts)
+}
+
+fn is_plain_table(table: u32) -> bool
+    ensures { IsTrue result ↔ IsPlainTable table }
+{
+    table < 65_536
+}
+
+fn is_plain_call(call: &Call) -> bool
+    ensures { IsTrue result ↔ IsPlainCall call.now }
+{
+    match call {
+        Call::Insert { table, row } | Call::Delete { table, row } => {
+            is_plain_table(*table) && is_plain_row(row.values())
+        }
+        Call::Update { table, key, parts } => {
+            is_plain_table(*table)
+                && is_plain_key(key.values())
+                && are_plain_parts(parts.as_slice())
+        }
+    }
+}
+
+fn is_each_call_plain(calls: &[Call]) -> bool
+    ensures { IsTrue result ↔ AllByRecursion IsPlainCall calls.now }
+{
+    for call in calls {
+        if !is_plain_call(call) {
+            return false;
+        }
+    }
+    true
+}
+
+fn is_plain_txn(txn: &Txn) -> bool
+    ensures { IsTrue result ↔ IsPlainTxn txn.now }
+{
+    let calls = txn.calls.as_slice();
+    1 <= calls.len() && calls.len() <= 1_000 && is_each_call_plain(calls)
+}
+
+fn is_place(number: u64, position: u64, dep: u64) -> bool
+    ensures { IsTrue result ↔ IsPlace number position dep }
+{
+    1 <= number && dep < position
+}
+
+/// The name of a site has the form of one, whatever it is.
+fn is_site_name(site: &SiteName) -> bool
+    ensures { IsTrue result ↔ IsSiteName site.now }
+{
+    !site.0.bytes().is_empty()
+}
+
+/// Whether a packet is within all limits, so that it has bytes. It takes no memory.
+pub fn is_packet(packet: &Packet) -> bool
+    ensures { IsTrue result ↔ IsPacket packet.now }
+{
+    match packet {
+        Packet::Carry {
+            from,
+            to,
+            number,
+            position,
+            dep,
+            txn,
+        } => {
+            is_site_name(from)
+                && is_site_name(to)
+                && is_place(*number, *position, *dep)
+                && is_plain_txn(txn)
+        }
+        Packet::Mark { from, to, mark } => {
+            is_site_name(from) && is_site_name(to) && *mark <= u64::MAX
+        }
+    }
+}
