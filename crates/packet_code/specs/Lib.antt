@@ -2,3 +2,5 @@
 pub mod Limits
 pub mod Spelling
 pub mod Laws
+pub mod Reading
+pub mod Forms

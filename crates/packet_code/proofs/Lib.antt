@@ -1,0 +1,5 @@
+-- The lemmas of this crate.
+mod Exact
+mod Numbers
+mod FormsExact
+mod PacketsExact
