@@ -4,3 +4,4 @@ pub mod Spelling
 pub mod Laws
 pub mod Reading
 pub mod Forms
+pub mod Readers

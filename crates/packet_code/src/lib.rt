@@ -3,6 +3,8 @@
 
 mod laws;
 mod packet;
+mod reader;
+mod stop;
 
 pub use laws::no_encoding_begins_another;
 pub use packet::Packet;
