@@ -3,3 +3,4 @@ mod Exact
 mod Numbers
 mod FormsExact
 mod PacketsExact
+mod Repeats

@@ -69,3 +69,7 @@ u16_number = made (from_be_bytes w16) (front 2)
 abbrev pub whole : {A : Type 0} → A × List ℕ → Option A
 whole (x, []) = Some x
 whole (x, b ∷ bs) = None
+
+-- the values that were found, and those of a reading behind them
+abbrev pub with_found : {A : Type 0} → List A → Option (List A × List ℕ) → Option (List A × List ℕ)
+with_found found read = read >>= λ xs. Some (found ++ xs.0, xs.1)

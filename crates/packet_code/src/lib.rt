@@ -4,7 +4,9 @@
 mod laws;
 mod packet;
 mod reader;
+mod repeated;
 mod stop;
+mod value_reading;
 
 pub use laws::no_encoding_begins_another;
 pub use packet::Packet;

@@ -1,0 +1,80 @@
+//! Names, values, rows and keys, read from bytes.
+ghost use Rattle.std.specs.Prelude.{◌≡◌};
+ghost use Rattle.rep_schema.specs.Fitting.{is_in_range};
+ghost use Rattle.packet_code.specs.Forms.{site, number_value, text_value, value, values};
+ghost use Rattle.packet_code.specs.Readers.{Reads, ReadsAs};
+
+use crate::reader::Reader;
+use crate::repeated::{Piece, limited};
+use crate::stop::Stop;
+use rep_lists::Items;
+use rep_values::{Name, SiteName, Text, Value};
+use std::alloc::Global;
+
+/// The name of a site.
+pub fn site(bytes: &mut Reader<'_>) -> Result<SiteName, Stop>
+    ensures { Reads site result bytes.old bytes.new }
+{
+    let length = bytes.byte()?;
+    let front = bytes.front(length as usize)?;
+    match Name::of(front) {
+        Some(name) => Ok(SiteName(name)),
+        None => Err(Stop::Form),
+    }
+}
+
+fn is_in_range(number: i64) -> bool
+    ensures { result ≡ is_in_range number }
+{
+    -1_000_000_000_000_000 <= number && number <= 1_000_000_000_000_000
+}
+
+fn number_value(bytes: &mut Reader<'_>) -> Result<Value, Stop>
+    ensures { Reads number_value result bytes.old bytes.new }
+{
+    let number = bytes.u64_number()?.cast_signed();
+    if !is_in_range(number) {
+        return Err(Stop::Form);
+    }
+    Ok(Value::Num(number))
+}
+
+fn text_value(bytes: &mut Reader<'_>) -> Result<Value, Stop>
+    ensures { Reads text_value result bytes.old bytes.new }
+{
+    let length = bytes.byte()?;
+    let front = bytes.front(length as usize)?;
+    match Text::of(front) {
+        Some(text) => Ok(Value::Words(text)),
+        None => Err(Stop::Form),
+    }
+}
+
+fn value(bytes: &mut Reader<'_>) -> Result<Value, Stop>
+    ensures { Reads value result bytes.old bytes.new }
+{
+    let kind = bytes.byte()?;
+    if kind == 1 {
+        number_value(bytes)
+    } else if kind == 2 {
+        text_value(bytes)
+    } else {
+        Err(Stop::Form)
+    }
+}
+
+impl Piece for Value {
+    ghost reading = { value };
+
+    fn read(_alloc: Global, bytes: &mut Reader<'_>) -> Result<Value, Stop> {
+        value(bytes)
+    }
+}
+
+/// A count, and so many values, at most this many. It may want memory.
+fn values(alloc: Global, bytes: &mut Reader<'_>, most: usize) -> Result<Items<Value>, Stop>
+    ensures { Reads (values most) result bytes.old bytes.new }
+{
+    let count = bytes.byte()?;
+    limited::<Value>(alloc, bytes, most, count as usize)
+}
