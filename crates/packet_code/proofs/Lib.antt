@@ -4,3 +4,4 @@ mod Numbers
 mod FormsExact
 mod PacketsExact
 mod Repeats
+mod Behind
