@@ -5,3 +5,4 @@ mod FormsExact
 mod PacketsExact
 mod Repeats
 mod Behind
+mod Lengths

@@ -19,7 +19,7 @@ use Rattle.packet_code.specs.declared.packet.Packet.TheVariants.{Carry, Mark}
 use Rattle.packet_code.specs.Limits.{IsPlainValue, IsPlainRow, IsPlainKey, IsSiteName, is_group_number, IsPlainPart, ArePlainParts, IsPlainTable, IsPlainCall, IsPlainTxn, IsPlace, IsPacket}
 use Rattle.packet_code.specs.Spelling.{name_bytes, value_bytes, values_bytes, part_bytes, parts_bytes, call_bytes, txn_bytes, packet_bytes}
 use Rattle.packet_code.specs.Reading.{Reading, nothing, byte, made, tested, ◌▸◌, behind, either, times, limited, u64_number, u32_number, u16_number}
-use Rattle.packet_code.specs.Forms.{site, value, row, key, is_part, part_of, part, rise, groups_rise, parts, insert_of, update_of, delete_of, call_of_kind, call, txn_of, txn, is_place, place, carry_of, carry, mark_of, mark, packet_of_kind, packet_of_version, packet}
+use Rattle.packet_code.specs.Forms.{site, value, row, key, is_part, part_of, part, rise, groups_rise, parts, insert_of, update_of, delete_of, insert, update, delete, call_of_kind, call, txn_of, txn, is_place, place, carry_of, carry, mark_of, mark, packet_of_kind, packet_of_version, packet}
 use Rattle.packet_code.proofs.Exact.{IsExact, both_true, said_so, tested-exact, made-exact, pair-exact, behind-exact, either-exact, nothing-exact, byte-exact, times-exact, counted-exact}
 use Rattle.packet_code.proofs.Numbers.{u64-exact, u32-exact, u16-exact}
 use Rattle.packet_code.proofs.FormsExact.{site-exact, value-exact, row-exact, key-exact}
@@ -100,7 +100,7 @@ bytes_of (Delete table cells) = to_be_bytes w16 table ++ values_bytes cells
 abbrev IsCallOfKind : ℕ → Call → Type 0
 IsCallOfKind kind call = IsPlainCall call × (kind_of call ≡ kind)
 
-insert-exact : IsExact (IsCallOfKind 1) bytes_of (made insert_of (u16_number ▸ λ table. row))
+insert-exact : IsExact (IsCallOfKind 1) bytes_of insert
 insert-exact = made-exact (IsCallOfKind 1) bytes_of insert_of (pair-exact u16-exact (λ table fits. row-exact))
     (λ p is. ((is, refl), refl))
     back
@@ -110,7 +110,7 @@ insert-exact = made-exact (IsCallOfKind 1) bytes_of insert_of (pair-exact u16-ex
     back (Update table of changes) is = cc
     back (Delete table cells) is = cc
 
-update-exact : IsExact (IsCallOfKind 2) bytes_of (made update_of (u16_number ▸ λ table. key ▸ λ of. parts))
+update-exact : IsExact (IsCallOfKind 2) bytes_of update
 update-exact = made-exact (IsCallOfKind 2) bytes_of update_of (pair-exact u16-exact (λ table fits. pair-exact key-exact (λ key is. parts-exact)))
     (λ p is. (((is.0, is.1.0, is.1.1), refl), refl))
     back
@@ -120,7 +120,7 @@ update-exact = made-exact (IsCallOfKind 2) bytes_of update_of (pair-exact u16-ex
     back (Update table of changes) is = ((table, (of, changes)), (is.0.0, (is.0.1, is.0.2)), refl)
     back (Delete table cells) is = cc
 
-delete-exact : IsExact (IsCallOfKind 3) bytes_of (made delete_of (u16_number ▸ λ table. row))
+delete-exact : IsExact (IsCallOfKind 3) bytes_of delete
 delete-exact = made-exact (IsCallOfKind 3) bytes_of delete_of (pair-exact u16-exact (λ table fits. row-exact))
     (λ p is. ((is, refl), refl))
     back

@@ -94,12 +94,19 @@ update_of p = Update p.0 p.1.0 p.1.1
 abbrev pub delete_of : ℕ × Cells → Call
 delete_of p = Delete p.0 p.1
 
+-- a table, and a row, or a key and parts
+abbrev pub insert : Reading Call
+insert = made insert_of (u16_number ▸ λ table. row)
+
+abbrev pub update : Reading Call
+update = made update_of (u16_number ▸ λ table. key ▸ λ of. parts)
+
+abbrev pub delete : Reading Call
+delete = made delete_of (u16_number ▸ λ table. row)
+
 -- what stands behind the byte that tells the kind of a call
 abbrev pub call_of_kind : ℕ → Reading Call
-call_of_kind kind =
-    either (kind == 1) (made insert_of (u16_number ▸ λ table. row))
-    (either (kind == 2) (made update_of (u16_number ▸ λ table. key ▸ λ of. parts))
-    (either (kind == 3) (made delete_of (u16_number ▸ λ table. row)) nothing))
+call_of_kind kind = either (kind == 1) insert (either (kind == 2) update (either (kind == 3) delete nothing))
 
 -- an insert, an update or a delete
 unfoldable pub call : Reading Call

@@ -1,6 +1,7 @@
 //! Packets between sites as bytes, version 1.
 #![tactic(auto)]
 
+mod call_reading;
 mod laws;
 mod packet;
 mod reader;
