@@ -6,3 +6,4 @@ mod PacketsExact
 mod Repeats
 mod Behind
 mod Lengths
+mod Decoded

@@ -1,5 +1,5 @@
 //! Bytes read from the front.
-ghost use Rattle.std.specs.Prelude.{◌≡◌, ℕ, List, [], length, IfOk};
+ghost use Rattle.std.specs.Prelude.{◌≡◌, ◌↔◌, ℕ, List, [], length, IfOk, IsTrue};
 ghost use Rattle.std.specs.Borrow.{Bor};
 ghost use Rattle.packet_code.specs.Reading.{byte, front, u64_number, u32_number, u16_number};
 ghost use Rattle.packet_code.specs.Readers.{Reads, ReadsAs};
@@ -82,4 +82,10 @@ impl<'a> Reader<'a> {
         Ok(u16::from_be_bytes(bytes))
     }
 
+    /// Whether nothing is left.
+    pub fn is_done(&self) -> bool
+        ensures { IsTrue result ↔ (self.now ≡ []) }
+    {
+        self.left.is_empty()
+    }
 }
