@@ -1,5 +1,5 @@
 -- What a call reads behind a value that tells how.
-use Rattle.std.proofs.Common.{◌≡◌, ℕ, List, Option, Some, None, Result, Ok, Err}
+use Rattle.std.proofs.Common.{◌≡◌, ℕ, List, Some, Result, Ok, Err}
 use Rattle.packet_code.specs.declared.stop.Stop.{Stop}
 use Rattle.packet_code.specs.declared.stop.Stop.TheVariants as stop
 use Rattle.packet_code.specs.Reading.{Reading, behind}

@@ -1,13 +1,11 @@
 -- What is read of whole bytes is what they are decoded to.
-use Rattle.std.proofs.Common.{◌≡◌, ℕ, zero, suc, ◌<◌, List, [], ◌∷◌, ◌++◌, Option, Some, None, get_or, length, refl, sym, ◌∙◌, ap, subst, arith}
-use Rattle.std.specs.List.{AllByRecursion}
+use Rattle.std.proofs.Common.{◌≡◌, ℕ, suc, ◌<◌, List, [], ◌∷◌, ◌++◌, Some, None, get_or, length, refl, sym, ◌∙◌, ap, arith}
 use Rattle.std.proofs.lemmas.List.{append-nil}
 use Rattle.packet_code.specs.declared.packet.Packet.{Packet}
-use Rattle.packet_code.specs.Limits.{IsPacket}
-use Rattle.packet_code.specs.Spelling.{packet_bytes, IsEncoding, IsDecoded}
-use Rattle.packet_code.specs.Reading.{Reading, ◌>>=◌, whole}
+use Rattle.packet_code.specs.Spelling.{packet_bytes, IsEncoding}
+use Rattle.packet_code.specs.Reading.{whole}
 use Rattle.packet_code.specs.Forms.{packet, packet_in}
-use Rattle.packet_code.proofs.Exact.{IsExact, AreBytes, bound}
+use Rattle.packet_code.proofs.Exact.{AreBytes, bound}
 use Rattle.packet_code.proofs.PacketsExact.{packet-exact}
 
 -- nothing is left behind what is whole

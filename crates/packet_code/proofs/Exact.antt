@@ -1,11 +1,10 @@
 -- Readings that read a value exactly where its spelling stands in front, put together of such readings.
-use Rattle.std.proofs.Common.{◌≡◌, ℕ, zero, suc, ◌+◌, ◌<◌, ◌≤◌, Bool, true, false, ◌&&◌, List, [], ◌∷◌, ◌++◌, length, take, drop, Option, Some, None, nat_le, if◌then◌else◌, refl, sym, ◌∙◌, ap, subst, arith, append_assoc, append-nil}
+use Rattle.std.proofs.Common.{◌≡◌, ℕ, zero, suc, ◌<◌, ◌≤◌, Bool, true, false, ◌&&◌, List, [], ◌∷◌, ◌++◌, length, take, drop, Option, Some, None, nat_le, if◌then◌else◌, refl, sym, ◌∙◌, ap, subst, arith, append_assoc}
 use Rattle.std.specs.Prelude.{flat_map, ◌↔◌}
 use Rattle.std.specs.List.{AllByRecursion}
 use Rattle.std.proofs.lemmas.Bool.{leb-true, le-leb}
 use Rattle.std.proofs.Math.Seq.{take-append_seam, drop-append_seam}
 use Rattle.std.proofs.lemmas.List.{length-take-le, length-append, take-append-drop}
-use Rattle.std.proofs.lemmas.List.Concat.{flat_map-cons}
 use Rattle.packet_code.specs.Reading.{Reading, ◌>>=◌, nothing, byte, front, made, tested, ◌▸◌, behind, either, times, limited}
 
 -- each of them is a byte
@@ -153,7 +152,6 @@ byte-exact = record { sound = go; complete = λ x rest is. refl }
         let same = same_read (b, bs) (x, rest) e in
         (subst (λ y. y < 256) same.0 all.0, rw (same.0, same.1) refl)
 
-
 -- so many bytes
 pub front-exact : (count : ℕ) → IsExact (λ xs. length xs ≡ count) (λ xs. xs) (front count)
 unfolding front
@@ -164,6 +162,7 @@ front-exact count = record {
   where
     nat_le_append : (x rest : List ℕ) → nat_le (length x) (length (x ++ rest)) ≡ true
     nat_le_append x rest = le-leb (length x) (length (x ++ rest)) (omega (arith, length-append x rest))
+
     go : (bytes rest x : List ℕ) (t : Bool) → nat_le count (length bytes) ≡ t
         → ◌≡◌ {A = Option (List ℕ × List ℕ)} (if t then Some (take count bytes, drop count bytes) else None) (Some (x, rest)) → (length x ≡ count) × (x ++ rest ≡ bytes)
     go bytes rest x true enough e =
@@ -211,6 +210,7 @@ limited-exact {A = A} {Is = Is} {spell = spell} most exact count =
       λ is. (is.0, subst (λ n. 1 ≤ n) (sym is.0) (leb-true 1 count w.0), subst (λ n. n ≤ most) (sym is.0) (leb-true count most w.1), is.1),
       λ is. (is.0, is.3),
     )
+
     none : (nat_le 1 count && nat_le count most) ≡ false → (xs : List A) → (length xs ≡ count) × (1 ≤ length xs) × (length xs ≤ most) × AllByRecursion Is xs → ⊥
     none outside xs is =
         let e : (nat_le 1 count && nat_le count most) ≡ true = rw (← is.0, le-leb 1 (length xs) is.1, le-leb (length xs) most is.2) refl in

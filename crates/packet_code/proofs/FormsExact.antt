@@ -1,26 +1,24 @@
 -- The parts of a packet are read exactly.
-use Rattle.std.proofs.Common.{◌≡◌, ◌≢◌, ℕ, ℤ, pos, negsuc, suc, zero, ◌<◌, ◌≤◌, ◌^◌, ◌==◌, ◌&&◌, ◌||◌, not, Bool, true, false, T, nat_le, nat_lt, List, [], ◌∷◌, ◌++◌, length, map, Option, Some, None, refl, sym, ◌∙◌, ap, subst, arith, append_assoc}
-use Rattle.std.specs.Prelude.{◌↔◌, int_le, flat_map, FitsSigned}
-use Rattle.std.specs.Int.{w16, w32, w64, to_be_bytes, cast_signed, cast_unsigned}
-use Rattle.std.specs.List.{AllByRecursion, list_all}
+use Rattle.std.proofs.Common.{◌≡◌, ℕ, ℤ, pos, negsuc, ◌<◌, ◌≤◌, ◌^◌, ◌==◌, ◌&&◌, Bool, true, false, T, nat_le, List, [], ◌∷◌, ◌++◌, length, refl, sym, ap, subst, arith}
+use Rattle.std.specs.Prelude.{◌↔◌, int_le, FitsSigned}
+use Rattle.std.specs.Int.{w64, to_be_bytes, cast_signed, cast_unsigned}
+use Rattle.std.specs.List.{list_all}
 use Rattle.std.proofs.lemmas.Bool.{leb-true, eqb-true}
 use Rattle.std.proofs.Math.Facts.{sfits_to_z, Fits-of_lt}
 use Rattle.std.proofs.lemmas.Int.{of_z-to_z, to_z-of_z}
 use Rattle.rep_values.specs.declared.value.Value.{Value}
 use Rattle.rep_values.specs.declared.value.Value.TheVariants.{Num, Words}
-use Rattle.rep_values.specs.declared.name.SiteName.{SiteName}
 use Rattle.rep_values.specs.Name.{is_name, is_name_byte}
 use Rattle.rep_values.specs.Bytes.{is_letter}
-use Rattle.rep_values.specs.Text.{is_text, is_text_byte}
-use Rattle.rep_schema.specs.Tables.{Cells, IsInRange}
-use Rattle.rep_schema.specs.Groups.{are_same}
+use Rattle.rep_values.specs.Text.{is_text}
+use Rattle.rep_schema.specs.Tables.{IsInRange}
 use Rattle.rep_schema.specs.Fitting.{is_in_range}
 use Rattle.packet_code.specs.Limits.{IsPlainValue, IsPlainRow, IsPlainKey, IsSiteName}
 use Rattle.packet_code.specs.Spelling.{name_bytes, value_bytes, values_bytes}
-use Rattle.packet_code.specs.Reading.{Reading, nothing, byte, front, made, tested, ◌▸◌, behind, either, times, limited, u64_number, u32_number, u16_number}
-use Rattle.packet_code.specs.Forms.{sized, site_of, site, number_value, text_value, value_of_kind, value, values, row, key}
-use Rattle.packet_code.proofs.Exact.{IsExact, both_true, said_so, tested-exact, made-exact, pair-exact, behind-exact, either-exact, nothing-exact, byte-exact, front-exact, times-exact, counted-exact}
-use Rattle.packet_code.proofs.Numbers.{u64-exact, u32-exact, u16-exact}
+use Rattle.packet_code.specs.Reading.{sized, made, u64_number}
+use Rattle.packet_code.specs.Forms.{site_of, site, number_value, text_value, value, row, key}
+use Rattle.packet_code.proofs.Exact.{IsExact, both_true, said_so, tested-exact, made-exact, behind-exact, either-exact, nothing-exact, byte-exact, front-exact, counted-exact}
+use Rattle.packet_code.proofs.Numbers.{u64-exact}
 
 -- a length and bytes
 sized-exact : IsExact (λ xs. length xs < 256) (λ xs. length xs ∷ xs) sized
@@ -118,16 +116,17 @@ pub value-exact : IsExact IsPlainValue value_bytes value
 unfolding value
 value-exact = behind-exact IsPlainValue value_bytes kind_of bytes_of byte-exact
     (λ kind is. either-exact (kind == 1) _ _
-        (λ one. subst (λ k. IsExact (λ v. IsPlainValue v × (kind_of v ≡ k)) bytes_of number_value) (sym (eqb-true kind 1 one)) number_value-exact)
-        (λ one. either-exact (kind == 2) _ _
-            (λ two. subst (λ k. IsExact (λ v. IsPlainValue v × (kind_of v ≡ k)) bytes_of text_value) (sym (eqb-true kind 2 two)) text_value-exact)
-            (λ two. nothing-exact (no_value kind one two))))
+    (λ one. subst (λ k. IsExact (λ v. IsPlainValue v × (kind_of v ≡ k)) bytes_of number_value) (sym (eqb-true kind 1 one)) number_value-exact)
+    (λ one. either-exact (kind == 2) _ _
+    (λ two. subst (λ k. IsExact (λ v. IsPlainValue v × (kind_of v ≡ k)) bytes_of text_value) (sym (eqb-true kind 2 two)) text_value-exact)
+    (λ two. nothing-exact (no_value kind one two))))
     is_kind
     split
   where
     is_kind : (v : Value) → IsPlainValue v → kind_of v < 256
     is_kind (Num n) is = omega arith
     is_kind (Words text) is = omega arith
+
     split : (v : Value) → value_bytes v ≡ (kind_of v ∷ []) ++ bytes_of v
     split (Num n) = refl
     split (Words text) = refl

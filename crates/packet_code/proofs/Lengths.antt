@@ -1,8 +1,8 @@
 -- How many values are read.
-use Rattle.std.proofs.Common.{◌≡◌, ℕ, zero, suc, ◌≤◌, ◌&&◌, Bool, true, false, List, [], ◌∷◌, length, Option, Some, None, nat_le, refl, sym, ◌∙◌, ap, subst}
+use Rattle.std.proofs.Common.{◌≡◌, ℕ, zero, suc, ◌≤◌, ◌&&◌, Bool, true, false, List, [], ◌∷◌, length, Some, nat_le, refl, sym, ◌∙◌, ap}
 use Rattle.std.proofs.lemmas.Bool.{leb-true}
 use Rattle.rep_schema.specs.Tables.{Cells}
-use Rattle.packet_code.specs.Reading.{Reading, ◌>>=◌, nothing, byte, either, times, limited}
+use Rattle.packet_code.specs.Reading.{Reading, nothing, byte, either, times, limited}
 use Rattle.packet_code.specs.Forms.{value, values, row, key}
 use Rattle.packet_code.proofs.Exact.{bound, same_read, both_true}
 

@@ -2,10 +2,9 @@
 use Rattle.std.proofs.Common.{◌≡◌, ℕ, zero, suc, ◌<◌, ◌^◌, List, [], ◌∷◌, ◌++◌, length, refl, sym, ◌∙◌, ap, subst, arith}
 use Rattle.std.specs.Prelude.{get_or}
 use Rattle.std.specs.Int.{w16, w32, w64, from_be_bytes, to_be_bytes}
-use Rattle.std.specs.List.{AllByRecursion}
 use Rattle.std.proofs.lemmas.Nat.{be_bytes_2, be_bytes_4, be_bytes_8, from_be_bytes-to_be_bytes_2, from_be_bytes-to_be_bytes_4, from_be_bytes-to_be_bytes_8}
-use Rattle.packet_code.specs.Reading.{Reading, front, made, u64_number, u32_number, u16_number}
-use Rattle.packet_code.proofs.Exact.{IsExact, AreBytes, front-exact, made-exact, bound, same_read, as_read, left_bytes}
+use Rattle.packet_code.specs.Reading.{front, made, u64_number, u32_number, u16_number}
+use Rattle.packet_code.proofs.Exact.{IsExact, AreBytes, front-exact, bound, as_read}
 
 -- the first of bytes are bytes
 front_bytes : (front rest : List ℕ) → AreBytes (front ++ rest) → (i : ℕ) → get_or front i 0 < 256

@@ -1,7 +1,7 @@
 -- Parts, calls, transactions and packets are read exactly.
-use Rattle.std.proofs.Common.{◌≡◌, ◌≢◌, ℕ, ℤ, suc, zero, ◌+◌, ◌<◌, ◌≤◌, ◌^◌, ◌==◌, ◌&&◌, ◌||◌, ◌⊎◌, not, Bool, true, false, nat_le, nat_lt, List, [], ◌∷◌, ◌++◌, length, map, Option, Some, None, inl, inr, refl, sym, ◌∙◌, ap, subst, arith, append_assoc}
+use Rattle.std.proofs.Common.{◌≡◌, ◌≢◌, ℕ, suc, zero, ◌+◌, ◌<◌, ◌≤◌, ◌^◌, ◌==◌, ◌||◌, ◌⊎◌, not, Bool, true, false, nat_le, nat_lt, List, [], ◌∷◌, ◌++◌, length, map, inl, inr, refl, sym, subst, arith, append_assoc}
 use Rattle.std.specs.Prelude.{◌↔◌, flat_map}
-use Rattle.std.specs.Int.{w16, w32, w64, to_be_bytes}
+use Rattle.std.specs.Int.{w16, w64, to_be_bytes}
 use Rattle.std.specs.List.{AllByRecursion}
 use Rattle.std.specs.List.Sorted.{IsStrictlyIncreasing}
 use Rattle.std.proofs.lemmas.Bool.{leb-true, le-leb, eqb-true}
@@ -18,17 +18,17 @@ use Rattle.packet_code.specs.declared.packet.Packet.{Packet}
 use Rattle.packet_code.specs.declared.packet.Packet.TheVariants.{Carry, Mark}
 use Rattle.packet_code.specs.Limits.{IsPlainValue, IsPlainRow, IsPlainKey, IsSiteName, is_group_number, IsPlainPart, ArePlainParts, IsPlainTable, IsPlainCall, IsPlainTxn, IsPlace, IsPacket}
 use Rattle.packet_code.specs.Spelling.{name_bytes, value_bytes, values_bytes, part_bytes, parts_bytes, call_bytes, txn_bytes, packet_bytes}
-use Rattle.packet_code.specs.Reading.{Reading, nothing, byte, made, tested, ◌▸◌, behind, either, times, limited, u64_number, u32_number, u16_number}
-use Rattle.packet_code.specs.Forms.{site, value, row, key, is_part, part_of, part, rise, groups_rise, parts, insert_of, update_of, delete_of, insert, update, delete, call_of_kind, call, txn_of, txn, is_place, place, carry_of, carry, mark_of, mark, packet_of_kind, packet_of_version, packet}
+use Rattle.packet_code.specs.Reading.{Reading, byte, ◌▸◌, behind, times}
+use Rattle.packet_code.specs.Forms.{value, row, is_part, part_of, part, rise, groups_rise, parts, insert_of, update_of, delete_of, insert, update, delete, call_of_kind, call, txn_of, txn, is_place, place, carry_of, carry, mark_of, mark, packet_of_kind, packet_of_version, packet}
 use Rattle.packet_code.proofs.Exact.{IsExact, both_true, said_so, tested-exact, made-exact, pair-exact, behind-exact, either-exact, nothing-exact, byte-exact, times-exact, counted-exact}
 use Rattle.packet_code.proofs.Numbers.{u64-exact, u32-exact, u16-exact}
 use Rattle.packet_code.proofs.FormsExact.{site-exact, value-exact, row-exact, key-exact}
 
 group_fits : (group : ℕ) → is_group_number group ≡ true → group < 256
 group_fits group is = elim (either_true (nat_le group 31) (group == 255) is) [
-    | inl named ↦ let small = leb-true group 31 named in omega (arith, small)
-    | inr shadow ↦ let same = eqb-true group 255 shadow in omega (arith, same)
-  ]
+  | inl named ↦ let small = leb-true group 31 named in omega (arith, small)
+  | inr shadow ↦ let same = eqb-true group 255 shadow in omega (arith, same)
+]
   where
     either_true : (a b : Bool) → (a || b) ≡ true → (a ≡ true) ⊎ (b ≡ true)
     either_true true b e = inl refl
@@ -50,7 +50,6 @@ part_parts-exact : IsExact (λ (p : ℕ × (Cells × Cells)). (p.0 < 256) × (Is
     (λ p. (p.0 ∷ []) ++ values_bytes p.1.0 ++ flat_map value_bytes p.1.1)
     (byte ▸ λ group. row ▸ λ old. times (length old) value)
 part_parts-exact = pair-exact byte-exact (λ group fits. pair-exact row-exact (λ old is. times-exact value-exact (length old)))
-
 
 part_test : (p : ℕ × (Cells × Cells)) → (is_part p ≡ true) ↔ ((is_group_number p.0 ≡ true) × (p.1.0 ≢ p.1.1))
 part_test p = (
@@ -150,10 +149,12 @@ call-exact = behind-exact IsPlainCall call_bytes kind_of bytes_of byte-exact of_
         (λ one. either-exact (kind == 2) _ _ (of_kind IsCallOfKind bytes_of _ kind 2 update-exact)
         (λ two. either-exact (kind == 3) _ _ (of_kind IsCallOfKind bytes_of _ kind 3 delete-exact)
         (λ three. nothing-exact (no_call kind one two three))))
+
     is_kind : (call : Call) → IsPlainCall call → kind_of call < 256
     is_kind (Insert table cells) is = omega arith
     is_kind (Update table of changes) is = omega arith
     is_kind (Delete table cells) is = omega arith
+
     split : (call : Call) → call_bytes call ≡ (kind_of call ∷ []) ++ bytes_of call
     split (Insert table cells) = refl
     split (Update table of changes) = refl
@@ -205,8 +206,10 @@ carry_pieces from to number position dep sent = simp append_assoc refl
 carry-exact : IsExact (IsPacketOfKind 1) packet_rest carry
 carry-exact = made-exact (IsPacketOfKind 1) packet_rest carry_of
     (pair-exact site-exact (λ from is. pair-exact site-exact (λ to is. pair-exact place-exact (λ at is. txn-exact))))
-    (λ p is. (((is.0, is.1.0, is.1.1.0, is.1.1.1), refl),
-        carry_pieces (name_bytes p.0) (name_bytes p.1.0) (to_be_bytes w64 p.1.1.0.0) (to_be_bytes w64 p.1.1.0.1.0) (to_be_bytes w64 p.1.1.0.1.1) (txn_bytes p.1.1.1)))
+    (λ p is. (
+      ((is.0, is.1.0, is.1.1.0, is.1.1.1), refl),
+      carry_pieces (name_bytes p.0) (name_bytes p.1.0) (to_be_bytes w64 p.1.1.0.0) (to_be_bytes w64 p.1.1.0.1.0) (to_be_bytes w64 p.1.1.0.1.1) (txn_bytes p.1.1.1),
+    ))
     back
   where
     back : (packet : Packet) → IsPacketOfKind 1 packet
@@ -241,6 +244,7 @@ packet_kinds-exact = behind-exact IsPacket behind_version packet_kind packet_res
     of_each kind fits = either-exact (kind == 1) _ _ (of_kind IsPacketOfKind packet_rest _ kind 1 carry-exact)
         (λ one. either-exact (kind == 2) _ _ (of_kind IsPacketOfKind packet_rest _ kind 2 mark-exact)
         (λ two. nothing-exact (no_packet kind one two)))
+
     is_kind : (packet : Packet) → IsPacket packet → packet_kind packet < 256
     is_kind (Carry from to number position dep sent) is = omega arith
     is_kind (Mark from to finished) is = omega arith
@@ -256,6 +260,7 @@ packet-exact = behind-exact IsPacket packet_bytes (λ packet. 1) behind_version 
       where
         other_version : (version : ℕ) → (version == 1) ≡ false → 1 ≡ version → ⊥
         other_version version other same = let e : (version == 1) ≡ true = rw (← same) refl in cc
+
     split : (packet : Packet) → packet_bytes packet ≡ (1 ∷ []) ++ behind_version packet
     split (Carry from to number position dep sent) = refl
     split (Mark from to finished) = refl

@@ -1,5 +1,5 @@
 -- Steps of a loop over parts, with the parts that were found so far.
-use Rattle.std.proofs.Common.{◌≡◌, ℕ, zero, suc, ◌+◌, Bool, true, false, List, [], ◌∷◌, ◌++◌, length, Option, Some, None, refl, sym, ◌∙◌, ap, arith, append_assoc, append-nil}
+use Rattle.std.proofs.Common.{◌≡◌, ℕ, suc, ◌+◌, List, [], ◌∷◌, ◌++◌, Option, Some, None, refl, sym, ◌∙◌, ap, arith, append_assoc, append-nil}
 use Rattle.packet_code.specs.declared.stop.Stop.{Stop}
 use Rattle.packet_code.specs.declared.stop.Stop.TheVariants as stop
 use Rattle.packet_code.specs.Reading.{Reading, ◌>>=◌, times, with_found}

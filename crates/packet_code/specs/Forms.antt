@@ -1,5 +1,5 @@
 -- The parts of a packet, each as it is read from the front of bytes.
-use Rattle.std.specs.Prelude.{◌≡◌, ℕ, ℤ, ◌≤◌, ◌<◌, ◌==◌, ◌&&◌, ◌||◌, not, Bool, true, false, nat_le, nat_lt, List, [], ◌∷◌, length, map, Option, Some, None}
+use Rattle.std.specs.Prelude.{ℕ, ◌==◌, ◌&&◌, not, Bool, true, nat_le, nat_lt, List, [], ◌∷◌, length, map, Option}
 use Rattle.std.specs.Int.{w64, cast_signed}
 use Rattle.rep_values.specs.declared.value.Value.{Value}
 use Rattle.rep_values.specs.declared.value.Value.TheVariants.{Num, Words}
@@ -16,11 +16,7 @@ use Rattle.rep_calls.specs.declared.call.Txn.{Txn}
 use Rattle.packet_code.specs.declared.packet.Packet.{Packet}
 use Rattle.packet_code.specs.declared.packet.Packet.TheVariants.{Carry, Mark}
 use Rattle.packet_code.specs.Limits.{is_group_number}
-use Rattle.packet_code.specs.Reading.{Reading, ◌>>=◌, nothing, byte, front, made, tested, ◌▸◌, behind, either, times, limited, u64_number, u32_number, u16_number, whole}
-
--- a length, and so many bytes
-abbrev pub sized : Reading (List ℕ)
-sized = behind byte front
+use Rattle.packet_code.specs.Reading.{Reading, ◌>>=◌, nothing, byte, sized, made, tested, ◌▸◌, behind, either, times, limited, u64_number, u32_number, u16_number, whole}
 
 -- the site's name that bytes are
 abbrev pub site_of : List ℕ → SiteName
@@ -42,7 +38,7 @@ text_value = made Words (tested is_text sized)
 abbrev pub value_of_kind : ℕ → Reading Value
 value_of_kind kind = either (kind == 1) number_value (either (kind == 2) text_value nothing)
 
--- a number or a text
+-- a number or a text, by its kind
 unfoldable pub value : Reading Value
 value = behind byte value_of_kind
 
@@ -50,11 +46,11 @@ value = behind byte value_of_kind
 abbrev pub values : ℕ → Reading Cells
 values most = behind byte (limited most value)
 
--- a row
+-- the values of a row
 unfoldable pub row : Reading Cells
 row = values 32
 
--- a key
+-- the values of a key
 unfoldable pub key : Reading Cells
 key = values 4
 
@@ -84,23 +80,27 @@ groups_rise parts = rise (map (λ (part : Part). part.group) parts)
 unfoldable pub parts : Reading (List Part)
 parts = tested groups_rise (behind byte (limited 33 part))
 
--- an insert, an update and a delete
+-- an insert of a row into a table
 abbrev pub insert_of : ℕ × Cells → Call
 insert_of p = Insert p.0 p.1
 
+-- an update of the row with a key in a table
 abbrev pub update_of : ℕ × (Cells × List Part) → Call
 update_of p = Update p.0 p.1.0 p.1.1
 
+-- a delete of a row from a table
 abbrev pub delete_of : ℕ × Cells → Call
 delete_of p = Delete p.0 p.1
 
--- a table, and a row, or a key and parts
+-- a table and a row
 abbrev pub insert : Reading Call
 insert = made insert_of (u16_number ▸ λ table. row)
 
+-- a table, a key and parts
 abbrev pub update : Reading Call
 update = made update_of (u16_number ▸ λ table. key ▸ λ of. parts)
 
+-- a table and a row
 abbrev pub delete : Reading Call
 delete = made delete_of (u16_number ▸ λ table. row)
 
@@ -108,7 +108,7 @@ delete = made delete_of (u16_number ▸ λ table. row)
 abbrev pub call_of_kind : ℕ → Reading Call
 call_of_kind kind = either (kind == 1) insert (either (kind == 2) update (either (kind == 3) delete nothing))
 
--- an insert, an update or a delete
+-- an insert, an update or a delete, by its kind
 unfoldable pub call : Reading Call
 call = behind byte call_of_kind
 
@@ -128,17 +128,19 @@ is_place p = nat_le 1 p.0 && nat_lt p.1.1 p.1.0
 unfoldable pub place : Reading (ℕ × (ℕ × ℕ))
 place = tested is_place (u64_number ▸ λ number. u64_number ▸ λ position. u64_number)
 
--- a transaction on its way
+-- a transaction on its way, of both sites, its place and itself
 abbrev pub carry_of : SiteName × (SiteName × ((ℕ × (ℕ × ℕ)) × Txn)) → Packet
 carry_of p = Carry p.0 p.1.0 p.1.1.0.0 p.1.1.0.1.0 p.1.1.0.1.1 p.1.1.1
 
+-- both sites, a place and a transaction
 abbrev pub carry : Reading Packet
 carry = made carry_of (site ▸ λ from. site ▸ λ to. place ▸ λ at. txn)
 
--- a mark
+-- a mark of both sites and a position
 abbrev pub mark_of : SiteName × (SiteName × ℕ) → Packet
 mark_of p = Mark p.0 p.1.0 p.1.1
 
+-- both sites and a position
 abbrev pub mark : Reading Packet
 mark = made mark_of (site ▸ λ from. site ▸ λ to. u64_number)
 
@@ -150,7 +152,7 @@ packet_of_kind kind = either (kind == 1) carry (either (kind == 2) mark nothing)
 abbrev pub packet_of_version : ℕ → Reading Packet
 packet_of_version version = either (version == 1) (behind byte packet_of_kind) nothing
 
--- a packet
+-- the version, and a packet
 unfoldable pub packet : Reading Packet
 packet = behind byte packet_of_version
 

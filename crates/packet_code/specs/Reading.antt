@@ -1,5 +1,5 @@
 -- Readings of bytes from the front, and how the parts of a packet are put together of them.
-use Rattle.std.specs.Prelude.{◌≡◌, ℕ, zero, suc, ◌<◌, ◌≤◌, ◌==◌, ◌&&◌, Bool, true, false, nat_le, if◌then◌else◌, List, [], ◌∷◌, ◌++◌, length, take, drop, Option, Some, None}
+use Rattle.std.specs.Prelude.{ℕ, zero, suc, ◌&&◌, Bool, nat_le, if◌then◌else◌, List, [], ◌∷◌, ◌++◌, length, take, drop, Option, Some, None}
 use Rattle.std.specs.Int.{w16, w32, w64, from_be_bytes}
 
 -- what is read in front and what is left, or nothing
@@ -55,13 +55,19 @@ times (suc n) reading bytes = reading bytes >>= λ x. times n reading x.1 >>= λ
 abbrev pub limited : {A : Type 0} → ℕ → Reading A → ℕ → Reading (List A)
 limited most reading count = either (nat_le 1 count && nat_le count most) (times count reading) nothing
 
--- a number of eight, four or two bytes
+-- a length, and so many bytes
+abbrev pub sized : Reading (List ℕ)
+sized = behind byte front
+
+-- a number of eight bytes
 abbrev pub u64_number : Reading ℕ
 u64_number = made (from_be_bytes w64) (front 8)
 
+-- a number of four bytes
 abbrev pub u32_number : Reading ℕ
 u32_number = made (from_be_bytes w32) (front 4)
 
+-- a number of two bytes
 abbrev pub u16_number : Reading ℕ
 u16_number = made (from_be_bytes w16) (front 2)
 

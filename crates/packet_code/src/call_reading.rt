@@ -11,13 +11,14 @@ use crate::stop::Stop;
 use crate::value_reading::{key, row, row_values};
 use rep_calls::{Call, Part, Txn};
 use rep_lists::Items;
+use rep_schema::SHADOW;
 use rep_values::Value;
 use std::alloc::Global;
 
 fn is_group_number(group: u8) -> bool
     ensures { result ≡ is_group_number group }
 {
-    group <= 31 || group == 255
+    group <= 31 || group == SHADOW
 }
 
 fn are_same(a: &[Value], b: &[Value]) -> bool
@@ -112,14 +113,11 @@ fn call(alloc: Global, bytes: &mut Reader<'_>) -> Result<Call, Stop>
     ensures { Reads call result bytes.old bytes.new }
 {
     let kind = bytes.byte()?;
-    if kind == 1 {
-        insert(alloc, bytes)
-    } else if kind == 2 {
-        update(alloc, bytes)
-    } else if kind == 3 {
-        delete(alloc, bytes)
-    } else {
-        Err(Stop::Form)
+    match kind {
+        1 => insert(alloc, bytes),
+        2 => update(alloc, bytes),
+        3 => delete(alloc, bytes),
+        _ => Err(Stop::Form),
     }
 }
 

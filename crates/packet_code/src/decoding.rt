@@ -53,12 +53,10 @@ fn sent(alloc: Global, bytes: &mut Reader<'_>) -> Result<Packet, Stop>
     ensures { Reads (behind byte packet_of_kind) result bytes.old bytes.new }
 {
     let kind = bytes.byte()?;
-    if kind == 1 {
-        carry(alloc, bytes)
-    } else if kind == 2 {
-        mark(bytes)
-    } else {
-        Err(Stop::Form)
+    match kind {
+        1 => carry(alloc, bytes),
+        2 => mark(bytes),
+        _ => Err(Stop::Form),
     }
 }
 
@@ -68,10 +66,9 @@ fn packet(alloc: Global, bytes: &mut Reader<'_>) -> Result<Packet, Stop>
     ensures { Reads packet result bytes.old bytes.new }
 {
     let version = bytes.byte()?;
-    if version == 1 {
-        sent(alloc, bytes)
-    } else {
-        Err(Stop::Form)
+    match version {
+        1 => sent(alloc, bytes),
+        _ => Err(Stop::Form),
     }
 }
 

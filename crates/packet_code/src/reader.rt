@@ -1,7 +1,7 @@
 //! Bytes read from the front.
 ghost use Rattle.std.specs.Prelude.{◌≡◌, ◌↔◌, ℕ, List, [], length, IfOk, IsTrue};
 ghost use Rattle.std.specs.Borrow.{Bor};
-ghost use Rattle.packet_code.specs.Reading.{byte, front, u64_number, u32_number, u16_number};
+ghost use Rattle.packet_code.specs.Reading.{byte, front, sized, u64_number, u32_number, u16_number};
 ghost use Rattle.packet_code.specs.Readers.{Reads, ReadsAs};
 
 use crate::stop::Stop;
@@ -53,6 +53,14 @@ impl<'a> Reader<'a> {
         let (front, rest) = self.left.split_at(count);
         self.left = rest;
         Ok(front)
+    }
+
+    /// A length, and so many bytes.
+    pub fn sized(&mut self) -> Result<&'a [u8], Stop>
+        ensures { ReadsAs (λ (front : Bor (List ℕ)). front.now) sized result self.old self.new }
+    {
+        let length = self.byte()?;
+        self.front(length as usize)
     }
 
     /// A number of eight bytes.

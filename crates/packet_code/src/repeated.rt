@@ -18,7 +18,11 @@ pub trait Piece: Drop {
 }
 
 /// So many of them. It takes memory for those alone that it reads.
-pub fn times<P: Piece>(alloc: Global, bytes: &mut Reader<'_>, count: usize) -> Result<Items<P>, Stop>
+pub fn times<P: Piece>(
+    alloc: Global,
+    bytes: &mut Reader<'_>,
+    count: usize,
+) -> Result<Items<P>, Stop>
     ensures { Reads (times count P.reading) result bytes.old bytes.new }
 {
     let mut found = Items::new(alloc);
@@ -29,7 +33,12 @@ pub fn times<P: Piece>(alloc: Global, bytes: &mut Reader<'_>, count: usize) -> R
 }
 
 /// So many of them, where it is 1 to the most.
-pub fn limited<P: Piece>(alloc: Global, bytes: &mut Reader<'_>, most: usize, count: usize) -> Result<Items<P>, Stop>
+pub fn limited<P: Piece>(
+    alloc: Global,
+    bytes: &mut Reader<'_>,
+    most: usize,
+    count: usize,
+) -> Result<Items<P>, Stop>
     ensures { Reads (limited most P.reading count) result bytes.old bytes.new }
 {
     if count < 1 || count > most {

@@ -6,7 +6,7 @@ use rep_lists::NoMemory;
 use std::alloc::{AllocError, AllocFailed};
 
 /// They aren't the bytes of one, or want of memory.
-#[derive(Clone, Copy, Debug, PartialEq, Eq)]
+#[derive(Clone, Copy)]
 pub enum Stop {
     Form,
     Memory,

@@ -15,9 +15,7 @@ use std::alloc::Global;
 pub fn site(bytes: &mut Reader<'_>) -> Result<SiteName, Stop>
     ensures { Reads site result bytes.old bytes.new }
 {
-    let length = bytes.byte()?;
-    let front = bytes.front(length as usize)?;
-    match Name::of(front) {
+    match Name::of(bytes.sized()?) {
         Some(name) => Ok(SiteName(name)),
         None => Err(Stop::Form),
     }
@@ -26,7 +24,7 @@ pub fn site(bytes: &mut Reader<'_>) -> Result<SiteName, Stop>
 fn is_in_range(number: i64) -> bool
     ensures { result ≡ is_in_range number }
 {
-    -1_000_000_000_000_000 <= number && number <= 1_000_000_000_000_000
+    rep_schema::is_in_range(number)
 }
 
 fn number_value(bytes: &mut Reader<'_>) -> Result<Value, Stop>
@@ -42,9 +40,7 @@ fn number_value(bytes: &mut Reader<'_>) -> Result<Value, Stop>
 fn text_value(bytes: &mut Reader<'_>) -> Result<Value, Stop>
     ensures { Reads text_value result bytes.old bytes.new }
 {
-    let length = bytes.byte()?;
-    let front = bytes.front(length as usize)?;
-    match Text::of(front) {
+    match Text::of(bytes.sized()?) {
         Some(text) => Ok(Value::Words(text)),
         None => Err(Stop::Form),
     }
@@ -55,12 +51,10 @@ fn value(bytes: &mut Reader<'_>) -> Result<Value, Stop>
     ensures { Reads value result bytes.old bytes.new }
 {
     let kind = bytes.byte()?;
-    if kind == 1 {
-        number_value(bytes)
-    } else if kind == 2 {
-        text_value(bytes)
-    } else {
-        Err(Stop::Form)
+    match kind {
+        1 => number_value(bytes),
+        2 => text_value(bytes),
+        _ => Err(Stop::Form),
     }
 }
 

@@ -1,5 +1,5 @@
 -- Groups looked through from the front.
-use Rattle.std.proofs.Common.{◌≡◌, List, ◌∷◌, drop, map}
+use Rattle.std.proofs.Common.{◌≡◌, ◌∷◌, drop, map}
 use Rattle.rep_calls.specs.declared.call.Part.{Part}
 use Rattle.packet_code.specs.Forms.{rise, groups_rise}
 use Rattle.packet_code.proofs.call_reading.groups_rise.Given as goal

@@ -1,5 +1,5 @@
 -- Packets are read exactly, so that reading tells the one packet.
-use Rattle.std.proofs.Common.{◌≡◌, ℕ, List, [], ◌∷◌, ◌++◌, sym, ◌∙◌}
+use Rattle.std.proofs.Common.{[], sym, ◌∙◌}
 use Rattle.std.proofs.lemmas.List.{append-nil}
 use Rattle.packet_code.specs.Spelling.{packet_bytes}
 use Rattle.packet_code.proofs.Exact.{no_spelling_begins_another}
