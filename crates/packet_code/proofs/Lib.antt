@@ -1,2 +1,10 @@
 -- The lemmas of this crate.
+mod Exact
+mod Numbers
+mod FormsExact
+mod PacketsExact
+mod Repeats
+mod Behind
+mod Lengths
+mod Decoded
 pub mod WorkedPackets

@@ -2,3 +2,6 @@
 pub mod Limits
 pub mod Spelling
 pub mod Laws
+pub mod Reading
+pub mod Forms
+pub mod Readers

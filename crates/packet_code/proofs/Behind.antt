@@ -1,0 +1,13 @@
+-- What a call reads behind a value that tells how.
+use Rattle.std.proofs.Common.{◌≡◌, ℕ, List, Some, Result, Ok, Err}
+use Rattle.packet_code.specs.declared.stop.Stop.{Stop}
+use Rattle.packet_code.specs.declared.stop.Stop.TheVariants as stop
+use Rattle.packet_code.specs.Reading.{Reading, behind}
+use Rattle.packet_code.specs.Readers.{Reads}
+
+-- a value, and then what it tells
+pub read_behind : {A B : Type 0} (first : Reading A) (second : A → Reading B) (old mid new : List ℕ) (x : A) (r : Result B Stop) → first old ≡ Some (x, mid)
+    → Reads (second x) r mid new → Reads (behind first second) r old new
+read_behind first second old mid new x (Ok y) read next = rw read next
+read_behind first second old mid new x (Err stop.Memory) read next = tt
+read_behind first second old mid new x (Err stop.Form) read next = rw read next

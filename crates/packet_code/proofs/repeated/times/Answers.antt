@@ -1,0 +1,22 @@
+-- Each step reads a part, or stops.
+use Rattle.std.proofs.Common.{◌-◌, ◌+◌, arith}
+use Rattle.std.proofs.lemmas.Result.{err_from_is_err_and}
+use Rattle.packet_code.specs.Reading.{times}
+use Rattle.packet_code.proofs.Repeats.{found_ends, found_more, found_fails}
+use Rattle.packet_code.proofs.repeated.times.Goals as goal
+
+pub returns-in_err-read : goal.returns-in_err-read
+returns-in_err-read g c =
+    let p = err_from_is_err_and c.from_residual.result c.from_residual.ensures.1 in
+    rw (p.1, p.2) (found_fails g.P.Piece.reading c.loop.found (c.args.count - (c.loop.counter + 1)) (c.args.count - c.loop.counter) c.loop.bytes
+    c.in_err-read.field-0.0 (times c.args.count g.P.Piece.reading c.args.bytes.now) c.loop.invariant (omega (arith, c.loop-test.true)) c.in_err-read.ensures)
+
+pub loop-preserved : goal.loop-preserved
+loop-preserved g c =
+    found_more g.P.Piece.reading c.loop.found c.push.new.self (c.args.count - (c.loop.counter + 1)) (c.args.count - c.loop.counter) c.loop.bytes c.read.new.bytes
+    c.in_ok-read.field-0 (times c.args.count g.P.Piece.reading c.args.bytes.now) c.loop.invariant (omega (arith, c.loop-test.true)) c.in_ok-read.ensures c.in_ok-push.ensures.ok
+
+pub returns : goal.returns
+returns g c =
+    found_ends g.P.Piece.reading c.loop.found (c.args.count - c.loop.counter) c.loop.bytes (times c.args.count g.P.Piece.reading c.args.bytes.now)
+    c.loop.invariant (omega (arith, c.loop-test.false))

@@ -1,0 +1,48 @@
+//! Parts of a packet that stand several times.
+ghost use Rattle.std.specs.Prelude.{◌≡◌, ℕ, List, Option};
+ghost use Rattle.packet_code.specs.Reading.{times, limited};
+ghost use Rattle.packet_code.specs.Readers.{Reads};
+
+use crate::reader::Reader;
+use crate::stop::Stop;
+use rep_lists::Items;
+use std::alloc::Global;
+
+/// A part of a packet that may stand several times.
+pub trait Piece: Drop {
+    ghost reading: { List ℕ → Option (Self × List ℕ) };
+
+    /// Reads one. It may want memory.
+    fn read(alloc: Global, bytes: &mut Reader<'_>) -> Result<Self, Stop>
+        ensures { Reads reading result bytes.old bytes.new };
+}
+
+/// So many of them. It takes memory for those alone that it reads.
+pub fn times<P: Piece>(
+    alloc: Global,
+    bytes: &mut Reader<'_>,
+    count: usize,
+) -> Result<Items<P>, Stop>
+    ensures { Reads (times count P.reading) result bytes.old bytes.new }
+{
+    let mut found = Items::new(alloc);
+    for _ in 0..count {
+        found.push(P::read(alloc, bytes)?)?;
+    }
+    Ok(found)
+}
+
+/// So many of them, where it is 1 to the most.
+pub fn limited<P: Piece>(
+    alloc: Global,
+    bytes: &mut Reader<'_>,
+    most: usize,
+    count: usize,
+) -> Result<Items<P>, Stop>
+    ensures { Reads (limited most P.reading count) result bytes.old bytes.new }
+{
+    if count < 1 || count > most {
+        return Err(Stop::Form);
+    }
+    times::<P>(alloc, bytes, count)
+}

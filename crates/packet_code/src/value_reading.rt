@@ -1,0 +1,115 @@
+//! Names, values, rows and keys, read from bytes.
+ghost use Rattle.std.specs.Prelude.{◌≡◌};
+ghost use Rattle.rep_schema.specs.Fitting.{is_in_range};
+ghost use Rattle.packet_code.specs.Forms.{site, number_value, text_value, value, values, row, key};
+ghost use Rattle.packet_code.specs.Readers.{Reads, ReadsAs};
+
+use crate::reader::Reader;
+use crate::repeated::{Piece, limited};
+use crate::stop::Stop;
+use rep_lists::Items;
+use rep_values::{Key, Name, Row, SiteName, Text, Value};
+use std::alloc::Global;
+
+/// The name of a site.
+pub fn site(bytes: &mut Reader<'_>) -> Result<SiteName, Stop>
+    ensures { Reads site result bytes.old bytes.new }
+{
+    match Name::of(bytes.sized()?) {
+        Some(name) => Ok(SiteName(name)),
+        None => Err(Stop::Form),
+    }
+}
+
+fn is_in_range(number: i64) -> bool
+    ensures { result ≡ is_in_range number }
+{
+    rep_schema::is_in_range(number)
+}
+
+fn number_value(bytes: &mut Reader<'_>) -> Result<Value, Stop>
+    ensures { Reads number_value result bytes.old bytes.new }
+{
+    let number = bytes.u64_number()?.cast_signed();
+    if !is_in_range(number) {
+        return Err(Stop::Form);
+    }
+    Ok(Value::Num(number))
+}
+
+fn text_value(bytes: &mut Reader<'_>) -> Result<Value, Stop>
+    ensures { Reads text_value result bytes.old bytes.new }
+{
+    match Text::of(bytes.sized()?) {
+        Some(text) => Ok(Value::Words(text)),
+        None => Err(Stop::Form),
+    }
+}
+
+#[tactic(auto, unfolding(crate::specs::Forms::value), using(crate::proofs::Behind::read_behind))]
+fn value(bytes: &mut Reader<'_>) -> Result<Value, Stop>
+    ensures { Reads value result bytes.old bytes.new }
+{
+    let kind = bytes.byte()?;
+    match kind {
+        1 => number_value(bytes),
+        2 => text_value(bytes),
+        _ => Err(Stop::Form),
+    }
+}
+
+impl Piece for Value {
+    ghost reading = { value };
+
+    fn read(_alloc: Global, bytes: &mut Reader<'_>) -> Result<Value, Stop> {
+        value(bytes)
+    }
+}
+
+/// A count, and so many values, at most this many.
+fn values(alloc: Global, bytes: &mut Reader<'_>, most: usize) -> Result<Items<Value>, Stop>
+    ensures { Reads (values most) result bytes.old bytes.new }
+{
+    let count = bytes.byte()?;
+    limited::<Value>(alloc, bytes, most, count as usize)
+}
+
+/// The values of a row.
+#[tactic(auto, unfolding(crate::specs::Forms::row))]
+pub fn row_values(alloc: Global, bytes: &mut Reader<'_>) -> Result<Items<Value>, Stop>
+    ensures { Reads row result bytes.old bytes.new }
+{
+    values(alloc, bytes, 32)
+}
+
+/// The values of a key.
+#[tactic(auto, unfolding(crate::specs::Forms::key))]
+fn key_values(alloc: Global, bytes: &mut Reader<'_>) -> Result<Items<Value>, Stop>
+    ensures { Reads key result bytes.old bytes.new }
+{
+    values(alloc, bytes, 4)
+}
+
+/// A row.
+#[tactic(auto, using(crate::proofs::Lengths::row_length))]
+pub fn row(alloc: Global, bytes: &mut Reader<'_>) -> Result<Row, Stop>
+    ensures { Reads row result bytes.old bytes.new }
+{
+    let values = row_values(alloc, bytes)?;
+    match Row::of(alloc, values.as_slice())? {
+        Some(row) => Ok(row),
+        None => Err(Stop::Form),
+    }
+}
+
+/// A key.
+#[tactic(auto, using(crate::proofs::Lengths::key_length))]
+pub fn key(alloc: Global, bytes: &mut Reader<'_>) -> Result<Key, Stop>
+    ensures { Reads key result bytes.old bytes.new }
+{
+    let values = key_values(alloc, bytes)?;
+    match Key::of(values.as_slice()) {
+        Some(key) => Ok(key),
+        None => Err(Stop::Form),
+    }
+}
