@@ -1,25 +1,18 @@
 //! Parts, calls and transactions, read from bytes.
 ghost use Rattle.std.specs.Prelude.{◌≡◌};
 ghost use Rattle.rep_schema.specs.Groups.{are_same};
-ghost use Rattle.packet_code.specs.Limits.{is_group_number};
 ghost use Rattle.packet_code.specs.Forms.{part, groups_rise, parts, insert, update, delete, call, txn};
 ghost use Rattle.packet_code.specs.Readers.{Reads};
 
+use crate::limits::is_group_number;
 use crate::reader::Reader;
 use crate::repeated::{Piece, limited, times};
 use crate::stop::Stop;
 use crate::value_reading::{key, row, row_values};
 use rep_calls::{Call, Part, Txn};
 use rep_lists::Items;
-use rep_schema::SHADOW;
 use rep_values::Value;
 use std::alloc::Global;
-
-fn is_group_number(group: u8) -> bool
-    ensures { result ≡ is_group_number group }
-{
-    group <= 31 || group == SHADOW
-}
 
 fn are_same(a: &[Value], b: &[Value]) -> bool
     ensures { result ≡ are_same a.now b.now }

@@ -42,7 +42,8 @@ fn is_plain_key(key: &[Value]) -> bool
     1 <= key.len() && key.len() <= 4 && are_plain_values(key)
 }
 
-fn is_group_number(group: u8) -> bool
+/// Whether it is the number of a named group or of the shadow group.
+pub(crate) fn is_group_number(group: u8) -> bool
     ensures { result ≡ is_group_number group }
 {
     group <= 31 || group == SHADOW
