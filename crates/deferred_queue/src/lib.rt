@@ -2,5 +2,6 @@
 #![tactic(auto)]
 
 mod destination;
+mod stream;
 
 pub use destination::{Destination, Queued, Sent};

@@ -1,0 +1,7 @@
+-- The lemmas of this crate, from the bottom up.
+pub mod Sites
+pub mod Positions
+pub mod KeptStreams
+mod Room
+mod Extending
+mod Raising
