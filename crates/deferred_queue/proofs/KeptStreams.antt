@@ -121,17 +121,29 @@ stream_kept site streams (t ∷ older) (e ∷ es) falls known = go (e.number == 
         let none : entry_of (length older + 1) es ≡ None = entry_of-above (e.number - 1) (length older + 1) es falls.2 (omega (arith, lower)) in
         rw (known (length older + 1) (omega arith), is, none) (kept_later t older (e ∷ es) _ below (all below (λ number le. known number (omega (arith, le)))))
 
+-- the entries of a stream of the queue fall
+pub entries_to-falls : (site : SiteName) (count : ℕ) (ks : List Kept) → AllByRecursion (IsStream count) ks → FallsFrom count (entries_to site ks)
+entries_to-falls site count [] each = tt
+entries_to-falls site count (k ∷ ks) each = go (is_same_site k.site site) (entries_to-falls site count ks each.1)
+  where
+    go : (b : Bool) → FallsFrom count (entries_to site ks) → FallsFrom count (cond b k.entries (entries_to site ks))
+    go true later = each.0.falling
+    go false later = later
+
 -- so the stream to a site is what its stream in the queue holds
 pub stream_to-queued : (site : SiteName) (streams : List Kept) (txns : List Txn) → AreStreams (length txns) streams → IsKeptAs (entries_to site streams) txns (stream_to site (queued streams txns))
-stream_to-queued site streams txns are = stream_kept site streams txns (entries_to site streams) (falls_to (length txns) streams are.each) (λ number le. destination_to-destinations_of site number streams are.alike)
-  where
-    falls_to : (count : ℕ) (ks : List Kept) → AllByRecursion (IsStream count) ks → FallsFrom count (entries_to site ks)
-    falls_to count [] each = tt
-    falls_to count (k ∷ ks) each = go (is_same_site k.site site) (falls_to count ks each.1)
-      where
-        go : (b : Bool) → FallsFrom count (entries_to site ks) → FallsFrom count (cond b k.entries (entries_to site ks))
-        go true later = each.0.falling
-        go false later = later
+stream_to-queued site streams txns are = stream_kept site streams txns (entries_to site streams) (entries_to-falls site (length txns) streams are.each) (λ number le. destination_to-destinations_of site number streams are.alike)
+
+-- so a position without an entry has no transaction
+pub at_position-none : (site : SiteName) (streams : List Kept) (txns : List Txn) (position : ℕ) → AreStreams (length txns) streams
+    → at_position position (entries_to site streams) ≡ None → at_position position (stream_to site (queued streams txns)) ≡ None
+at_position-none site streams txns position are none = (stream_to-queued site streams txns are).same position ∙ rw none refl
+
+-- and one with an entry has the transaction of that number
+pub at_position-some : (site : SiteName) (streams : List Kept) (txns : List Txn) (position : ℕ) (e : Entry) (t : Txn) → AreStreams (length txns) streams
+    → at_position position (entries_to site streams) ≡ Some e → at_position e.number txns ≡ Some t
+    → at_position position (stream_to site (queued streams txns)) ≡ Some (record { number = e.number; dep = e.dep; txn = t })
+at_position-some site streams txns position e t are found there = (stream_to-queued site streams txns are).same position ∙ rw (found, there) refl
 
 length-numbered : (streams : List Kept) (txns : List Txn) → length (numbered (queued streams txns)) ≡ length txns
 length-numbered streams [] = refl

@@ -2,6 +2,8 @@
 pub mod Sites
 pub mod Positions
 pub mod KeptStreams
+mod InPlace
+mod Found
 mod Room
 mod Extending
 mod Raising

@@ -1,8 +1,9 @@
 -- What stands at a position of a list with the newest first.
-use Rattle.std.proofs.Common.{◌≡◌, ◌≢◌, ℕ, zero, suc, ◌+◌, ◌<◌, ◌≤◌, ◌==◌, Bool, true, false, cond, List, [], ◌∷◌, ◌++◌, length, reverse, Option, Some, None, refl, sym, ap, ◌∙◌, arith}
+use Rattle.std.proofs.Common.{◌≡◌, ◌≢◌, ℕ, zero, suc, ◌+◌, ◌-◌, ◌<◌, ◌≤◌, ◌==◌, Bool, true, false, cond, List, [], ◌∷◌, ◌++◌, length, reverse, get_or, Option, Some, None, refl, sym, ap, ◌∙◌, arith}
 use Rattle.std.specs.Prelude.{slice_get}
 use Rattle.std.proofs.lemmas.Bool.Decides.{nat_tests}
 use Rattle.std.proofs.lemmas.List.{reverse-append, length-append, length-reverse}
+use Rattle.std.proofs.lemmas.Option.{slice_get_read}
 use Rattle.deferred_queue.specs.Streams.{at_position}
 use Rattle.deferred_queue.proofs.Sites.{eq_true, eq_false, eq_false_above}
 
@@ -51,3 +52,9 @@ module _ {X : Type 0} where
   at_position-reverse [] k = refl
   at_position-reverse (x ∷ xs) zero = rw (reverse-append (x ∷ []) xs) (oldest_first (reverse xs) x)
   at_position-reverse (x ∷ xs) (suc k) = rw (reverse-append (x ∷ []) xs) (others_later (reverse xs) x k ∙ at_position-reverse xs k)
+
+  -- a value read at the place before
+  pub at_position-read : (xs : List X) (p : ℕ) (x : X) → 1 ≤ p → p ≤ length xs → x ≡ get_or xs (p - 1) x → at_position p (reverse xs) ≡ Some x
+  at_position-read xs p x from_one within is =
+      let next : suc (p - 1) ≡ p = omega (arith, from_one) in
+      ap (λ q. at_position q (reverse xs)) (sym next) ∙ at_position-reverse xs (p - 1) ∙ slice_get_read xs (length xs) (p - 1) x refl (omega (arith, from_one, within)) is

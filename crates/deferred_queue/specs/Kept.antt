@@ -18,6 +18,10 @@ pub record Held : Type 0 where
   pub kept : Kept
   pub room : ℕ
 
+-- a stream in which nothing is queued
+abbrev pub new_held : SiteName → Held
+new_held site = record { kept = record { site = site; acked = 0; entries = [] }; room = 0 }
+
 abbrev pub kept_of : List Held → List Kept
 kept_of helds = map (λ (h : Held). h.kept) helds
 

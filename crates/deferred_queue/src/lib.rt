@@ -2,6 +2,9 @@
 #![tactic(auto)]
 
 mod destination;
+mod queue;
 mod stream;
+mod streams;
 
 pub use destination::{Destination, Queued, Sent};
+pub use queue::Queue;

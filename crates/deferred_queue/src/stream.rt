@@ -1,7 +1,7 @@
 //! The stream to one destination.
-ghost use Rattle.std.specs.Prelude.{◌≡◌, ℕ, ◌+◌, ◌≤◌, [], length, OnOk, option_map};
+ghost use Rattle.std.specs.Prelude.{◌≡◌, ℕ, ◌+◌, ◌≤◌, length, OnOk, option_map, slice_get};
 ghost use Rattle.deferred_queue.specs.Streams.{at_position, destination_to};
-ghost use Rattle.deferred_queue.specs.Kept.{held_extended, held_raised, is_stream_to};
+ghost use Rattle.deferred_queue.specs.Kept.{new_held, held_extended, held_raised, is_stream_to};
 
 use crate::Destination;
 use rep_lists::NoMemory;
@@ -45,10 +45,16 @@ fn dep_of(to: &[Destination], site: &SiteName) -> Option<u64>
     None
 }
 
+fn entry_at(entries: &[Entry], place: usize) -> Option<Entry>
+    ensures { result ≡ slice_get entries.now place }
+{
+    entries.get(place).copied()
+}
+
 impl Stream {
     /// Nothing is queued for the destination, and no memory is taken.
     pub(crate) fn new(alloc: Global, site: SiteName) -> Stream
-        ensures { result ≡ record { kept = record { site = site; acked = 0; entries = [] }; room = 0 } }
+        ensures { result ≡ new_held site }
     {
         Stream {
             site,
@@ -100,7 +106,7 @@ impl Stream {
         if position == 0 {
             return None;
         }
-        self.entries.get(position as usize - 1).copied()
+        entry_at(&self.entries, position as usize - 1)
     }
 
     /// The last position, 0 where nothing was queued.
