@@ -44,6 +44,12 @@ destinations_of-new to count number (k ∷ ks) each less =
     sent None = rw (entry_of-above count number k.entries each.0.falling less) refl
     sent (Some d) = rw (eq_true number number refl) refl
 
+-- so it is queued before the others, and they are as they were
+pub queued-pushed : (to : List Destination) (number : ℕ) (ks : List Kept) (txn : Txn) (txns : List Txn) → number ≡ length txns + 1 → AllByRecursion (IsStream (length txns)) ks
+    → queued (map (extended to number) ks) (txn ∷ txns) ≡ record { txn = txn; to = in_order (marks_of ks) to } ∷ queued ks txns
+queued-pushed to number ks txn txns is each =
+    rw (← is, destinations_of-new to (length txns) number ks each (omega (arith, is)), queued-extended to number ks txns (omega (arith, is))) refl
+
 -- the streams are streams of one transaction more
 pub AreStreams-extended : (to : List Destination) (count number : ℕ) (ks : List Kept) → number ≡ count + 1 → AreStreams count ks → AreStreams number (map (extended to number) ks)
 AreStreams-extended to count number ks is are = record { each = each_extended ks are.each; alike = alike_extended ks are.alike; }

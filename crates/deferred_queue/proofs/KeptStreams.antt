@@ -1,6 +1,7 @@
 -- The stream that is computed from the queued transactions is the one that is kept.
-use Rattle.std.proofs.Common.{◌≡◌, ℕ, suc, ◌+◌, ◌-◌, ◌<◌, ◌≤◌, ◌==◌, Bool, true, false, cond, List, [], ◌∷◌, length, Option, Some, None, refl, sym, ap, subst, ◌∙◌, arith}
+use Rattle.std.proofs.Common.{◌≡◌, ℕ, suc, ◌+◌, ◌-◌, ◌<◌, ◌≤◌, ◌==◌, Bool, true, false, cond, List, [], ◌∷◌, length, reverse, Option, Some, None, refl, sym, ap, subst, ◌∙◌, arith, add-one}
 use Rattle.std.specs.Option.{option_map}
+use Rattle.std.specs.Prelude.{slice_get}
 use Rattle.std.specs.List.{AllByRecursion, cons_option}
 use Rattle.std.proofs.lemmas.Bool.Decides.{nat_tests}
 use Rattle.rep_values.specs.declared.name.SiteName.{SiteName}
@@ -9,6 +10,7 @@ use Rattle.deferred_queue.specs.declared.destination.Destination.{Destination}
 use Rattle.deferred_queue.specs.declared.stream.Entry.{Entry}
 use Rattle.deferred_queue.specs.Streams.{Deferred, InStream, Numbered, is_same_site, destination_to, with_one, stream_to, at_position, numbered}
 use Rattle.deferred_queue.specs.Kept.{Kept, entry_of, sent_to, destinations_of, queued, entries_to, FallsFrom, AreAlike, IsStream, AreStreams}
+use Rattle.deferred_queue.proofs.Positions.{at_position-reverse}
 use Rattle.deferred_queue.proofs.Sites.{is_same_site-true, eq_true, eq_false, eq_false_above}
 
 -- as many are queued as there are transactions
@@ -159,3 +161,8 @@ at_position-numbered streams (t ∷ older) position = rw (length-numbered stream
             ≡ option_map (λ (txn : Txn). record { number = position; txn = txn }) (cond b (Some t) (at_position position older))
     go true is later = let same : position ≡ length older + 1 = grind (arith, nat_tests) in rw same refl
     go false is later = later
+
+-- and at their places
+pub at_position-in_order : (streams : List Kept) (txns : List Txn) (place : ℕ) → at_position (place + 1) (numbered (queued streams (reverse txns))) ≡ option_map (λ (t : Txn). record { number = place + 1; txn = t }) (slice_get txns place)
+at_position-in_order streams txns place =
+    at_position-numbered streams (reverse txns) (place + 1) ∙ ap (option_map (λ (t : Txn). record { number = place + 1; txn = t })) (rw add-one (at_position-reverse txns place))
