@@ -7,3 +7,4 @@ mod Found
 mod Room
 mod Extending
 mod Raising
+mod StreamLaws

@@ -2,9 +2,11 @@
 #![tactic(auto)]
 
 mod destination;
+mod laws;
 mod queue;
 mod stream;
 mod streams;
 
 pub use destination::{Destination, Queued, Sent};
+pub use laws::stream_laws;
 pub use queue::Queue;
