@@ -2,7 +2,7 @@
 use Rattle.std.proofs.Common.{◌≡◌, ℕ, ◌≤◌, Bool, true, false, cond, List, [], ◌∷◌, length, map, Option, Some, None, refl, sym, ap, ◌∙◌, arith}
 use Rattle.std.specs.List.{AllByRecursion, find}
 use Rattle.rep_values.specs.declared.name.SiteName.{SiteName}
-use Rattle.deferred_queue.specs.Streams.{Mark, is_same_site, acked_by}
+use Rattle.deferred_queue.specs.Streams.{Mark, IsDestination, is_same_site, acked_by}
 use Rattle.deferred_queue.specs.Kept.{Kept, Held, kept_of, marks_of, entries_to, is_stream_to, entries_found, acked_found, new_held, AreAlike, IsStream, AreStreams}
 
 pub entries_found-find : (site : SiteName) (hs : List Held) → entries_found (find (is_stream_to site) hs) ≡ entries_to site (kept_of hs)
@@ -49,3 +49,23 @@ AreStreams-new count sites = record { each = each_new sites; alike = alike_new s
     alike_new : (sites : List SiteName) → AreAlike (kept_of (map new_held sites))
     alike_new [] = tt
     alike_new (site ∷ sites) = (none_differs site sites, alike_new sites)
+
+-- a site is a destination where it has a stream
+pub destination-find : (site : SiteName) (hs : List Held) (h : Held) → find (is_stream_to site) hs ≡ Some h → IsDestination (marks_of (kept_of hs)) site
+destination-find site [] h found = absurd (cc found)
+destination-find site (first ∷ hs) h found = go (is_same_site first.kept.site site) refl (destination-find site hs h) found
+  where
+    go : (b : Bool) → is_same_site first.kept.site site ≡ b → (find (is_stream_to site) hs ≡ Some h → IsDestination (marks_of (kept_of hs)) site)
+        → cond b (Some first) (find (is_stream_to site) hs) ≡ Some h → IsDestination (marks_of (kept_of (first ∷ hs))) site
+    go true is later there = rw is (λ none. absurd (cc none))
+    go false is later there = rw is (later there)
+
+-- and isn't where it has none
+pub destination-none : (site : SiteName) (hs : List Held) → find (is_stream_to site) hs ≡ None → ¬ IsDestination (marks_of (kept_of hs)) site
+destination-none site [] none = λ is. is refl
+destination-none site (first ∷ hs) none = go (is_same_site first.kept.site site) refl (destination-none site hs) none
+  where
+    go : (b : Bool) → is_same_site first.kept.site site ≡ b → (find (is_stream_to site) hs ≡ None → ¬ IsDestination (marks_of (kept_of hs)) site)
+        → cond b (Some first) (find (is_stream_to site) hs) ≡ None → ¬ IsDestination (marks_of (kept_of (first ∷ hs))) site
+    go true is later none = absurd (cc none)
+    go false is later none = rw is (later none)

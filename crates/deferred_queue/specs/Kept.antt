@@ -5,7 +5,7 @@ use Rattle.rep_values.specs.declared.name.SiteName.{SiteName}
 use Rattle.rep_calls.specs.declared.call.Txn.{Txn}
 use Rattle.deferred_queue.specs.declared.destination.Destination.{Destination}
 use Rattle.deferred_queue.specs.declared.stream.Entry.{Entry}
-use Rattle.deferred_queue.specs.Streams.{Deferred, Mark, is_same_site, destination_to}
+use Rattle.deferred_queue.specs.Streams.{Deferred, Mark, IsDestination, is_same_site, destination_to}
 
 -- what is kept for a destination: how far it has acknowledged, and its entries, the newest first
 pub record Kept : Type 0 where
@@ -92,6 +92,11 @@ pub record IsStream (count : ℕ) (k : Kept) : Type 0 where
 pub record AreStreams (count : ℕ) (streams : List Kept) : Type 0 where
   pub each : AllByRecursion (IsStream count) streams
   pub alike : AreAlike streams
+
+-- a destination of the streams, and a position of its stream or 0
+pub record CanGo (streams : List Kept) (d : Destination) : Type 0 where
+  pub destination : IsDestination (marks_of streams) d.site
+  pub earlier : d.dep ≤ length (entries_to d.site streams)
 
 -- the entries with one more, where the transaction goes to the destination
 abbrev pub with_entry : Option Destination → ℕ → List Entry → List Entry

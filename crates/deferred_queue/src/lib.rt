@@ -7,6 +7,6 @@ mod queue;
 mod stream;
 mod streams;
 
-pub use destination::{Destination, Queued, Sent};
+pub use destination::{Destination, Queued, Sent, are_apart};
 pub use laws::stream_laws;
 pub use queue::Queue;

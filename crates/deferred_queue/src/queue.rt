@@ -1,11 +1,11 @@
 //! The queue of a site.
-ghost use Rattle.std.specs.Prelude.{◌≡◌, ◌+◌, ◌-◌, ◌≤◌, [], ◌∷◌, length, map, IfOk, OnOk, option_copied, slice_get};
+ghost use Rattle.std.specs.Prelude.{◌≡◌, ◌↔◌, ◌+◌, ◌-◌, ◌≤◌, [], ◌∷◌, length, map, IfOk, OnOk, IsTrue, option_copied, slice_get};
 ghost use Rattle.std.specs.Option.{option_map};
 ghost use Rattle.std.specs.List.{AllByRecursion};
 ghost use Rattle.deferred_queue.specs.Streams.{CanBeSent, AreApart, in_order, at_position, stream_to, numbered, last_position, acked_by, raised_mark};
 
 use crate::stream::Stream;
-use crate::streams::{acked_to, entry_to, extend_each, last_to, new_each, raise_each, reserve_each};
+use crate::streams::{acked_to, can_go_to_each, entry_to, extend_each, last_to, new_each, raise_each, reserve_each};
 use crate::{Destination, Queued, Sent};
 use rep_calls::Txn;
 use rep_lists::NoMemory;
@@ -65,6 +65,13 @@ impl Queue {
         self.txns.reserve(1)?;
         reserve_each(&mut self.streams)?;
         Ok(())
+    }
+
+    /// Whether each of these is a destination of the queue, and depends on a position that its stream has or on none.
+    pub fn can_send(&self, to: &[Destination]) -> bool
+        ensures { IsTrue result ↔ AllByRecursion (CanBeSent self.now) to.now }
+    {
+        can_go_to_each(&self.streams, to)
     }
 
     /// Queues a transaction for its destinations, and answers its number: the count of transactions. It takes no memory.

@@ -4,6 +4,7 @@ ghost use Rattle.deferred_queue.specs.Streams.{at_position, destination_to};
 ghost use Rattle.deferred_queue.specs.Kept.{new_held, held_extended, held_raised, is_stream_to};
 
 use crate::Destination;
+use crate::destination::dep_of;
 use rep_lists::NoMemory;
 use rep_values::SiteName;
 use std::alloc::Global;
@@ -31,18 +32,6 @@ impl Model for Stream {
     ghost Value = { Held };
 
     ghost view = { λ s. record { kept = record { site = s.site; acked = s.acked; entries = reverse s.entries.items }; room = vec_capacity s.entries - vec_len s.entries } };
-}
-
-/// The position that a destination depends on, where the site is among the destinations.
-fn dep_of(to: &[Destination], site: &SiteName) -> Option<u64>
-    ensures { result ≡ option_map (λ d. d.dep) (destination_to site.now to.now) }
-{
-    for destination in to {
-        if destination.site.0.is_same(&site.0) {
-            return Some(destination.dep);
-        }
-    }
-    None
 }
 
 fn entry_at(entries: &[Entry], place: usize) -> Option<Entry>

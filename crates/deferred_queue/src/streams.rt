@@ -1,8 +1,8 @@
 //! The streams of a queue, one for each destination.
-ghost use Rattle.std.specs.Prelude.{◌≡◌, ℕ, ◌≤◌, length, map, IfOk, OnOk, option_copied};
-ghost use Rattle.std.specs.List.{find};
+ghost use Rattle.std.specs.Prelude.{◌≡◌, ◌↔◌, ℕ, ◌≤◌, length, map, IfOk, OnOk, option_copied, IsTrue};
+ghost use Rattle.std.specs.List.{AllByRecursion, find};
 ghost use Rattle.deferred_queue.specs.Streams.{at_position, acked_by};
-ghost use Rattle.deferred_queue.specs.Kept.{new_held, is_stream_to, kept_of, rooms_of, marks_of, least, entries_to, held_extended, held_raised};
+ghost use Rattle.deferred_queue.specs.Kept.{new_held, is_stream_to, kept_of, rooms_of, marks_of, least, entries_to, held_extended, held_raised, CanGo};
 
 use crate::Destination;
 use crate::stream::{Entry, Stream};
@@ -56,6 +56,28 @@ pub(crate) fn acked_to(streams: &[Stream], site: &SiteName) -> u64
         Some(stream) => stream.acked(),
         None => 0,
     }
+}
+
+/// Whether there is a stream to the destination, with the position on which the transaction depends.
+fn can_go(streams: &[Stream], destination: &Destination) -> bool
+    ensures { IsTrue result ↔ CanGo (kept_of streams.now) destination.now }
+{
+    match stream_to(streams, &destination.site) {
+        Some(stream) => destination.dep <= stream.last(),
+        None => false,
+    }
+}
+
+/// Whether a transaction can go to each of these.
+pub(crate) fn can_go_to_each(streams: &[Stream], to: &[Destination]) -> bool
+    ensures { IsTrue result ↔ AllByRecursion (CanGo (kept_of streams.now)) to.now }
+{
+    for destination in to {
+        if !can_go(streams, destination) {
+            return false;
+        }
+    }
+    true
 }
 
 /// Takes the room for one more entry in each stream.
