@@ -10,3 +10,6 @@ mod streams;
 pub use destination::{Destination, Queued, Sent, are_apart};
 pub use laws::stream_laws;
 pub use queue::Queue;
+
+#[cfg(test)]
+mod tests;
