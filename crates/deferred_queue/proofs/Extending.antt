@@ -52,10 +52,10 @@ queued-pushed to number ks txn txns is each =
 
 -- the streams are streams of one transaction more
 pub AreStreams-extended : (to : List Destination) (count number : ℕ) (ks : List Kept) → number ≡ count + 1 → AreStreams count ks → AreStreams number (map (extended to number) ks)
-AreStreams-extended to count number ks is are = record { each = each_extended ks are.each; alike = alike_extended ks are.alike; }
+AreStreams-extended to count number ks is are = record { each = each_extended ks are.each; alike = alike_extended ks are.alike }
   where
     grown : (found : Option Destination) (k : Kept) → IsStream count k → IsStream number (record { site = k.site; acked = k.acked; entries = with_entry found number k.entries })
-    grown None k stream = record { falling = FallsFrom-higher count number k.entries (omega (arith, is)) stream.falling; within = stream.within; }
+    grown None k stream = record { falling = FallsFrom-higher count number k.entries (omega (arith, is)) stream.falling; within = stream.within }
     grown (Some d) k stream = record {
       falling = (omega (arith, is), omega (arith, is), FallsFrom-higher count (number - 1) k.entries (omega (arith, is)) stream.falling);
       within = omega (arith, stream.within);

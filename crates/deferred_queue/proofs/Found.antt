@@ -36,11 +36,11 @@ marks_of-new (site ∷ sites) = ap (λ (ms : List Mark). record { site = site; a
 
 -- new streams are streams
 pub AreStreams-new : (count : ℕ) (sites : List SiteName) → AreStreams count (kept_of (map new_held sites))
-AreStreams-new count sites = record { each = each_new sites; alike = alike_new sites; }
+AreStreams-new count sites = record { each = each_new sites; alike = alike_new sites }
   where
     each_new : (sites : List SiteName) → AllByRecursion (IsStream count) (kept_of (map new_held sites))
     each_new [] = tt
-    each_new (site ∷ sites) = (record { falling = tt; within = omega arith; }, each_new sites)
+    each_new (site ∷ sites) = (record { falling = tt; within = omega arith }, each_new sites)
 
     none_differs : (site : SiteName) (sites : List SiteName) → AllByRecursion (λ (other : Kept). other.site ≡ site → other.entries ≡ []) (kept_of (map new_held sites))
     none_differs site [] = tt

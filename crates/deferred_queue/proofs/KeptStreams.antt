@@ -76,9 +76,9 @@ pub record IsKeptAs (entries : List Entry) (txns : List Txn) (stream : List InSt
 -- a transaction without an entry leaves them
 kept_later : (t : Txn) (older : List Txn) (entries : List Entry) (stream : List InStream) → FallsFrom (length older) entries → IsKeptAs entries older stream → IsKeptAs entries (t ∷ older) stream
 kept_later t older entries stream falls kept = record {
-    same_length = kept.same_length;
-    same = λ position. kept.same position ∙ go position (at_position position entries) refl;
-  }
+  same_length = kept.same_length;
+  same = λ position. kept.same position ∙ go position (at_position position entries) refl;
+}
   where
     go : (position : ℕ) (found : Option Entry) → at_position position entries ≡ found → entry_in_stream older found ≡ entry_in_stream (t ∷ older) found
     go position None is = refl
@@ -88,9 +88,9 @@ kept_later t older entries stream falls kept = record {
 kept_more : (t : Txn) (older : List Txn) (e : Entry) (es : List Entry) (stream : List InStream) → e.number ≡ length older + 1 → FallsFrom (length older) es → IsKeptAs es older stream
     → IsKeptAs (e ∷ es) (t ∷ older) (record { number = length older + 1; dep = e.dep; txn = t } ∷ stream)
 kept_more t older e es stream is falls kept = record {
-    same_length = ap suc kept.same_length;
-    same = λ position. rw kept.same_length (go position (position == length es + 1));
-  }
+  same_length = ap suc kept.same_length;
+  same = λ position. rw kept.same_length (go position (position == length es + 1));
+}
   where
     go : (position : ℕ) (b : Bool) → cond b (Some (record { number = length older + 1; dep = e.dep; txn = t })) (at_position position stream) ≡ entry_in_stream (t ∷ older) (cond b (Some e) (at_position position es))
     go position true = rw (eq_true e.number (length older + 1) is, is) refl
@@ -100,7 +100,7 @@ kept_more t older e es stream is falls kept = record {
 stream_kept : (site : SiteName) (streams : List Kept) (txns : List Txn) (entries : List Entry) → FallsFrom (length txns) entries
     → ((number : ℕ) → number ≤ length txns → destination_to site (destinations_of number streams) ≡ sent_to site (entry_of number entries))
     → IsKeptAs entries txns (stream_to site (queued streams txns))
-stream_kept site streams [] [] falls known = record { same_length = refl; same = λ position. refl; }
+stream_kept site streams [] [] falls known = record { same_length = refl; same = λ position. refl }
 stream_kept site streams [] (e ∷ es) falls known = absurd (omega (arith, falls.0, falls.1))
 stream_kept site streams (t ∷ older) [] falls known =
     rw (known (length older + 1) (omega arith)) (kept_later t older [] _ tt (stream_kept site streams older [] tt (λ number le. known number (omega (arith, le)))))
@@ -158,7 +158,7 @@ at_position-numbered streams (t ∷ older) position = rw (length-numbered stream
   where
     go : (b : Bool) → (position == length older + 1) ≡ b → at_position position (numbered (queued streams older)) ≡ option_map (λ (txn : Txn). record { number = position; txn = txn }) (at_position position older)
         → cond b (Some (record { number = length older + 1; txn = t })) (at_position position (numbered (queued streams older)))
-            ≡ option_map (λ (txn : Txn). record { number = position; txn = txn }) (cond b (Some t) (at_position position older))
+        ≡ option_map (λ (txn : Txn). record { number = position; txn = txn }) (cond b (Some t) (at_position position older))
     go true is later = let same : position ≡ length older + 1 = grind (arith, nat_tests) in rw same refl
     go false is later = later
 

@@ -33,7 +33,7 @@ marks_of-raised site mark (k ∷ ks) = rw (marks_of-raised site mark ks, here (i
 
 -- streams stay streams where the mark isn't behind the last position
 pub AreStreams-raised : (site : SiteName) (mark count : ℕ) (ks : List Kept) → mark ≤ length (entries_to site ks) → AreStreams count ks → AreStreams count (map (raised site mark) ks)
-AreStreams-raised site mark count ks within are = record { each = each_raised ks are.each (all_within ks are.alike within); alike = alike_raised ks are.alike; }
+AreStreams-raised site mark count ks within are = record { each = each_raised ks are.each (all_within ks are.alike within); alike = alike_raised ks are.alike }
   where
     Covers : Kept → Type 0
     Covers k = is_same_site k.site site ≡ true → mark ≤ length k.entries
@@ -53,7 +53,7 @@ AreStreams-raised site mark count ks within are = record { each = each_raised ks
 
     each_raised : (ks : List Kept) → AllByRecursion (IsStream count) ks → AllByRecursion Covers ks → AllByRecursion (IsStream count) (map (raised site mark) ks)
     each_raised [] each covers = tt
-    each_raised (k ∷ ks) each covers = (record { falling = each.0.falling; within = go (is_same_site k.site site) covers.0; }, each_raised ks each.1 covers.1)
+    each_raised (k ∷ ks) each covers = (record { falling = each.0.falling; within = go (is_same_site k.site site) covers.0 }, each_raised ks each.1 covers.1)
       where
         go : (b : Bool) → (b ≡ true → mark ≤ length k.entries) → cond b (max k.acked mark) k.acked ≤ length k.entries
         go true covered = omega (arith, each.0.within, covered refl)

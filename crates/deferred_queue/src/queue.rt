@@ -5,7 +5,9 @@ ghost use Rattle.std.specs.List.{AllByRecursion};
 ghost use Rattle.deferred_queue.specs.Streams.{CanBeSent, AreApart, in_order, at_position, stream_to, numbered, last_position, acked_by, raised_mark};
 
 use crate::stream::Stream;
-use crate::streams::{acked_to, can_go_to_each, entry_to, extend_each, last_to, new_each, raise_each, reserve_each};
+use crate::streams::{
+    acked_to, can_go_to_each, entry_to, extend_each, last_to, new_each, raise_each, reserve_each,
+};
 use crate::{Destination, Queued, Sent};
 use rep_calls::Txn;
 use rep_lists::NoMemory;

@@ -40,14 +40,31 @@ fn push_next(queue: &mut Queue, txn: Txn, to: &[Destination]) -> Result<Option<u
 }
 
 // Four transactions: for B and C, for B alone, for C alone, and for none.
-fn queue_of_four(rt: &impl Abort, alloc: Global, b: SiteName, c: SiteName) -> Result<Queue, NoMemory> {
+fn queue_of_four(
+    rt: &impl Abort,
+    alloc: Global,
+    b: SiteName,
+    c: SiteName,
+) -> Result<Queue, NoMemory> {
     let mut queue = Queue::make(alloc, &[b, c])?;
-    let first = [Destination { site: c, dep: 0 }, Destination { site: b, dep: 0 }];
-    assert_eq!(rt; push_next(&mut queue, txn(rt, alloc, 10)?, &first)?, Some(1));
+    let first = [
+        Destination { site: c, dep: 0 },
+        Destination { site: b, dep: 0 },
+    ];
+    assert_eq!(rt;
+        push_next(&mut queue, txn(rt, alloc, 10)?, &first)?,
+        Some(1)
+    );
     let second = [Destination { site: b, dep: 1 }];
-    assert_eq!(rt; push_next(&mut queue, txn(rt, alloc, 20)?, &second)?, Some(2));
+    assert_eq!(rt;
+        push_next(&mut queue, txn(rt, alloc, 20)?, &second)?,
+        Some(2)
+    );
     let third = [Destination { site: c, dep: 0 }];
-    assert_eq!(rt; push_next(&mut queue, txn(rt, alloc, 30)?, &third)?, Some(3));
+    assert_eq!(rt;
+        push_next(&mut queue, txn(rt, alloc, 30)?, &third)?,
+        Some(3)
+    );
     assert_eq!(rt; push_next(&mut queue, txn(rt, alloc, 40)?, &[])?, Some(4));
     Ok(queue)
 }
@@ -91,7 +108,9 @@ fn keeps_all_transactions_in_order(rt: HostRuntime) -> Result<(), Fail> {
         (u64::MAX, None),
     ];
     for (place, expected) in cases {
-        let told = queue.entry_in_order(place).map(|queued| (queued.number, table_of(queued.txn)));
+        let told = queue
+            .entry_in_order(place)
+            .map(|queued| (queued.number, table_of(queued.txn)));
         assert_eq!(rt; told, expected);
     }
     Ok(())
@@ -132,10 +151,34 @@ fn sends_to_its_destinations_alone(rt: HostRuntime) -> Result<(), Fail> {
     let d = site(&rt, b"D");
     let queue = queue_of_four(&rt, rt.alloc(), b, c)?;
     let cases = [
-        ([Destination { site: b, dep: 2 }, Destination { site: c, dep: 2 }], (true, true)),
-        ([Destination { site: b, dep: 3 }, Destination { site: c, dep: 0 }], (false, true)),
-        ([Destination { site: b, dep: 0 }, Destination { site: d, dep: 0 }], (false, true)),
-        ([Destination { site: b, dep: 0 }, Destination { site: b, dep: 1 }], (true, false)),
+        (
+            [
+                Destination { site: b, dep: 2 },
+                Destination { site: c, dep: 2 },
+            ],
+            (true, true),
+        ),
+        (
+            [
+                Destination { site: b, dep: 3 },
+                Destination { site: c, dep: 0 },
+            ],
+            (false, true),
+        ),
+        (
+            [
+                Destination { site: b, dep: 0 },
+                Destination { site: d, dep: 0 },
+            ],
+            (false, true),
+        ),
+        (
+            [
+                Destination { site: b, dep: 0 },
+                Destination { site: b, dep: 1 },
+            ],
+            (true, false),
+        ),
     ];
     for (to, (can_send, apart)) in cases {
         assert_eq!(rt; queue.can_send(&to), can_send);

@@ -9,7 +9,7 @@ extend-requires c =
     let initial = c.args.streams.now in
     let place = c.loop-stream.stream-index in
     rw (c.loop-stream.invariant, unchanged_yet (held_extended c.args.to.now c.args.number) initial place c.stream-item.result c.loop-stream-test.true)
-        (room_at 1 initial place c.stream-item.result c.loop-stream-test.true c.requires)
+    (room_at 1 initial place c.stream-item.result c.loop-stream-test.true c.requires)
 
 pub loop-stream-preserved : goal.loop-stream-preserved
 loop-stream-preserved c = changed_more (held_extended c.args.to.now c.args.number) c.args.streams.now c.loop-stream.streams c.loop-stream.stream-index c.stream-item.result c.extend.new.self

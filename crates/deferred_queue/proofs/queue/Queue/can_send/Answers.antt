@@ -14,6 +14,6 @@ returns c =
     let tested = rw c.deref.ensures.value at c.can_go_to_each.ensures in
     let to = c.args.to.now in
     rw (← c.self.view_is) (
-      λ yes. each_then (CanGo streams) _ (λ d goes. record { destination = goes.destination; earlier = rw (stream_to-queued d.site streams txns c.self.invariant).same_length goes.earlier; }) to (tested.0 yes),
-      λ sent. tested.1 (each_then _ (CanGo streams) (λ d is. record { destination = is.destination; earlier = rw (stream_to-queued d.site streams txns c.self.invariant).same_length at is.earlier; }) to sent),
+      λ yes. each_then (CanGo streams) _ (λ d goes. record { destination = goes.destination; earlier = rw (stream_to-queued d.site streams txns c.self.invariant).same_length goes.earlier }) to (tested.0 yes),
+      λ sent. tested.1 (each_then _ (CanGo streams) (λ d is. record { destination = is.destination; earlier = rw (stream_to-queued d.site streams txns c.self.invariant).same_length at is.earlier }) to sent),
     )

@@ -18,18 +18,18 @@ pub returns-in_err-reserve_each-clause-spare : goal.returns-in_err-reserve_each-
 returns-in_err-reserve_each-clause-spare c =
     let long : length c.reserve_each.new.streams ≡ c.self.inside.streams.len = same_length c.reserve_each.new.streams c.deref_mut.result.now c.reserve_each.ensures.kept ∙ c.deref_mut.ensures.len in
     rw (written_back c.reserve_each.new.streams _ c.self.inside.streams.len long, ← c.self.view_is)
-        (not_less (vec_capacity c.self.inside.txns - vec_len c.self.inside.txns) (vec_capacity c.reserve.new.self - vec_len c.reserve.new.self) c.self.inside.streams.items c.reserve_each.new.streams
-            (omega (arith, c.in_ok-reserve.ensures.len, c.in_ok-reserve.ensures.capacity)) (rw c.deref_mut.ensures.value at c.reserve_each.ensures.room))
+    (not_less (vec_capacity c.self.inside.txns - vec_len c.self.inside.txns) (vec_capacity c.reserve.new.self - vec_len c.reserve.new.self) c.self.inside.streams.items c.reserve_each.new.streams
+    (omega (arith, c.in_ok-reserve.ensures.len, c.in_ok-reserve.ensures.capacity)) (rw c.deref_mut.ensures.value at c.reserve_each.ensures.room))
 
 pub returns-clause-ok : goal.returns-clause-ok
 returns-clause-ok c =
     let long : length c.reserve_each.new.streams ≡ c.self.inside.streams.len = same_length c.reserve_each.new.streams c.deref_mut.result.now c.reserve_each.ensures.kept ∙ c.deref_mut.ensures.len in
     rw (written_back c.reserve_each.new.streams _ c.self.inside.streams.len long)
-        (least-all (vec_capacity c.reserve.new.self - vec_len c.reserve.new.self) (rooms_of c.reserve_each.new.streams) (omega (arith, c.in_ok-reserve.ensures.ok, c.in_ok-reserve.ensures.len)) c.in_ok-reserve_each.ensures.ok)
+    (least-all (vec_capacity c.reserve.new.self - vec_len c.reserve.new.self) (rooms_of c.reserve_each.new.streams) (omega (arith, c.in_ok-reserve.ensures.ok, c.in_ok-reserve.ensures.len)) c.in_ok-reserve_each.ensures.ok)
 
 pub returns-clause-spare : goal.returns-clause-spare
 returns-clause-spare c =
     let long : length c.reserve_each.new.streams ≡ c.self.inside.streams.len = same_length c.reserve_each.new.streams c.deref_mut.result.now c.reserve_each.ensures.kept ∙ c.deref_mut.ensures.len in
     rw (written_back c.reserve_each.new.streams _ c.self.inside.streams.len long, ← c.self.view_is)
-        (not_less (vec_capacity c.self.inside.txns - vec_len c.self.inside.txns) (vec_capacity c.reserve.new.self - vec_len c.reserve.new.self) c.self.inside.streams.items c.reserve_each.new.streams
-            (omega (arith, c.in_ok-reserve.ensures.len, c.in_ok-reserve.ensures.capacity)) (rw c.deref_mut.ensures.value at c.reserve_each.ensures.room))
+    (not_less (vec_capacity c.self.inside.txns - vec_len c.self.inside.txns) (vec_capacity c.reserve.new.self - vec_len c.reserve.new.self) c.self.inside.streams.items c.reserve_each.new.streams
+    (omega (arith, c.in_ok-reserve.ensures.len, c.in_ok-reserve.ensures.capacity)) (rw c.deref_mut.ensures.value at c.reserve_each.ensures.room))
