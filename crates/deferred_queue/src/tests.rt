@@ -8,8 +8,15 @@ use std::alloc::Global;
 use std::process::Abort;
 use std::test::Fail;
 
-fn site(rt: &impl Abort, bytes: &[u8]) -> SiteName {
-    SiteName(Name::of(bytes).expect(rt, "a name"))
+fn site(rt: &impl Abort, letter: u8) -> SiteName {
+    SiteName(Name::of(&[letter]).expect(rt, "a name"))
+}
+
+fn to(rt: &impl Abort, letter: u8, dep: u64) -> Destination {
+    Destination {
+        site: site(rt, letter),
+        dep,
+    }
 }
 
 // A transaction that is told by its table.
@@ -40,29 +47,18 @@ fn push_next(queue: &mut Queue, txn: Txn, to: &[Destination]) -> Result<Option<u
 }
 
 // Four transactions: for B and C, for B alone, for C alone, and for none.
-fn queue_of_four(
-    rt: &impl Abort,
-    alloc: Global,
-    b: SiteName,
-    c: SiteName,
-) -> Result<Queue, NoMemory> {
-    let mut queue = Queue::make(alloc, &[b, c])?;
-    let first = [
-        Destination { site: c, dep: 0 },
-        Destination { site: b, dep: 0 },
-    ];
+fn queue_of_four(rt: &impl Abort, alloc: Global) -> Result<Queue, NoMemory> {
+    let mut queue = Queue::make(alloc, &[site(rt, b'B'), site(rt, b'C')])?;
+    let both = [to(rt, b'C', 0), to(rt, b'B', 0)];
+    assert_eq!(rt; push_next(&mut queue, txn(rt, alloc, 10)?, &both)?, Some(1));
+    let second_of_b = [to(rt, b'B', 1)];
     assert_eq!(rt;
-        push_next(&mut queue, txn(rt, alloc, 10)?, &first)?,
-        Some(1)
-    );
-    let second = [Destination { site: b, dep: 1 }];
-    assert_eq!(rt;
-        push_next(&mut queue, txn(rt, alloc, 20)?, &second)?,
+        push_next(&mut queue, txn(rt, alloc, 20)?, &second_of_b)?,
         Some(2)
     );
-    let third = [Destination { site: c, dep: 0 }];
+    let second_of_c = [to(rt, b'C', 0)];
     assert_eq!(rt;
-        push_next(&mut queue, txn(rt, alloc, 30)?, &third)?,
+        push_next(&mut queue, txn(rt, alloc, 30)?, &second_of_c)?,
         Some(3)
     );
     assert_eq!(rt; push_next(&mut queue, txn(rt, alloc, 40)?, &[])?, Some(4));
@@ -76,29 +72,27 @@ fn told(sent: Option<Sent<'_>>) -> Option<(u64, u64, Option<u32>)> {
 
 #[test]
 fn keeps_a_stream_for_each_destination(rt: HostRuntime) -> Result<(), Fail> {
-    let b = site(&rt, b"B");
-    let c = site(&rt, b"C");
-    let queue = queue_of_four(&rt, rt.alloc(), b, c)?;
+    let queue = queue_of_four(&rt, rt.alloc())?;
     let cases = [
-        (b, 0, None),
-        (b, 1, Some((1, 0, Some(10)))),
-        (b, 2, Some((2, 1, Some(20)))),
-        (b, 3, None),
-        (c, 0, None),
-        (c, 1, Some((1, 0, Some(10)))),
-        (c, 2, Some((3, 0, Some(30)))),
-        (c, 3, None),
-        (site(&rt, b"D"), 1, None),
+        (b'B', 0, None),
+        (b'B', 1, Some((1, 0, Some(10)))),
+        (b'B', 2, Some((2, 1, Some(20)))),
+        (b'B', 3, None),
+        (b'C', 0, None),
+        (b'C', 1, Some((1, 0, Some(10)))),
+        (b'C', 2, Some((3, 0, Some(30)))),
+        (b'C', 3, None),
+        (b'D', 1, None),
     ];
-    for (to, position, expected) in cases {
-        assert_eq!(rt; told(queue.entry(&to, position)), expected);
+    for (letter, position, expected) in cases {
+        assert_eq!(rt; told(queue.entry(&site(&rt, letter), position)), expected);
     }
     Ok(())
 }
 
 #[test]
 fn keeps_all_transactions_in_order(rt: HostRuntime) -> Result<(), Fail> {
-    let queue = queue_of_four(&rt, rt.alloc(), site(&rt, b"B"), site(&rt, b"C"))?;
+    let queue = queue_of_four(&rt, rt.alloc())?;
     let cases = [
         (0, Some((1, Some(10)))),
         (1, Some((2, Some(20)))),
@@ -125,64 +119,36 @@ fn acknowledge_within(queue: &mut Queue, to: &SiteName, mark: u64) {
 
 #[test]
 fn keeps_the_highest_mark(rt: HostRuntime) -> Result<(), Fail> {
-    let b = site(&rt, b"B");
-    let c = site(&rt, b"C");
-    let d = site(&rt, b"D");
-    let mut queue = queue_of_four(&rt, rt.alloc(), b, c)?;
+    let mut queue = queue_of_four(&rt, rt.alloc())?;
+    let b = site(&rt, b'B');
     // A mark of B, and then how far B has acknowledged its stream, and how many positions it hasn't.
-    for (mark, (acked, waiting)) in [(0, (0, 2)), (2, (2, 0)), (1, (2, 0))] {
+    for (mark, acked, waiting) in [(0, 0, 2), (2, 2, 0), (1, 2, 0)] {
         acknowledge_within(&mut queue, &b, mark);
         assert_eq!(rt; queue.acked(&b), acked);
         assert_eq!(rt; queue.waiting(&b), waiting);
     }
-    acknowledge_within(&mut queue, &c, 1);
-    for (to, (last, (acked, waiting))) in [(b, (2, (2, 0))), (c, (2, (1, 1))), (d, (0, (0, 0)))] {
-        assert_eq!(rt; queue.last(&to), last);
-        assert_eq!(rt; queue.acked(&to), acked);
-        assert_eq!(rt; queue.waiting(&to), waiting);
+    acknowledge_within(&mut queue, &site(&rt, b'C'), 1);
+    for (letter, last, acked) in [(b'B', 2, 2), (b'C', 2, 1), (b'D', 0, 0)] {
+        assert_eq!(rt; queue.last(&site(&rt, letter)), last);
+        assert_eq!(rt; queue.acked(&site(&rt, letter)), acked);
     }
     Ok(())
 }
 
 #[test]
 fn sends_to_its_destinations_alone(rt: HostRuntime) -> Result<(), Fail> {
-    let b = site(&rt, b"B");
-    let c = site(&rt, b"C");
-    let d = site(&rt, b"D");
-    let queue = queue_of_four(&rt, rt.alloc(), b, c)?;
+    let queue = queue_of_four(&rt, rt.alloc())?;
+    // Two destinations with their dependency numbers; whether the queue can send to them, and whether they are apart.
     let cases = [
-        (
-            [
-                Destination { site: b, dep: 2 },
-                Destination { site: c, dep: 2 },
-            ],
-            (true, true),
-        ),
-        (
-            [
-                Destination { site: b, dep: 3 },
-                Destination { site: c, dep: 0 },
-            ],
-            (false, true),
-        ),
-        (
-            [
-                Destination { site: b, dep: 0 },
-                Destination { site: d, dep: 0 },
-            ],
-            (false, true),
-        ),
-        (
-            [
-                Destination { site: b, dep: 0 },
-                Destination { site: b, dep: 1 },
-            ],
-            (true, false),
-        ),
+        ((b'B', 2), (b'C', 2), (true, true)),
+        ((b'B', 3), (b'C', 0), (false, true)),
+        ((b'B', 0), (b'D', 0), (false, true)),
+        ((b'B', 0), (b'B', 1), (true, false)),
     ];
-    for (to, (can_send, apart)) in cases {
-        assert_eq!(rt; queue.can_send(&to), can_send);
-        assert_eq!(rt; are_apart(&to), apart);
+    for ((one, dep), (other, other_dep), (can_send, apart)) in cases {
+        let both = [to(&rt, one, dep), to(&rt, other, other_dep)];
+        assert_eq!(rt; queue.can_send(&both), can_send);
+        assert_eq!(rt; are_apart(&both), apart);
     }
     Ok(())
 }
