@@ -1,19 +1,21 @@
 -- What it does to the streams that a transaction is queued.
-use Rattle.std.proofs.Common.{◌≡◌, ℕ, suc, ◌+◌, ◌-◌, ◌<◌, ◌≤◌, ◌==◌, Bool, true, false, cond, List, [], ◌∷◌, length, map, Option, Some, None, refl, sym, ap, subst, ◌∙◌, arith}
+use Rattle.std.proofs.Common.{◌≡◌, ℕ, ◌+◌, ◌-◌, ◌<◌, List, [], ◌∷◌, length, map, Option, Some, None, refl, ap, arith}
 use Rattle.std.specs.Option.{option_map}
 use Rattle.std.specs.List.{AllByRecursion, cons_option}
 use Rattle.rep_calls.specs.declared.call.Txn.{Txn}
 use Rattle.deferred_queue.specs.declared.destination.Destination.{Destination}
 use Rattle.deferred_queue.specs.declared.stream.Entry.{Entry}
-use Rattle.deferred_queue.specs.Streams.{Deferred, Mark, destination_to, in_order}
-use Rattle.deferred_queue.specs.Kept.{Kept, Held, kept_of, entry_of, sent_to, destinations_of, queued, marks_of, with_entry, extended, held_extended, FallsFrom, AreAlike, IsStream, AreStreams}
-use Rattle.deferred_queue.proofs.Sites.{eq_true, eq_false, eq_false_above}
+use Rattle.deferred_queue.specs.Streams.{Mark, destination_to, in_order}
+use Rattle.deferred_queue.specs.Kept.{Kept, Held, kept_of, entry_of, sent_to, destinations_of, queued, marks_of, with_entry, extended, held_extended, AreAlike, IsStream, AreStreams}
+use Rattle.deferred_queue.proofs.Sites.{eq_true, eq_false_above}
 use Rattle.deferred_queue.proofs.KeptStreams.{entry_of-above, FallsFrom-higher}
 
+-- the room apart, a stream is extended
 pub kept_of-held_extended : (to : List Destination) (number : ℕ) (hs : List Held) → kept_of (map (held_extended to number) hs) ≡ map (extended to number) (kept_of hs)
 kept_of-held_extended to number [] = refl
 kept_of-held_extended to number (h ∷ hs) = ap (λ ks. extended to number h.kept ∷ ks) (kept_of-held_extended to number hs)
 
+-- the marks stay
 pub marks_of-extended : (to : List Destination) (number : ℕ) (ks : List Kept) → marks_of (map (extended to number) ks) ≡ marks_of ks
 marks_of-extended to number [] = refl
 marks_of-extended to number (k ∷ ks) = ap (λ (ms : List Mark). record { site = k.site; acked = k.acked } ∷ ms) (marks_of-extended to number ks)
@@ -29,6 +31,7 @@ destinations_of-extended to earlier number [] less = refl
 destinations_of-extended to earlier number (k ∷ ks) less =
     rw (entry_of-with_entry (destination_to k.site to) earlier number k.entries less, destinations_of-extended to earlier number ks less) refl
 
+-- so they are queued as they were
 pub queued-extended : (to : List Destination) (number : ℕ) (ks : List Kept) (txns : List Txn) → length txns < number → queued (map (extended to number) ks) txns ≡ queued ks txns
 queued-extended to number ks [] less = refl
 queued-extended to number ks (txn ∷ older) less =

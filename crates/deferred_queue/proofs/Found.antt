@@ -1,10 +1,11 @@
 -- What is read of the first stream to a site, and of new streams.
-use Rattle.std.proofs.Common.{◌≡◌, ℕ, ◌≤◌, Bool, true, false, cond, List, [], ◌∷◌, length, map, Option, Some, None, refl, sym, ap, ◌∙◌, arith}
+use Rattle.std.proofs.Common.{◌≡◌, ℕ, ◌≤◌, Bool, true, false, cond, List, [], ◌∷◌, length, map, Some, None, refl, ap, arith}
 use Rattle.std.specs.List.{AllByRecursion, find}
 use Rattle.rep_values.specs.declared.name.SiteName.{SiteName}
 use Rattle.deferred_queue.specs.Streams.{Mark, IsDestination, is_same_site, acked_by}
 use Rattle.deferred_queue.specs.Kept.{Kept, Held, kept_of, marks_of, entries_to, is_stream_to, entries_found, acked_found, new_held, AreAlike, IsStream, AreStreams}
 
+-- the entries of the stream that is found
 pub entries_found-find : (site : SiteName) (hs : List Held) → entries_found (find (is_stream_to site) hs) ≡ entries_to site (kept_of hs)
 entries_found-find site [] = refl
 entries_found-find site (h ∷ hs) = go (is_same_site h.kept.site site) (entries_found-find site hs)
@@ -13,6 +14,7 @@ entries_found-find site (h ∷ hs) = go (is_same_site h.kept.site site) (entries
     go true later = refl
     go false later = later
 
+-- and how far it is acknowledged
 pub acked_found-find : (site : SiteName) (hs : List Held) → acked_found (find (is_stream_to site) hs) ≡ acked_by site (marks_of (kept_of hs))
 acked_found-find site [] = refl
 acked_found-find site (h ∷ hs) = go (is_same_site h.kept.site site) (acked_found-find site hs)
@@ -30,6 +32,7 @@ acked_by-within site count (k ∷ ks) each = go (is_same_site k.site site) (acke
     go true later = each.0.within
     go false later = later
 
+-- new streams have marks of 0
 pub marks_of-new : (sites : List SiteName) → marks_of (kept_of (map new_held sites)) ≡ map (λ (site : SiteName). record { site = site; acked = 0 }) sites
 marks_of-new [] = refl
 marks_of-new (site ∷ sites) = ap (λ (ms : List Mark). record { site = site; acked = 0 } ∷ ms) (marks_of-new sites)

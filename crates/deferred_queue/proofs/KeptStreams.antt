@@ -6,9 +6,8 @@ use Rattle.std.specs.List.{AllByRecursion, cons_option}
 use Rattle.std.proofs.lemmas.Bool.Decides.{nat_tests}
 use Rattle.rep_values.specs.declared.name.SiteName.{SiteName}
 use Rattle.rep_calls.specs.declared.call.Txn.{Txn}
-use Rattle.deferred_queue.specs.declared.destination.Destination.{Destination}
 use Rattle.deferred_queue.specs.declared.stream.Entry.{Entry}
-use Rattle.deferred_queue.specs.Streams.{Deferred, InStream, Numbered, is_same_site, destination_to, with_one, stream_to, at_position, numbered}
+use Rattle.deferred_queue.specs.Streams.{InStream, is_same_site, destination_to, stream_to, at_position, numbered}
 use Rattle.deferred_queue.specs.Kept.{Kept, entry_of, sent_to, destinations_of, queued, entries_to, FallsFrom, AreAlike, IsStream, AreStreams}
 use Rattle.deferred_queue.proofs.Positions.{at_position-reverse}
 use Rattle.deferred_queue.proofs.Sites.{is_same_site-true, eq_true, eq_false, eq_false_above}
@@ -64,6 +63,7 @@ destination_to-destinations_of site number (k ∷ ks) alike = go (is_same_site k
 abbrev pub in_stream : Entry → Option Txn → Option InStream
 in_stream e txn = option_map (λ (t : Txn). record { number = e.number; dep = e.dep; txn = t }) txn
 
+-- the same of an entry that was looked up, by its number
 abbrev pub entry_in_stream : List Txn → Option Entry → Option InStream
 entry_in_stream txns None = None
 entry_in_stream txns (Some e) = in_stream e (at_position e.number txns)

@@ -1,16 +1,18 @@
 -- What a mark does to the streams.
-use Rattle.std.proofs.Common.{◌≡◌, ℕ, suc, ◌+◌, ◌-◌, ◌<◌, ◌≤◌, ◌==◌, Bool, true, false, cond, max, List, [], ◌∷◌, length, map, Option, Some, None, refl, sym, ap, subst, ◌∙◌, arith}
+use Rattle.std.proofs.Common.{◌≡◌, ℕ, ◌+◌, ◌≤◌, Bool, true, false, cond, max, List, [], ◌∷◌, length, map, refl, sym, ap, ◌∙◌, arith}
 use Rattle.std.specs.List.{AllByRecursion}
 use Rattle.rep_values.specs.declared.name.SiteName.{SiteName}
 use Rattle.rep_calls.specs.declared.call.Txn.{Txn}
-use Rattle.deferred_queue.specs.Streams.{Mark, Deferred, is_same_site, raised_mark, acked_by}
+use Rattle.deferred_queue.specs.Streams.{Mark, is_same_site, raised_mark}
 use Rattle.deferred_queue.specs.Kept.{Kept, Held, kept_of, rooms_of, destinations_of, queued, marks_of, mark_of, entries_to, raised, held_raised, AreAlike, IsStream, AreStreams}
 use Rattle.deferred_queue.proofs.Sites.{is_same_site-true}
 
+-- the room apart, a stream is raised
 pub kept_of-held_raised : (site : SiteName) (mark : ℕ) (hs : List Held) → kept_of (map (held_raised site mark) hs) ≡ map (raised site mark) (kept_of hs)
 kept_of-held_raised site mark [] = refl
 kept_of-held_raised site mark (h ∷ hs) = ap (λ ks. raised site mark h.kept ∷ ks) (kept_of-held_raised site mark hs)
 
+-- the room stays
 pub rooms_of-held_raised : (site : SiteName) (mark : ℕ) (hs : List Held) → rooms_of (map (held_raised site mark) hs) ≡ rooms_of hs
 rooms_of-held_raised site mark [] = refl
 rooms_of-held_raised site mark (h ∷ hs) = ap (λ rs. h.room ∷ rs) (rooms_of-held_raised site mark hs)
@@ -19,10 +21,12 @@ destinations_of-raised : (site : SiteName) (mark number : ℕ) (ks : List Kept) 
 destinations_of-raised site mark number [] = refl
 destinations_of-raised site mark number (k ∷ ks) = rw (destinations_of-raised site mark number ks) refl
 
+-- the transactions keep their destinations
 pub queued-raised : (site : SiteName) (mark : ℕ) (ks : List Kept) (txns : List Txn) → queued (map (raised site mark) ks) txns ≡ queued ks txns
 queued-raised site mark ks [] = refl
 queued-raised site mark ks (txn ∷ older) = rw (destinations_of-raised site mark (length older + 1) ks, queued-raised site mark ks older) refl
 
+-- the marks are raised
 pub marks_of-raised : (site : SiteName) (mark : ℕ) (ks : List Kept) → marks_of (map (raised site mark) ks) ≡ map (raised_mark site mark) (marks_of ks)
 marks_of-raised site mark [] = refl
 marks_of-raised site mark (k ∷ ks) = rw (marks_of-raised site mark ks, here (is_same_site k.site site)) refl

@@ -1,5 +1,5 @@
 -- The test whether two sites are the same.
-use Rattle.std.proofs.Common.{◌≡◌, ℕ, ◌<◌, ◌==◌, Bool, true, false, List, refl, ap, arith}
+use Rattle.std.proofs.Common.{◌≡◌, ℕ, ◌<◌, ◌==◌, true, false, List, refl, ap, arith}
 use Rattle.std.specs.Bool.{Decides}
 use Rattle.std.specs.Cmp.{unsigned_Decides}
 use Rattle.std.proofs.lemmas.Slice.Eq.{slice_eq-Decides}
@@ -23,5 +23,6 @@ eq_true a b same = grind (arith, nat_tests)
 pub eq_false : (a b : ℕ) → a < b → (a == b) ≡ false
 eq_false a b less = grind (arith, nat_tests)
 
+-- nor a lower one
 pub eq_false_above : (a b : ℕ) → b < a → (a == b) ≡ false
 eq_false_above a b more = grind (arith, nat_tests)

@@ -1,9 +1,8 @@
 -- What holds of the stream to a site, whatever was queued.
-use Rattle.std.proofs.Common.{◌≡◌, ℕ, suc, ◌+◌, ◌<◌, ◌≤◌, ◌==◌, Bool, true, false, cond, List, [], ◌∷◌, length, Option, Some, None, refl, sym, ap, subst, ◌∙◌, arith}
+use Rattle.std.proofs.Common.{◌≡◌, ℕ, suc, ◌+◌, ◌<◌, ◌≤◌, ◌==◌, Bool, true, false, cond, List, [], ◌∷◌, length, Option, Some, None, refl, subst, arith}
 use Rattle.std.specs.List.{AllByRecursion}
 use Rattle.std.proofs.lemmas.Bool.Decides.{nat_tests}
 use Rattle.rep_values.specs.declared.name.SiteName.{SiteName}
-use Rattle.rep_calls.specs.declared.call.Txn.{Txn}
 use Rattle.deferred_queue.specs.declared.destination.Destination.{Destination}
 use Rattle.deferred_queue.specs.Streams.{Deferred, InStream, is_same_site, destination_to, with_one, stream_to, at_position, last_position}
 use Rattle.deferred_queue.specs.Laws.{PositionsAreFull, NumbersRise, DependOnEarlier, DepsAreEarlier}
@@ -29,7 +28,6 @@ number_counted site (last ∷ older) position a found = go (destination_to site 
     go None later there = omega (arith, later there)
     go (Some d) later there = top d (position == length (stream_to site older) + 1) later there
 
--- a later position has a greater number
 numbers_rise_in : (site : SiteName) (deferred : List Deferred) (early late : ℕ) (a b : InStream) → early < late
     → at_position early (stream_to site deferred) ≡ Some a → at_position late (stream_to site deferred) ≡ Some b → a.number < b.number
 numbers_rise_in site [] early late a b before at_early at_late = absurd (cc at_early)
@@ -53,6 +51,7 @@ numbers_rise_in site (last ∷ older) early late a b before at_early at_late = g
     go None rest there_early there_late = rest there_early there_late
     go (Some d) rest there_early there_late = top d (early == length (stream_to site older) + 1) (late == length (stream_to site older) + 1) refl refl rest there_early there_late
 
+-- a later position has a greater number, in each stream
 pub numbers_rise : NumbersRise
 numbers_rise = λ site deferred early late a b. numbers_rise_in site deferred early late a b
 
@@ -65,7 +64,6 @@ found_destination P site (x ∷ xs) d all found = go (is_same_site x.site site) 
     go true is later there = let same : x ≡ d = cc there in rw (← same) (all.0, is_same_site-true x.site site is)
     go false is later there = later there
 
--- a dependency is an earlier position
 deps_are_earlier_in : (site : SiteName) (deferred : List Deferred) (position : ℕ) (a : InStream) → DependOnEarlier deferred → at_position position (stream_to site deferred) ≡ Some a → a.dep < position
 deps_are_earlier_in site [] position a each found = absurd (cc found)
 deps_are_earlier_in site (last ∷ older) position a each found = go (destination_to site last.to) refl (deps_are_earlier_in site older position a each.1) found
@@ -86,5 +84,6 @@ deps_are_earlier_in site (last ∷ older) position a each found = go (destinatio
         let earlier : d.dep ≤ length (stream_to site older) = subst (λ (s : SiteName). d.dep ≤ last_position s older) known.1 known.0 in
         top d (position == length (stream_to site older) + 1) refl earlier later there
 
+-- a dependency is an earlier position, in each stream
 pub deps_are_earlier : DepsAreEarlier
 deps_are_earlier = λ site deferred position a. deps_are_earlier_in site deferred position a

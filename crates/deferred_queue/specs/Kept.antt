@@ -1,5 +1,5 @@
 -- How a queue keeps its streams: one list of entries for each destination.
-use Rattle.std.specs.Prelude.{◌≡◌, ℕ, ◌+◌, ◌-◌, ◌≤◌, ◌==◌, Bool, true, cond, max, min, List, [], ◌∷◌, length, map, filter_map, Option, Some, None, option_map}
+use Rattle.std.specs.Prelude.{◌≡◌, ℕ, ◌+◌, ◌-◌, ◌≤◌, ◌==◌, Bool, cond, max, min, List, [], ◌∷◌, length, map, filter_map, Option, Some, None, option_map}
 use Rattle.std.specs.List.{AllByRecursion}
 use Rattle.rep_values.specs.declared.name.SiteName.{SiteName}
 use Rattle.rep_calls.specs.declared.call.Txn.{Txn}
@@ -22,9 +22,11 @@ pub record Held : Type 0 where
 abbrev pub new_held : SiteName → Held
 new_held site = record { kept = record { site = site; acked = 0; entries = [] }; room = 0 }
 
+-- what the streams hold
 abbrev pub kept_of : List Held → List Kept
 kept_of helds = map (λ (h : Held). h.kept) helds
 
+-- the room of each stream
 abbrev pub rooms_of : List Held → List ℕ
 rooms_of helds = map (λ (h : Held). h.room) helds
 
@@ -51,9 +53,11 @@ abbrev pub queued : List Kept → List Txn → List Deferred
 queued streams [] = []
 queued streams (txn ∷ older) = record { txn = txn; to = destinations_of (length older + 1) streams } ∷ queued streams older
 
+-- how far a stream is acknowledged, with its site
 abbrev pub mark_of : Kept → Mark
 mark_of k = record { site = k.site; acked = k.acked }
 
+-- the mark of each stream
 abbrev pub marks_of : List Kept → List Mark
 marks_of streams = map mark_of streams
 
@@ -62,13 +66,16 @@ abbrev pub entries_to : SiteName → List Kept → List Entry
 entries_to site [] = []
 entries_to site (k ∷ ks) = cond (is_same_site k.site site) k.entries (entries_to site ks)
 
+-- whether this is the stream to a site
 abbrev pub is_stream_to : SiteName → Held → Bool
 is_stream_to site h = is_same_site h.kept.site site
 
+-- the entries of a stream that was looked up
 abbrev pub entries_found : Option Held → List Entry
 entries_found None = []
 entries_found (Some h) = h.kept.entries
 
+-- how far a stream that was looked up is acknowledged
 abbrev pub acked_found : Option Held → ℕ
 acked_found None = 0
 acked_found (Some h) = h.kept.acked
@@ -103,6 +110,7 @@ abbrev pub with_entry : Option Destination → ℕ → List Entry → List Entry
 with_entry None number entries = entries
 with_entry (Some d) number entries = record { number = number; dep = d.dep } ∷ entries
 
+-- the room, less one where the transaction goes to the destination
 abbrev pub room_left : Option Destination → ℕ → ℕ
 room_left None room = room
 room_left (Some d) room = room - 1
@@ -111,6 +119,7 @@ room_left (Some d) room = room - 1
 abbrev pub extended : List Destination → ℕ → Kept → Kept
 extended to number k = record { site = k.site; acked = k.acked; entries = with_entry (destination_to k.site to) number k.entries }
 
+-- the same, with its room
 abbrev pub held_extended : List Destination → ℕ → Held → Held
 held_extended to number h = record { kept = extended to number h.kept; room = room_left (destination_to h.kept.site to) h.room }
 
@@ -118,5 +127,6 @@ held_extended to number h = record { kept = extended to number h.kept; room = ro
 abbrev pub raised : SiteName → ℕ → Kept → Kept
 raised site mark k = record { site = k.site; acked = cond (is_same_site k.site site) (max k.acked mark) k.acked; entries = k.entries }
 
+-- the same, with its room
 abbrev pub held_raised : SiteName → ℕ → Held → Held
 held_raised site mark h = record { kept = raised site mark h.kept; room = h.room }

@@ -1,4 +1,4 @@
-use Rattle.std.proofs.Common.{◌≡◌, sym, ap, ◌∙◌}
+use Rattle.std.proofs.Common.{ap, ◌∙◌}
 use Rattle.deferred_queue.specs.Streams.{at_position}
 use Rattle.deferred_queue.specs.Kept.{entries_found}
 use Rattle.deferred_queue.proofs.Found.{entries_found-find}

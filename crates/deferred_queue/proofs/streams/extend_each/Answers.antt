@@ -1,4 +1,3 @@
-use Rattle.std.proofs.Common.{◌≡◌, get_or, ◌∙◌}
 use Rattle.deferred_queue.specs.Kept.{held_extended}
 use Rattle.deferred_queue.proofs.InPlace.{unchanged_yet, changed_more}
 use Rattle.deferred_queue.proofs.Room.{room_at}

@@ -1,4 +1,4 @@
-use Rattle.std.proofs.Common.{◌≡◌, ◌≤◌, ◌∙◌, arith}
+use Rattle.std.proofs.Common.{◌∙◌, arith}
 use Rattle.deferred_queue.proofs.Room.{least-set, least-take_set, kept_of-set}
 use Rattle.deferred_queue.proofs.streams.reserve_each.Goals as goal
 

@@ -1,6 +1,6 @@
-use Rattle.std.proofs.Common.{◌≡◌, ℕ, ◌≤◌, ◌++◌, length, reverse, map, take, drop, sym, ap, ◌∙◌, refl}
+use Rattle.std.proofs.Common.{◌≡◌, ◌++◌, length, reverse, map, take, drop, sym, ap, ◌∙◌, refl}
 use Rattle.std.proofs.lemmas.List.{length-map}
-use Rattle.deferred_queue.specs.Kept.{kept_of, rooms_of, entries_to, raised, held_raised}
+use Rattle.deferred_queue.specs.Kept.{kept_of, raised, held_raised}
 use Rattle.deferred_queue.proofs.InPlace.{written_back}
 use Rattle.deferred_queue.proofs.KeptStreams.{stream_to-queued}
 use Rattle.deferred_queue.proofs.Raising.{kept_of-held_raised, rooms_of-held_raised, queued-raised, marks_of-raised, AreStreams-raised}

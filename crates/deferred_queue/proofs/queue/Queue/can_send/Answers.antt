@@ -1,8 +1,5 @@
-use Rattle.std.proofs.Common.{◌≡◌, length, reverse, sym}
-use Rattle.std.specs.List.{AllByRecursion}
+use Rattle.std.proofs.Common.{reverse}
 use Rattle.rep_lists.proofs.Each.{each_then}
-use Rattle.deferred_queue.specs.declared.destination.Destination.{Destination}
-use Rattle.deferred_queue.specs.Streams.{CanBeSent}
 use Rattle.deferred_queue.specs.Kept.{kept_of, CanGo}
 use Rattle.deferred_queue.proofs.KeptStreams.{stream_to-queued}
 use Rattle.deferred_queue.proofs.queue.Queue.can_send.Goals as goal

@@ -1,4 +1,4 @@
-use Rattle.std.proofs.Common.{◌≡◌, ℕ, ◌≤◌, length, reverse, Option, Some, None, sym, ap, ◌∙◌, arith}
+use Rattle.std.proofs.Common.{◌≤◌, length, reverse, sym, arith}
 use Rattle.std.proofs.lemmas.List.{length-reverse}
 use Rattle.deferred_queue.specs.Kept.{kept_of, entries_to}
 use Rattle.deferred_queue.proofs.Positions.{at_position-read}

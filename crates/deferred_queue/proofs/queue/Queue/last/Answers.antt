@@ -1,4 +1,4 @@
-use Rattle.std.proofs.Common.{◌≡◌, reverse, sym, ◌∙◌}
+use Rattle.std.proofs.Common.{reverse, sym, ◌∙◌}
 use Rattle.deferred_queue.specs.Kept.{kept_of}
 use Rattle.deferred_queue.proofs.KeptStreams.{stream_to-queued}
 use Rattle.deferred_queue.proofs.queue.Queue.last.Goals as goal

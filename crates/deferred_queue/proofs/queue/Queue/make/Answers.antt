@@ -1,4 +1,4 @@
-use Rattle.std.proofs.Common.{◌≡◌, length, reverse}
+use Rattle.std.proofs.Common.{length, reverse}
 use Rattle.deferred_queue.proofs.Found.{marks_of-new, AreStreams-new}
 use Rattle.deferred_queue.proofs.queue.Queue.make.Goals as goal
 

@@ -1,7 +1,7 @@
-use Rattle.std.proofs.Common.{◌≡◌, ℕ, ◌+◌, ◌-◌, ◌≤◌, [], ◌∷◌, ◌++◌, length, reverse, map, take, drop, sym, ap, ◌∙◌, arith}
+use Rattle.std.proofs.Common.{◌≡◌, ◌+◌, ◌-◌, ◌≤◌, [], ◌∷◌, ◌++◌, length, reverse, map, take, drop, sym, ap, ◌∙◌, arith}
 use Rattle.std.specs.Prelude.{vec_len, vec_capacity}
 use Rattle.std.proofs.lemmas.List.{length-map, length-reverse, reverse-append}
-use Rattle.deferred_queue.specs.Kept.{kept_of, rooms_of, least, extended, held_extended}
+use Rattle.deferred_queue.specs.Kept.{kept_of, rooms_of, extended, held_extended}
 use Rattle.deferred_queue.proofs.InPlace.{written_back}
 use Rattle.deferred_queue.proofs.KeptStreams.{length-queued}
 use Rattle.deferred_queue.proofs.Room.{least-first, least-one, least-held_extended}

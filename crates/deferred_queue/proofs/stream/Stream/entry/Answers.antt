@@ -1,4 +1,4 @@
-use Rattle.std.proofs.Common.{◌≡◌, ℕ, suc, ◌-◌, reverse, sym, ap, ◌∙◌, arith}
+use Rattle.std.proofs.Common.{◌≡◌, suc, ◌-◌, reverse, sym, ap, ◌∙◌, arith}
 use Rattle.deferred_queue.specs.Streams.{at_position}
 use Rattle.deferred_queue.proofs.Positions.{at_position-0, at_position-reverse}
 use Rattle.deferred_queue.proofs.stream.Stream.entry.Goals as goal
