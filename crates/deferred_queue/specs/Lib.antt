@@ -1,2 +1,4 @@
 -- The definitions of this crate.
 pub mod Streams
+pub mod Kept
+pub mod Laws

@@ -1,4 +1,7 @@
 //! What is told of a queued transaction.
+ghost use Rattle.std.specs.Prelude.{◌≡◌, ◌↔◌, IsTrue};
+ghost use Rattle.std.specs.Option.{option_map};
+ghost use Rattle.deferred_queue.specs.Streams.{destination_to, AreApart};
 
 use rep_calls::Txn;
 use rep_values::SiteName;
@@ -23,4 +26,28 @@ pub struct Sent<'a> {
 pub struct Queued<'a> {
     pub number: u64,
     pub txn: &'a Txn,
+}
+
+/// The position that a destination depends on, where the site is among the destinations.
+pub(crate) fn dep_of(to: &[Destination], site: &SiteName) -> Option<u64>
+    ensures { result ≡ option_map (λ d. d.dep) (destination_to site.now to.now) }
+{
+    for destination in to {
+        if destination.site.0.is_same(&site.0) {
+            return Some(destination.dep);
+        }
+    }
+    None
+}
+
+/// Whether no two of these destinations are the same site.
+pub fn are_apart(to: &[Destination]) -> bool
+    ensures { IsTrue result ↔ AreApart to.now }
+{
+    for place in 0..to.len() {
+        if dep_of(&to[place + 1..], &to[place].site).is_some() {
+            return false;
+        }
+    }
+    true
 }

@@ -2,5 +2,14 @@
 #![tactic(auto)]
 
 mod destination;
+mod laws;
+mod queue;
+mod stream;
+mod streams;
 
-pub use destination::{Destination, Queued, Sent};
+pub use destination::{Destination, Queued, Sent, are_apart};
+pub use laws::stream_laws;
+pub use queue::Queue;
+
+#[cfg(test)]
+mod tests;

@@ -1,0 +1,10 @@
+-- The lemmas of this crate, from the bottom up.
+pub mod Sites
+pub mod Positions
+pub mod KeptStreams
+mod InPlace
+mod Found
+mod Room
+mod Extending
+mod Raising
+mod StreamLaws

@@ -1,0 +1,132 @@
+-- How a queue keeps its streams: one list of entries for each destination.
+use Rattle.std.specs.Prelude.{◌≡◌, ℕ, ◌+◌, ◌-◌, ◌≤◌, ◌==◌, Bool, cond, max, min, List, [], ◌∷◌, length, map, filter_map, Option, Some, None, option_map}
+use Rattle.std.specs.List.{AllByRecursion}
+use Rattle.rep_values.specs.declared.name.SiteName.{SiteName}
+use Rattle.rep_calls.specs.declared.call.Txn.{Txn}
+use Rattle.deferred_queue.specs.declared.destination.Destination.{Destination}
+use Rattle.deferred_queue.specs.declared.stream.Entry.{Entry}
+use Rattle.deferred_queue.specs.Streams.{Deferred, Mark, IsDestination, is_same_site, destination_to}
+
+-- what is kept for a destination: how far it has acknowledged, and its entries, the newest first
+pub record Kept : Type 0 where
+  pub site : SiteName
+  pub acked : ℕ
+  pub entries : List Entry
+
+-- what is kept, and how many entries can be added without memory
+pub record Held : Type 0 where
+  pub kept : Kept
+  pub room : ℕ
+
+-- a stream in which nothing is queued
+abbrev pub new_held : SiteName → Held
+new_held site = record { kept = record { site = site; acked = 0; entries = [] }; room = 0 }
+
+-- what the streams hold
+abbrev pub kept_of : List Held → List Kept
+kept_of helds = map (λ (h : Held). h.kept) helds
+
+-- the room of each stream
+abbrev pub rooms_of : List Held → List ℕ
+rooms_of helds = map (λ (h : Held). h.room) helds
+
+-- the least of a number and a list of numbers
+abbrev pub least : ℕ → List ℕ → ℕ
+least number [] = number
+least number (n ∷ ns) = min n (least number ns)
+
+-- the entry of a transaction, by its number
+abbrev pub entry_of : ℕ → List Entry → Option Entry
+entry_of number [] = None
+entry_of number (e ∷ es) = cond (e.number == number) (Some e) (entry_of number es)
+
+-- a destination whose stream has an entry
+abbrev pub sent_to : SiteName → Option Entry → Option Destination
+sent_to site entry = option_map (λ (e : Entry). record { site = site; dep = e.dep }) entry
+
+-- the destinations of a transaction, by its number: the streams that have an entry of it
+abbrev pub destinations_of : ℕ → List Kept → List Destination
+destinations_of number streams = filter_map (λ (k : Kept). sent_to k.site (entry_of number k.entries)) streams
+
+-- the transactions, the newest first, with their destinations
+abbrev pub queued : List Kept → List Txn → List Deferred
+queued streams [] = []
+queued streams (txn ∷ older) = record { txn = txn; to = destinations_of (length older + 1) streams } ∷ queued streams older
+
+-- how far a stream is acknowledged, with its site
+abbrev pub mark_of : Kept → Mark
+mark_of k = record { site = k.site; acked = k.acked }
+
+-- the mark of each stream
+abbrev pub marks_of : List Kept → List Mark
+marks_of streams = map mark_of streams
+
+-- the entries of the stream to a site, none for a site that is no destination
+abbrev pub entries_to : SiteName → List Kept → List Entry
+entries_to site [] = []
+entries_to site (k ∷ ks) = cond (is_same_site k.site site) k.entries (entries_to site ks)
+
+-- whether this is the stream to a site
+abbrev pub is_stream_to : SiteName → Held → Bool
+is_stream_to site h = is_same_site h.kept.site site
+
+-- the entries of a stream that was looked up
+abbrev pub entries_found : Option Held → List Entry
+entries_found None = []
+entries_found (Some h) = h.kept.entries
+
+-- how far a stream that was looked up is acknowledged
+abbrev pub acked_found : Option Held → ℕ
+acked_found None = 0
+acked_found (Some h) = h.kept.acked
+
+-- numbers from 1 to a bound, each below the one before
+abbrev pub FallsFrom : ℕ → List Entry → Type 0
+FallsFrom bound [] = Unit {0}
+FallsFrom bound (e ∷ es) = (1 ≤ e.number) × (e.number ≤ bound) × FallsFrom (e.number - 1) es
+
+-- streams to the same site have the same entries
+abbrev pub AreAlike : List Kept → Type 0
+AreAlike [] = Unit {0}
+AreAlike (k ∷ ks) = AllByRecursion (λ (other : Kept). other.site ≡ k.site → other.entries ≡ k.entries) ks × AreAlike ks
+
+-- a stream whose numbers rise up to the count of transactions, and that is acknowledged up to its end at most
+pub record IsStream (count : ℕ) (k : Kept) : Type 0 where
+  pub falling : FallsFrom count k.entries
+  pub within : k.acked ≤ length k.entries
+
+-- the streams of a queue of so many transactions
+pub record AreStreams (count : ℕ) (streams : List Kept) : Type 0 where
+  pub each : AllByRecursion (IsStream count) streams
+  pub alike : AreAlike streams
+
+-- a destination of the streams, and a position of its stream or 0
+pub record CanGo (streams : List Kept) (d : Destination) : Type 0 where
+  pub destination : IsDestination (marks_of streams) d.site
+  pub earlier : d.dep ≤ length (entries_to d.site streams)
+
+-- the entries with one more, where the transaction goes to the destination
+abbrev pub with_entry : Option Destination → ℕ → List Entry → List Entry
+with_entry None number entries = entries
+with_entry (Some d) number entries = record { number = number; dep = d.dep } ∷ entries
+
+-- the room, less one where the transaction goes to the destination
+abbrev pub room_left : Option Destination → ℕ → ℕ
+room_left None room = room
+room_left (Some d) room = room - 1
+
+-- a stream after a transaction was queued
+abbrev pub extended : List Destination → ℕ → Kept → Kept
+extended to number k = record { site = k.site; acked = k.acked; entries = with_entry (destination_to k.site to) number k.entries }
+
+-- the same, with its room
+abbrev pub held_extended : List Destination → ℕ → Held → Held
+held_extended to number h = record { kept = extended to number h.kept; room = room_left (destination_to h.kept.site to) h.room }
+
+-- a stream after a mark came in
+abbrev pub raised : SiteName → ℕ → Kept → Kept
+raised site mark k = record { site = k.site; acked = cond (is_same_site k.site site) (max k.acked mark) k.acked; entries = k.entries }
+
+-- the same, with its room
+abbrev pub held_raised : SiteName → ℕ → Held → Held
+held_raised site mark h = record { kept = raised site mark h.kept; room = h.room }
