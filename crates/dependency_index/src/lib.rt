@@ -2,5 +2,7 @@
 #![tactic(auto)]
 
 mod token;
+mod touched;
 
 pub use token::{Token, Tokens};
+pub use touched::tokens_of;
