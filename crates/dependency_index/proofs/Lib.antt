@@ -1,2 +1,6 @@
 -- The lemmas of this crate, from the bottom up.
 pub mod TouchedColumns
+pub mod SameTokens
+pub mod NotedTokens
+pub mod KeptStreams
+pub mod FirstStreams
