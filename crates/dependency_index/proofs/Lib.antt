@@ -4,3 +4,4 @@ pub mod SameTokens
 pub mod NotedTokens
 pub mod KeptStreams
 pub mod FirstStreams
+mod TwoTables

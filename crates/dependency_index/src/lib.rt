@@ -9,3 +9,6 @@ mod touched;
 pub use index::Index;
 pub use token::{Token, Tokens};
 pub use touched::tokens_of;
+
+#[cfg(test)]
+mod tests;
