@@ -19,7 +19,8 @@ use Rattle.dependency_index.proofs.NotedTokens.{greatest_noted-is, last_noted-wi
 abbrev pub is_to : SiteName → NotedStream → Bool
 is_to site s = same_bytes s.site.0 site.0
 
-same_bytes-Decides : (a b : List ℕ) → Decides (same_bytes a b) (a ≡ b)
+-- names that pass the test are the same
+pub same_bytes-Decides : (a b : List ℕ) → Decides (same_bytes a b) (a ≡ b)
 same_bytes-Decides a b = slice_eq-Decides unsigned_Decides a b (same_bytes a b) refl
 
 noted_to-from : (site : SiteName) (n : ℕ) (ss : List NotedStream) → position_from (is_to site) n ss ≡ None → noted_to site ss ≡ None

@@ -4,4 +4,5 @@ pub mod SameTokens
 pub mod NotedTokens
 pub mod KeptStreams
 pub mod FirstStreams
+pub mod Destinations
 mod TwoTables

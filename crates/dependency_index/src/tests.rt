@@ -92,7 +92,10 @@ fn schema(rt: &impl Abort, alloc: Global, wide: bool) -> Result<Schema, NoMemory
     ensures shape { IfOk result HasShape }
     ensures keys { IfOk result HasKeys }
 {
-    let tables = vec![in alloc; constrained_table(rt, alloc, wide)?, plain_table(rt, alloc)?]?;
+    let tables = vec![in alloc;
+        constrained_table(rt, alloc, wide)?,
+        plain_table(rt, alloc)?,
+    ]?;
     Ok(Schema {
         sites: Items::new(alloc),
         tables: Items::from_vec(tables),
@@ -138,12 +141,7 @@ fn update(
 }
 
 // The tokens of a transaction of one call.
-fn tokens(
-    rt: &impl Abort,
-    alloc: Global,
-    schema: &Schema,
-    call: Call,
-) -> Result<Tokens, NoMemory>
+fn tokens(rt: &impl Abort, alloc: Global, schema: &Schema, call: Call) -> Result<Tokens, NoMemory>
     requires shape { HasShape schema.now }
     requires keys { HasKeys schema.now }
 {
@@ -162,7 +160,9 @@ fn are_tokens(rt: &impl Abort, tokens: &Tokens, table: u32, touched: bool) -> bo
     };
     match tokens.list.as_slice() {
         [first] => !touched && first.is_same(&row),
-        [first, second] => touched && first.is_same(&row) && second.is_same(&Token::Unique { table }),
+        [first, second] => touched
+            && first.is_same(&row)
+            && second.is_same(&Token::Unique { table }),
         _ => false,
     }
 }

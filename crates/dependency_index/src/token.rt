@@ -28,11 +28,16 @@ impl Token {
         ensures meaning { IsTrue result ↔ (self.now ≡ other.now) }
     {
         match (self, other) {
-            (Token::Key { table, key }, Token::Key { table: other_table, key: other_key }) => {
-                table == other_table && same_values(key.values(), other_key.values())
-            }
+            (
+                Token::Key { table, key },
+                Token::Key {
+                    table: other_table,
+                    key: other_key,
+                },
+            ) => { table == other_table && same_values(key.values(), other_key.values()) }
             (Token::Unique { table }, Token::Unique { table: other_table }) => table == other_table,
-            (Token::Key { .. }, Token::Unique { .. }) | (Token::Unique { .. }, Token::Key { .. }) => false,
+            (Token::Key { .. }, Token::Unique { .. }) | (Token::Unique { .. }, Token::Key { .. }) =>
+                false,
         }
     }
 }
