@@ -1,5 +1,5 @@
 -- The first stream to a site: where it stands, and what is found after it is changed.
-use Rattle.std.proofs.Common.{◌≡◌, ℕ, zero, suc, ◌+◌, ◌<◌, ◌≤◌, Bool, true, false, cond, List, [], ◌∷◌, length, map, get_or, set, Option, Some, None, refl, sym, ap, ◌∙◌, arith}
+use Rattle.std.proofs.Common.{◌≡◌, ℕ, zero, suc, ◌+◌, ◌<◌, Bool, true, false, cond, List, [], ◌∷◌, length, map, get_or, set, Option, Some, None, refl, sym, ap, ◌∙◌, arith}
 use Rattle.std.specs.Prelude.{◌≢◌, ◌↔◌, is_some, IsTrue}
 use Rattle.std.specs.List.{position, position_from}
 use Rattle.std.specs.Bool.{Decides}
@@ -10,7 +10,7 @@ use Rattle.std.proofs.lemmas.Iterator.Adapters.{position_from-zero}
 use Rattle.rep_values.specs.declared.name.SiteName.{SiteName}
 use Rattle.rep_values.specs.Name.{same_bytes}
 use Rattle.dependency_index.specs.declared.token.Token.{Token}
-use Rattle.dependency_index.specs.Dependencies.{Noted, NotedStream, last_noted, last_where, dependency_number, noted_to, noted_in, noted_count, room_for, IsIndexed, IsNoted}
+use Rattle.dependency_index.specs.Dependencies.{NotedStream, last_noted, last_where, dependency_number, noted_to, noted_in, noted_count, IsIndexed, IsNoted}
 use Rattle.dependency_index.specs.Tokens.{has_token}
 use Rattle.dependency_index.specs.Noting.{with_tokens, greatest_noted}
 use Rattle.dependency_index.proofs.NotedTokens.{greatest_noted-is, last_noted-with_tokens}

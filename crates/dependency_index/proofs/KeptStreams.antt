@@ -1,12 +1,11 @@
 -- What is found of streams that are kept, and of new ones.
-use Rattle.std.proofs.Common.{◌≡◌, ℕ, zero, suc, ◌+◌, ◌<◌, ◌≤◌, Bool, true, false, cond, List, [], ◌∷◌, length, map, take, get_or, set, Option, Some, None, refl, sym, ap, ◌∙◌, arith}
+use Rattle.std.proofs.Common.{◌≡◌, ℕ, zero, suc, ◌+◌, ◌<◌, ◌≤◌, Bool, true, false, cond, List, [], ◌∷◌, length, map, take, get_or, set, Option, Some, None, refl, ap, ◌∙◌, arith}
 use Rattle.std.specs.Prelude.{◌≢◌}
 use Rattle.std.specs.List.{AllByRecursion}
 use Rattle.rep_values.specs.declared.name.SiteName.{SiteName}
 use Rattle.rep_values.specs.Name.{same_bytes}
 use Rattle.dependency_index.specs.declared.token.Token.{Token}
-use Rattle.dependency_index.specs.Dependencies.{Noted, NotedStream, last_noted, last_where, noted_to, count_in, noted_in, room_in, noted_count, room_for, IsIndexed, IsNoted}
-use Rattle.dependency_index.specs.Tokens.{has_token}
+use Rattle.dependency_index.specs.Dependencies.{NotedStream, last_noted, noted_to, count_in, noted_in, room_in, room_for, IsIndexed, IsNoted}
 use Rattle.dependency_index.specs.Noting.{IsUnnoted, IsKept, AreKept}
 
 kept_itself : (s : NotedStream) → IsKept s s
@@ -46,16 +45,13 @@ sites-kept [] (t ∷ ts) all = absurd all
 sites-kept (s ∷ ss) [] all = absurd all
 sites-kept (s ∷ ss) (t ∷ ts) all = rw (all.0.site, sites-kept ss ts all.1)
 
--- what is found of kept streams
+-- what is found before and after, where streams are kept
 pub record IsFoundKept (old new : Option NotedStream) : Type 0 where
   pub count : count_in new ≡ count_in old
   pub noted : noted_in new ≡ noted_in old
   pub room : room_in old ≤ room_in new
 
-pub record IsFoundUnnoted (found : Option NotedStream) : Type 0 where
-  pub count : count_in found ≡ 0
-  pub noted : noted_in found ≡ []
-
+-- of kept streams the same is found
 pub noted_to-kept : (site : SiteName) (ss ts : List NotedStream) → AreKept ss ts → IsFoundKept (noted_to site ss) (noted_to site ts)
 noted_to-kept site [] [] all = record { count = refl; noted = refl; room = omega arith }
 noted_to-kept site [] (t ∷ ts) all = absurd all
@@ -95,6 +91,11 @@ pub room_taken : (n : ℕ) (ts : List NotedStream) (place : ℕ) (t : NotedStrea
 room_taken n ts place t within is each =
     let next : place + 1 ≡ suc place = omega arith in
     rw next (each_taken-suc (λ (s : NotedStream). n ≤ s.room) ts place t within is each)
+
+-- nothing is noted of what is found
+record IsFoundUnnoted (found : Option NotedStream) : Type 0 where
+  count : count_in found ≡ 0
+  noted : noted_in found ≡ []
 
 -- of new streams nothing is noted
 pub IsNoted-new : (site : SiteName) (ss : List NotedStream) → AllByRecursion IsUnnoted ss → IsNoted ss site []

@@ -1,12 +1,12 @@
 -- A schema of two tables, for tests.
-use Rattle.std.proofs.Common.{◌≡◌, ℕ, zero, suc, ◌<◌, List, [], ◌∷◌, length, get_or, refl, sym, ap, ◌∙◌, arith}
+use Rattle.std.proofs.Common.{◌≡◌, zero, suc, [], ◌∷◌, get_or, sym, ap, ◌∙◌, arith}
 use Rattle.std.specs.Prelude.{◌≢◌, codes}
-use Rattle.std.specs.List.{AllByRecursion, AllPairs}
+use Rattle.std.specs.List.{AllPairs}
 use Rattle.std.proofs.lemmas.List.Elements.{All-from_recursion}
 use Rattle.rep_values.specs.declared.name.TableName.{TableName}
 use Rattle.rep_schema.specs.declared.schema.Schema.{Schema}
 use Rattle.rep_schema.specs.declared.schema.TableEntry.{TableEntry}
-use Rattle.rep_schema.specs.Tables.{columns_of, IsKeyed}
+use Rattle.rep_schema.specs.Tables.{IsKeyed}
 use Rattle.rep_schema.specs.Shape.{HasTableShape, HasShape}
 use Rattle.txn_effects.specs.Calls.{HasKeys}
 

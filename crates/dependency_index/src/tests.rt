@@ -1,3 +1,4 @@
+//! Tokens of calls, and dependency numbers of what is noted.
 ghost use Rattle.std.specs.Prelude.{◌≡◌, codes, IfOk};
 ghost use Rattle.rep_schema.specs.Shape.{AreColumns, HasShape, HasTableShape};
 ghost use Rattle.rep_schema.specs.Tables.{IsKeyed};

@@ -1,3 +1,4 @@
+-- Room in each stream.
 use Rattle.std.proofs.Common.{◌<◌, length, arith}
 use Rattle.dependency_index.proofs.KeptStreams.{all_kept, one_kept, length-kept, room_taken}
 use Rattle.dependency_index.proofs.index.reserve_each.Goals as goal

@@ -1,5 +1,5 @@
 -- Noting token by token.
-use Rattle.std.proofs.Common.{◌≡◌, ◌+◌, ◌≤◌, length, drop, reverse}
+use Rattle.std.proofs.Common.{◌≡◌, ◌+◌, drop, reverse}
 use Rattle.std.specs.Prelude.{vec_len, vec_capacity}
 use Rattle.dependency_index.specs.Noting.{with_tokens}
 use Rattle.dependency_index.proofs.stream.add_each.Given as goal

@@ -1,3 +1,4 @@
+-- The schema of the tests.
 use Rattle.dependency_index.proofs.TwoTables.{HasShape-two_tables, HasKeys-two_tables, names_apart}
 use Rattle.dependency_index.proofs.tests.schema.Goals as goal
 

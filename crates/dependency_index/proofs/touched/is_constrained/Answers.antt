@@ -1,3 +1,4 @@
+-- A constrained column.
 use Rattle.std.proofs.Common.{ℕ, ◌==◌, sym, ◌∙◌}
 use Rattle.rep_schema.specs.declared.schema.Constraint.{Constraint}
 use Rattle.rep_schema.specs.Tables.{constraints_of}

@@ -1,3 +1,4 @@
+-- The key of a row that fits.
 use Rattle.rep_schema.proofs.RowFit.{length-key_of}
 use Rattle.dependency_index.proofs.touched.key_in.Goals as goal
 

@@ -1,3 +1,4 @@
+-- How many positions are noted.
 use Rattle.std.proofs.Common.{refl, sym}
 use Rattle.dependency_index.proofs.FirstStreams.{noted_to-place, noted_to-none}
 use Rattle.dependency_index.proofs.index.Index.count.Goals as goal

@@ -1,3 +1,4 @@
+-- Whether a site is a destination.
 use Rattle.dependency_index.proofs.FirstStreams.{is_some-position}
 use Rattle.dependency_index.proofs.index.Index.is_indexed.Goals as goal
 

@@ -1,3 +1,4 @@
+-- An index in which nothing is noted.
 use Rattle.dependency_index.proofs.KeptStreams.{IsNoted-new}
 use Rattle.dependency_index.proofs.index.Index.make.Goals as goal
 

@@ -1,3 +1,4 @@
+-- Noting a transaction.
 use Rattle.std.proofs.Common.{sym, ◌∙◌, arith}
 use Rattle.dependency_index.proofs.FirstStreams.{noted_to-place, noted_to-none, noted_to-set, noted_to-set_other, sites-set, greatest_noted-found, IsNoted-next}
 use Rattle.dependency_index.proofs.index.Index.note.Goals as goal

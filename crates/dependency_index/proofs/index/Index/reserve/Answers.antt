@@ -1,3 +1,4 @@
+-- Room for a transaction's tokens.
 use Rattle.dependency_index.proofs.KeptStreams.{IsNoted-kept, noted_to-kept, sites-kept, room_for-each}
 use Rattle.dependency_index.proofs.index.Index.reserve.Goals as goal
 

@@ -1,3 +1,4 @@
+-- The same token.
 use Rattle.std.specs.Bool.{one_answer}
 use Rattle.std.proofs.lemmas.Bool.{eq-eqb}
 use Rattle.rep_schema.proofs.ValuesAt.{are_same-Decides}
