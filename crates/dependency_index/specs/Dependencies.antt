@@ -28,6 +28,10 @@ pub record NotedStream : Type 0 where
   pub noted : List Noted
   pub room : ℕ
 
+-- what a contract sees of an index: its streams, one for each destination
+pub record NotedIndex : Type 0 where
+  pub streams : List NotedStream
+
 -- the first stream to a site, if there is one
 abbrev pub noted_to : SiteName → List NotedStream → Option NotedStream
 noted_to site [] = None

@@ -1,3 +1,4 @@
 -- The definitions of this crate.
 pub mod Tokens
 pub mod Dependencies
+pub mod Noting

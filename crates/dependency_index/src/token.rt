@@ -1,7 +1,9 @@
 //! What a transaction touches.
+ghost use Rattle.std.specs.Prelude.{◌≡◌, ◌↔◌, IsTrue};
+ghost use Rattle.dependency_index.specs.Tokens.{is_same_token};
 
 use rep_lists::{Copies, Items, NoMemory};
-use rep_values::Key;
+use rep_values::{Key, same_values};
 use std::alloc::Global;
 
 /// One thing that a transaction touches. Two transactions that share none are independent.
@@ -17,6 +19,27 @@ pub enum Token {
 #[derive(Drop)]
 pub struct Tokens {
     pub list: Items<Token>,
+}
+
+impl Token {
+    /// Whether two tokens are the same.
+    pub fn is_same(&self, other: &Token) -> bool
+        ensures value { result ≡ is_same_token self.now other.now }
+        ensures meaning { IsTrue result ↔ (self.now ≡ other.now) }
+    {
+        match (self, other) {
+            (
+                Token::Key { table, key },
+                Token::Key {
+                    table: other_table,
+                    key: other_key,
+                },
+            ) => { table == other_table && same_values(key.values(), other_key.values()) }
+            (Token::Unique { table }, Token::Unique { table: other_table }) => table == other_table,
+            (Token::Key { .. }, Token::Unique { .. }) | (Token::Unique { .. }, Token::Key { .. }) =>
+                false,
+        }
+    }
 }
 
 impl Copies for Token {

@@ -1,0 +1,143 @@
+//! The tokens of a transaction that fits a schema.
+ghost use Rattle.std.specs.Prelude.{◌≡◌, ◌<◌, ◌==◌, ◌++◌, length, IfOk, OnOk};
+ghost use Rattle.std.specs.List.{list_any};
+ghost use Rattle.rep_schema.specs.Shape.{HasShape};
+ghost use Rattle.rep_schema.specs.Tables.{columns_of, constraints_of, key_of, RowFits, IsKeyed};
+ghost use Rattle.conflict_detect.specs.Fits.{CallFits, TxnFits};
+ghost use Rattle.txn_effects.specs.Calls.{HasKeys, key_named};
+ghost use Rattle.dependency_index.specs.Tokens.{has_constraints, is_constrained, has_constrained_column, touches_constraints, call_tokens, txn_tokens};
+
+use crate::{Token, Tokens};
+use conflict_detect::table_of;
+use rep_calls::{Call, Part, Txn};
+use rep_lists::{Items, NoMemory};
+use rep_schema::{Constraint, Schema, columns_of, group_columns, has_place, key_of};
+use rep_values::{Key, Row};
+use std::alloc::Global;
+
+/// The key of a row that fits a table.
+fn key_in(schema: &Schema, table: u32, row: &Row) -> Key
+    requires table { table < length schema.now.tables }
+    requires keyed { IsKeyed (columns_of schema.now table) }
+    requires fits { RowFits (columns_of schema.now table) row.now }
+    ensures { result ≡ key_of (columns_of schema.now table) row.now }
+{
+    key_of(columns_of(schema, table), row.values())
+}
+
+/// The key of the row that a call names.
+fn key_named(schema: &Schema, call: &Call) -> Key
+    requires keys { HasKeys schema.now }
+    requires fits { CallFits schema.now call.now }
+    ensures { result ≡ key_named schema.now call.now }
+{
+    match call {
+        Call::Insert { table, row } | Call::Delete { table, row } => key_in(schema, *table, row),
+        Call::Update { key, .. } => *key,
+    }
+}
+
+/// The secondary constraints of a table.
+fn constraints_of(schema: &Schema, table: u32) -> &[Constraint]
+    requires { table < length schema.now.tables }
+    ensures { result.now ≡ constraints_of schema.now table }
+{
+    schema.tables.at(table as usize).constraints.as_slice()
+}
+
+fn has_constraints(schema: &Schema, table: u32) -> bool
+    requires { table < length schema.now.tables }
+    ensures { result ≡ has_constraints schema.now table }
+{
+    constraints_of(schema, table).len() != 0
+}
+
+/// Whether a column stands in one of these constraints.
+fn stands_in_one(constraints: &[Constraint], column: u32) -> bool
+    ensures { result ≡ list_any (λ constraint. list_any (λ c. c == column) constraint.columns) constraints.now }
+{
+    constraints.iter().any(|constraint| has_place(constraint.columns.as_slice(), column as usize))
+}
+
+fn is_constrained(schema: &Schema, table: u32, column: u32) -> bool
+    requires { table < length schema.now.tables }
+    ensures { result ≡ is_constrained schema.now table column }
+{
+    stands_in_one(constraints_of(schema, table), column)
+}
+
+fn has_constrained_place(schema: &Schema, table: u32, columns: &[u32]) -> bool
+    requires { table < length schema.now.tables }
+    ensures { result ≡ list_any (is_constrained schema.now table) columns.now }
+{
+    for column in columns {
+        if is_constrained(schema, table, *column) {
+            return true;
+        }
+    }
+    false
+}
+
+/// Whether a part's group has a constrained column.
+fn has_constrained_column(schema: &Schema, table: u32, part: &Part) -> bool
+    requires table { table < length schema.now.tables }
+    requires shape { HasShape schema.now }
+    ensures { result ≡ has_constrained_column schema.now table part.now }
+{
+    let columns = group_columns(schema, table, part.group);
+    has_constrained_place(schema, table, columns.as_slice())
+}
+
+fn has_constrained_part(schema: &Schema, table: u32, parts: &[Part]) -> bool
+    requires table { table < length schema.now.tables }
+    requires shape { HasShape schema.now }
+    ensures { result ≡ list_any (has_constrained_column schema.now table) parts.now }
+{
+    for part in parts {
+        if has_constrained_column(schema, table, part) {
+            return true;
+        }
+    }
+    false
+}
+
+fn touches_constraints(schema: &Schema, call: &Call) -> bool
+    requires shape { HasShape schema.now }
+    requires fits { CallFits schema.now call.now }
+    ensures { result ≡ touches_constraints schema.now call.now }
+{
+    match call {
+        Call::Insert { table, .. } | Call::Delete { table, .. } => has_constraints(schema, *table),
+        Call::Update { table, parts, .. } => has_constrained_part(schema, *table, parts.as_slice()),
+    }
+}
+
+/// Adds the tokens of a call.
+fn add_call(list: &mut Items<Token>, schema: &Schema, call: &Call) -> Result<(), NoMemory>
+    requires shape { HasShape schema.now }
+    requires keys { HasKeys schema.now }
+    requires fits { CallFits schema.now call.now }
+    ensures { OnOk result (list.new ≡ list.old ++ call_tokens schema.now call.now) }
+{
+    let table = table_of(call);
+    let key = key_named(schema, call);
+    list.push(Token::Key { table, key })?;
+    if touches_constraints(schema, call) {
+        list.push(Token::Unique { table })?;
+    }
+    Ok(())
+}
+
+/// The tokens of a transaction that fits the schema, call by call.
+pub fn tokens_of(alloc: Global, schema: &Schema, txn: &Txn) -> Result<Tokens, NoMemory>
+    requires shape { HasShape schema.now }
+    requires keys { HasKeys schema.now }
+    requires fits { TxnFits schema.now txn.now }
+    ensures { IfOk result (λ tokens. tokens.list ≡ txn_tokens schema.now txn.now) }
+{
+    let mut list = Items::new(alloc);
+    for call in txn.calls.as_slice() {
+        add_call(&mut list, schema, call)?;
+    }
+    Ok(Tokens { list })
+}
