@@ -15,30 +15,12 @@ fn finish_next(finished: &mut Finished, position: u64) -> Result<(), NoMemory> {
 fn marks_all_up_to_the_first_gap(rt: HostRuntime) -> Result<(), Fail> {
     // An order of the positions, and the low-water mark after each.
     let orders = [
-        ([1, 2, 3, 4], [1, 2, 3, 4]),
-        ([1, 2, 4, 3], [1, 2, 2, 4]),
-        ([1, 3, 2, 4], [1, 1, 3, 4]),
-        ([1, 3, 4, 2], [1, 1, 1, 4]),
-        ([1, 4, 2, 3], [1, 1, 2, 4]),
-        ([1, 4, 3, 2], [1, 1, 1, 4]),
-        ([2, 1, 3, 4], [0, 2, 3, 4]),
-        ([2, 1, 4, 3], [0, 2, 2, 4]),
-        ([2, 3, 1, 4], [0, 0, 3, 4]),
-        ([2, 3, 4, 1], [0, 0, 0, 4]),
-        ([2, 4, 1, 3], [0, 0, 2, 4]),
-        ([2, 4, 3, 1], [0, 0, 0, 4]),
-        ([3, 1, 2, 4], [0, 1, 3, 4]),
-        ([3, 1, 4, 2], [0, 1, 1, 4]),
-        ([3, 2, 1, 4], [0, 0, 3, 4]),
-        ([3, 2, 4, 1], [0, 0, 0, 4]),
-        ([3, 4, 1, 2], [0, 0, 1, 4]),
-        ([3, 4, 2, 1], [0, 0, 0, 4]),
-        ([4, 1, 2, 3], [0, 1, 2, 4]),
-        ([4, 1, 3, 2], [0, 1, 1, 4]),
-        ([4, 2, 1, 3], [0, 0, 2, 4]),
-        ([4, 2, 3, 1], [0, 0, 0, 4]),
-        ([4, 3, 1, 2], [0, 0, 1, 4]),
-        ([4, 3, 2, 1], [0, 0, 0, 4]),
+        ([1, 2, 3], [1, 2, 3]),
+        ([1, 3, 2], [1, 1, 3]),
+        ([2, 1, 3], [0, 2, 3]),
+        ([2, 3, 1], [0, 0, 3]),
+        ([3, 1, 2], [0, 1, 3]),
+        ([3, 2, 1], [0, 0, 3]),
     ];
     for (order, marks) in &orders {
         let mut finished = Finished::make(rt.alloc());
@@ -46,6 +28,36 @@ fn marks_all_up_to_the_first_gap(rt: HostRuntime) -> Result<(), Fail> {
         for (position, mark) in order.iter().zip(marks.iter()) {
             finish_next(&mut finished, *position)?;
             assert_eq!(rt; finished.low_water(), *mark);
+        }
+    }
+    Ok(())
+}
+
+/// Five positions from 1 to 5, by the number of their sequence.
+fn sequence(number: u64) -> [u64; 5] {
+    [1, 5, 25, 125, 625].map(|power| number / power % 5 + 1)
+}
+
+/// The greatest number with all positions from 1 to it among these, at most 5.
+fn mark_of(positions: &[u64]) -> u64 {
+    let mut mark = 0;
+    for position in 1..6 {
+        if mark == position - 1 && positions.contains(&position) {
+            mark = position;
+        }
+    }
+    mark
+}
+
+// The 120 orders of the positions are among the 3,125 sequences; in the others some position comes again.
+#[test]
+fn marks_every_sequence_of_five_positions(rt: HostRuntime) -> Result<(), Fail> {
+    for number in 0..3125 {
+        let positions = sequence(number);
+        let mut finished = Finished::make(rt.alloc());
+        for (place, position) in positions.iter().enumerate() {
+            finish_next(&mut finished, *position)?;
+            assert_eq!(rt; finished.low_water(), mark_of(&positions[..=place]));
         }
     }
     Ok(())
