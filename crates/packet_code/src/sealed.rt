@@ -38,6 +38,7 @@ impl Sealed {
     }
 
     /// The packet that was sealed: no other has these bytes.
+    #[tactic(auto, using(crate::proofs::Sealing::sealed_is_decoded))]
     pub fn unseal(&self, alloc: Global) -> Result<Packet, NoMemory>
         ensures encoding { IfOk result (IsEncoding self.now) }
         ensures same { (packet : PacketValue) → IsPacket packet → self.now ≡ packet_bytes packet → IfOk result (λ found. found ≡ packet) }
