@@ -21,4 +21,6 @@ pub use packet::Packet;
 pub use sealed::Sealed;
 
 #[cfg(test)]
+mod decode_tests;
+#[cfg(test)]
 mod tests;
