@@ -35,25 +35,31 @@ fn is_sealed(rt: &impl Abort, alloc: Global, bytes: &[u8]) -> Result<bool, NoMem
     Ok(sealed.bytes() == bytes && encode(alloc, &found)?.as_slice() == bytes)
 }
 
-// The bytes of the update, where others stand from one place to another: some, and a piece so many times.
+// The bytes, where others stand from one place to another.
 fn changed(
     rt: &impl Abort,
     alloc: Global,
+    bytes: &[u8],
     places: (usize, usize),
-    front: &[u8],
-    count: usize,
-    piece: &[u8],
+    others: &[u8],
 ) -> Result<Vec<u8>, NoMemory> {
     let (from, to) = places;
-    assert!(rt; from <= UPDATE.len() && to <= UPDATE.len());
-    let mut bytes = Vec::new(alloc);
-    bytes.extend_from_slice(&UPDATE[..from])?;
-    bytes.extend_from_slice(front)?;
+    assert!(rt; from <= bytes.len() && to <= bytes.len());
+    let mut found = Vec::new(alloc);
+    found.extend_from_slice(&bytes[..from])?;
+    found.extend_from_slice(others)?;
+    found.extend_from_slice(&bytes[to..])?;
+    Ok(found)
+}
+
+// The bytes of a count, and a piece so many times.
+fn counted(alloc: Global, bytes: &[u8], count: u32, piece: &[u8]) -> Result<Vec<u8>, NoMemory> {
+    let mut found = Vec::new(alloc);
+    found.extend_from_slice(bytes)?;
     for _ in 0..count {
-        bytes.extend_from_slice(piece)?;
+        found.extend_from_slice(piece)?;
     }
-    bytes.extend_from_slice(&UPDATE[to..])?;
-    Ok(bytes)
+    Ok(found)
 }
 
 #[test]
@@ -87,44 +93,53 @@ fn bytes_that_end_early_or_late_are_no_packet(rt: HostRuntime) -> Result<(), Fai
 #[test]
 fn each_byte_has_its_limits(rt: HostRuntime) -> Result<(), Fail> {
     let alloc = rt.alloc();
-    let cases: [(usize, &[u8], bool); 26] = [
+    for (place, byte, is) in [
         // the version, the kind, the first letter of a name
-        (0, b"\x02", false),
-        (1, b"\x03", false),
-        (3, b"1", false),
-        (3, b"z", true),
+        (0u8, 2, false),
+        (1, 3, false),
+        (3, b'1', false),
+        (3, b'z', true),
         // number, position and dep
-        (13, b"\0", false),
-        (13, b"\x02", true),
-        (21, b"\0", false),
-        (29, b"\0", true),
-        (29, b"\x02", false),
+        (13, 0, false),
+        (13, 2, true),
+        (21, 0, false),
+        (29, 0, true),
+        (29, 2, false),
         // the kind of a call and of a value, the table
-        (34, b"\x04", false),
-        (35, b"\xff\xff", true),
-        (50, b"\x03", false),
+        (34, 4, false),
+        (35, 255, true),
+        (50, 3, false),
         // the groups
-        (68, b"\x1f", true),
-        (68, b"\x20", false),
-        (68, b"\xfe", false),
-        (68, b"\xff", true),
-        (48, b"\x01", false),
-        (48, b"\x02", false),
+        (68, 31, true),
+        (68, 32, false),
+        (68, 254, false),
+        (68, 255, true),
+        (48, 1, false),
+        (48, 2, false),
         // the old value and the new one
-        (67, b"\x05", false),
-        (67, b"\x04", true),
-        // numbers from -10^15 to 10^15
-        (60, b"\0\x03\x8d\x7e\xa4\xc6\x80\0", true),
-        (60, b"\0\x03\x8d\x7e\xa4\xc6\x80\x01", false),
-        (60, b"\xff\xfc\x72\x81\x5b\x39\x80\0", true),
-        (60, b"\xff\xfc\x72\x81\x5b\x39\x7f\xff", false),
+        (67, 5, false),
+        (67, 4, true),
         // the bytes of a text
-        (81, b"~", true),
-        (81, b"'", false),
-    ];
-    for (place, bytes, is) in cases {
-        assert!(rt; place <= 82 && bytes.len() <= 8);
-        let found = changed(&rt, alloc, (place, place + bytes.len()), bytes, 0, b"")?;
+        (81, b'~', true),
+        (81, b'\'', false),
+    ] {
+        let from = usize::from(place);
+        let found = changed(&rt, alloc, UPDATE, (from, from + 1), &[byte])?;
+        assert_eq!(rt; is_decoded(&rt, alloc, &found)?, is);
+    }
+    Ok(())
+}
+
+#[test]
+fn numbers_are_from_minus_ten_to_15_to_ten_to_15(rt: HostRuntime) -> Result<(), Fail> {
+    let alloc = rt.alloc();
+    for (number, is) in [
+        (b"\0\x03\x8d\x7e\xa4\xc6\x80\0", true),
+        (b"\0\x03\x8d\x7e\xa4\xc6\x80\x01", false),
+        (b"\xff\xfc\x72\x81\x5b\x39\x80\0", true),
+        (b"\xff\xfc\x72\x81\x5b\x39\x7f\xff", false),
+    ] {
+        let found = changed(&rt, alloc, UPDATE, (60, 68), number)?;
         assert_eq!(rt; is_decoded(&rt, alloc, &found)?, is);
     }
     Ok(())
@@ -133,45 +148,33 @@ fn each_byte_has_its_limits(rt: HostRuntime) -> Result<(), Fail> {
 #[test]
 fn each_count_has_its_limits(rt: HostRuntime) -> Result<(), Fail> {
     let alloc = rt.alloc();
-    let cases: [((usize, usize), &[u8], usize, &[u8], bool); 17] = [
-        // the letters of a name
-        ((2, 4), b"\0", 0, b"", false),
-        ((2, 4), b"\x1e", 30, b"n", true),
-        ((2, 4), b"\x1f", 31, b"n", false),
-        // calls: deletes of a row with the empty text
-        ((30, 82), b"\0\0\0\0", 0, b"", false),
-        (
-            (30, 82),
-            b"\0\0\x03\xe8",
-            1_000,
-            b"\x03\0\0\x01\x02\0",
-            true,
-        ),
-        (
-            (30, 82),
-            b"\0\0\x03\xe9",
-            1_001,
-            b"\x03\0\0\x01\x02\0",
-            false,
-        ),
-        // the values of a row, empty texts
-        ((34, 82), b"\x03\0\0\0", 0, b"", false),
-        ((34, 82), b"\x03\0\0\x20", 32, b"\x02\0", true),
-        ((34, 82), b"\x03\0\0\x21", 33, b"\x02\0", false),
-        // the values of a key
-        ((37, 47), b"\0", 0, b"", false),
-        ((37, 47), b"\x04", 4, b"\x02\0", true),
-        ((37, 47), b"\x05", 5, b"\x02\0", false),
-        // parts
-        ((47, 82), b"\0", 0, b"", false),
-        ((47, 82), b"\x22", 34, b"\0\x01\x02\0\x02\x01x", false),
-        // the bytes of a text
-        ((80, 82), b"\0", 0, b"", true),
-        ((80, 82), b"\x40", 64, b"x", true),
-        ((80, 82), b"\x41", 65, b"x", false),
+    // the letters of a name, the values of a row, those of a key, the bytes of a text
+    let cases: [(&[u8], (usize, usize), &[u8], u8, u8); 4] = [
+        (UPDATE, (2, 4), b"n", 1, 30),
+        (INSERT, (37, 52), b"\x02\0", 1, 32),
+        (UPDATE, (37, 47), b"\x02\0", 1, 4),
+        (UPDATE, (80, 82), b"x", 0, 64),
     ];
-    for (places, front, count, piece, is) in cases {
-        let found = changed(&rt, alloc, places, front, count, piece)?;
+    for (bytes, places, piece, least, most) in cases {
+        for count in 0..70 {
+            let others = counted(alloc, &[count], u32::from(count), piece)?;
+            let found = changed(&rt, alloc, bytes, places, &others)?;
+            assert_eq!(rt;
+                is_decoded(&rt, alloc, &found)?,
+                least <= count && count <= most
+            );
+        }
+    }
+    Ok(())
+}
+
+#[test]
+fn packets_have_1_to_1000_calls(rt: HostRuntime) -> Result<(), Fail> {
+    let alloc = rt.alloc();
+    for (count, is) in [(0u32, false), (1, true), (1_000, true), (1_001, false)] {
+        // deletes of a row with the empty text
+        let others = counted(alloc, &count.to_be_bytes(), count, b"\x03\0\0\x01\x02\0")?;
+        let found = changed(&rt, alloc, UPDATE, (30, 82), &others)?;
         assert_eq!(rt; is_decoded(&rt, alloc, &found)?, is);
     }
     Ok(())
@@ -188,7 +191,7 @@ fn updates_have_1_to_33_parts(rt: HostRuntime) -> Result<(), Fail> {
             let number = if group < 32 { group } else { 255 };
             parts.extend_from_slice(&[number, 1, 2, 0, 2, 1, 65])?;
         }
-        let found = changed(&rt, alloc, (47, 82), &parts, 0, b"")?;
+        let found = changed(&rt, alloc, UPDATE, (47, 82), &parts)?;
         assert_eq!(rt; is_decoded(&rt, alloc, &found)?, is);
     }
     Ok(())
