@@ -183,7 +183,7 @@ fn packets_have_1_to_1000_calls(rt: HostRuntime) -> Result<(), Fail> {
 #[test]
 fn updates_have_1_to_33_parts(rt: HostRuntime) -> Result<(), Fail> {
     let alloc = rt.alloc();
-    for (count, is) in [(1, true), (32, true), (33, true), (34, false)] {
+    for (count, is) in [(0, false), (1, true), (32, true), (33, true), (34, false)] {
         let mut parts = Vec::new(alloc);
         parts.push(count)?;
         for group in 0..count {
