@@ -7,4 +7,5 @@ mod Repeats
 mod Behind
 mod Lengths
 mod Decoded
+mod Sealing
 pub mod WorkedPackets

@@ -5,3 +5,4 @@ pub mod Laws
 pub mod Reading
 pub mod Forms
 pub mod Readers
+pub mod Sealing

@@ -1,10 +1,10 @@
 //! Parts, calls and transactions, read from bytes.
 ghost use Rattle.std.specs.Prelude.{◌≡◌};
 ghost use Rattle.rep_schema.specs.Groups.{are_same};
-ghost use Rattle.packet_code.specs.Forms.{part, groups_rise, parts, insert, update, delete, call, txn};
+ghost use Rattle.packet_code.specs.Forms.{part, parts, insert, update, delete, call, txn};
 ghost use Rattle.packet_code.specs.Readers.{Reads};
 
-use crate::limits::is_group_number;
+use crate::limits::{groups_rise, is_group_number};
 use crate::reader::Reader;
 use crate::repeated::{Piece, limited, times};
 use crate::stop::Stop;
@@ -43,23 +43,6 @@ impl Piece for Part {
     fn read(alloc: Global, bytes: &mut Reader<'_>) -> Result<Part, Stop> {
         part(alloc, bytes)
     }
-}
-
-/// Whether each part's group is above the one before it.
-fn groups_rise(parts: &[Part]) -> bool
-    ensures { result ≡ groups_rise parts.now }
-{
-    let Some((first, rest)) = parts.split_first() else {
-        return true;
-    };
-    let mut last = first.group;
-    for part in rest {
-        if last >= part.group {
-            return false;
-        }
-        last = part.group;
-    }
-    true
 }
 
 /// A count, and so many parts.

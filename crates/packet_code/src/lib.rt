@@ -9,6 +9,7 @@ mod limits;
 mod packet;
 mod reader;
 mod repeated;
+mod sealed;
 mod stop;
 mod value_reading;
 
@@ -17,6 +18,9 @@ pub use encoding::encode;
 pub use laws::no_encoding_begins_another;
 pub use limits::is_packet;
 pub use packet::Packet;
+pub use sealed::Sealed;
 
+#[cfg(test)]
+mod decode_tests;
 #[cfg(test)]
 mod tests;

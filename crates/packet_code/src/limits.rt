@@ -1,7 +1,7 @@
 //! The test of the limits on a packet.
-ghost use Rattle.std.specs.Prelude.{◌≡◌, ◌↔◌, map, true, IsTrue};
+ghost use Rattle.std.specs.Prelude.{◌≡◌, ◌↔◌, true, IsTrue};
 ghost use Rattle.std.specs.List.{AllByRecursion};
-ghost use Rattle.std.specs.List.Sorted.{IsStrictlyIncreasing};
+ghost use Rattle.packet_code.specs.Forms.{groups_rise};
 ghost use Rattle.packet_code.specs.Limits.{IsPlainValue, IsPlainRow, IsPlainKey, is_group_number, IsPlainPart, ArePlainParts, IsPlainTable, IsPlainCall, IsPlainTxn, IsPlace, IsSiteName, IsPacket};
 
 use crate::Packet;
@@ -73,17 +73,23 @@ fn is_each_part_plain(parts: &[Part]) -> bool
 }
 
 /// Whether each part's group is above the one before it.
-fn groups_rise(parts: &[Part]) -> bool
-    ensures { IsTrue result ↔ IsStrictlyIncreasing (map (λ part. part.group) parts.now) }
+pub(crate) fn groups_rise(parts: &[Part]) -> bool
+    ensures { result ≡ groups_rise parts.now }
 {
-    for i in 1..parts.len() {
-        if parts[i].group <= parts[i - 1].group {
+    let Some((first, rest)) = parts.split_first() else {
+        return true;
+    };
+    let mut last = first.group;
+    for part in rest {
+        if last >= part.group {
             return false;
         }
+        last = part.group;
     }
     true
 }
 
+#[tactic(auto, using(crate::proofs::PacketsExact::rise_test))]
 fn are_plain_parts(parts: &[Part]) -> bool
     ensures { IsTrue result ↔ ArePlainParts parts.now }
 {

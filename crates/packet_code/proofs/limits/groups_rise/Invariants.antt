@@ -1,8 +1,9 @@
--- Testing groups part by part.
-use Rattle.std.proofs.Common.{ℕ, ◌+◌, ◌<◌, map, get_or}
+-- Groups looked through from the front.
+use Rattle.std.proofs.Common.{◌≡◌, ◌∷◌, drop, map}
 use Rattle.rep_calls.specs.declared.call.Part.{Part}
+use Rattle.packet_code.specs.Forms.{rise, groups_rise}
 use Rattle.packet_code.proofs.limits.groups_rise.Given as goal
 
--- the groups so far rise
-abbrev pub invariant-loop-i : goal.invariant-loop-i
-invariant-loop-i l = (k : ℕ) → k + 1 < l.i → get_or (map (λ (part : Part). part.group) l.parts) k 0 < get_or (map (λ (part : Part). part.group) l.parts) (k + 1) 0
+-- the last group and those behind it tell whether all rise
+abbrev pub invariant-loop-part : goal.invariant-loop-part
+invariant-loop-part l = rise (l.last ∷ map (λ (part : Part). part.group) (drop l.part-index l.rest)) ≡ groups_rise l.parts
