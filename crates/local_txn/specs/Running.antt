@@ -18,11 +18,6 @@ pub record CanRun (schema : Schema) (tables : List Rows) (table : ℕ) : Type 0 
   pub are : AreTables schema tables
   pub of_table : table < length schema.tables
 
--- no change, or one
-abbrev pub changes_of : Option Change → List Change
-changes_of None = []
-changes_of (Some change) = change ∷ []
-
 -- nothing refuses, and these are the changes
 pub record RunsAs (refused : Option Refusal) (wanted made : List Change) : Type 0 where
   pub accepted : refused ≡ None

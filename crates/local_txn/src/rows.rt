@@ -5,16 +5,18 @@ ghost use Rattle.rep_schema.specs.declared.schema.Constraint.{Constraint as Cons
 ghost use Rattle.rep_schema.specs.Changes.{row_like};
 ghost use Rattle.rep_declare.specs.Refusals.{first_refusal};
 ghost use Rattle.unique_resolve.specs.Settling.{is_held};
-ghost use Rattle.txn_effects.specs.Calls.{is_unchanged, changes_between};
+ghost use Rattle.txn_effects.specs.Calls.{changes_between};
 ghost use Rattle.txn_effects.specs.Transactions.{made_all};
 ghost use Rattle.local_txn.specs.Statements.{taken_step, unique_steps, row_at};
-ghost use Rattle.local_txn.specs.Running.{CanRun, changes_of, RunsAs, StopsAs, NoRowAs};
+ghost use Rattle.txn_apply.specs.Stops.{changes_of};
+ghost use Rattle.local_txn.specs.Running.{CanRun, RunsAs, StopsAs, NoRowAs};
 
 use crate::stop::Stop;
 use rep_lists::{Copies, NoMemory};
 use rep_schema::{Change, Constraint, RowStore, Schema, columns_of, constraint_count, key_of};
-use rep_values::{Key, Refusal, Row, same_values};
+use rep_values::{Key, Refusal, Row};
 use std::alloc::Global;
+use txn_apply::put_if_changed;
 
 /// The key of a row that fits a table.
 pub(crate) fn key_in<R: RowStore>(store: &R, table: u32, row: &Row) -> Key
@@ -96,49 +98,6 @@ pub(crate) fn unique_refusal<R: RowStore>(store: &R, table: u32, row: &Row) -> O
         }
     }
     None
-}
-
-/// Whether the very same row stands in a table.
-fn is_there<R: RowStore>(store: &R, table: u32, row: &Row) -> bool
-    requires able { CanRun (R.schema store.now) (R.tables store.now) table }
-    requires fits { RowFits (columns_of (R.schema store.now) table) row.now }
-    ensures { result ≡ is_unchanged (row_like (columns_of (R.schema store.now) table) row.now (rows_of (R.tables store.now) table)) (Some row.now) }
-{
-    match store.get(table, &key_in(store, table, row)) {
-        Some(found) => same_values(found.values(), row.values()),
-        None => false,
-    }
-}
-
-/// Puts a row where it isn't there yet, and answers the change.
-fn put_if_changed<R: RowStore>(
-    store: &mut R,
-    alloc: Global,
-    table: u32,
-    row: Row,
-) -> Result<Option<Change>, NoMemory>
-    requires able { CanRun (R.schema store.old) (R.tables store.old) table }
-    requires fits { RowFits (columns_of (R.schema store.old) table) row }
-    requires unique { IsUniqueRow (R.schema store.old) table row (rows_of (R.tables store.old) table) }
-    requires room { 1 ≤ slice_index (R.spare store.old) table }
-    ensures ok { IfOk result (λ change. changes_of change
-        ≡ changes_between table (row_like (columns_of (R.schema store.old) table) row (rows_of (R.tables store.old) table)) (Some row)) }
-    ensures tables { IfOk result (λ change. R.tables store.new ≡ made_all (R.schema store.old) (changes_of change) (R.tables store.old)) }
-    ensures same { OnErr result (R.tables store.new ≡ R.tables store.old) }
-    ensures schema { R.schema store.new ≡ R.schema store.old }
-    ensures same_room { OnErr result (R.spare store.new ≡ R.spare store.old) }
-    ensures room { (t : ℕ) → slice_index (R.spare store.old) t ≤ slice_index (R.spare store.new) t + cond (t == table) 1 0 }
-{
-    if is_there(store, table, &row) {
-        return Ok(None);
-    }
-    let kept = row.copy(alloc)?;
-    let before = store.put(table, row);
-    Ok(Some(Change {
-        table,
-        before,
-        after: Some(kept),
-    }))
 }
 
 /// Puts a row that fits, where no other row has its values in a secondary constraint.

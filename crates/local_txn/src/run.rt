@@ -12,7 +12,8 @@ ghost use Rattle.txn_effects.specs.Calls.{HasKeys};
 ghost use Rattle.txn_effects.specs.Transactions.{made_all, txn_effect};
 ghost use Rattle.local_txn.specs.Statements.{statement_refusal, statement_changes};
 ghost use Rattle.local_txn.specs.Locals.{statements_effect, local_effect};
-ghost use Rattle.local_txn.specs.Running.{changes_of, RunsAs, StopsAs, EndsAs};
+ghost use Rattle.txn_apply.specs.Stops.{changes_of};
+ghost use Rattle.local_txn.specs.Running.{RunsAs, StopsAs, EndsAs};
 
 use crate::held::held_table;
 use crate::statement::run_in;
@@ -24,6 +25,7 @@ use rep_lists::{Items, NoMemory};
 use rep_schema::{Change, Changes, RowStore, Schema, undo};
 use rep_values::{Limit, Refusal};
 use std::alloc::Global;
+use txn_apply::push_change;
 
 // A store's rows are tables of its schema.
 fn holds_tables<R: RowStore>(store: &R)
@@ -60,18 +62,6 @@ fn run_in_room<R: RowStore>(
     store.reserve(table, rows as u64 + 1)?;
     let change = run_in(store, alloc, table, statement)?;
     Ok(change)
-}
-
-// Adds a change, where there is one.
-fn push_change(done: &mut Vec<Change>, change: Option<Change>)
-    requires { vec_len done.old < vec_capacity done.old }
-    ensures items { done.new.items ≡ done.old.items ++ changes_of change }
-    ensures number { vec_len done.new ≤ vec_len done.old + 1 }
-    ensures capacity { vec_capacity done.new ≡ vec_capacity done.old }
-{
-    if let Some(change) = change {
-        done.push_reserved(change);
-    }
 }
 
 /// Runs the statements, or none of them.

@@ -7,7 +7,8 @@ ghost use Rattle.txn_effects.specs.Transactions.{made_all};
 ghost use Rattle.local_txn.specs.Literals.{key_literals_fit, values_of};
 ghost use Rattle.local_txn.specs.Sets.{sets_fit};
 ghost use Rattle.local_txn.specs.Statements.{row_at, row_set, insert_steps, update_steps, delete_steps, steps_in, change_in};
-ghost use Rattle.local_txn.specs.Running.{CanRun, changes_of, RunsAs, StopsAs};
+ghost use Rattle.txn_apply.specs.Stops.{changes_of};
+ghost use Rattle.local_txn.specs.Running.{CanRun, RunsAs, StopsAs};
 
 use crate::literals::{key_literals_fit, key_of_literals, literals_fit, row_in_range, row_of};
 use crate::rows::{copy_of_row, has_row, key_in, put_free};

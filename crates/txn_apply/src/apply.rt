@@ -11,6 +11,7 @@ ghost use Rattle.txn_apply.specs.Stops.{changes_of, CallStopsAs, CallsAs, CanCal
 
 use crate::ApplyStop;
 use crate::call::apply_call;
+use crate::putting::push_change;
 use crate::stop::{CallStop, stop_at};
 use conflict_detect::table_of;
 use rep_calls::{Call, Txn};
@@ -50,18 +51,6 @@ fn apply_in_room<R: RowStore>(
     store.reserve(table_of(call), rows as u64 + 1)?;
     let change = apply_call(store, alloc, origin, call, counters)?;
     Ok(change)
-}
-
-// Adds a change, where there is one.
-fn push_change(done: &mut Vec<Change>, change: Option<Change>)
-    requires { vec_len done.old < vec_capacity done.old }
-    ensures items { done.new.items ≡ done.old.items ++ changes_of change }
-    ensures number { vec_len done.new ≤ vec_len done.old + 1 }
-    ensures capacity { vec_capacity done.new ≡ vec_capacity done.old }
-{
-    if let Some(change) = change {
-        done.push_reserved(change);
-    }
 }
 
 /// Applies a transaction from an origin: its calls in order, each by what it is settled to, or none of them. It

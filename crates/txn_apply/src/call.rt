@@ -11,6 +11,7 @@ ghost use Rattle.txn_apply.specs.Stops.{changes_of, CallStopsAs, CallsAs, CanCal
 ghost use Rattle.txn_apply.specs.Putting.{IsPuttable, PutsAs, ConflictsAs};
 
 use crate::part::settle_parts;
+use crate::putting::{key_in, put_if_changed};
 use crate::stop::CallStop;
 use rep_calls::{Call, Part};
 use rep_lists::{Copies, Items, NoMemory};
@@ -18,61 +19,6 @@ use rep_schema::{Change, RowStore, columns_of, key_of};
 use rep_values::{ApplyError, Key, Row, SiteName, same_values};
 use std::alloc::Global;
 use unique_resolve::{Counters, Settled, settle_unique};
-
-/// The key of a row that fits a table.
-fn key_in<R: RowStore>(store: &R, table: u32, row: &Row) -> Key
-    requires table { table < length (R.schema store.now).tables }
-    requires keyed { IsKeyed (columns_of (R.schema store.now) table) }
-    requires fits { RowFits (columns_of (R.schema store.now) table) row.now }
-    ensures { result ≡ key_of (columns_of (R.schema store.now) table) row.now }
-{
-    key_of(columns_of(store.schema(), table), row.values())
-}
-
-/// Whether the very same row stands in a table.
-fn is_there<R: RowStore>(store: &R, table: u32, row: &Row) -> bool
-    requires table { table < length (R.schema store.now).tables }
-    requires keyed { IsKeyed (columns_of (R.schema store.now) table) }
-    requires fits { RowFits (columns_of (R.schema store.now) table) row.now }
-    ensures { result ≡ is_unchanged (row_like (columns_of (R.schema store.now) table) row.now (rows_of (R.tables store.now) table)) (Some row.now) }
-{
-    match store.get(table, &key_in(store, table, row)) {
-        Some(found) => same_values(found.values(), row.values()),
-        None => false,
-    }
-}
-
-/// Puts a row where it isn't there yet, and answers the change.
-fn put_if_changed<R: RowStore>(
-    store: &mut R,
-    alloc: Global,
-    table: u32,
-    row: Row,
-) -> Result<Option<Change>, NoMemory>
-    requires table { table < length (R.schema store.old).tables }
-    requires keyed { IsKeyed (columns_of (R.schema store.old) table) }
-    requires fits { RowFits (columns_of (R.schema store.old) table) row }
-    requires unique { IsUniqueRow (R.schema store.old) table row (rows_of (R.tables store.old) table) }
-    requires room { 1 ≤ slice_index (R.spare store.old) table }
-    ensures ok { IfOk result (λ change. changes_of change
-        ≡ changes_between table (row_like (columns_of (R.schema store.old) table) row (rows_of (R.tables store.old) table)) (Some row)) }
-    ensures tables { IfOk result (λ change. R.tables store.new ≡ made_all (R.schema store.old) (changes_of change) (R.tables store.old)) }
-    ensures same { OnErr result (R.tables store.new ≡ R.tables store.old) }
-    ensures schema { R.schema store.new ≡ R.schema store.old }
-    ensures same_room { OnErr result (R.spare store.new ≡ R.spare store.old) }
-    ensures room { (t : ℕ) → slice_index (R.spare store.old) t ≤ slice_index (R.spare store.new) t + cond (t == table) 1 0 }
-{
-    if is_there(store, table, &row) {
-        return Ok(None);
-    }
-    let kept = row.copy(alloc)?;
-    let before = store.put(table, row);
-    Ok(Some(Change {
-        table,
-        before,
-        after: Some(kept),
-    }))
-}
 
 /// What settling uniqueness leaves to be put.
 fn put_settled<R: RowStore>(

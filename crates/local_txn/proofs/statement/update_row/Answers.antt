@@ -4,7 +4,7 @@ use Rattle.rep_schema.proofs.RowFit.{length-fits}
 use Rattle.local_txn.specs.Literals.{key_literals_fit, values_of}
 use Rattle.local_txn.specs.Sets.{names_columns, sets_fit, row_with, row_where_in_range}
 use Rattle.local_txn.specs.Statements.{row_at}
-use Rattle.local_txn.specs.Running.{changes_of}
+use Rattle.txn_apply.specs.Stops.{changes_of}
 use Rattle.local_txn.proofs.RowShapes.{both_true}
 use Rattle.local_txn.proofs.StatementSteps.{IsKeyLen-fits, RowFits-here, RowFits-updated, RunsAs-updated}
 use Rattle.local_txn.proofs.statement.update_row.Goals as goal

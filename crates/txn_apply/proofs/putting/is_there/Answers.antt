@@ -3,8 +3,7 @@ use Rattle.std.proofs.Common.{◌≡◌, Some, sym}
 use Rattle.std.specs.Bool.{one_answer}
 use Rattle.rep_schema.specs.Tables.{columns_of, key_of, find_row, rows_of}
 use Rattle.rep_schema.proofs.ValuesAt.{are_same-Decides}
-use Rattle.rep_schema.proofs.RowFit.{length-fits}
-use Rattle.local_txn.proofs.rows.is_there.Goals as goal
+use Rattle.txn_apply.proofs.putting.is_there.Goals as goal
 
 pub returns-in-Some : goal.returns-in-Some
 returns-in-Some g c =
@@ -12,6 +11,3 @@ returns-in-Some g c =
     let found : find_row columns (key_of columns c.args.row.now) (rows_of (g.R.RowStore.tables c.args.store.now) c.args.table) ≡ Some c.in-Some.found.now = rw (← c.key_in.ensures) (sym c.in-Some.ensures) in
     let same = rw (c.values.ensures.value, c.values-in-Some.ensures.value) at c.same_values.ensures in
     rw found (one_answer _ _ same (are_same-Decides c.in-Some.found.now c.args.row.now))
-
-pub key_in-requires-clause-fits : goal.key_in-requires-clause-fits
-key_in-requires-clause-fits g c κs within = length-fits _ _ c.requires.fits
