@@ -1,6 +1,6 @@
 -- Tokens of transactions at two tables, one of them with a constraint, and which of them are independent, worked out by hand.
 use Rattle.std.proofs.Common.{◌≡◌, ℕ, List, [], ◌∷◌, true, false, refl, pos}
-use Rattle.std.specs.Prelude.{codes}
+use Rattle.std.specs.Prelude.{codes, map}
 use Rattle.rep_values.specs.declared.value.Value.TheVariants.{Num}
 use Rattle.rep_schema.specs.declared.schema.Schema.{Schema}
 use Rattle.rep_schema.specs.declared.schema.TableEntry.{TableEntry}
@@ -12,6 +12,7 @@ use Rattle.rep_calls.specs.declared.call.Txn.{Txn}
 use Rattle.dependency_index.specs.declared.token.Token.{Token}
 use Rattle.dependency_index.specs.declared.token.Token.TheVariants.{Key, Unique}
 use Rattle.dependency_index.specs.Tokens.{txn_tokens, share_token, AreIndependent}
+use Rattle.dependency_index.specs.Dependencies.{dependency_number}
 
 -- a table of the columns ID (the key) and CODE, in the group g
 abbrev table_of : List ℕ → List Constraint → TableEntry
@@ -72,3 +73,17 @@ rows_without_a_constraint_are_apart = refl
 one_row_is_shared : share_token (txn_tokens schema (insert 1 1)) (txn_tokens schema (update 1 1)) ≡ true
 unfolding group_columns_of
 one_row_is_shared = refl
+
+-- the dependency number of a transaction behind others of one stream, the newest first
+abbrev depends_on : Txn → List Txn → ℕ
+depends_on txn stream = dependency_number (txn_tokens schema txn) (map (txn_tokens schema) stream)
+
+-- two inserts into the table with a constraint, and then two updates of one row of the other table
+four_transactions_depend_on_0_1_0_and_3 :
+    depends_on (insert 0 1) []
+    ∷ depends_on (insert 0 2) (insert 0 1 ∷ [])
+    ∷ depends_on (update 1 5) (insert 0 2 ∷ insert 0 1 ∷ [])
+    ∷ depends_on (update 1 5) (update 1 5 ∷ insert 0 2 ∷ insert 0 1 ∷ [])
+    ∷ [] ≡ 0 ∷ 1 ∷ 0 ∷ 3 ∷ []
+unfolding group_columns_of
+four_transactions_depend_on_0_1_0_and_3 = refl

@@ -48,7 +48,8 @@ row_at schema content table key = find_row (columns_of schema table) key (rows_o
 -- what the row of a table that has a key has in the columns of secondary constraints, if there is such a row; none where
 -- the table has no constraint
 abbrev pub constrained_at : Schema → Content → ℕ → Cells → Option (List (Option Value))
-constrained_at schema content table key = cond (has_constraints schema table) (option_map (picked (constrained_columns schema table)) (row_at schema content table key)) None
+constrained_at schema content table key = cond (has_constraints schema table)
+    (option_map (picked (constrained_columns schema table)) (row_at schema content table key)) None
 
 -- the counters of a table
 abbrev pub counters_at : Content → ℕ → List ℕ
@@ -100,7 +101,8 @@ TransactionsTouchTheirTokens = (schema : Schema) (origin : SiteName) (txn : Txn)
 
 -- what two transactions do in either order
 pub record Commute (schema : Schema) (origin other_origin : SiteName) (txn other : Txn) (content : Content) : Type 0 where
-  pub same : content_after schema other_origin other (content_after schema origin txn content) ≡ content_after schema origin txn (content_after schema other_origin other content)
+  pub same : content_after schema other_origin other (content_after schema origin txn content)
+      ≡ content_after schema origin txn (content_after schema other_origin other content)
   pub first : EndAlike (effect_on schema origin txn content) (effect_on schema origin txn (content_after schema other_origin other content))
   pub second : EndAlike (effect_on schema other_origin other content) (effect_on schema other_origin other (content_after schema origin txn content))
 
