@@ -1,6 +1,7 @@
 ghost use Rattle.std.specs.Prelude.{◌≡◌, ◌↔◌, codes, IsTrue, IfOk};
 ghost use Rattle.rep_schema.specs.Shape.{HasShape, HasTableShape, HasGroupShape, HasLevelShape, IsPlaceIn, method_column, method_priority};
 
+use crate::Decision::{Keep, TakeNew, Undecided};
 use crate::{Decision, decide};
 use conflict_detect::call_fits;
 use rep_calls::{Call, Part};
@@ -191,42 +192,12 @@ fn of_numbers(
 #[test]
 fn methods_go_by_the_order(rt: HostRuntime) -> Result<(), Fail> {
     for (method, below, equal, above) in [
-        (
-            Method::Latest(1),
-            Decision::Keep,
-            Decision::Undecided,
-            Decision::TakeNew,
-        ),
-        (
-            Method::Earliest(1),
-            Decision::TakeNew,
-            Decision::Undecided,
-            Decision::Keep,
-        ),
-        (
-            Method::Maximum(1),
-            Decision::Keep,
-            Decision::Undecided,
-            Decision::TakeNew,
-        ),
-        (
-            Method::Minimum(1),
-            Decision::TakeNew,
-            Decision::Undecided,
-            Decision::Keep,
-        ),
-        (
-            Method::Overwrite,
-            Decision::TakeNew,
-            Decision::TakeNew,
-            Decision::TakeNew,
-        ),
-        (
-            Method::Discard,
-            Decision::Keep,
-            Decision::Keep,
-            Decision::Keep,
-        ),
+        (Method::Latest(1), Keep, Undecided, TakeNew),
+        (Method::Earliest(1), TakeNew, Undecided, Keep),
+        (Method::Maximum(1), Keep, Undecided, TakeNew),
+        (Method::Minimum(1), TakeNew, Undecided, Keep),
+        (Method::Overwrite, TakeNew, TakeNew, TakeNew),
+        (Method::Discard, Keep, Keep, Keep),
     ] {
         let alloc = rt.alloc();
         assert_eq!(rt; of_numbers(&rt, alloc, method, method, (1, 4, 5))?, below);

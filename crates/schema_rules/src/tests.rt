@@ -1,4 +1,6 @@
 use crate::check;
+use Kind::{Date, Number, Site, Stamp, Words};
+use Method::{Additive, Average, Earliest, Latest, Maximum, Minimum, SitePriority};
 use rep_lists::{Items, NoMemory};
 use rep_schema::{
     Column, Constraint, Group, Kind, Method, PriorityGroup, PriorityLevel, Schema, SiteEntry,
@@ -8,6 +10,17 @@ use rep_values::{Name, SiteName, TableName, Value};
 use std::alloc::Global;
 use std::process::Abort;
 use std::test::Fail;
+
+/// The method of a priority group that has a level, and of one that has none.
+const WITH_LEVEL: Method = Method::Priority {
+    column: 1,
+    group: 0,
+};
+
+const WITHOUT_LEVEL: Method = Method::Priority {
+    column: 1,
+    group: 1,
+};
 
 fn name(rt: &impl Abort, bytes: &[u8]) -> Name {
     Name::of(bytes).expect(rt, "a name")
@@ -97,81 +110,22 @@ fn nothing_declared_has_no_master(rt: HostRuntime) {
 #[test]
 fn groups_keep_their_rules(rt: HostRuntime) -> Result<(), Fail> {
     let cases: [(&[Kind], &[u32], &[Method], Option<u8>); 13] = [
+        (&[Number, Number], &[1], &[Additive], None),
+        (&[Stamp, Number], &[1], &[], Some(2)),
+        (&[Number, Number], &[0, 1], &[], Some(3)),
+        (&[Number, Date, Date], &[1], &[Maximum(2)], Some(4)),
+        (&[Number, Number, Number], &[1, 2], &[Average], Some(5)),
+        (&[Number, Date], &[1], &[Additive], Some(5)),
+        (&[Number, Number], &[1], &[Earliest(1)], Some(6)),
+        (&[Number, Words], &[1], &[Minimum(1)], Some(7)),
+        (&[Number, Words], &[1], &[WITH_LEVEL], None),
+        (&[Number, Site], &[1], &[WITH_LEVEL], Some(8)),
+        (&[Number, Words], &[1], &[WITHOUT_LEVEL], Some(8)),
+        (&[Number, Words], &[1], &[SitePriority(1)], Some(9)),
         (
-            &[Kind::Number, Kind::Number],
+            &[Number, Words],
             &[1],
-            &[Method::Additive],
-            None,
-        ),
-        (&[Kind::Stamp, Kind::Number], &[1], &[], Some(2)),
-        (&[Kind::Number, Kind::Number], &[0, 1], &[], Some(3)),
-        (
-            &[Kind::Number, Kind::Date, Kind::Date],
-            &[1],
-            &[Method::Maximum(2)],
-            Some(4),
-        ),
-        (
-            &[Kind::Number, Kind::Number, Kind::Number],
-            &[1, 2],
-            &[Method::Average],
-            Some(5),
-        ),
-        (
-            &[Kind::Number, Kind::Date],
-            &[1],
-            &[Method::Additive],
-            Some(5),
-        ),
-        (
-            &[Kind::Number, Kind::Number],
-            &[1],
-            &[Method::Earliest(1)],
-            Some(6),
-        ),
-        (
-            &[Kind::Number, Kind::Words],
-            &[1],
-            &[Method::Minimum(1)],
-            Some(7),
-        ),
-        (
-            &[Kind::Number, Kind::Words],
-            &[1],
-            &[Method::Priority {
-                column: 1,
-                group: 0,
-            }],
-            None,
-        ),
-        (
-            &[Kind::Number, Kind::Site],
-            &[1],
-            &[Method::Priority {
-                column: 1,
-                group: 0,
-            }],
-            Some(8),
-        ),
-        (
-            &[Kind::Number, Kind::Words],
-            &[1],
-            &[Method::Priority {
-                column: 1,
-                group: 1,
-            }],
-            Some(8),
-        ),
-        (
-            &[Kind::Number, Kind::Words],
-            &[1],
-            &[Method::SitePriority(1)],
-            Some(9),
-        ),
-        (
-            &[Kind::Number, Kind::Words],
-            &[1],
-            &[Method::SitePriority(1), Method::Latest(1)],
+            &[SitePriority(1), Latest(1)],
             Some(6),
         ),
     ];
@@ -185,7 +139,7 @@ fn groups_keep_their_rules(rt: HostRuntime) -> Result<(), Fail> {
 
 #[test]
 fn constraints_keep_their_rules(rt: HostRuntime) -> Result<(), Fail> {
-    let kinds = [Kind::Number, Kind::Number, Kind::Words, Kind::Stamp];
+    let kinds = [Number, Number, Words, Stamp];
     let cases: [(&[UniqueMethod], &[u32], &[UniqueMethod], Option<u8>); 6] = [
         (
             &[UniqueMethod::Discard],
@@ -216,69 +170,27 @@ fn constraints_keep_their_rules(rt: HostRuntime) -> Result<(), Fail> {
 #[test]
 fn convergent_tables_keep_their_rules(rt: HostRuntime) -> Result<(), Fail> {
     let cases: [(&[Kind], &[u32], &[Method], Option<i64>, Option<u8>); 9] = [
+        (&[Site, Number], &[1], &[Additive], Some(2), None),
         (
-            &[Kind::Site, Kind::Number],
+            &[Site, Number],
             &[1],
-            &[Method::Additive],
+            &[Minimum(1), Method::Discard],
             Some(2),
             None,
         ),
         (
-            &[Kind::Site, Kind::Number],
-            &[1],
-            &[Method::Minimum(1), Method::Discard],
-            Some(2),
-            None,
-        ),
-        (
-            &[Kind::Site, Kind::Stamp, Kind::Site, Kind::Words],
+            &[Site, Stamp, Site, Words],
             &[1, 2, 3],
-            &[Method::Latest(1), Method::SitePriority(2)],
+            &[Latest(1), SitePriority(2)],
             Some(2),
             None,
         ),
-        (
-            &[Kind::Number, Kind::Number],
-            &[1],
-            &[Method::Additive],
-            Some(2),
-            Some(12),
-        ),
-        (
-            &[Kind::Site, Kind::Number, Kind::Words],
-            &[1],
-            &[Method::Additive],
-            Some(2),
-            Some(13),
-        ),
-        (
-            &[Kind::Site, Kind::Number],
-            &[1],
-            &[Method::Average],
-            Some(2),
-            Some(14),
-        ),
-        (
-            &[Kind::Site, Kind::Number],
-            &[1],
-            &[Method::Maximum(1)],
-            Some(2),
-            Some(14),
-        ),
-        (
-            &[Kind::Site, Kind::Number],
-            &[1],
-            &[Method::Additive],
-            Some(1),
-            Some(15),
-        ),
-        (
-            &[Kind::Site, Kind::Number],
-            &[1],
-            &[Method::Additive],
-            None,
-            Some(15),
-        ),
+        (&[Number, Number], &[1], &[Additive], Some(2), Some(12)),
+        (&[Site, Number, Words], &[1], &[Additive], Some(2), Some(13)),
+        (&[Site, Number], &[1], &[Average], Some(2), Some(14)),
+        (&[Site, Number], &[1], &[Maximum(1)], Some(2), Some(14)),
+        (&[Site, Number], &[1], &[Additive], Some(1), Some(15)),
+        (&[Site, Number], &[1], &[Additive], None, Some(15)),
     ];
     for (kinds, places, methods, level, broken) in cases {
         let mut table = table(&rt, rt.alloc(), kinds, places, methods)?;

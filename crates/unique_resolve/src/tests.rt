@@ -204,6 +204,23 @@ fn is_settled(
     Ok(shown(&settled) == expected)
 }
 
+// What becomes of a row with a free code, of one whose code another row has, and of one where more codes are taken.
+fn is_settled_each_time(
+    rt: &impl Abort,
+    alloc: Global,
+    letters: &str,
+    inserting: bool,
+    expected: [&str; 3],
+) -> Result<bool, NoMemory> {
+    let letters = letters.as_bytes();
+    let [free, once, twice] = expected.map(|text| text.as_bytes());
+    Ok(
+        is_settled(rt, alloc, letters, false, inserting, b"f", free)?
+            && is_settled(rt, alloc, letters, false, inserting, b"k", once)?
+            && is_settled(rt, alloc, letters, true, inserting, b"k", twice)?,
+    )
+}
+
 #[test]
 fn methods_are_tried_in_sequence(rt: HostRuntime) -> Result<(), Fail> {
     for (letters, once, twice) in [
@@ -222,30 +239,8 @@ fn methods_are_tried_in_sequence(rt: HostRuntime) -> Result<(), Fail> {
         ("dd", "-", "-"),
     ] {
         for inserting in [false, true] {
-            let letters = letters.as_bytes();
-            assert!(rt; is_settled(&rt, rt.alloc(), letters, false, inserting, b"f", b"f")?);
-            assert!(rt;
-                is_settled(
-                    &rt,
-                    rt.alloc(),
-                    letters,
-                    false,
-                    inserting,
-                    b"k",
-                    once.as_bytes()
-                )?
-            );
-            assert!(rt;
-                is_settled(
-                    &rt,
-                    rt.alloc(),
-                    letters,
-                    true,
-                    inserting,
-                    b"k",
-                    twice.as_bytes()
-                )?
-            );
+            let expected = ["f", once, twice];
+            assert!(rt; is_settled_each_time(&rt, rt.alloc(), letters, inserting, expected)?);
         }
     }
     Ok(())
