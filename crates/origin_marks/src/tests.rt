@@ -35,7 +35,13 @@ fn marks_all_up_to_the_first_gap(rt: HostRuntime) -> Result<(), Fail> {
 
 /// Five positions from 1 to 5, by the number of their sequence.
 fn sequence(number: u64) -> [u64; 5] {
-    [1, 5, 25, 125, 625].map(|power| number / power % 5 + 1)
+    [
+        number % 5 + 1,
+        number / 5 % 5 + 1,
+        number / 25 % 5 + 1,
+        number / 125 % 5 + 1,
+        number / 625 % 5 + 1,
+    ]
 }
 
 /// The greatest number with all positions from 1 to it among these, at most 5.
