@@ -148,7 +148,7 @@ fn outcome(
         statement(rt, alloc, "insert", 2, 20)?,
     ]?;
     let ran = run_local(&mut store, alloc, &mut stamps, &here, &first);
-    assert!(rt; answer(rt, ran) == (0, 0, 2));
+    assert_eq!(rt; answer(rt, ran), (0, 0, 2));
     let mut second = Vec::new(alloc);
     for (kind, id, number) in lines {
         second.push(statement(rt, alloc, kind, *id, *number)?)?;
@@ -206,8 +206,8 @@ fn all_statements_run_or_none(rt: HostRuntime) -> Result<(), Fail> {
 #[test]
 fn a_thousand_statements_are_the_most(rt: HostRuntime) -> Result<(), Fail> {
     let (answer, _) = outcome(&rt, rt.alloc(), &[("delete", 3, 0); 1_000])?;
-    assert!(rt; answer == (1, 6, 0));
+    assert_eq!(rt; answer, (1, 6, 0));
     let (answer, _) = outcome(&rt, rt.alloc(), &[("delete", 3, 0); 1_001])?;
-    assert!(rt; answer == (1_001, 19, 0));
+    assert_eq!(rt; answer, (1_001, 19, 0));
     Ok(())
 }

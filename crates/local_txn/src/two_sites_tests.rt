@@ -110,7 +110,11 @@ fn committed(
     let statements = vec![in alloc; statement]?;
     match run_local(store, alloc, &mut stamps, &here, &statements) {
         Ok(local) => Ok(local.txn),
-        Err(_) => panic!(rt; "a refusal"),
+        Err(stop) => panic!(rt;
+            "refusal {} of statement {}",
+            stop.refusal.number(),
+            stop.statement
+        ),
     }
 }
 

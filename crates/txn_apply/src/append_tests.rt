@@ -4,7 +4,7 @@ ghost use Rattle.rep_schema.specs.Shape.{HasShape};
 ghost use Rattle.unique_resolve.specs.Numbers.{AreCounters};
 ghost use Rattle.txn_effects.specs.Calls.{HasKeys, KeysStandAlone};
 
-use crate::apply_txn;
+use crate::{ApplyStop, apply_txn};
 use conflict_detect::fits;
 use rep_calls::{Call, Txn};
 use rep_lists::{Items, NoMemory};
@@ -76,7 +76,7 @@ fn insert(rt: &impl Abort, alloc: Global, id: i64, code: &str) -> Result<Call, N
     })
 }
 
-// Whether the inserts of these rows from an origin are applied, with a delete of no row behind them or not.
+// What becomes of a transaction from an origin that inserts these rows.
 fn applied(
     rt: &impl Abort,
     alloc: Global,
@@ -84,7 +84,7 @@ fn applied(
     counters: &mut Counters,
     origin: &[u8],
     rows: &[(i64, &str)],
-) -> Result<bool, NoMemory>
+) -> Result<&'static str, NoMemory>
     requires shape { HasShape store.old.schema }
     requires keys { HasKeys store.old.schema }
     requires apart { KeysStandAlone store.old.schema }
@@ -100,7 +100,11 @@ fn applied(
     assert!(rt; fits(store.schema(), &txn));
     assert!(rt; txn.calls.len() <= 1_000);
     let origin = SiteName(name(rt, origin));
-    Ok(apply_txn(store, alloc, counters, &origin, &txn).is_ok())
+    match apply_txn(store, alloc, counters, &origin, &txn) {
+        Ok(_) => Ok("done"),
+        Err(ApplyStop::Memory) => Ok("memory"),
+        Err(ApplyStop::Failed { .. }) => Ok("failed"),
+    }
 }
 
 // Whether the row with this key has this text.
@@ -125,10 +129,19 @@ fn taken_texts_get_the_origin_or_a_number(rt: HostRuntime) -> Result<(), Fail> {
     let mut counters = Counters::make(alloc, &schema)?;
     let mut store = ListTables::make(alloc, schema)?;
     let (s, c) = (&mut store, &mut counters);
-    assert!(rt; applied(&rt, alloc, s, c, b"B", &[(11, x), (12, y), (13, "k")])?);
-    assert!(rt; applied(&rt, alloc, s, c, b"AMSTERDAM", &[(1, x), (2, y), (3, "k")])?);
-    assert!(rt; !applied(&rt, alloc, s, c, b"AMSTERDAM", &[(4, x), (11, x)])?);
-    assert!(rt; applied(&rt, alloc, s, c, b"AMSTERDAM", &[(5, x)])?);
+    assert_eq!(rt;
+        applied(&rt, alloc, s, c, b"B", &[(11, x), (12, y), (13, "k")])?,
+        "done"
+    );
+    assert_eq!(rt;
+        applied(&rt, alloc, s, c, b"AMSTERDAM", &[(1, x), (2, y), (3, "k")])?,
+        "done"
+    );
+    assert_eq!(rt;
+        applied(&rt, alloc, s, c, b"AMSTERDAM", &[(4, x), (11, x)])?,
+        "failed"
+    );
+    assert_eq!(rt; applied(&rt, alloc, s, c, b"AMSTERDAM", &[(5, x)])?, "done");
     for (id, code) in [
         (
             1,
