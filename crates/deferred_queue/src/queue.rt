@@ -94,7 +94,8 @@ impl Queue {
 
     /// The transaction at a position of a stream; None exactly where no such position was given.
     pub fn entry(&self, to: &SiteName, position: u64) -> Option<Sent<'_>>
-        ensures { option_map (λ sent. record { number = sent.number; dep = sent.dep; txn = sent.txn.now }) result ≡ at_position position (stream_to to.now self.now.deferred) }
+        ensures { option_map (λ sent. record { number = sent.number; dep = sent.dep; txn = sent.txn.now }) result
+            ≡ at_position position (stream_to to.now self.now.deferred) }
     {
         let entry = entry_to(&self.streams, to, position)?;
         Some(Sent {

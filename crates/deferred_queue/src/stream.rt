@@ -31,7 +31,10 @@ impl Model for Stream {
 
     ghost Value = { Held };
 
-    ghost view = { λ s. record { kept = record { site = s.site; acked = s.acked; entries = reverse s.entries.items }; room = vec_capacity s.entries - vec_len s.entries } };
+    ghost view = { λ s. record {
+      kept = record { site = s.site; acked = s.acked; entries = reverse s.entries.items };
+      room = vec_capacity s.entries - vec_len s.entries;
+    } };
 }
 
 fn entry_at(entries: &[Entry], place: usize) -> Option<Entry>

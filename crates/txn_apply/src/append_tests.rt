@@ -125,6 +125,9 @@ fn taken_texts_get_the_origin_or_a_number(rt: HostRuntime) -> Result<(), Fail> {
     let alloc = rt.alloc();
     let x = "xxxxxxxxxxxxxxxxxxxxxxxxxxxxxxxxxxxxxxxxxxxxxxxxxxxxxxxxxxxx";
     let y = "yyyyyyyyyyyyyyyyyyyyyyyyyyyyyyyyyyyyyyyyyyyyyyyyyyyyyyyyyyyy";
+    let x1 = "xxxxxxxxxxxxxxxxxxxxxxxxxxxxxxxxxxxxxxxxxxxxxxxxxxxxxxxxxxxx1";
+    let y2 = "yyyyyyyyyyyyyyyyyyyyyyyyyyyyyyyyyyyyyyyyyyyyyyyyyyyyyyyyyyyy2";
+    let x3 = "xxxxxxxxxxxxxxxxxxxxxxxxxxxxxxxxxxxxxxxxxxxxxxxxxxxxxxxxxxxx3";
     let schema = schema(&rt, alloc)?;
     let mut counters = Counters::make(alloc, &schema)?;
     let mut store = ListTables::make(alloc, schema)?;
@@ -143,19 +146,10 @@ fn taken_texts_get_the_origin_or_a_number(rt: HostRuntime) -> Result<(), Fail> {
     );
     assert_eq!(rt; applied(&rt, alloc, s, c, b"AMSTERDAM", &[(5, x)])?, "done");
     for (id, code) in [
-        (
-            1,
-            "xxxxxxxxxxxxxxxxxxxxxxxxxxxxxxxxxxxxxxxxxxxxxxxxxxxxxxxxxxxx1",
-        ),
-        (
-            2,
-            "yyyyyyyyyyyyyyyyyyyyyyyyyyyyyyyyyyyyyyyyyyyyyyyyyyyyyyyyyyyy2",
-        ),
+        (1, x1),
+        (2, y2),
         (3, "kAMSTERDAM"),
-        (
-            5,
-            "xxxxxxxxxxxxxxxxxxxxxxxxxxxxxxxxxxxxxxxxxxxxxxxxxxxxxxxxxxxx3",
-        ),
+        (5, x3),
         (11, x),
         (12, y),
         (13, "k"),
