@@ -1,3 +1,5 @@
 -- The definitions of this crate.
 pub mod Rising
 pub mod RisingLaws
+pub mod Roomy
+pub mod Lends

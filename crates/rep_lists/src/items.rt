@@ -1,5 +1,7 @@
 //! A list over a vector, which contracts see as its list.
-ghost use Rattle.std.specs.Prelude.{◌≡◌, ◌<◌, ◌↔◌, [], ◌∷◌, ◌++◌, length, slice_index_or, IsTrue, OnOk, OnErr};
+ghost use Rattle.std.specs.Prelude.{◌≡◌, ◌<◌, ◌↔◌, [], ◌∷◌, ◌++◌, length, slice_index_or, option_to_list, IsTrue, IfOk, OnOk, OnErr};
+ghost use Rattle.std.specs.Borrow.{sem};
+ghost use Rattle.rep_lists.specs.Lends.{lends_place};
 ghost use Rattle.std.specs.Slice.Iter.{iter_rest};
 
 use crate::{Copies, NoMemory};
@@ -29,6 +31,15 @@ impl<T> Items<T> {
         Items {
             kept: Vec::new(alloc),
         }
+    }
+
+    /// The empty list with room for so many values, so that pushes up to there take no memory.
+    pub fn with_capacity(alloc: Global, capacity: usize) -> Result<Items<T>, NoMemory>
+        ensures { IfOk result (λ items. items ≡ []) }
+    {
+        Ok(Items {
+            kept: Vec::with_capacity(alloc, capacity)?,
+        })
     }
 
     /// The values of a vector, which is taken over as it is.
@@ -72,6 +83,22 @@ impl<T> Items<T> {
         ensures { result.now ≡ slice_index_or self.now place result.now }
     {
         &self.kept[place]
+    }
+
+    /// The value at a place, to be changed where it stands.
+    pub fn at_mut(&mut self, place: usize) -> &mut T
+        requires { place < length self.old }
+        ensures* writes_back { sem 𝓛 (lends_place T.row self.entry place result) }
+        ensures value { result.now ≡ slice_index_or self.old place result.now }
+    {
+        &mut self.kept[place]
+    }
+
+    /// Takes the last value away, if there is one.
+    pub fn pop(&mut self) -> Option<T>
+        ensures { self.old ≡ self.new ++ option_to_list result }
+    {
+        self.kept.pop()
     }
 
     /// An iterator over the values in order.

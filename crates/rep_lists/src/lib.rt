@@ -1,15 +1,16 @@
-//! Lists that contracts see as lists, deep copies, and lists in rising order.
+//! Lists that contracts see as lists, alone, shared or with room, deep copies, and lists in rising order.
 #![tactic(auto)]
 
 mod copies;
 mod items;
 mod laws;
 mod memory;
+mod roomy;
+mod shared;
 
 pub use copies::Copies;
 pub use items::Items;
 pub use laws::rising_list_laws;
 pub use memory::NoMemory;
-
-#[cfg(test)]
-mod tests;
+pub use roomy::RoomyList;
+pub use shared::Shared;
