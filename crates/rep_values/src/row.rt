@@ -3,7 +3,7 @@ ghost use Rattle.std.specs.Prelude.{◌≡◌, ◌<◌, ◌↔◌, length, slice
 ghost use Rattle.rep_values.specs.Number.{IsRowLen};
 
 use crate::{NoMemory, Value};
-use rep_lists::Copies;
+use rep_lists::{Copies, Items};
 use std::alloc::Global;
 use std::marker::Model;
 
@@ -37,6 +37,19 @@ impl Row {
         Ok(Some(Row {
             values: Vec::from_slice(alloc, values)?,
         }))
+    }
+
+    /// The row of a list that was just built, without a copy; None exactly where it is empty or has more than 32 values.
+    pub fn from_items(values: Items<Value>) -> Option<Row>
+        ensures variant { IsSome result ↔ IsRowLen (length values) }
+        ensures value { IfSome result (λ row. row ≡ values) }
+    {
+        if values.is_empty() || 32 < values.len() {
+            return None;
+        }
+        Some(Row {
+            values: values.into_vec(),
+        })
     }
 
     /// The values of the row, in column order.
