@@ -100,9 +100,7 @@ fn fit(schema: &Schema, alloc: Global, call: Call) -> Result<bool, NoMemory>
     requires { HasShape schema.now }
 {
     let calls = vec![in alloc; call]?;
-    let txn = Txn {
-        calls: Items::from_vec(calls),
-    };
+    let txn = Txn::of(alloc, Items::from_vec(calls))?;
     Ok(fits(schema, &txn))
 }
 

@@ -27,7 +27,7 @@ fn txn(rt: &impl Abort, alloc: Global, table: u32) -> Result<Txn, NoMemory> {
         key: Key::of(&[Value::Num(1)]).expect(rt, "a key"),
         parts: Items::new(alloc),
     })?;
-    Ok(Txn { calls })
+    Txn::of(alloc, calls)
 }
 
 fn table_of(txn: &Txn) -> Option<u32> {

@@ -146,9 +146,7 @@ fn tokens(rt: &impl Abort, alloc: Global, schema: &Schema, call: Call) -> Result
     requires shape { HasShape schema.now }
     requires keys { HasKeys schema.now }
 {
-    let txn = Txn {
-        calls: Items::from_vec(vec![in alloc; call]?),
-    };
+    let txn = Txn::of(alloc, Items::from_vec(vec![in alloc; call]?))?;
     assert!(rt; fits(schema, &txn));
     tokens_of(alloc, schema, &txn)
 }

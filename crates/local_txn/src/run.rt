@@ -20,7 +20,7 @@ use crate::statement::run_in;
 use crate::stop::{Stop, stop_at};
 use crate::{Here, Local, LocalStop, Stamps};
 use conflict_detect::call_of;
-use rep_calls::{Call, Statement, Txn};
+use rep_calls::{Statement, Txn};
 use rep_lists::{Items, NoMemory};
 use rep_schema::{Change, Changes, RowStore, Schema, undo};
 use rep_values::{Limit, Refusal};
@@ -103,17 +103,17 @@ fn run_statements<R: RowStore>(
     })
 }
 
-/// The calls of changed rows.
-fn calls_of(alloc: Global, schema: &Schema, changes: &[Change]) -> Result<Items<Call>, NoMemory>
+/// The transaction of changed rows: a call for each.
+fn txn_of(alloc: Global, schema: &Schema, changes: &[Change]) -> Result<Txn, NoMemory>
     requires shape { HasShape schema.now }
     requires fits { AllByRecursion (ChangeFits schema.now) changes.now }
-    ensures { IfOk result (λ calls. calls ≡ map (call_of schema.now) changes.now) }
+    ensures { IfOk result (λ txn. txn.calls ≡ map (call_of schema.now) changes.now) }
 {
-    let mut calls = Items::new(alloc);
+    let mut calls = Items::with_capacity(alloc, changes.len())?;
     for change in changes {
         calls.push(call_of(alloc, schema, change)?)?;
     }
-    Ok(calls)
+    Txn::of(alloc, calls)
 }
 
 /// Runs the statements of a block at a site as one local transaction: all of them, or none. It answers the
@@ -149,11 +149,8 @@ pub fn run_local<R: RowStore>(
         });
     }
     let changes = run_statements(store, alloc, here, statements)?;
-    match calls_of(alloc, store.schema(), changes.rows.as_slice()) {
-        Ok(calls) => Ok(Local {
-            txn: Txn { calls },
-            changes,
-        }),
+    match txn_of(alloc, store.schema(), changes.rows.as_slice()) {
+        Ok(txn) => Ok(Local { txn, changes }),
         Err(_) => {
             undo(store, changes);
             Err(stop_at(0, Stop::NoRoom))

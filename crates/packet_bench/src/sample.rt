@@ -38,7 +38,7 @@ fn insert(from: SiteName, to: SiteName, row: Row, alloc: Global) -> Result<Packe
         number: 1_000,
         position: 900,
         dep: 899,
-        txn: Txn { calls },
+        txn: Txn::of(alloc, calls)?,
     })
 }
 

@@ -112,5 +112,5 @@ pub fn txn(alloc: Global, bytes: &mut Reader<'_>) -> Result<Txn, Stop>
 {
     let count = bytes.u32_number()?;
     let calls = limited::<Call>(alloc, bytes, 1000, count as usize)?;
-    Ok(Txn { calls })
+    Ok(Txn::of(alloc, calls)?)
 }

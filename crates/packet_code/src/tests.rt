@@ -48,14 +48,14 @@ fn delete(rt: &impl Abort, alloc: Global, table: u32, number: i64) -> Result<Cal
     })
 }
 
-fn carry(rt: &impl Abort, places: (u64, u64, u64), calls: Items<Call>) -> Packet {
+fn carry(rt: &impl Abort, places: (u64, u64, u64), txn: Txn) -> Packet {
     Packet::Carry {
         from: site(rt, b"A"),
         to: site(rt, b"B"),
         number: places.0,
         position: places.1,
         dep: places.2,
-        txn: Txn { calls },
+        txn,
     }
 }
 
@@ -74,7 +74,7 @@ fn is_spelled(
 
 // Whether the only call of a transaction may be sent.
 fn is_sent(rt: &impl Abort, alloc: Global, call: Call) -> Result<bool, NoMemory> {
-    Ok(is_packet(&carry(rt, (1, 1, 0), one(alloc, call)?)))
+    Ok(is_packet(&carry(rt, (1, 1, 0), Txn::of(alloc, one(alloc, call)?)?)))
 }
 
 // Whether an update of two parts may be sent.
@@ -97,7 +97,7 @@ fn marks_and_inserts_are_spelled_out(rt: HostRuntime) -> Result<(), Fail> {
         table: 0,
         row: row(&rt, alloc, &[Value::Num(1), words(&rt, b"one")])?,
     };
-    let packet = carry(&rt, (1, 1, 0), one(alloc, insert)?);
+    let packet = carry(&rt, (1, 1, 0), Txn::of(alloc, one(alloc, insert)?)?);
     let bytes =
         b"\x01\x01\x01A\x01B\0\0\0\0\0\0\0\x01\0\0\0\0\0\0\0\x01\0\0\0\0\0\0\0\0\0\0\0\x01\x01\0\0\x02\x01\0\0\0\0\0\0\0\x01\x02\x03one";
     assert!(rt; is_spelled(&rt, alloc, &packet, bytes)?);
@@ -113,7 +113,7 @@ fn updates_and_deletes_are_spelled_out(rt: HostRuntime) -> Result<(), Fail> {
         table: 65_535,
         row: row(&rt, alloc, &[words(&rt, b"~")])?,
     })?;
-    let packet = carry(&rt, (515, 514, 513), calls);
+    let packet = carry(&rt, (515, 514, 513), Txn::of(alloc, calls)?);
     let bytes =
         b"\x01\x01\x01A\x01B\0\0\0\0\0\0\x02\x03\0\0\0\0\0\0\x02\x02\0\0\0\0\0\0\x02\x01\0\0\0\x02\x02\x01\x02\x01\x01\0\0\0\0\0\0\0\x07\x01\xff\x01\x01\xff\xff\xff\xff\xff\xff\xff\xff\x02\0\x03\xff\xff\x01\x02\x01~";
     assert!(rt; is_spelled(&rt, alloc, &packet, bytes)?);
@@ -131,7 +131,10 @@ fn places_tables_and_numbers_have_limits(rt: HostRuntime) -> Result<(), Fail> {
         ((9, 5, 5), false),
     ] {
         let calls = one(alloc, delete(&rt, alloc, 0, 1)?)?;
-        assert_eq!(rt; is_packet(&carry(&rt, places, calls)), sent);
+        assert_eq!(rt;
+            is_packet(&carry(&rt, places, Txn::of(alloc, calls)?)),
+            sent
+        );
     }
     for (table, number, sent) in [
         (65_535, 1_000_000_000_000_000, true),
@@ -180,7 +183,10 @@ fn transactions_have_1_to_1000_calls(rt: HostRuntime) -> Result<(), Fail> {
         for _ in 0..count {
             calls.push(delete(&rt, alloc, 0, 1)?)?;
         }
-        assert_eq!(rt; is_packet(&carry(&rt, (1, 1, 0), calls)), sent);
+        assert_eq!(rt;
+            is_packet(&carry(&rt, (1, 1, 0), Txn::of(alloc, calls)?)),
+            sent
+        );
     }
     Ok(())
 }

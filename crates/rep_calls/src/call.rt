@@ -1,6 +1,7 @@
 //! What travels from site to site: row changes with their old and new values.
+ghost use Rattle.std.specs.Prelude.{◌≡◌, IfOk};
 
-use rep_lists::{Copies, Items, NoMemory};
+use rep_lists::{Copies, Items, NoMemory, Shared};
 use rep_values::{Key, Row, Value};
 use std::alloc::Global;
 
@@ -33,10 +34,31 @@ pub struct Part {
     pub new: Items<Value>,
 }
 
-/// A transaction: its calls in order, 1 to 1,000 of them where it is queued.
+/// A transaction: its calls in order, 1 to 1,000 of them where it is queued. They stand in memory once, however many
+/// queues, journals and packets hold the transaction.
 #[derive(Drop)]
 pub struct Txn {
-    pub calls: Items<Call>,
+    pub calls: Shared<Call>,
+}
+
+impl Txn {
+    /// The transaction of these calls, which are taken over as they are.
+    pub fn of(alloc: Global, calls: Items<Call>) -> Result<Txn, NoMemory>
+        ensures { IfOk result (λ txn. txn.calls ≡ calls) }
+    {
+        Ok(Txn {
+            calls: Shared::new(alloc, calls.into_vec())?,
+        })
+    }
+
+    /// The same transaction for one more holder, at no memory: it is refused only where 2^63 hold it.
+    pub fn share(&self) -> Result<Txn, NoMemory>
+        ensures { IfOk result (λ txn. txn ≡ self.now) }
+    {
+        Ok(Txn {
+            calls: self.calls.share()?,
+        })
+    }
 }
 
 impl Copies for Call {
@@ -70,9 +92,7 @@ impl Copies for Part {
 }
 
 impl Copies for Txn {
-    fn copy(&self, alloc: Global) -> Result<Txn, NoMemory> {
-        Ok(Txn {
-            calls: self.calls.copy(alloc)?,
-        })
+    fn copy(&self, _alloc: Global) -> Result<Txn, NoMemory> {
+        self.share()
     }
 }

@@ -6,6 +6,3 @@ mod statement;
 
 pub use call::{Call, Part, Txn};
 pub use statement::{How, Set, Statement};
-
-#[cfg(test)]
-mod tests;

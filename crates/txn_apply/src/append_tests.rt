@@ -96,7 +96,7 @@ fn applied(
     for (id, code) in rows {
         calls.push(insert(rt, alloc, *id, code)?)?;
     }
-    let txn = Txn { calls };
+    let txn = Txn::of(alloc, calls)?;
     assert!(rt; fits(store.schema(), &txn));
     assert!(rt; txn.calls.len() <= 1_000);
     let origin = SiteName(name(rt, origin));

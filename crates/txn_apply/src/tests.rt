@@ -157,12 +157,11 @@ fn outcome(
     let mut counters = Counters::make(alloc, &schema)?;
     let mut store = ListTables::make(alloc, schema)?;
     let origin = SiteName(name(rt, b"A"));
-    let first = Txn {
-        calls: Items::from_vec(vec![in alloc;
-            call(rt, alloc, "insert", 1, 10, 0)?,
-            call(rt, alloc, "insert", 2, 20, 0)?,
-        ]?),
-    };
+    let first = Items::from_vec(vec![in alloc;
+        call(rt, alloc, "insert", 1, 10, 0)?,
+        call(rt, alloc, "insert", 2, 20, 0)?,
+    ]?);
+    let first = Txn::of(alloc, first)?;
     assert!(rt; fits(store.schema(), &first));
     let done = apply_txn(&mut store, alloc, &mut counters, &origin, &first);
     assert_eq!(rt; answer(rt, done, 2), (0, "done"));
@@ -170,7 +169,7 @@ fn outcome(
     for (kind, id, old, new) in calls {
         second.push(call(rt, alloc, kind, *id, *old, *new)?)?;
     }
-    let second = Txn { calls: second };
+    let second = Txn::of(alloc, second)?;
     assert!(rt; fits(store.schema(), &second));
     assert!(rt; second.calls.len() <= 1_000);
     let applied = apply_txn(&mut store, alloc, &mut counters, &origin, &second);

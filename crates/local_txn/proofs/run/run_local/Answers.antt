@@ -9,8 +9,8 @@ use Rattle.local_txn.proofs.BlockCalls.{ChangeFits-led, CallFits-led}
 use Rattle.local_txn.proofs.Applying.{calls_effect-own}
 use Rattle.local_txn.proofs.run.run_local.Goals as goal
 
-pub calls_of-requires-clause-fits : goal.calls_of-requires-clause-fits
-calls_of-requires-clause-fits g c =
+pub txn_of-requires-clause-fits : goal.txn_of-requires-clause-fits
+txn_of-requires-clause-fits g c =
     let schema = g.R.RowStore.schema c.args.store.now in
     let done = c.in_ok-changes in
     rw (c.schema.ensures.value, done.ensures.schema, c.as_slice.ensures)
@@ -29,5 +29,5 @@ returns-in-Ok-clause-applies g c origin numbers =
     let schema = g.R.RowStore.schema c.args.store.now in
     let tables = g.R.RowStore.tables c.args.store.now in
     let done = c.in_ok-changes in
-    let are : c.in-Ok.calls ≡ map (call_of schema) done.changes.rows = rw (c.schema.ensures.value, done.ensures.schema, c.as_slice.ensures) at c.in-Ok.ensures in
+    let are : c.in-Ok.txn.calls ≡ map (call_of schema) done.changes.rows = rw (c.schema.ensures.value, done.ensures.schema, c.as_slice.ensures) at c.in-Ok.ensures in
     rw are (calls_effect-own schema origin numbers 1 done.changes.rows tables (g.R.RowStore.tables c.run_statements.new.store) c.requires.shape done.ensures.were done.ensures.leads done.ensures.differ)
