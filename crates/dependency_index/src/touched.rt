@@ -2,7 +2,7 @@
 ghost use Rattle.std.specs.Prelude.{◌≡◌, ◌<◌, ◌==◌, ◌++◌, length, IfOk, OnOk};
 ghost use Rattle.std.specs.List.{list_any};
 ghost use Rattle.rep_schema.specs.Shape.{HasShape};
-ghost use Rattle.rep_schema.specs.Tables.{columns_of, constraints_of, key_of, RowFits, IsKeyed};
+ghost use Rattle.rep_schema.specs.Tables.{columns_of, constraints_of};
 ghost use Rattle.conflict_detect.specs.Fits.{CallFits, TxnFits};
 ghost use Rattle.txn_effects.specs.Calls.{HasKeys, key_named};
 ghost use Rattle.dependency_index.specs.Tokens.{has_constraints, is_constrained, has_constrained_column, touches_constraints, call_tokens, txn_tokens};
@@ -11,19 +11,9 @@ use crate::{Token, Tokens};
 use conflict_detect::table_of;
 use rep_calls::{Call, Part, Txn};
 use rep_lists::{Items, NoMemory};
-use rep_schema::{Constraint, Schema, columns_of, group_columns, has_place, key_of};
-use rep_values::{Key, Row};
+use rep_schema::{Constraint, Schema, constraints_of, group_columns, has_place, key_in};
+use rep_values::Key;
 use std::alloc::Global;
-
-/// The key of a row that fits a table.
-fn key_in(schema: &Schema, table: u32, row: &Row) -> Key
-    requires table { table < length schema.now.tables }
-    requires keyed { IsKeyed (columns_of schema.now table) }
-    requires fits { RowFits (columns_of schema.now table) row.now }
-    ensures { result ≡ key_of (columns_of schema.now table) row.now }
-{
-    key_of(columns_of(schema, table), row.values())
-}
 
 /// The key of the row that a call names.
 fn key_named(schema: &Schema, call: &Call) -> Key
@@ -35,14 +25,6 @@ fn key_named(schema: &Schema, call: &Call) -> Key
         Call::Insert { table, row } | Call::Delete { table, row } => key_in(schema, *table, row),
         Call::Update { key, .. } => *key,
     }
-}
-
-/// The secondary constraints of a table.
-fn constraints_of(schema: &Schema, table: u32) -> &[Constraint]
-    requires { table < length schema.now.tables }
-    ensures { result.now ≡ constraints_of schema.now table }
-{
-    schema.tables.at(table as usize).constraints.as_slice()
 }
 
 fn has_constraints(schema: &Schema, table: u32) -> bool

@@ -10,7 +10,7 @@ use Rattle.rep_schema.specs.Tables.{Rows, AreTables}
 use Rattle.rep_schema.specs.Changes.{is_taken_from, room_for}
 use Rattle.rep_schema.proofs.Leading.{room_for-append}
 use Rattle.rep_calls.specs.declared.statement.Statement.{Statement}
-use Rattle.rep_declare.specs.Named.{is_table}
+use Rattle.rep_schema.specs.Named.{is_table}
 use Rattle.txn_effects.specs.Calls.{HasKeys}
 use Rattle.txn_effects.specs.Transactions.{made_all}
 use Rattle.txn_effects.specs.Laws.{IsApplied}

@@ -1,5 +1,4 @@
 -- The lemmas of this crate, from the bottom up.
-mod Marks
 mod LiteralWalk
 mod RowShapes
 mod FreeRows

@@ -25,7 +25,8 @@ use Rattle.rep_calls.specs.declared.statement.How.TheVariants.{To, Add}
 use Rattle.rep_declare.specs.Refusals.{first_refusal}
 use Rattle.unique_resolve.specs.Settling.{is_held}
 use Rattle.local_txn.specs.Statements.{taken_step}
-use Rattle.local_txn.specs.Literals.{takes_amounts, is_of_kind, literal_fits, literals_fit, values_of, value_in_range, row_in_range}
+use Rattle.rep_schema.specs.Kinds.{takes_amounts, is_of_kind, value_in_range, row_in_range}
+use Rattle.local_txn.specs.Literals.{literal_fits, literals_fit, values_of}
 use Rattle.local_txn.specs.Sets.{is_about, takes_how, takes_set, value_after, value_by, row_with}
 
 pub both_true : (a b : Bool) → (a && b) ≡ true → (a ≡ true) × (b ≡ true)

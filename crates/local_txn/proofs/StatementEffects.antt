@@ -22,7 +22,8 @@ use Rattle.txn_effects.proofs.CallEffects.{is_unchanged-Decides}
 use Rattle.txn_effects.proofs.TransactionEffects.{IsApplied-none}
 use Rattle.local_txn.specs.declared.local.Here.{Here}
 use Rattle.local_txn.specs.Held.{table_name, table_place, held_of, holds, held_table}
-use Rattle.local_txn.specs.Literals.{literals_fit, key_literals_fit, values_of, row_in_range}
+use Rattle.rep_schema.specs.Kinds.{row_in_range}
+use Rattle.local_txn.specs.Literals.{literals_fit, key_literals_fit, values_of}
 use Rattle.local_txn.specs.Sets.{names_columns, sets_fit, row_with}
 use Rattle.local_txn.specs.Statements.{row_at, row_set, row_before, row_after, row_steps, unique_steps, there, steps_in, change_in, statement_refusal, statement_changes}
 use Rattle.local_txn.specs.Running.{CanRun}

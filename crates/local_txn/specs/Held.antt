@@ -1,11 +1,11 @@
 -- The table that a statement names.
-use Rattle.std.specs.Prelude.{ℕ, Bool, false, cond, Option, Some, None, slice_index_or}
-use Rattle.std.specs.List.{position}
+use Rattle.std.specs.Prelude.{ℕ, Bool, false, cond, Option, Some, None}
 use Rattle.rep_values.specs.declared.name.TableName.{TableName}
 use Rattle.rep_schema.specs.declared.schema.Schema.{Schema}
 use Rattle.rep_calls.specs.declared.statement.Statement.{Statement}
 use Rattle.rep_calls.specs.declared.statement.Statement.TheVariants.{Insert, Update, Delete}
-use Rattle.rep_declare.specs.Named.{is_table}
+use Rattle.rep_schema.specs.Named.{table_place}
+use Rattle.rep_schema.specs.Sites.{has_table}
 use Rattle.local_txn.specs.declared.local.Here.{Here}
 
 -- the name of the table that a statement is about
@@ -14,13 +14,9 @@ table_name (Insert table values) = table
 table_name (Update table key sets) = table
 table_name (Delete table key) = table
 
--- the number of the table of this name
-abbrev pub table_place : Schema → TableName → Option ℕ
-table_place schema name = position (is_table name) schema.tables
-
 -- a site holds the table of a number
 abbrev pub holds : Here → ℕ → Bool
-holds here table = slice_index_or here.tables table false
+holds here table = has_table here.tables table
 
 abbrev pub held_of : Here → Option ℕ → Option ℕ
 held_of here None = None

@@ -1,46 +1,14 @@
--- A script's literals beside columns: kinds, declared sites and ranges.
+-- A script's literals beside columns: kinds and declared sites.
 use Rattle.std.specs.Prelude.{Bool, true, false, not, ◌&&◌, ◌||◌, List, [], ◌∷◌, map, Option, Some, None}
 use Rattle.std.specs.List.{list_any, list_all}
 use Rattle.rep_values.specs.declared.literal.Literal.{Literal}
 use Rattle.rep_values.specs.declared.literal.Literal.TheVariants as literal
-use Rattle.rep_values.specs.declared.value.Value.{Value}
-use Rattle.rep_values.specs.declared.value.Value.TheVariants as value
 use Rattle.rep_values.specs.Literal.{value_of_literal}
 use Rattle.rep_values.specs.Name.{same_bytes}
 use Rattle.rep_schema.specs.declared.schema.Schema.{Schema}
 use Rattle.rep_schema.specs.declared.schema.Column.{Column}
-use Rattle.rep_schema.specs.declared.schema.Kind.{Kind}
-use Rattle.rep_schema.specs.declared.schema.Kind.TheVariants as kind
 use Rattle.rep_schema.specs.Tables.{Cells, key_columns}
-use Rattle.rep_schema.specs.Fitting.{is_in_range}
-
--- a kind of column takes numbers; the others take texts
-abbrev pub takes_numbers : Kind → Bool
-takes_numbers kind.Number = true
-takes_numbers kind.Date = true
-takes_numbers kind.Stamp = true
-takes_numbers kind.Words = false
-takes_numbers kind.Site = false
-
--- an amount can be added in a kind of column
-abbrev pub takes_amounts : Kind → Bool
-takes_amounts kind.Number = true
-takes_amounts kind.Date = true
-takes_amounts kind.Stamp = false
-takes_amounts kind.Words = false
-takes_amounts kind.Site = false
-
-abbrev pub is_site_kind : Kind → Bool
-is_site_kind kind.Number = false
-is_site_kind kind.Date = false
-is_site_kind kind.Stamp = false
-is_site_kind kind.Words = false
-is_site_kind kind.Site = true
-
--- a literal is of a kind, its range untested
-abbrev pub is_of_kind : Kind → Literal → Bool
-is_of_kind kind (literal.Num n) = takes_numbers kind
-is_of_kind kind (literal.Words t) = not (takes_numbers kind)
+use Rattle.rep_schema.specs.Kinds.{is_site_kind, is_of_kind}
 
 -- a literal is the name of a declared site
 abbrev pub names_site : Schema → Literal → Bool
@@ -69,12 +37,3 @@ key_literals_fit schema columns literals = literals_fit schema (key_columns colu
 -- the values that literals stand for
 abbrev pub values_of : List Literal → Cells
 values_of literals = map value_of_literal literals
-
--- a number lies within ±10^15, or it is a text
-abbrev pub value_in_range : Value → Bool
-value_in_range (value.Num n) = is_in_range n
-value_in_range (value.Words t) = true
-
--- each number of a row lies within ±10^15
-abbrev pub row_in_range : Cells → Bool
-row_in_range row = list_all value_in_range row

@@ -10,8 +10,8 @@ use Rattle.rep_schema.specs.Tables.{Cells}
 use Rattle.rep_calls.specs.declared.statement.Set.{Set}
 use Rattle.rep_calls.specs.declared.statement.How.{How}
 use Rattle.rep_calls.specs.declared.statement.How.TheVariants.{To, Add}
-use Rattle.rep_declare.specs.Named.{is_column}
-use Rattle.local_txn.specs.Literals.{is_of_kind, takes_amounts, value_in_range, row_in_range}
+use Rattle.rep_schema.specs.Named.{is_column}
+use Rattle.rep_schema.specs.Kinds.{is_of_kind, takes_amounts, value_in_range, row_in_range}
 
 -- each name is that of a column
 abbrev pub names_columns : List Column → List Set → Bool

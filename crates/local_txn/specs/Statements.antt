@@ -16,7 +16,8 @@ use Rattle.unique_resolve.specs.Settling.{is_held}
 use Rattle.txn_effects.specs.Calls.{changes_between}
 use Rattle.local_txn.specs.declared.local.Here.{Here}
 use Rattle.local_txn.specs.Held.{table_name, table_place, held_table}
-use Rattle.local_txn.specs.Literals.{literals_fit, key_literals_fit, values_of, row_in_range}
+use Rattle.rep_schema.specs.Kinds.{row_in_range}
+use Rattle.local_txn.specs.Literals.{literals_fit, key_literals_fit, values_of}
 use Rattle.local_txn.specs.Sets.{names_columns, sets_fit, row_with}
 
 -- the row of a table with a key, where it is there

@@ -1,22 +1,12 @@
 //! The table that a statement names.
 ghost use Rattle.std.specs.Prelude.{◌≡◌, ◌<◌, length, IfSome};
-ghost use Rattle.std.specs.List.{position};
 ghost use Rattle.rep_schema.specs.Shape.{HasShape};
-ghost use Rattle.rep_declare.specs.Named.{is_table};
 ghost use Rattle.local_txn.specs.Held.{table_name, held_of, held_table};
 
 use crate::Here;
 use rep_calls::Statement;
-use rep_schema::{Schema, TableEntry};
+use rep_schema::{Schema, table_place};
 use rep_values::TableName;
-
-fn place_of(tables: &[TableEntry], name: &TableName) -> Option<usize>
-    ensures { result ≡ position (is_table name.now) tables.now }
-{
-    tables
-        .iter()
-        .position(|table| table.name.0.is_same(&name.0))
-}
 
 fn table_name(statement: &Statement) -> TableName
     ensures { result ≡ table_name statement.now }
@@ -34,7 +24,7 @@ pub(crate) fn held_table(schema: &Schema, here: &Here, statement: &Statement) ->
     ensures value { result ≡ held_table schema.now here.now statement.now }
     ensures below { IfSome result (λ table. table < length schema.now.tables) }
 {
-    let place = place_of(schema.tables.as_slice(), &table_name(statement))?;
+    let place = table_place(schema.tables.as_slice(), &table_name(statement))?;
     if !here.tables.has(place as u32) {
         return None;
     }

@@ -9,11 +9,9 @@ mod run;
 mod sets;
 mod statement;
 mod stop;
-mod table_set;
 
 pub use local::{Here, Local, LocalStop, Stamps};
 pub use run::run_local;
-pub use table_set::TableSet;
 
 #[cfg(test)]
 mod tests;

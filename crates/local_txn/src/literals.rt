@@ -4,50 +4,12 @@ ghost use Rattle.std.specs.List.{list_any, list_all};
 ghost use Rattle.rep_values.specs.Number.{IsKeyLen, IsRowLen};
 ghost use Rattle.rep_values.specs.Name.{same_bytes};
 ghost use Rattle.rep_schema.specs.Tables.{key_columns};
-ghost use Rattle.local_txn.specs.Literals.{takes_numbers, takes_amounts, is_site_kind, is_of_kind, names_site, literal_fits, literal_there, literals_fit, key_literals_fit, values_of, value_in_range, row_in_range};
+ghost use Rattle.local_txn.specs.Literals.{names_site, literal_fits, literal_there, literals_fit, key_literals_fit, values_of};
 
 use rep_lists::NoMemory;
-use rep_schema::{Column, Kind, Schema, SiteEntry, is_in_range};
+use rep_schema::{Column, Schema, SiteEntry, is_of_kind};
 use rep_values::{Key, Literal, Row, Text, Value};
 use std::alloc::Global;
-
-fn takes_numbers(kind: Kind) -> bool
-    ensures { result ≡ takes_numbers kind }
-{
-    match kind {
-        Kind::Number | Kind::Date | Kind::Stamp => true,
-        Kind::Words | Kind::Site => false,
-    }
-}
-
-/// Whether an amount can be added in a column of this kind.
-pub(crate) fn takes_amounts(kind: Kind) -> bool
-    ensures { result ≡ takes_amounts kind }
-{
-    match kind {
-        Kind::Number | Kind::Date => true,
-        Kind::Stamp | Kind::Words | Kind::Site => false,
-    }
-}
-
-fn is_site_kind(kind: Kind) -> bool
-    ensures { result ≡ is_site_kind kind }
-{
-    match kind {
-        Kind::Number | Kind::Date | Kind::Stamp | Kind::Words => false,
-        Kind::Site => true,
-    }
-}
-
-/// Whether a literal is of a column's kind. Its range is not tested.
-pub(crate) fn is_of_kind(kind: Kind, literal: &Literal) -> bool
-    ensures { result ≡ is_of_kind kind literal.now }
-{
-    match literal {
-        Literal::Num(_) => takes_numbers(kind),
-        Literal::Words(_) => !takes_numbers(kind),
-    }
-}
 
 fn has_site(sites: &[SiteEntry], name: &Text) -> bool
     ensures { result ≡ list_any (λ site. same_bytes site.name.0 name.now) sites.now }
@@ -68,7 +30,7 @@ fn literal_fits(schema: &Schema, column: &Column, literal: &Literal) -> bool
     ensures { result ≡ literal_fits schema.now column.now literal.now }
 {
     is_of_kind(column.kind, literal)
-        && (!(column.key && is_site_kind(column.kind)) || names_site(schema, literal))
+        && (!(column.key && column.kind.is_site_kind()) || names_site(schema, literal))
 }
 
 /// Whether a literal is at a place, and fits a column.
@@ -137,20 +99,4 @@ pub(crate) fn key_of_literals(literals: &[Literal]) -> Key
         Some(key) => key,
         None => unreachable!(),
     }
-}
-
-pub(crate) fn value_in_range(value: &Value) -> bool
-    ensures { result ≡ value_in_range value.now }
-{
-    match value {
-        Value::Num(number) => is_in_range(*number),
-        Value::Words(_) => true,
-    }
-}
-
-/// Whether each number lies within ±10^15.
-pub(crate) fn row_in_range(values: &[Value]) -> bool
-    ensures { result ≡ row_in_range values.now }
-{
-    values.iter().all(|value| value_in_range(value))
 }

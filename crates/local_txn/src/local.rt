@@ -1,8 +1,7 @@
 //! What a local transaction is given, and what comes of it.
 
-use crate::TableSet;
 use rep_calls::Txn;
-use rep_schema::Changes;
+use rep_schema::{Changes, TableSet};
 use rep_values::{Refusal, SiteName};
 
 /// The site that runs a transaction, and the tables that it holds.

@@ -1,19 +1,11 @@
 //! What an update sets.
 ghost use Rattle.std.specs.Prelude.{◌≡◌, option_copied, length};
 ghost use Rattle.std.specs.List.{find, list_any, list_all};
-ghost use Rattle.rep_declare.specs.Named.{is_column};
 ghost use Rattle.local_txn.specs.Sets.{names_columns, is_about, names_one_twice, takes_how, takes_set, sets_fit, value_after, value_by, row_with, where_in_range, row_where_in_range};
 
-use crate::literals::{is_of_kind, takes_amounts, value_in_range};
 use rep_calls::{How, Set};
-use rep_schema::Column;
+use rep_schema::{Column, has_column, is_of_kind, value_in_range};
 use rep_values::{Name, Row, Value};
-
-fn has_column(columns: &[Column], name: &Name) -> bool
-    ensures { result ≡ list_any (is_column name.now) columns.now }
-{
-    columns.iter().any(|column| column.name.is_same(name))
-}
 
 /// Whether each name is that of a column.
 pub(crate) fn names_columns(columns: &[Column], sets: &[Set]) -> bool
@@ -51,7 +43,7 @@ fn takes_how(column: &Column, how: &How) -> bool
 {
     match how {
         How::To(literal) => is_of_kind(column.kind, literal),
-        How::Add(_) => takes_amounts(column.kind),
+        How::Add(_) => column.kind.takes_amounts(),
     }
 }
 

@@ -10,7 +10,7 @@ ghost use Rattle.local_txn.specs.Statements.{row_at, row_set, insert_steps, upda
 ghost use Rattle.txn_apply.specs.Stops.{changes_of};
 ghost use Rattle.local_txn.specs.Running.{CanRun, RunsAs, StopsAs};
 
-use crate::literals::{key_literals_fit, key_of_literals, literals_fit, row_in_range, row_of};
+use crate::literals::{key_literals_fit, key_of_literals, literals_fit, row_of};
 use crate::rows::{copy_of_row, has_row, key_in, put_free};
 use crate::sets::{names_columns, set_row, sets_fit};
 use crate::stop::Stop;

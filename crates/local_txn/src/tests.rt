@@ -3,10 +3,10 @@ ghost use Rattle.std.specs.Prelude.{◌≡◌, length, IfOk};
 ghost use Rattle.rep_schema.specs.Shape.{HasShape};
 ghost use Rattle.txn_effects.specs.Calls.{HasKeys};
 
-use crate::{Here, Local, LocalStop, Stamps, TableSet, run_local};
+use crate::{Here, Local, LocalStop, Stamps, run_local};
 use rep_calls::{How, Set, Statement};
 use rep_lists::{Items, NoMemory};
-use rep_schema::{Column, Constraint, Kind, RowStore, Schema, TableEntry};
+use rep_schema::{Column, Constraint, Kind, RowStore, Schema, TableEntry, TableSet};
 use rep_values::{Key, Literal, Name, SiteName, TableName, Value};
 use row_tables::ListTables;
 use std::alloc::Global;

@@ -4,11 +4,11 @@ ghost use Rattle.rep_schema.specs.Shape.{HasShape};
 ghost use Rattle.unique_resolve.specs.Numbers.{AreCounters};
 ghost use Rattle.txn_effects.specs.Calls.{HasKeys, KeysStandAlone};
 
-use crate::{Here, Stamps, TableSet, run_local};
+use crate::{Here, Stamps, run_local};
 use conflict_detect::fits;
 use rep_calls::{How, Set, Statement, Txn};
 use rep_lists::{Items, NoMemory};
-use rep_schema::{Column, Group, Kind, Method, RowStore, Schema, TableEntry};
+use rep_schema::{Column, Group, Kind, Method, RowStore, Schema, TableEntry, TableSet};
 use rep_values::{ApplyError, Key, Literal, Name, SiteName, TableName, Text, Value};
 use row_tables::ListTables;
 use std::alloc::Global;

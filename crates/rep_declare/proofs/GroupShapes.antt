@@ -15,7 +15,7 @@ use Rattle.rep_schema.specs.declared.schema.Constraint.{Constraint}
 use Rattle.rep_schema.specs.Limits.{most_constraints}
 use Rattle.rep_schema.specs.Shape.{shadow_name, key_name, AreDistinct, ShareNone, HasGroupShape, HasConstraintShape, HasTableShape, HasShape}
 use Rattle.rep_declare.specs.declared.declaration.Declare.TheVariants as declare
-use Rattle.rep_declare.specs.Named.{is_group, is_constraint, table_named, places_named}
+use Rattle.rep_schema.specs.Named.{is_group, is_constraint, table_named, places_named}
 use Rattle.rep_declare.specs.Refusals.{first_refusal, steps_of, refusal_of}
 use Rattle.rep_declare.specs.Additions.{with_groups, with_constraints, declared}
 use Rattle.rep_declare.proofs.NoRefusal.{or_then-None, refused-None, full-None, taken-None, known-None}

@@ -12,7 +12,7 @@ use Rattle.rep_values.specs.Name.{same_bytes}
 use Rattle.rep_schema.specs.declared.schema.Column.{Column}
 use Rattle.rep_schema.specs.declared.schema.Kind.TheVariants as kind
 use Rattle.rep_schema.specs.Shape.{AreDistinct, AreColumns, ShareNone}
-use Rattle.rep_declare.specs.Named.{is_column, column_place, places_from, places_named}
+use Rattle.rep_schema.specs.Named.{is_column, column_place, places_from, places_named}
 use Rattle.rep_declare.specs.Refusals.{unknown, column_step, columns_step}
 use Rattle.rep_declare.specs.Additions.{place_or_zero, column_number}
 use Rattle.rep_declare.proofs.NoRefusal.{or_then-None, refused-None}

@@ -4,7 +4,7 @@ use Rattle.std.specs.Prelude.{is_some}
 use Rattle.std.specs.List.{find}
 use Rattle.std.proofs.lemmas.Bool.{false≢true}
 use Rattle.rep_schema.specs.declared.schema.PriorityGroup.{PriorityGroup}
-use Rattle.rep_declare.specs.Named.{is_priority}
+use Rattle.rep_schema.specs.Named.{is_priority}
 use Rattle.rep_declare.specs.Additions.{with_priority}
 
 module _ (name : List ℕ) where

@@ -16,7 +16,7 @@ use Rattle.rep_schema.specs.declared.schema.PriorityLevel.{PriorityLevel}
 use Rattle.rep_schema.specs.Limits.{most_levels}
 use Rattle.rep_schema.specs.Shape.{HasLevelShape, HasShape}
 use Rattle.rep_declare.specs.declared.declaration.Declare.TheVariants as declare
-use Rattle.rep_declare.specs.Named.{is_priority, priority_named}
+use Rattle.rep_schema.specs.Named.{is_priority, priority_named}
 use Rattle.rep_declare.specs.Refusals.{has_level, level_count, refusal_of}
 use Rattle.rep_declare.specs.Additions.{with_changed, with_priority, with_priorities, with_level, declared}
 use Rattle.rep_declare.proofs.NoRefusal.{or_then-None, refused-None, full-None}

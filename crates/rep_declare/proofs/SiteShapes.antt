@@ -16,7 +16,7 @@ use Rattle.rep_schema.specs.declared.schema.SiteEntry.{SiteEntry}
 use Rattle.rep_schema.specs.Limits.{most_masters, most_snapshots}
 use Rattle.rep_schema.specs.Shape.{HasShape, HasMaster, is_master, is_snapshot}
 use Rattle.rep_declare.specs.declared.declaration.Declare.TheVariants as declare
-use Rattle.rep_declare.specs.Named.{is_site, site_named, has_master}
+use Rattle.rep_schema.specs.Named.{is_site, site_named, has_master}
 use Rattle.rep_declare.specs.Refusals.{refusal_of}
 use Rattle.rep_declare.specs.Additions.{with_changed, with_sites, with_site_level, declared}
 use Rattle.rep_declare.proofs.NoRefusal.{or_then-None, refused-None, full-None, taken-None}

@@ -17,7 +17,7 @@ use Rattle.rep_schema.specs.Limits.{most_tables, most_columns, most_keys}
 use Rattle.rep_schema.specs.Tables.{key_count}
 use Rattle.rep_schema.specs.Shape.{AreDistinct, IsPlaceIn, method_priority, HasGroupShape, HasTableShape, HasLevelShape, HasShape}
 use Rattle.rep_declare.specs.declared.declaration.Declare.TheVariants as declare
-use Rattle.rep_declare.specs.Named.{is_table, is_column, table_named}
+use Rattle.rep_schema.specs.Named.{is_table, is_column, table_named}
 use Rattle.rep_declare.specs.Refusals.{share_a_name, refusal_of}
 use Rattle.rep_declare.specs.Additions.{new_table, made_convergent, with_table_changed, with_priorities, declared}
 use Rattle.rep_declare.proofs.NoRefusal.{or_then-None, refused-None, full-None, too_many-None, taken-None}

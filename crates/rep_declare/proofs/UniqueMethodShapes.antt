@@ -16,7 +16,7 @@ use Rattle.rep_schema.specs.Shape.{key_name, IsPlaceIn, ShareNone, unique_column
 use Rattle.rep_declare.specs.declared.declaration.Declare.TheVariants as declare
 use Rattle.rep_declare.specs.declared.declaration.UniqueWords.{UniqueWords}
 use Rattle.rep_declare.specs.declared.declaration.UniqueWords.TheVariants as unique_words
-use Rattle.rep_declare.specs.Named.{is_constraint, table_named, constraint_named, constraint_methods, methods_named}
+use Rattle.rep_schema.specs.Named.{is_constraint, table_named, constraint_named, constraint_methods, methods_named}
 use Rattle.rep_declare.specs.Refusals.{first_refusal, known, unknown_column, full, unique_words_column, refusal_of}
 use Rattle.rep_declare.specs.Additions.{with_changed, unique_method_of, with_constraints, with_key_methods, with_unique_method, with_method_on, declared}
 use Rattle.rep_declare.proofs.NoRefusal.{or_then-None, full-None, known-None}

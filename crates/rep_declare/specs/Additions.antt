@@ -23,7 +23,7 @@ use Rattle.rep_declare.specs.declared.declaration.MethodWords.TheVariants as wor
 use Rattle.rep_declare.specs.declared.declaration.UniqueWords.{UniqueWords}
 use Rattle.rep_declare.specs.declared.declaration.UniqueWords.TheVariants as unique_words
 use Rattle.rep_schema.specs.Shape.{key_name}
-use Rattle.rep_declare.specs.Named.{is_site, is_table, is_group, is_constraint, is_priority, column_place, places_named}
+use Rattle.rep_schema.specs.Named.{is_site, is_table, is_group, is_constraint, is_priority, column_place, places_named}
 
 -- the list with the first element that passes the test changed
 abbrev pub with_changed : {X : Type 0} → (X → Bool) → (X → X) → List X → List X

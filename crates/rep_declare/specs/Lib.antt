@@ -1,4 +1,3 @@
 -- The definitions of this crate.
-pub mod Named
 pub mod Refusals
 pub mod Additions

@@ -24,7 +24,7 @@ use Rattle.rep_schema.specs.Tables.{key_count}
 use Rattle.rep_schema.specs.Fitting.{is_in_range}
 use Rattle.rep_schema.specs.Shape.{shadow_name, key_name, is_master, is_snapshot}
 use Rattle.rep_schema.specs.Groups.{is_grouped}
-use Rattle.rep_declare.specs.Named.{is_column, site_named, has_master, table_named, group_named, constraint_named, methods_named, priority_named, column_place, is_constrained}
+use Rattle.rep_schema.specs.Named.{is_column, site_named, has_master, table_named, group_named, constraint_named, methods_named, priority_named, column_place, is_constrained}
 
 abbrev pub refused : Bool → Refusal → Option Refusal
 refused test why = cond test (Some why) None

@@ -3,12 +3,11 @@ ghost use Rattle.std.specs.Prelude.{◌≡◌, ◌⊎◌, ◌++◌, [], ◌∷�
 ghost use Rattle.rep_values.specs.declared.refusal.Refusal.TheVariants.{Memory};
 ghost use Rattle.rep_values.specs.Literal.{value_of_literal};
 ghost use Rattle.rep_schema.specs.Shape.{HasShape};
-ghost use Rattle.rep_declare.specs.Named.{is_priority};
+ghost use Rattle.rep_schema.specs.Named.{is_priority};
 ghost use Rattle.rep_declare.specs.Refusals.{refusal_of};
 ghost use Rattle.rep_declare.specs.Additions.{ColumnNamed, declared, with_priority, with_words_priority, with_changed, with_level, with_sites};
 
 use crate::changes::change_one;
-use crate::named::find_priority;
 use crate::priority_changes::LevelAdded;
 use crate::site_changes::SiteLevelled;
 use crate::table_changes::{
@@ -16,7 +15,7 @@ use crate::table_changes::{
 };
 use crate::{Declare, MethodWords, UniqueWords, refusal_of};
 use rep_lists::{Copies, Items, NoMemory};
-use rep_schema::{Column, PriorityGroup, Schema, SiteEntry, TableEntry};
+use rep_schema::{Column, PriorityGroup, Schema, SiteEntry, TableEntry, find_priority};
 use rep_values::{Literal, Name, Refusal, SiteName, TableName};
 use std::alloc::Global;
 

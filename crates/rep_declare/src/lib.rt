@@ -5,7 +5,6 @@ mod additions;
 mod changes;
 mod declaration;
 mod method_changes;
-mod named;
 mod places;
 mod priority_changes;
 mod refusals;
@@ -15,6 +14,3 @@ mod table_changes;
 pub use additions::add_declaration;
 pub use declaration::{Declare, MethodWords, UniqueWords};
 pub use refusals::refusal_of;
-
-#[cfg(test)]
-mod tests;

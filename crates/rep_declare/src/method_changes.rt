@@ -1,5 +1,5 @@
 //! Changes of a group or of a constraint of a table: one more method.
-ghost use Rattle.rep_declare.specs.Named.{is_group, is_constraint};
+ghost use Rattle.rep_schema.specs.Named.{is_group, is_constraint};
 ghost use Rattle.rep_declare.specs.Additions.{with_method, with_unique_method};
 
 use crate::changes::ChangesOne;

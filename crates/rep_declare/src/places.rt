@@ -2,13 +2,12 @@
 ghost use Rattle.std.specs.Prelude.{◌≡◌, None, Some, IfOk};
 ghost use Rattle.std.specs.List.{list_any, position};
 ghost use Rattle.rep_values.specs.Name.{same_bytes};
-ghost use Rattle.rep_declare.specs.Named.{is_priority, places_named};
+ghost use Rattle.rep_schema.specs.Named.{is_priority, places_named};
 ghost use Rattle.rep_declare.specs.Additions.{place_or_zero, column_number, priority_number, method_of, unique_method_of};
 
-use crate::named::column_place;
 use crate::{MethodWords, UniqueWords};
 use rep_lists::{Items, NoMemory};
-use rep_schema::{Column, Method, PriorityGroup, UniqueMethod};
+use rep_schema::{Column, Method, PriorityGroup, UniqueMethod, column_place, priority_place};
 use rep_values::Name;
 use std::alloc::Global;
 
@@ -33,12 +32,6 @@ fn column_number(columns: &[Column], name: &Name) -> Result<u32, NoMemory>
 {
     let number = place(column_place(columns, name))?;
     Ok(number)
-}
-
-fn priority_place(groups: &[PriorityGroup], name: &Name) -> Option<usize>
-    ensures { result ≡ position (is_priority name.now) groups.now }
-{
-    groups.iter().position(|group| group.name.is_same(name))
 }
 
 /// The place of the priority group of a name, or 0.

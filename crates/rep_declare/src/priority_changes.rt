@@ -1,5 +1,5 @@
 //! Changes of a priority group of a schema.
-ghost use Rattle.rep_declare.specs.Named.{is_priority};
+ghost use Rattle.rep_schema.specs.Named.{is_priority};
 ghost use Rattle.rep_declare.specs.Additions.{with_level};
 
 use crate::changes::ChangesOne;

@@ -8,14 +8,14 @@ ghost use Rattle.rep_schema.specs.Limits.{most_methods};
 ghost use Rattle.rep_schema.specs.Shape.{is_master, is_snapshot, shadow_name, key_name};
 ghost use Rattle.rep_declare.specs.Refusals.{refusal_of, first_refusal, refused, full, share_a_name, column_step, columns_step, unknown_column, words_column, unique_words_column, value_out_of_range};
 ghost use Rattle.rep_schema.specs.Groups.{is_grouped};
-ghost use Rattle.rep_declare.specs.Named.{column_place, is_column, is_constrained};
+ghost use Rattle.rep_schema.specs.Named.{column_place, is_column, is_constrained};
 
-use crate::named::{
-    OnColumns, column_place, find_constraint, find_group, find_priority, find_site, find_table,
-    has_master, is_taken,
-};
 use crate::{Declare, MethodWords, UniqueWords};
-use rep_schema::{Column, PriorityLevel, Schema, SiteEntry, TableEntry, is_in_range, key_count};
+use rep_schema::{
+    Column, OnColumns, PriorityLevel, Schema, SiteEntry, TableEntry, column_place, find_constraint,
+    find_group, find_priority, find_site, find_table, has_column, has_master, is_in_range,
+    is_key_name, is_shadow_name, is_taken, key_count,
+};
 use rep_values::{Limit, Literal, Name, Refusal, SiteName, TableName, Value, same_value};
 
 fn master_count(sites: &[SiteEntry]) -> usize
@@ -69,18 +69,12 @@ fn snapshot_site_refusal(schema: &Schema, name: &SiteName, master: &SiteName) ->
     None
 }
 
-fn has_name(columns: &[Column], name: &Name) -> bool
-    ensures { result ≡ list_any (is_column name.now) columns.now }
-{
-    columns.iter().any(|column| column.name.is_same(name))
-}
-
 /// Whether two columns have one name.
 fn share_a_name(columns: &[Column]) -> bool
     ensures { result ≡ share_a_name columns.now }
 {
     for i in 0..columns.len() {
-        if has_name(&columns[i + 1..], &columns[i].name) {
+        if has_column(&columns[i + 1..], &columns[i].name) {
             return true;
         }
     }
@@ -187,19 +181,6 @@ fn constraint_columns_refusal(table: &TableEntry, names: &[Name]) -> Option<Refu
     )
 }
 
-fn is_shadow(name: &Name) -> bool
-    ensures { result ≡ same_bytes name.now shadow_name }
-{
-    name.bytes() == b"shadow".as_slice()
-}
-
-/// Whether a name is that of the primary key.
-pub fn is_key(name: &Name) -> bool
-    ensures { result ≡ same_bytes name.now key_name }
-{
-    name.bytes() == b"key".as_slice()
-}
-
 fn group_refusal(
     schema: &Schema,
     table: &TableName,
@@ -211,7 +192,7 @@ fn group_refusal(
     let Some(table) = find_table(schema.tables.as_slice(), table) else {
         return Some(Refusal::UnknownName);
     };
-    if is_shadow(group) {
+    if is_shadow_name(group) {
         return Some(Refusal::NameTaken);
     }
     if find_group(table.groups.as_slice(), group).is_some() {
@@ -234,7 +215,7 @@ fn unique_refusal(
     let Some(table) = find_table(schema.tables.as_slice(), table) else {
         return Some(Refusal::UnknownName);
     };
-    if is_key(constraint) {
+    if is_key_name(constraint) {
         return Some(Refusal::NameTaken);
     }
     if find_constraint(table.constraints.as_slice(), constraint).is_some() {
@@ -323,7 +304,7 @@ fn unique_method_refusal(
         return Some(Refusal::UnknownName);
     };
     let columns = table.columns.as_slice();
-    if is_key(constraint) {
+    if is_key_name(constraint) {
         return method_refusal(columns, unique_column_of(method), table.key_methods.len());
     }
     let Some(constraint) = find_constraint(table.constraints.as_slice(), constraint) else {

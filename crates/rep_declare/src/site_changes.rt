@@ -1,5 +1,5 @@
 //! Changes of a site of a schema.
-ghost use Rattle.rep_declare.specs.Named.{is_site};
+ghost use Rattle.rep_schema.specs.Named.{is_site};
 ghost use Rattle.rep_declare.specs.Additions.{with_site_level};
 
 use crate::changes::ChangesOne;

@@ -1,15 +1,14 @@
 //! Changes of a table of a schema.
 ghost use Rattle.std.specs.Prelude.{◌≡◌, ◌++◌, [], ◌∷◌, OnOk, OnErr};
-ghost use Rattle.rep_declare.specs.Named.{is_table, is_group, places_named};
+ghost use Rattle.rep_schema.specs.Named.{is_table, is_group, places_named};
 ghost use Rattle.rep_declare.specs.Additions.{with_groups, with_constraints, with_changed, with_method, with_method_on, method_of, unique_method_of, made_convergent};
 
 use crate::changes::{ChangesOne, change_one};
 use crate::method_changes::{OneMoreMethod, OneMoreUniqueMethod};
 use crate::places::{method_of, places_named, unique_method_of};
-use crate::refusals::is_key;
 use crate::{MethodWords, UniqueWords};
 use rep_lists::{Items, NoMemory};
-use rep_schema::{Constraint, Group, PriorityGroup, TableEntry, UniqueMethod};
+use rep_schema::{Constraint, Group, PriorityGroup, TableEntry, UniqueMethod, is_key_name};
 use rep_values::{Name, TableName};
 use std::alloc::Global;
 
@@ -116,7 +115,7 @@ fn add_method_on(
     ensures ok { OnOk result (one.new ≡ with_method_on constraint.now method one.old) }
     ensures err { OnErr result (one.new ≡ one.old) }
 {
-    if is_key(constraint) {
+    if is_key_name(constraint) {
         one.key_methods.push(method)?;
         return Ok(());
     }

@@ -14,6 +14,7 @@ pub mod Shapes
 mod FewNumbers
 pub mod GroupShapes
 pub mod Coverage
+mod TableMarks
 mod ShapeExamples
 mod GroupExamples
 mod ChangeExamples

@@ -2,6 +2,9 @@
 pub mod Limits
 pub mod Tables
 pub mod Fitting
+pub mod Kinds
 pub mod Shape
 pub mod Groups
+pub mod Named
+pub mod Sites
 pub mod Changes

@@ -1,10 +1,10 @@
 //! Rows beside keys and beside one another, by the columns of a table.
 ghost use Rattle.std.specs.Prelude.{◌≡◌, ◌<◌, ◌↔◌, length, slice_get, IsTrue};
 ghost use Rattle.rep_values.specs.Number.{IsKeyLen};
-ghost use Rattle.rep_schema.specs.Tables.{beside, key_of, columns_of, constraints_of, constraint_columns_of, picked};
+ghost use Rattle.rep_schema.specs.Tables.{beside, key_of, columns_of, constraints_of, constraint_columns_of, picked, IsKeyed, RowFits};
 
-use crate::{Column, Schema};
-use rep_values::{Key, Value, compare_values, same_value};
+use crate::{Column, Constraint, Schema};
+use rep_values::{Key, Row, Value, compare_values, same_value};
 use std::cmp::Ordering;
 
 /// Where a row stands beside a key: before it, at it or behind it. It takes no memory and builds no key.
@@ -63,6 +63,24 @@ pub fn columns_of(schema: &Schema, table: u32) -> &[Column]
     ensures { result.now ≡ columns_of schema.now table }
 {
     schema.tables.at(table as usize).columns.as_slice()
+}
+
+/// The key of a row that fits a table of the schema.
+pub fn key_in(schema: &Schema, table: u32, row: &Row) -> Key
+    requires table { table < length schema.now.tables }
+    requires keyed { IsKeyed (columns_of schema.now table) }
+    requires fits { RowFits (columns_of schema.now table) row.now }
+    ensures { result ≡ key_of (columns_of schema.now table) row.now }
+{
+    key_of(columns_of(schema, table), row.values())
+}
+
+/// The secondary constraints of a table of the schema.
+pub fn constraints_of(schema: &Schema, table: u32) -> &[Constraint]
+    requires { table < length schema.now.tables }
+    ensures { result.now ≡ constraints_of schema.now table }
+{
+    schema.tables.at(table as usize).constraints.as_slice()
 }
 
 /// How many secondary constraints a table of the schema has.

@@ -85,10 +85,13 @@ pub fn has_place(columns: &[u32], place: usize) -> bool
     columns.iter().any(|column| *column as usize == place)
 }
 
-fn is_grouped(groups: &[Group], column: u32) -> bool
+/// Whether a column stands in a named group.
+pub fn is_grouped(groups: &[Group], column: usize) -> bool
     ensures { result ≡ is_grouped groups.now column }
 {
-    groups.iter().any(|group| has_place(group.columns.as_slice(), column as usize))
+    groups
+        .iter()
+        .any(|group| has_place(group.columns.as_slice(), column))
 }
 
 /// The columns that are no key columns and in no named group.
@@ -98,7 +101,7 @@ fn shadow_columns(groups: &[Group], columns: &[Column]) -> GroupColumns
 {
     let mut shadow = GroupColumns::empty();
     for i in 0..columns.len() {
-        if !(columns[i].key || is_grouped(groups, i as u32)) {
+        if !(columns[i].key || is_grouped(groups, i)) {
             shadow.add(i as u32);
         }
     }

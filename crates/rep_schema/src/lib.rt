@@ -5,23 +5,31 @@ mod change;
 mod compare;
 mod conditions;
 mod groups;
+mod kinds;
+mod named;
 mod schema;
 mod store;
+mod table_set;
 
 pub use change::{Change, Changes, change_fits, undo};
 pub use compare::{
-    columns_of, compare_row, constraint_columns, constraint_count, has_key, key_of, same_picked,
+    columns_of, compare_row, constraint_columns, constraint_count, constraints_of, has_key, key_in,
+    key_of, same_picked,
 };
 pub use conditions::{fits_kind, is_in_range, is_keyed, is_unique, key_count, row_fits};
 pub use groups::{
-    GroupColumns, SHADOW, group_columns, groups_of, has_place, has_values, same_values_at,
-    values_at,
+    GroupColumns, SHADOW, group_columns, groups_of, has_place, has_values, is_grouped,
+    same_values_at, values_at,
+};
+pub use kinds::{is_key_at, is_of_kind, kind_at, row_in_range, value_in_range};
+pub use named::{
+    OnColumns, column_place, find_constraint, find_group, find_priority, find_site, find_table,
+    group_name, has_column, has_master, is_key_name, is_shadow_name, is_taken, key_name,
+    priority_place, shadow_name, table_place,
 };
 pub use schema::{
     Column, Constraint, Group, Kind, Method, PriorityGroup, PriorityLevel, Schema, SiteEntry,
     TableEntry, UniqueMethod,
 };
 pub use store::RowStore;
-
-#[cfg(test)]
-mod tests;
+pub use table_set::TableSet;

@@ -6,7 +6,3 @@ mod sorted_rows;
 
 pub use list_tables::ListTables;
 
-#[cfg(test)]
-mod tests;
-#[cfg(test)]
-mod undo_tests;

@@ -6,7 +6,7 @@ use Rattle.rep_schema.specs.declared.schema.TableEntry.{TableEntry}
 use Rattle.rep_schema.specs.declared.schema.Column.{Column}
 use Rattle.rep_schema.specs.declared.schema.Constraint.{Constraint}
 use Rattle.rep_schema.specs.Shape.{unique_column}
-use Rattle.schema_rules.specs.Columns.{is_none_or, is_text, is_plain, has_kind, is_key_at, has_place}
+use Rattle.rep_schema.specs.Kinds.{is_none_or, is_text, is_plain, has_kind, is_key_at, has_place}
 
 -- each secondary constraint of each table passes a test, which is given the table's columns
 abbrev pub each_constraint : (List Column → Constraint → Bool) → Schema → Bool

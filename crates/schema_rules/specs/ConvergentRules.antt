@@ -11,7 +11,7 @@ use Rattle.rep_schema.specs.declared.schema.Group.{Group}
 use Rattle.rep_schema.specs.declared.schema.Method.{Method}
 use Rattle.rep_schema.specs.declared.schema.Method.TheVariants as method
 use Rattle.rep_schema.specs.Groups.{shadow_from}
-use Rattle.schema_rules.specs.Columns.{is_some_and, is_stamp, is_site, has_kind, has_place}
+use Rattle.rep_schema.specs.Kinds.{is_some_and, is_stamp, is_site_kind, has_kind, has_place}
 use Rattle.schema_rules.specs.MethodRules.{is_one_number, extreme_column, site_column}
 
 -- each convergent table passes a test
@@ -20,7 +20,7 @@ each_convergent test schema = list_all (λ table. not table.convergent || test t
 
 -- the first key column is a SITE
 abbrev pub is_keyed_by_site : TableEntry → Bool
-is_keyed_by_site table = is_some_and (λ column. is_site column.kind) (find (λ column. column.key) table.columns)
+is_keyed_by_site table = is_some_and (λ column. is_site_kind column.kind) (find (λ column. column.key) table.columns)
 
 -- no secondary constraint, no shadow column and no method of the key
 abbrev pub has_groups_alone : TableEntry → Bool
@@ -90,7 +90,7 @@ abbrev pub is_latest_group : List Column → Group → Bool
 is_latest_group columns group =
     are_two_methods
     (λ m. is_some_and (λ place. has_place group.columns place && has_kind is_stamp columns place) (latest_column m))
-    (λ m. is_some_and (λ place. has_place group.columns place && has_kind is_site columns place) (site_column m))
+    (λ m. is_some_and (λ place. has_place group.columns place && has_kind is_site_kind columns place) (site_column m))
     group.methods
 
 -- a group has one of the forms of a convergent table

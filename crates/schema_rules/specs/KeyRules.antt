@@ -5,7 +5,7 @@ use Rattle.rep_schema.specs.declared.schema.TableEntry.{TableEntry}
 use Rattle.rep_schema.specs.declared.schema.Column.{Column}
 use Rattle.rep_schema.specs.declared.schema.Group.{Group}
 use Rattle.rep_schema.specs.Tables.{key_count}
-use Rattle.schema_rules.specs.Columns.{is_stamp, is_key_at}
+use Rattle.rep_schema.specs.Kinds.{is_stamp, is_key_at}
 
 -- a table has a key column, and no key column of it is a STAMP
 abbrev pub is_well_keyed : TableEntry → Bool

@@ -1,5 +1,4 @@
 -- The definitions of this crate, from the bottom up.
-pub mod Columns
 pub mod KeyRules
 pub mod MethodRules
 pub mod ConstraintRules

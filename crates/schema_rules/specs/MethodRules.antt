@@ -8,7 +8,7 @@ use Rattle.rep_schema.specs.declared.schema.PriorityGroup.{PriorityGroup}
 use Rattle.rep_schema.specs.declared.schema.Method.{Method}
 use Rattle.rep_schema.specs.declared.schema.Method.TheVariants as method
 use Rattle.rep_schema.specs.Shape.{method_column, method_priority}
-use Rattle.schema_rules.specs.Columns.{is_some_and, is_none_or, is_number, is_time, is_amount, is_plain, is_site, has_kind, has_place}
+use Rattle.rep_schema.specs.Kinds.{is_some_and, is_none_or, is_number, is_time, takes_amounts, is_plain, is_site_kind, has_kind, has_place}
 
 -- each group of each table passes a test, which is given the table's columns
 abbrev pub each_group : (List Column → Group → Bool) → Schema → Bool
@@ -101,7 +101,7 @@ compares_times columns m = is_none_or (has_kind is_time columns) (time_column m)
 
 -- the column of maximum and minimum is a NUMBER or a DATE
 abbrev pub compares_amounts : List Column → Method → Bool
-compares_amounts columns m = is_none_or (has_kind is_amount columns) (extreme_column m)
+compares_amounts columns m = is_none_or (has_kind takes_amounts columns) (extreme_column m)
 
 -- there is a priority group at a place, and it has a level
 abbrev pub has_level_at : List PriorityGroup → ℕ → Bool
@@ -113,4 +113,4 @@ ranks_plain_values priorities columns m = is_none_or (has_kind is_plain columns)
 
 -- the column of site-priority is a SITE
 abbrev pub compares_sites : List Column → Method → Bool
-compares_sites columns m = is_none_or (has_kind is_site columns) (site_column m)
+compares_sites columns m = is_none_or (has_kind is_site_kind columns) (site_column m)

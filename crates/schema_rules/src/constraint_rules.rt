@@ -2,11 +2,11 @@
 ghost use Rattle.std.specs.Prelude.{◌≡◌, ◌&&◌, not, is_none};
 ghost use Rattle.std.specs.List.{list_all};
 ghost use Rattle.rep_schema.specs.Shape.{unique_column};
-ghost use Rattle.schema_rules.specs.Columns.{is_none_or, is_text, is_plain, has_kind, is_key_at, has_place};
+ghost use Rattle.rep_schema.specs.Kinds.{is_none_or, is_text, is_plain, has_kind, is_key_at, has_place};
 ghost use Rattle.schema_rules.specs.ConstraintRules.{each_constraint, has_plain_columns, appends_to_own_texts, has_good_appends};
 
-use crate::columns::{is_key_at, is_plain_at, is_text_at};
-use rep_schema::{Column, Constraint, Schema, TableEntry, UniqueMethod, has_place};
+use crate::columns::{is_plain_at, is_text_at};
+use rep_schema::{Column, Constraint, Schema, TableEntry, UniqueMethod, has_place, is_key_at};
 
 fn has_plain_columns(columns: &[Column], constraint: &Constraint) -> bool
     ensures { result ≡ has_plain_columns columns.now constraint.now }

@@ -4,13 +4,13 @@ ghost use Rattle.std.specs.List.{list_any, list_all, find};
 ghost use Rattle.std.specs.Option.{option_eq};
 ghost use Rattle.std.specs.Ordering.{int_eq};
 ghost use Rattle.rep_schema.specs.Groups.{is_grouped, shadow_from};
-ghost use Rattle.schema_rules.specs.Columns.{is_some_and, is_stamp, is_site, has_kind, has_place};
+ghost use Rattle.rep_schema.specs.Kinds.{is_some_and, is_stamp, is_site_kind, has_kind, has_place};
 ghost use Rattle.schema_rules.specs.MethodRules.{extreme_column, site_column};
 ghost use Rattle.schema_rules.specs.ConvergentRules.{each_convergent, is_keyed_by_site, has_groups_alone, is_additive, is_discard, latest_column, is_sum_group, is_extreme_group, is_latest_group, has_convergent_form, share_a_level, are_levelled, has_levels};
 
-use crate::columns::{is_site, is_site_at, is_stamp_at};
+use crate::columns::{is_site_at, is_stamp_at};
 use crate::method_rules::{extreme_column, is_one_number, site_column};
-use rep_schema::{Column, Group, Method, Schema, SiteEntry, TableEntry, has_place};
+use rep_schema::{Column, Group, Method, Schema, SiteEntry, TableEntry, has_place, is_grouped};
 
 fn first_key(columns: &[Column]) -> Option<&Column>
     ensures { option_copied result ≡ find (λ column. column.key) columns.now }
@@ -23,7 +23,7 @@ fn is_keyed_by_site(table: &TableEntry) -> bool
 {
     match first_key(table.columns.as_slice()) {
         None => false,
-        Some(column) => is_site(column.kind),
+        Some(column) => column.kind.is_site_kind(),
     }
 }
 
@@ -35,14 +35,6 @@ pub(crate) fn each_is_keyed_by_site(schema: &Schema) -> bool
         .tables
         .iter()
         .all(|table| !table.convergent || is_keyed_by_site(table))
-}
-
-fn is_grouped(groups: &[Group], column: usize) -> bool
-    ensures { result ≡ is_grouped groups.now column }
-{
-    groups
-        .iter()
-        .any(|group| has_place(group.columns.as_slice(), column))
 }
 
 /// Whether every column is a key column or in a group.
@@ -173,7 +165,7 @@ fn takes_own_latest(columns: &[Column], places: &[u32], method: &Method) -> bool
 }
 
 fn compares_own_sites(columns: &[Column], places: &[u32], method: &Method) -> bool
-    ensures { result ≡ is_some_and (λ place. has_place places.now place && has_kind is_site columns.now place) (site_column method.now) }
+    ensures { result ≡ is_some_and (λ place. has_place places.now place && has_kind is_site_kind columns.now place) (site_column method.now) }
 {
     match site_column(method) {
         None => false,

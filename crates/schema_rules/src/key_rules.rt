@@ -1,19 +1,18 @@
 //! The rules of keys.
 ghost use Rattle.std.specs.Prelude.{◌≡◌, ◌&&◌, not};
 ghost use Rattle.std.specs.List.{list_all};
-ghost use Rattle.schema_rules.specs.Columns.{is_stamp};
+ghost use Rattle.rep_schema.specs.Kinds.{is_stamp};
 ghost use Rattle.schema_rules.specs.KeyRules.{is_well_keyed, is_off_the_key};
 ghost use Rattle.schema_rules.specs.MethodRules.{each_group};
 
-use crate::columns::{is_key_at, is_stamp};
-use rep_schema::{Column, Group, Schema, TableEntry, key_count};
+use rep_schema::{Column, Group, Schema, TableEntry, is_key_at, key_count};
 
 fn has_no_stamp_key(columns: &[Column]) -> bool
     ensures { result ≡ list_all (λ column. not (column.key && is_stamp column.kind)) columns.now }
 {
     columns
         .iter()
-        .all(|column| !(column.key && is_stamp(column.kind)))
+        .all(|column| !(column.key && column.kind.is_stamp()))
 }
 
 fn is_well_keyed(table: &TableEntry) -> bool

@@ -9,6 +9,3 @@ mod method_rules;
 mod rules;
 
 pub use rules::check;
-
-#[cfg(test)]
-mod tests;

@@ -2,7 +2,7 @@
 ghost use Rattle.std.specs.Prelude.{◌≡◌};
 ghost use Rattle.std.specs.List.{list_all, list_any};
 ghost use Rattle.rep_schema.specs.Shape.{method_column};
-ghost use Rattle.schema_rules.specs.Columns.{is_none_or, has_kind, is_number, has_place};
+ghost use Rattle.rep_schema.specs.Kinds.{is_none_or, has_kind, is_number, has_place};
 ghost use Rattle.schema_rules.specs.MethodRules.{each_group, each_method, names_own_columns, is_arithmetic, is_one_number, adds_one_number, time_column, extreme_column, ranked_column, site_column, compares_times, compares_amounts, has_level_at, ranks_plain_values, compares_sites};
 
 use crate::columns::{is_amount_at, is_number_at, is_plain_at, is_site_at, is_time_at};

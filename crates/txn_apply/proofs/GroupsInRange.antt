@@ -12,7 +12,8 @@ use Rattle.conflict_detect.specs.Differing.{is_matched}
 use Rattle.resolve_methods.specs.declared.decision.Decision.{Decision}
 use Rattle.resolve_methods.specs.declared.decision.Decision.TheVariants.{TakeNew, TakeNumber, Keep, Undecided, Range}
 use Rattle.resolve_methods.specs.Decide.{decision_of}
-use Rattle.txn_effects.specs.Parts.{result_then, group_name, values_by, settled_part}
+use Rattle.rep_schema.specs.Named.{group_name}
+use Rattle.txn_effects.specs.Parts.{result_then, values_by, settled_part}
 use Rattle.txn_apply.proofs.Written.{with_values-own}
 
 module _ (schema : Schema) (shape : HasShape schema) (table group : ℕ) (row : Cells) (fits : RowFits (columns_of schema table) row) where

@@ -2,42 +2,19 @@
 ghost use Rattle.std.specs.Prelude.{◌≡◌, ◌<◌, cond, length, Ok, Err, IfErr, OnOk};
 ghost use Rattle.std.specs.List.{AllByRecursion};
 ghost use Rattle.rep_schema.specs.Tables.{columns_of, RowFits};
-ghost use Rattle.rep_schema.specs.Shape.{HasShape, shadow_name};
+ghost use Rattle.rep_schema.specs.Shape.{HasShape};
 ghost use Rattle.rep_schema.specs.Groups.{with_values};
 ghost use Rattle.conflict_detect.specs.Fits.{PartFits};
 ghost use Rattle.conflict_detect.specs.Differing.{is_matched};
 ghost use Rattle.resolve_methods.specs.declared.decision.Decision.TheVariants.{TakeNew};
 ghost use Rattle.resolve_methods.specs.Decide.{decision_of};
-ghost use Rattle.txn_effects.specs.Parts.{group_name, settled_part, settled_parts};
+ghost use Rattle.txn_effects.specs.Parts.{settled_part, settled_parts};
 
 use conflict_detect::is_matched;
 use rep_calls::Part;
-use rep_schema::{SHADOW, Schema, group_columns, groups_of};
-use rep_values::{ApplyError, Name, Row, Value};
+use rep_schema::{Schema, group_columns, group_name};
+use rep_values::{ApplyError, Row, Value};
 use resolve_methods::{Decision, decide};
-
-fn shadow_name() -> Name
-    ensures { result ≡ shadow_name }
-{
-    match Name::of(b"shadow") {
-        Some(name) => name,
-        None => unreachable!(),
-    }
-}
-
-/// The name of a table's group, by the group's number.
-fn group_name(schema: &Schema, table: u32, group: u8) -> Name
-    requires { table < length schema.now.tables }
-    ensures { result ≡ group_name schema.now table group }
-{
-    if group == SHADOW {
-        return shadow_name();
-    }
-    match groups_of(schema, table).get(group as usize) {
-        Some(named) => named.name,
-        None => shadow_name(),
-    }
-}
 
 /// Puts values at these places of a row.
 fn set_values(places: &[u32], values: &[Value], row: &mut Row)

@@ -20,7 +20,8 @@ use Rattle.resolve_methods.specs.declared.decision.Decision.{Decision}
 use Rattle.resolve_methods.specs.declared.decision.Decision.TheVariants.{TakeNew, TakeNumber, Keep, Undecided, Range}
 use Rattle.resolve_methods.specs.Decide.{decision_of}
 use Rattle.resolve_methods.proofs.TakenNumber.{RowFits-taken_number}
-use Rattle.txn_effects.specs.Parts.{group_name, values_by, settled_values, settled_part, settled_parts}
+use Rattle.rep_schema.specs.Named.{group_name}
+use Rattle.txn_effects.specs.Parts.{values_by, settled_values, settled_part, settled_parts}
 use Rattle.txn_effects.specs.Calls.{IsOffTheKey, KeysStandAlone}
 use Rattle.txn_effects.proofs.Results.{result_then-Ok}
 

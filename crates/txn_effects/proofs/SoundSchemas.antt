@@ -11,7 +11,7 @@ use Rattle.rep_schema.specs.Shape.{HasShape}
 use Rattle.rep_schema.specs.Tables.{columns_in, columns_of, key_count}
 use Rattle.rep_schema.specs.Groups.{named_columns}
 use Rattle.rep_schema.proofs.Shapes.{key_count-columns_of}
-use Rattle.schema_rules.specs.Columns.{is_some_and, is_key_at}
+use Rattle.rep_schema.specs.Kinds.{is_some_and, is_key_at}
 use Rattle.schema_rules.specs.KeyRules.{is_well_keyed, is_off_the_key}
 use Rattle.schema_rules.specs.MethodRules.{each_group}
 use Rattle.schema_rules.specs.Rules.{has_some_master, broken_rule}

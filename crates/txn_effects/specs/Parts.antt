@@ -1,13 +1,12 @@
 -- How the parts of an update are settled against the row that is there.
-use Rattle.std.specs.Prelude.{ℕ, ◌==◌, cond, List, [], ◌∷◌, Option, Some, None, Result, Ok, Err, slice_get}
+use Rattle.std.specs.Prelude.{ℕ, cond, List, [], ◌∷◌, Result, Ok, Err}
 use Rattle.rep_values.specs.declared.value.Value.TheVariants.{Num}
 use Rattle.rep_values.specs.declared.refusal.ApplyError.{ApplyError}
 use Rattle.rep_values.specs.declared.refusal.ApplyError.TheVariants.{UpdateConflict, ValueRange}
 use Rattle.rep_schema.specs.declared.schema.Schema.{Schema}
-use Rattle.rep_schema.specs.declared.schema.Group.{Group}
-use Rattle.rep_schema.specs.Shape.{shadow_name}
 use Rattle.rep_schema.specs.Tables.{Cells}
-use Rattle.rep_schema.specs.Groups.{shadow_group, groups_of, group_values, with_group_values}
+use Rattle.rep_schema.specs.Named.{group_name}
+use Rattle.rep_schema.specs.Groups.{group_values, with_group_values}
 use Rattle.rep_calls.specs.declared.call.Part.{Part}
 use Rattle.conflict_detect.specs.Differing.{is_matched}
 use Rattle.resolve_methods.specs.declared.decision.Decision.{Decision}
@@ -18,14 +17,6 @@ use Rattle.resolve_methods.specs.Decide.{decision_of}
 abbrev pub result_then : {A B E : Type 0} → Result A E → (A → Result B E) → Result B E
 result_then (Ok a) following = following a
 result_then (Err e) following = Err e
-
-abbrev pub name_in : Option Group → List ℕ
-name_in None = shadow_name
-name_in (Some group) = group.name
-
--- the name of a table's group, by the group's number
-abbrev pub group_name : Schema → ℕ → ℕ → List ℕ
-group_name schema table group = cond (group == shadow_group) shadow_name (name_in (slice_get (groups_of schema table) group))
 
 -- a group's values after a decision, of the new ones and the current ones
 abbrev pub values_by : Decision → List ℕ → Cells → Cells → Result Cells ApplyError

@@ -1,7 +1,7 @@
 //! How uniqueness is settled.
 ghost use Rattle.std.specs.Prelude.{◌≡◌, ◌<◌, ◌&&◌, List, length, is_some, slice_get};
 ghost use Rattle.std.specs.List.{list_any};
-ghost use Rattle.rep_schema.specs.Shape.{HasShape, key_name};
+ghost use Rattle.rep_schema.specs.Shape.{HasShape};
 ghost use Rattle.rep_schema.specs.Tables.{columns_of, key_of, find_row, rows_of, IsKeyed, RowFits};
 ghost use Rattle.unique_resolve.specs.Numbers.{AreCounters};
 ghost use Rattle.unique_resolve.specs.Settling.{is_discard, key_methods_in, key_taken, settlement_of};
@@ -9,7 +9,7 @@ ghost use Rattle.unique_resolve.specs.Trying.{settled_as};
 
 use crate::Counters;
 use crate::trying::Ruling;
-use rep_schema::{RowStore, Schema, UniqueMethod, columns_of, key_of};
+use rep_schema::{RowStore, Schema, UniqueMethod, columns_of, key_name, key_of};
 use rep_values::{Name, Row, SiteName};
 
 /// What becomes of a row that is to be put into a table.
@@ -21,16 +21,6 @@ pub enum Settled {
     Dropped,
     /// No method helps with this constraint, `key` being the primary key's.
     Conflict(Name),
-}
-
-/// The name of the primary key's constraint.
-fn key_name() -> Name
-    ensures { result ≡ key_name }
-{
-    match Name::of(b"key") {
-        Some(name) => name,
-        None => unreachable!(),
-    }
 }
 
 fn is_discard(method: &UniqueMethod) -> bool

@@ -1,6 +1,6 @@
 -- Setting column after column.
 use Rattle.std.proofs.Common.{◌≡◌, ◌++◌, true, length, take, drop}
-use Rattle.local_txn.specs.Literals.{row_in_range}
+use Rattle.rep_schema.specs.Kinds.{row_in_range}
 use Rattle.local_txn.specs.Sets.{row_with}
 use Rattle.local_txn.proofs.sets.set_row.Given as goal
 

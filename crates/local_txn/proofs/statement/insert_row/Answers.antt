@@ -1,6 +1,7 @@
 use Rattle.std.proofs.Common.{◌≡◌, true, length, sym, ap, ◌∙◌, subst}
 use Rattle.rep_schema.specs.Tables.{columns_of, RowFits}
-use Rattle.local_txn.specs.Literals.{literals_fit, values_of, row_in_range}
+use Rattle.rep_schema.specs.Kinds.{row_in_range}
+use Rattle.local_txn.specs.Literals.{literals_fit, values_of}
 use Rattle.local_txn.proofs.RowShapes.{length-literals_fit, length-values_of, RowFits-values_of}
 use Rattle.local_txn.proofs.StatementSteps.{IsRowLen-fits}
 use Rattle.local_txn.proofs.statement.insert_row.Goals as goal

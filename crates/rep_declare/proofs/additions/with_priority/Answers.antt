@@ -1,7 +1,7 @@
 -- Adding the priority group of a name.
 use Rattle.std.proofs.Common.{◌≡◌, ◌∙◌, sym, ap, ◌++◌, [], ◌∷◌, Some, None}
 use Rattle.std.specs.List.{find}
-use Rattle.rep_declare.specs.Named.{is_priority}
+use Rattle.rep_schema.specs.Named.{is_priority}
 use Rattle.rep_declare.proofs.PriorityNames.{with_priority-there, with_priority-new}
 use Rattle.rep_declare.proofs.additions.with_priority.Goals as goal
 

@@ -1,6 +1,6 @@
 -- Gathering the columns that names name.
 use Rattle.std.proofs.Common.{◌≡◌, ◌++◌, drop}
-use Rattle.rep_declare.specs.Named.{places_from, places_named}
+use Rattle.rep_schema.specs.Named.{places_from, places_named}
 use Rattle.rep_declare.proofs.places.places_named.Given as goal
 
 -- the places gathered and those to come are all

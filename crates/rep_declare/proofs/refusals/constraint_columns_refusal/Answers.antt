@@ -1,7 +1,7 @@
 -- The columns that a constraint names.
 use Rattle.std.proofs.Common.{◌∙◌, ap, []}
 use Rattle.rep_declare.specs.Refusals.{columns_step}
-use Rattle.rep_declare.specs.Named.{is_constrained}
+use Rattle.rep_schema.specs.Named.{is_constrained}
 use Rattle.rep_declare.proofs.refusals.constraint_columns_refusal.Goals as goal
 
 pub returns : goal.returns

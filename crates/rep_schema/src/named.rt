@@ -1,11 +1,14 @@
-//! What stands in a schema under a name.
-ghost use Rattle.std.specs.Prelude.{◌≡◌, ◌&&◌, ◌==◌, List, ℕ, option_copied};
+//! What stands in a schema under a name, and the names of groups and constraints.
+ghost use Rattle.std.specs.Prelude.{◌≡◌, ◌&&◌, ◌<◌, ◌==◌, List, ℕ, length, option_copied};
 ghost use Rattle.std.specs.List.{find, list_any, position};
 ghost use Rattle.rep_values.specs.Name.{same_bytes};
-ghost use Rattle.rep_schema.specs.Shape.{is_master};
-ghost use Rattle.rep_declare.specs.Named.{is_site, is_table, is_column, is_group, is_constraint, is_priority};
+ghost use Rattle.rep_schema.specs.Shape.{is_master, shadow_name, key_name};
+ghost use Rattle.rep_schema.specs.Named.{is_site, is_table, is_column, is_group, is_constraint, is_priority, has_column, group_name};
 
-use rep_schema::{Column, Constraint, Group, PriorityGroup, SiteEntry, TableEntry, has_place};
+use crate::{
+    Column, Constraint, Group, PriorityGroup, SHADOW, Schema, SiteEntry, TableEntry, groups_of,
+    has_place,
+};
 use rep_values::{Name, SiteName, TableName};
 
 /// What stands on columns of a table under a name: a group or a secondary constraint.
@@ -100,6 +103,15 @@ pub fn find_table<'a>(tables: &'a [TableEntry], name: &TableName) -> Option<&'a 
     tables.iter().find(|table| table.name.0.is_same(&name.0))
 }
 
+/// The number of the table of a name.
+pub fn table_place(tables: &[TableEntry], name: &TableName) -> Option<usize>
+    ensures { result ≡ position (is_table name.now) tables.now }
+{
+    tables
+        .iter()
+        .position(|table| table.name.0.is_same(&name.0))
+}
+
 /// The priority group of a name.
 pub fn find_priority<'a>(groups: &'a [PriorityGroup], name: &Name) -> Option<&'a PriorityGroup>
     ensures { option_copied result ≡ find (is_priority name.now) groups.now }
@@ -112,4 +124,66 @@ pub fn column_place(columns: &[Column], name: &Name) -> Option<usize>
     ensures { result ≡ position (is_column name.now) columns.now }
 {
     columns.iter().position(|column| column.name.is_same(name))
+}
+
+/// The place of the priority group of a name.
+pub fn priority_place(groups: &[PriorityGroup], name: &Name) -> Option<usize>
+    ensures { result ≡ position (is_priority name.now) groups.now }
+{
+    groups.iter().position(|group| group.name.is_same(name))
+}
+
+/// Whether a column has the name.
+pub fn has_column(columns: &[Column], name: &Name) -> bool
+    ensures { result ≡ has_column columns.now name.now }
+{
+    columns.iter().any(|column| column.name.is_same(name))
+}
+
+/// Whether a name is that of the columns in no named group.
+pub fn is_shadow_name(name: &Name) -> bool
+    ensures { result ≡ same_bytes name.now shadow_name }
+{
+    name.bytes() == b"shadow".as_slice()
+}
+
+/// Whether a name is that of the primary key's constraint.
+pub fn is_key_name(name: &Name) -> bool
+    ensures { result ≡ same_bytes name.now key_name }
+{
+    name.bytes() == b"key".as_slice()
+}
+
+/// The name of the columns in no named group.
+pub fn shadow_name() -> Name
+    ensures { result ≡ shadow_name }
+{
+    match Name::of(b"shadow") {
+        Some(name) => name,
+        None => unreachable!(),
+    }
+}
+
+/// The name of the primary key's constraint.
+pub fn key_name() -> Name
+    ensures { result ≡ key_name }
+{
+    match Name::of(b"key") {
+        Some(name) => name,
+        None => unreachable!(),
+    }
+}
+
+/// The name of a table's group, by the group's number.
+pub fn group_name(schema: &Schema, table: u32, group: u8) -> Name
+    requires { table < length schema.now.tables }
+    ensures { result ≡ group_name schema.now table group }
+{
+    if group == SHADOW {
+        return shadow_name();
+    }
+    match groups_of(schema, table).get(group as usize) {
+        Some(named) => named.name,
+        None => shadow_name(),
+    }
 }

@@ -1,6 +1,7 @@
 //! Tables that a site holds, by number.
 ghost use Rattle.std.specs.Prelude.{◌≡◌, ◌<◌, ◌==◌, ℕ, false, slice_index_or};
 ghost use Rattle.std.specs.List.{list_any, AllByRecursion};
+ghost use Rattle.rep_schema.specs.Sites.{has_table};
 
 use std::marker::Model;
 
@@ -32,7 +33,7 @@ impl TableSet {
     /// The tables of these numbers, each below 32.
     pub fn of(tables: &[u32]) -> TableSet
         requires { AllByRecursion (λ t. t < 32) tables.now }
-        ensures { (t : ℕ) → slice_index_or result t false ≡ list_any (λ n. n == t) tables.now }
+        ensures { (t : ℕ) → has_table result t ≡ list_any (λ n. n == t) tables.now }
     {
         let mut held = [false; 32];
         for i in 0..32usize {
@@ -43,7 +44,7 @@ impl TableSet {
 
     /// Whether a table is among them.
     pub fn has(&self, table: u32) -> bool
-        ensures { result ≡ slice_index_or self.now table false }
+        ensures { result ≡ has_table self.now table }
     {
         match self.held.get(table as usize) {
             Some(held) => *held,

@@ -1,5 +1,5 @@
--- What a schema has under a name.
-use Rattle.std.specs.Prelude.{ℕ, ◌+◌, ◌==◌, Bool, cond, ◌&&◌, List, [], ◌∷◌, Option, Some, None}
+-- What a schema has under a name, and the names of its groups.
+use Rattle.std.specs.Prelude.{ℕ, ◌+◌, ◌==◌, Bool, cond, ◌&&◌, List, [], ◌∷◌, Option, Some, None, slice_get}
 use Rattle.std.specs.List.{find, list_any, position}
 use Rattle.rep_values.specs.declared.name.SiteName.{SiteName}
 use Rattle.rep_values.specs.declared.name.TableName.{TableName}
@@ -12,7 +12,8 @@ use Rattle.rep_schema.specs.declared.schema.Group.{Group}
 use Rattle.rep_schema.specs.declared.schema.Constraint.{Constraint}
 use Rattle.rep_schema.specs.declared.schema.PriorityGroup.{PriorityGroup}
 use Rattle.rep_schema.specs.declared.schema.UniqueMethod.{UniqueMethod}
-use Rattle.rep_schema.specs.Shape.{is_master, key_name}
+use Rattle.rep_schema.specs.Shape.{is_master, shadow_name, key_name}
+use Rattle.rep_schema.specs.Groups.{shadow_group, groups_of}
 
 abbrev pub is_site : SiteName → SiteEntry → Bool
 is_site name site = same_bytes site.name.0 name.0
@@ -44,6 +45,10 @@ has_master schema name = list_any (λ site. is_site name site && is_master site)
 abbrev pub table_named : Schema → TableName → Option TableEntry
 table_named schema name = find (is_table name) schema.tables
 
+-- the number of the table of this name
+abbrev pub table_place : Schema → TableName → Option ℕ
+table_place schema name = position (is_table name) schema.tables
+
 -- the group of this name of a table
 abbrev pub group_named : TableEntry → List ℕ → Option Group
 group_named table name = find (is_group name) table.groups
@@ -68,6 +73,10 @@ priority_named schema name = find (is_priority name) schema.priorities
 abbrev pub column_place : List Column → List ℕ → Option ℕ
 column_place columns name = position (is_column name) columns
 
+-- a column has this name
+abbrev pub has_column : List Column → List ℕ → Bool
+has_column columns name = list_any (is_column name) columns
+
 -- the places, counted from n, of the columns that these names name, in the table's order
 abbrev pub places_from : List (List ℕ) → ℕ → List Column → List ℕ
 places_from names n [] = []
@@ -80,3 +89,11 @@ places_named columns names = places_from names 0 columns
 -- a column stands in one of these constraints
 abbrev pub is_constrained : List Constraint → ℕ → Bool
 is_constrained constraints column = list_any (λ constraint. list_any (λ c. c == column) constraint.columns) constraints
+
+abbrev pub name_in : Option Group → List ℕ
+name_in None = shadow_name
+name_in (Some group) = group.name
+
+-- the name of a table's group, by the group's number
+abbrev pub group_name : Schema → ℕ → ℕ → List ℕ
+group_name schema table group = cond (group == shadow_group) shadow_name (name_in (slice_get (groups_of schema table) group))

@@ -2,7 +2,7 @@
 use Rattle.std.proofs.Common.{◌≡◌, ◌<◌, ◌==◌, ℕ, false, length}
 use Rattle.std.specs.Prelude.{slice_index_or}
 use Rattle.std.specs.List.{list_any}
-use Rattle.local_txn.proofs.table_set.TableSet.of.Given as goal
+use Rattle.rep_schema.proofs.table_set.TableSet.of.Given as goal
 
 -- the tables so far are marked where they are named
 abbrev pub invariant-loop-i : goal.invariant-loop-i

@@ -1,7 +1,7 @@
 use Rattle.std.proofs.Common.{arith, ◌∙◌}
 use Rattle.std.proofs.lemmas.List.{length-set}
-use Rattle.local_txn.proofs.Marks.{marked-more, marked-all}
-use Rattle.local_txn.proofs.table_set.TableSet.of.Goals as goal
+use Rattle.rep_schema.proofs.TableMarks.{marked-more, marked-all}
+use Rattle.rep_schema.proofs.table_set.TableSet.of.Goals as goal
 
 pub loop-i-preserved : goal.loop-i-preserved
 loop-i-preserved c = record {

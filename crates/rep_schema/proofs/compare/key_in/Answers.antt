@@ -1,6 +1,6 @@
 -- The key of a row that fits.
 use Rattle.rep_schema.proofs.RowFit.{length-key_of}
-use Rattle.dependency_index.proofs.touched.key_in.Goals as goal
+use Rattle.rep_schema.proofs.compare.key_in.Goals as goal
 
 -- a row that fits has a value for each key column
 pub key_of-requires : goal.key_of-requires

@@ -1,0 +1,45 @@
+-- The sites of a schema: who sends to whom, and which tables one holds.
+use Rattle.std.specs.Prelude.{ℕ, Bool, false, cond, not, ◌&&◌, List, [], ◌∷◌, Option, Some, None, map, filter, slice_index_or}
+use Rattle.std.specs.List.{find}
+use Rattle.rep_values.specs.declared.name.SiteName.{SiteName}
+use Rattle.rep_values.specs.Name.{same_bytes}
+use Rattle.rep_schema.specs.declared.schema.Schema.{Schema}
+use Rattle.rep_schema.specs.declared.schema.SiteEntry.{SiteEntry}
+use Rattle.rep_schema.specs.Shape.{is_master}
+use Rattle.rep_schema.specs.Named.{is_site, site_named}
+
+-- the first master site that was declared
+abbrev pub first_master : Schema → Option SiteEntry
+first_master schema = find is_master schema.sites
+
+-- a master sends to the other sites, a snapshot site to its master
+abbrev pub addresses : SiteEntry → Option SiteName → SiteEntry → Bool
+addresses from None to = not (is_site from.name to)
+addresses from (Some master) to = is_site master to
+
+-- one site sends to another: a master to the other masters, a snapshot site to its master
+abbrev pub sends_to : SiteEntry → SiteEntry → Bool
+sends_to from to = is_master to && addresses from from.master to
+
+abbrev pub names_of : List SiteEntry → List SiteName
+names_of sites = map (λ s. s.name) sites
+
+abbrev pub senders_to : List SiteEntry → Option SiteEntry → List SiteEntry
+senders_to sites None = []
+senders_to sites (Some to) = filter (λ from. sends_to from to) sites
+
+abbrev pub destinations_from : List SiteEntry → Option SiteEntry → List SiteEntry
+destinations_from sites None = []
+destinations_from sites (Some from) = filter (sends_to from) sites
+
+-- the sites that send to the site of this name, in declared order
+abbrev pub senders_of : Schema → SiteName → List SiteName
+senders_of schema site = names_of (senders_to schema.sites (site_named schema site))
+
+-- the sites that the site of this name sends to, in declared order
+abbrev pub destinations_of : Schema → SiteName → List SiteName
+destinations_of schema site = names_of (destinations_from schema.sites (site_named schema site))
+
+-- a table is among those of a set
+abbrev pub has_table : List Bool → ℕ → Bool
+has_table set table = slice_index_or set table false
