@@ -1,6 +1,7 @@
 -- Lists kept at the front of an array whose other cells hold a blank.
-use Rattle.std.specs.Prelude.{◌≡◌, ℕ, ◌-◌, ◌≤◌, List, ◌++◌, length, take, drop, replicate}
-use Rattle.std.proofs.Common.{arith, take-append-drop, length-take-le}
+use Rattle.std.specs.Prelude.{◌≡◌, ℕ, ◌+◌, ◌-◌, ◌<◌, ◌≤◌, List, ◌++◌, length, take, drop, replicate}
+use Rattle.std.proofs.Common.{arith, set, sym, ap, ◌∙◌, take-append-drop, length-take-le}
+use Rattle.std.proofs.lemmas.List.{length-set, drop-set-lt, drop-drop, drop-replicate}
 
 -- there are so many cells, and those from place len on hold the blank
 pub record IsPadded {X : Type 0} (size : ℕ) (blank : X) (len : ℕ) (cells : List X) : Type 0 where
@@ -18,3 +19,16 @@ pub cells-of_front : {X : Type 0} (size : ℕ) (blank : X) (len : ℕ) (cells : 
     → take len cells ++ replicate (size - length (take len cells)) blank ≡ cells
 cells-of_front size blank len cells padded =
     rw (len-of_front size blank len cells padded, ← padded.blanks) (take-append-drop len cells)
+
+-- one more cell in front, and the others hold the blank as before
+pub one_more : {X : Type 0} (size : ℕ) (blank : X) (len : ℕ) (cells : List X) (x : X) → IsPadded size blank len cells → len < size
+    → IsPadded size blank (len + 1) (set cells len x)
+one_more size blank len cells x padded room = record {
+  within = omega (arith, room);
+  whole = length-set cells len x ∙ padded.whole;
+  blanks = drop-set-lt (len + 1) cells len x (omega arith) ∙ sym (drop-drop 1 len cells) ∙ ap (drop 1) padded.blanks ∙ drop-replicate 1 (size - len) blank
+      ∙ ap (λ n. replicate n blank) less;
+}
+  where
+    less : (size - len) - 1 ≡ size - (len + 1)
+    less = omega (arith, room)

@@ -1,5 +1,5 @@
 //! Keys of at most four values, kept in place.
-ghost use Rattle.std.specs.Prelude.{◌≡◌, ℕ, ◌-◌, ◌≤◌, ◌++◌, ◌↔◌, length, replicate, pos, IsSome, IfSome};
+ghost use Rattle.std.specs.Prelude.{◌≡◌, ℕ, ◌-◌, ◌<◌, ◌≤◌, ◌∷◌, ◌++◌, ◌↔◌, [], length, replicate, pos, IsSome, IfSome};
 ghost use Rattle.rep_values.specs.Number.{IsKeyLen};
 ghost use Rattle.rep_values.specs.declared.value.Value.TheVariants.{Num};
 
@@ -59,6 +59,24 @@ impl Key {
             cells: padded(values),
             len: values.len() as u8,
         })
+    }
+
+    /// The key of one value.
+    pub fn first(value: Value) -> Key
+        ensures { result ≡ value ∷ [] }
+    {
+        let mut cells = [Value::Num(0); 4];
+        cells[0] = value;
+        Key { cells, len: 1 }
+    }
+
+    /// Adds a value behind the others.
+    pub fn push(&mut self, value: Value)
+        requires { length self.old < 4 }
+        ensures { self.new ≡ self.old ++ value ∷ [] }
+    {
+        self.cells[self.len as usize] = value;
+        self.len += 1;
     }
 
     /// The values of the key, in column order.
