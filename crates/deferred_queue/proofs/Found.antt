@@ -43,11 +43,11 @@ AreStreams-new count sites = record { each = each_new sites; alike = alike_new s
   where
     each_new : (sites : List SiteName) → AllByRecursion (IsStream count) (kept_of (map new_held sites))
     each_new [] = tt
-    each_new (site ∷ sites) = (record { falling = tt; within = omega arith }, each_new sites)
+    each_new (site ∷ sites) = (record { falling = tt; earlier = tt; within = omega arith }, each_new sites)
 
-    none_differs : (site : SiteName) (sites : List SiteName) → AllByRecursion (λ (other : Kept). other.site ≡ site → other.entries ≡ []) (kept_of (map new_held sites))
+    none_differs : (site : SiteName) (sites : List SiteName) → AllByRecursion (λ (other : Kept). other.site ≡ site → other ≡ record { site = site; acked = 0; entries = [] }) (kept_of (map new_held sites))
     none_differs site [] = tt
-    none_differs site (other ∷ sites) = (λ same. refl, none_differs site sites)
+    none_differs site (other ∷ sites) = (λ same. ap (λ (s : SiteName). record { site = s; acked = 0; entries = [] }) same, none_differs site sites)
 
     alike_new : (sites : List SiteName) → AreAlike (kept_of (map new_held sites))
     alike_new [] = tt

@@ -1,49 +1,30 @@
 -- The stream that is computed from the queued transactions is the one that is kept.
 use Rattle.std.proofs.Common.{◌≡◌, ℕ, suc, ◌+◌, ◌-◌, ◌<◌, ◌≤◌, ◌==◌, Bool, true, false, cond, List, [], ◌∷◌, length, reverse, Option, Some, None, refl, sym, ap, subst, ◌∙◌, arith, add-one}
 use Rattle.std.specs.Option.{option_map}
-use Rattle.std.specs.Prelude.{slice_get}
 use Rattle.std.specs.List.{AllByRecursion, cons_option}
 use Rattle.std.proofs.lemmas.Bool.Decides.{nat_tests}
 use Rattle.rep_values.specs.declared.name.SiteName.{SiteName}
 use Rattle.rep_calls.specs.declared.call.Txn.{Txn}
-use Rattle.deferred_queue.specs.declared.stream.Entry.{Entry}
-use Rattle.deferred_queue.specs.Streams.{InStream, is_same_site, destination_to, stream_to, at_position, numbered}
-use Rattle.deferred_queue.specs.Kept.{Kept, entry_of, sent_to, destinations_of, queued, entries_to, FallsFrom, AreAlike, IsStream, AreStreams}
-use Rattle.deferred_queue.proofs.Positions.{at_position-reverse}
+use Rattle.deferred_queue.specs.declared.entries.Entry.{Entry}
+use Rattle.deferred_queue.specs.declared.destination.Place.{Place}
+use Rattle.deferred_queue.specs.Streams.{InStream, is_same_site, destination_to, stream_to, at_position, place_of}
+use Rattle.deferred_queue.specs.Kept.{Kept, entry_of, sent_to, destinations_of, queued, entries_to, place_in, FallsFrom, DependBack, AreAlike, IsStream, AreStreams}
 use Rattle.deferred_queue.proofs.Sites.{is_same_site-true, eq_true, eq_false, eq_false_above}
+use Rattle.deferred_queue.proofs.Numbers.{entry_of-above, number_within}
 
 -- as many are queued as there are transactions
-pub length-queued : (streams : List Kept) (txns : List Txn) → length (queued streams txns) ≡ length txns
+pub length-queued : (streams : List Kept) (txns : List (Option Txn)) → length (queued streams txns) ≡ length txns
 length-queued streams [] = refl
 length-queued streams (txn ∷ older) = ap suc (length-queued streams older)
 
--- a number above all has no entry
-pub entry_of-above : (bound number : ℕ) (entries : List Entry) → FallsFrom bound entries → bound < number → entry_of number entries ≡ None
-entry_of-above bound number [] falls above = refl
-entry_of-above bound number (e ∷ es) falls above = rw (eq_false e.number number (omega (arith, falls.1, above))) (entry_of-above (e.number - 1) number es falls.2 (omega (arith, falls.1, above)))
-
--- an entry's number lies within the bound
-pub number_within : (bound position : ℕ) (entries : List Entry) (entry : Entry) → FallsFrom bound entries → at_position position entries ≡ Some entry → (1 ≤ entry.number) × (entry.number ≤ bound)
-number_within bound position [] entry falls found = absurd (cc found)
-number_within bound position (e ∷ es) entry falls found = go (position == length es + 1) (number_within (e.number - 1) position es entry falls.2) found
-  where
-    go : (b : Bool) → (at_position position es ≡ Some entry → (1 ≤ entry.number) × (entry.number ≤ e.number - 1)) → cond b (Some e) (at_position position es) ≡ Some entry → (1 ≤ entry.number) × (entry.number ≤ bound)
-    go true later there = let same : e ≡ entry = cc there in rw (← same) (falls.0, falls.1)
-    go false later there = ((later there).0, omega (arith, (later there).1, falls.1))
-
--- the bound may be higher
-pub FallsFrom-higher : (bound higher : ℕ) (entries : List Entry) → bound ≤ higher → FallsFrom bound entries → FallsFrom higher entries
-FallsFrom-higher bound higher [] le falls = tt
-FallsFrom-higher bound higher (e ∷ es) le falls = (falls.0, omega (arith, le, falls.1), falls.2)
-
 -- where streams to one site are alike, and the first has no entry of a number, a later one has none
-none_alike : (site : SiteName) (number : ℕ) (k : Kept) (ks : List Kept) → AllByRecursion (λ (other : Kept). other.site ≡ k.site → other.entries ≡ k.entries) ks → site ≡ k.site
+none_alike : (site : SiteName) (number : ℕ) (k : Kept) (ks : List Kept) → AllByRecursion (λ (other : Kept). other.site ≡ k.site → other ≡ k) ks → site ≡ k.site
     → entry_of number k.entries ≡ None → entry_of number (entries_to site ks) ≡ None
 none_alike site number k [] alike same none = refl
 none_alike site number k (other ∷ ks) alike same none = go (is_same_site other.site site) refl (none_alike site number k ks alike.1 same none)
   where
     go : (b : Bool) → is_same_site other.site site ≡ b → entry_of number (entries_to site ks) ≡ None → entry_of number (cond b other.entries (entries_to site ks)) ≡ None
-    go true is later = rw (alike.0 (is_same_site-true other.site site is ∙ same)) none
+    go true is later = rw (ap (λ (x : Kept). x.entries) (alike.0 (is_same_site-true other.site site is ∙ same))) none
     go false is later = later
 
 -- a transaction's destination, looked up by its site, is what that site's stream has of it
@@ -51,7 +32,7 @@ pub destination_to-destinations_of : (site : SiteName) (number : ℕ) (ks : List
 destination_to-destinations_of site number [] alike = refl
 destination_to-destinations_of site number (k ∷ ks) alike = go (is_same_site k.site site) refl (entry_of number k.entries) refl (destination_to-destinations_of site number ks alike.1)
   where
-    go : (b : Bool) → is_same_site k.site site ≡ b → (found : Option Entry) → entry_of number k.entries ≡ found
+    go : (b : Bool) → is_same_site k.site site ≡ b → (found : Option (Entry ℕ)) → entry_of number k.entries ≡ found
         → destination_to site (destinations_of number ks) ≡ sent_to site (entry_of number (entries_to site ks))
         → destination_to site (cons_option (sent_to k.site found) (destinations_of number ks)) ≡ sent_to site (entry_of number (cond b k.entries (entries_to site ks)))
     go true is (Some e) there later = rw (is, there, is_same_site-true k.site site is) refl
@@ -60,53 +41,56 @@ destination_to-destinations_of site number (k ∷ ks) alike = go (is_same_site k
     go false is None there later = later
 
 -- the entry of a transaction with its calls
-abbrev pub in_stream : Entry → Option Txn → Option InStream
-in_stream e txn = option_map (λ (t : Txn). record { number = e.number; dep = e.dep; txn = t }) txn
+abbrev pub in_stream : Entry ℕ → Option (Option Txn) → Option InStream
+in_stream e txn = option_map (λ (t : Option Txn). record { number = e.number; dep = e.value; txn = t }) txn
 
 -- the same of an entry that was looked up, by its number
-abbrev pub entry_in_stream : List Txn → Option Entry → Option InStream
+abbrev pub entry_in_stream : List (Option Txn) → Option (Entry ℕ) → Option InStream
 entry_in_stream txns None = None
 entry_in_stream txns (Some e) = in_stream e (at_position e.number txns)
 
 -- a stream's positions have these entries, with the transactions of their numbers
-pub record IsKeptAs (entries : List Entry) (txns : List Txn) (stream : List InStream) : Type 0 where
+pub record IsKeptAs (entries : List (Entry ℕ)) (txns : List (Option Txn)) (stream : List InStream) : Type 0 where
   pub same_length : length stream ≡ length entries
+  pub places : (number : ℕ) → place_of number stream ≡ place_in number entries
   pub same : (position : ℕ) → at_position position stream ≡ entry_in_stream txns (at_position position entries)
 
 -- a transaction without an entry leaves them
-kept_later : (t : Txn) (older : List Txn) (entries : List Entry) (stream : List InStream) → FallsFrom (length older) entries → IsKeptAs entries older stream → IsKeptAs entries (t ∷ older) stream
+kept_later : (t : Option Txn) (older : List (Option Txn)) (entries : List (Entry ℕ)) (stream : List InStream) → FallsFrom (length older) entries → IsKeptAs entries older stream → IsKeptAs entries (t ∷ older) stream
 kept_later t older entries stream falls kept = record {
   same_length = kept.same_length;
+  places = kept.places;
   same = λ position. kept.same position ∙ go position (at_position position entries) refl;
 }
   where
-    go : (position : ℕ) (found : Option Entry) → at_position position entries ≡ found → entry_in_stream older found ≡ entry_in_stream (t ∷ older) found
+    go : (position : ℕ) (found : Option (Entry ℕ)) → at_position position entries ≡ found → entry_in_stream older found ≡ entry_in_stream (t ∷ older) found
     go position None is = refl
     go position (Some e) is = rw (eq_false e.number (length older + 1) (omega (arith, (number_within (length older) position entries e falls is).1))) refl
 
 -- one with an entry is added
-kept_more : (t : Txn) (older : List Txn) (e : Entry) (es : List Entry) (stream : List InStream) → e.number ≡ length older + 1 → FallsFrom (length older) es → IsKeptAs es older stream
-    → IsKeptAs (e ∷ es) (t ∷ older) (record { number = length older + 1; dep = e.dep; txn = t } ∷ stream)
+kept_more : (t : Option Txn) (older : List (Option Txn)) (e : Entry ℕ) (es : List (Entry ℕ)) (stream : List InStream) → e.number ≡ length older + 1 → FallsFrom (length older) es → IsKeptAs es older stream
+    → IsKeptAs (e ∷ es) (t ∷ older) (record { number = length older + 1; dep = e.value; txn = t } ∷ stream)
 kept_more t older e es stream is falls kept = record {
   same_length = ap suc kept.same_length;
+  places = λ number. rw (kept.same_length, kept.places number, is) refl;
   same = λ position. rw kept.same_length (go position (position == length es + 1));
 }
   where
-    go : (position : ℕ) (b : Bool) → cond b (Some (record { number = length older + 1; dep = e.dep; txn = t })) (at_position position stream) ≡ entry_in_stream (t ∷ older) (cond b (Some e) (at_position position es))
+    go : (position : ℕ) (b : Bool) → cond b (Some (record { number = length older + 1; dep = e.value; txn = t })) (at_position position stream) ≡ entry_in_stream (t ∷ older) (cond b (Some e) (at_position position es))
     go position true = rw (eq_true e.number (length older + 1) is, is) refl
     go position false = (kept_later t older es stream falls kept).same position
 
 -- where the entries of a stream are known by the transactions' destinations, they are its positions
-stream_kept : (site : SiteName) (streams : List Kept) (txns : List Txn) (entries : List Entry) → FallsFrom (length txns) entries
+pub stream_kept : (site : SiteName) (streams : List Kept) (txns : List (Option Txn)) (entries : List (Entry ℕ)) → FallsFrom (length txns) entries
     → ((number : ℕ) → number ≤ length txns → destination_to site (destinations_of number streams) ≡ sent_to site (entry_of number entries))
     → IsKeptAs entries txns (stream_to site (queued streams txns))
-stream_kept site streams [] [] falls known = record { same_length = refl; same = λ position. refl }
+stream_kept site streams [] [] falls known = record { same_length = refl; places = λ number. refl; same = λ position. refl }
 stream_kept site streams [] (e ∷ es) falls known = absurd (omega (arith, falls.0, falls.1))
 stream_kept site streams (t ∷ older) [] falls known =
     rw (known (length older + 1) (omega arith)) (kept_later t older [] _ tt (stream_kept site streams older [] tt (λ number le. known number (omega (arith, le)))))
 stream_kept site streams (t ∷ older) (e ∷ es) falls known = go (e.number == length older + 1) refl (stream_kept site streams older es) (stream_kept site streams older (e ∷ es))
   where
-    Later : List Entry → Type 0
+    Later : List (Entry ℕ) → Type 0
     Later entries = FallsFrom (length older) entries → ((number : ℕ) → number ≤ length older → destination_to site (destinations_of number streams) ≡ sent_to site (entry_of number entries))
         → IsKeptAs entries older (stream_to site (queued streams older))
 
@@ -133,36 +117,33 @@ entries_to-falls site count (k ∷ ks) each = go (is_same_site k.site site) (ent
     go false later = later
 
 -- so the stream to a site is what its stream in the queue holds
-pub stream_to-queued : (site : SiteName) (streams : List Kept) (txns : List Txn) → AreStreams (length txns) streams → IsKeptAs (entries_to site streams) txns (stream_to site (queued streams txns))
+pub stream_to-queued : (site : SiteName) (streams : List Kept) (txns : List (Option Txn)) → AreStreams (length txns) streams → IsKeptAs (entries_to site streams) txns (stream_to site (queued streams txns))
 stream_to-queued site streams txns are = stream_kept site streams txns (entries_to site streams) (entries_to-falls site (length txns) streams are.each) (λ number le. destination_to-destinations_of site number streams are.alike)
 
 -- so a position without an entry has no transaction
-pub at_position-none : (site : SiteName) (streams : List Kept) (txns : List Txn) (position : ℕ) → AreStreams (length txns) streams
+pub at_position-none : (site : SiteName) (streams : List Kept) (txns : List (Option Txn)) (position : ℕ) → AreStreams (length txns) streams
     → at_position position (entries_to site streams) ≡ None → at_position position (stream_to site (queued streams txns)) ≡ None
 at_position-none site streams txns position are none = (stream_to-queued site streams txns are).same position ∙ rw none refl
 
 -- and one with an entry has the transaction of that number
-pub at_position-some : (site : SiteName) (streams : List Kept) (txns : List Txn) (position : ℕ) (e : Entry) (t : Txn) → AreStreams (length txns) streams
+pub at_position-some : (site : SiteName) (streams : List Kept) (txns : List (Option Txn)) (position : ℕ) (e : Entry ℕ) (t : Option Txn) → AreStreams (length txns) streams
     → at_position position (entries_to site streams) ≡ Some e → at_position e.number txns ≡ Some t
-    → at_position position (stream_to site (queued streams txns)) ≡ Some (record { number = e.number; dep = e.dep; txn = t })
+    → at_position position (stream_to site (queued streams txns)) ≡ Some (record { number = e.number; dep = e.value; txn = t })
 at_position-some site streams txns position e t are found there = (stream_to-queued site streams txns are).same position ∙ rw (found, there) refl
 
-length-numbered : (streams : List Kept) (txns : List Txn) → length (numbered (queued streams txns)) ≡ length txns
-length-numbered streams [] = refl
-length-numbered streams (txn ∷ older) = ap suc (length-numbered streams older)
-
--- the transactions at their numbers
-pub at_position-numbered : (streams : List Kept) (txns : List Txn) (position : ℕ) → at_position position (numbered (queued streams txns)) ≡ option_map (λ (t : Txn). record { number = position; txn = t }) (at_position position txns)
-at_position-numbered streams [] position = refl
-at_position-numbered streams (t ∷ older) position = rw (length-numbered streams older, length-queued streams older) (go (position == length older + 1) refl (at_position-numbered streams older position))
+-- an entry of a stream of the queue depends on an earlier position
+pub earlier_at : (site : SiteName) (count position : ℕ) (ks : List Kept) (e : Entry ℕ) → AllByRecursion (IsStream count) ks → at_position position (entries_to site ks) ≡ Some e → e.value < position
+earlier_at site count position [] e each found = absurd (cc found)
+earlier_at site count position (k ∷ ks) e each found = go (is_same_site k.site site) (earlier_at site count position ks e each.1) found
   where
-    go : (b : Bool) → (position == length older + 1) ≡ b → at_position position (numbered (queued streams older)) ≡ option_map (λ (txn : Txn). record { number = position; txn = txn }) (at_position position older)
-        → cond b (Some (record { number = length older + 1; txn = t })) (at_position position (numbered (queued streams older)))
-        ≡ option_map (λ (txn : Txn). record { number = position; txn = txn }) (cond b (Some t) (at_position position older))
-    go true is later = let same : position ≡ length older + 1 = grind (arith, nat_tests) in rw same refl
-    go false is later = later
+    back : (es : List (Entry ℕ)) → DependBack es → at_position position es ≡ Some e → e.value < position
+    back [] depend found = absurd (cc found)
+    back (x ∷ xs) depend found = step (position == length xs + 1) refl (back xs depend.1) found
+      where
+        step : (b : Bool) → (position == length xs + 1) ≡ b → (at_position position xs ≡ Some e → e.value < position) → cond b (Some x) (at_position position xs) ≡ Some e → e.value < position
+        step true is later there = let same : x ≡ e = cc there in let here : position ≡ length xs + 1 = grind (arith, nat_tests) in rw (← same) (omega (arith, here, depend.0))
+        step false is later there = later there
 
--- and at their places
-pub at_position-in_order : (streams : List Kept) (txns : List Txn) (place : ℕ) → at_position (place + 1) (numbered (queued streams (reverse txns))) ≡ option_map (λ (t : Txn). record { number = place + 1; txn = t }) (slice_get txns place)
-at_position-in_order streams txns place =
-    at_position-numbered streams (reverse txns) (place + 1) ∙ ap (option_map (λ (t : Txn). record { number = place + 1; txn = t })) (rw add-one (at_position-reverse txns place))
+    go : (b : Bool) → (at_position position (entries_to site ks) ≡ Some e → e.value < position) → at_position position (cond b k.entries (entries_to site ks)) ≡ Some e → e.value < position
+    go true later there = back k.entries each.0.earlier there
+    go false later there = later there

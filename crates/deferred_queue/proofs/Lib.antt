@@ -1,10 +1,14 @@
 -- The lemmas of this crate, from the bottom up.
 pub mod Sites
 pub mod Positions
+pub mod Numbers
+mod Places
 pub mod KeptStreams
 mod InPlace
 mod Found
 mod Room
 mod Extending
 mod Raising
+pub mod KeptTxns
+mod Purging
 mod StreamLaws

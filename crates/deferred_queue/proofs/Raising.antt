@@ -1,5 +1,5 @@
 -- What a mark does to the streams.
-use Rattle.std.proofs.Common.{◌≡◌, ℕ, ◌+◌, ◌≤◌, Bool, true, false, cond, max, List, [], ◌∷◌, length, map, refl, sym, ap, ◌∙◌, arith}
+use Rattle.std.proofs.Common.{◌≡◌, ℕ, ◌+◌, ◌≤◌, Bool, true, false, cond, max, List, [], ◌∷◌, length, map, Option, refl, sym, ap, ◌∙◌, arith}
 use Rattle.std.specs.List.{AllByRecursion}
 use Rattle.rep_values.specs.declared.name.SiteName.{SiteName}
 use Rattle.rep_calls.specs.declared.call.Txn.{Txn}
@@ -22,7 +22,7 @@ destinations_of-raised site mark number [] = refl
 destinations_of-raised site mark number (k ∷ ks) = rw (destinations_of-raised site mark number ks) refl
 
 -- the transactions keep their destinations
-pub queued-raised : (site : SiteName) (mark : ℕ) (ks : List Kept) (txns : List Txn) → queued (map (raised site mark) ks) txns ≡ queued ks txns
+pub queued-raised : (site : SiteName) (mark : ℕ) (ks : List Kept) (txns : List (Option Txn)) → queued (map (raised site mark) ks) txns ≡ queued ks txns
 queued-raised site mark ks [] = refl
 queued-raised site mark ks (txn ∷ older) = rw (destinations_of-raised site mark (length older + 1) ks, queued-raised site mark ks older) refl
 
@@ -42,10 +42,10 @@ AreStreams-raised site mark count ks within are = record { each = each_raised ks
     Covers : Kept → Type 0
     Covers k = is_same_site k.site site ≡ true → mark ≤ length k.entries
 
-    as_first : (k : Kept) (ks : List Kept) → is_same_site k.site site ≡ true → mark ≤ length k.entries → AllByRecursion (λ (other : Kept). other.site ≡ k.site → other.entries ≡ k.entries) ks → AllByRecursion Covers ks
+    as_first : (k : Kept) (ks : List Kept) → is_same_site k.site site ≡ true → mark ≤ length k.entries → AllByRecursion (λ (other : Kept). other.site ≡ k.site → other ≡ k) ks → AllByRecursion Covers ks
     as_first k [] is within alike = tt
     as_first k (other ∷ ks) is within alike =
-        (λ same. rw (alike.0 (is_same_site-true other.site site same ∙ sym (is_same_site-true k.site site is))) within, as_first k ks is within alike.1)
+        (λ same. rw (ap (λ (x : Kept). x.entries) (alike.0 (is_same_site-true other.site site same ∙ sym (is_same_site-true k.site site is)))) within, as_first k ks is within alike.1)
 
     all_within : (ks : List Kept) → AreAlike ks → mark ≤ length (entries_to site ks) → AllByRecursion Covers ks
     all_within [] alike within = tt
@@ -57,16 +57,16 @@ AreStreams-raised site mark count ks within are = record { each = each_raised ks
 
     each_raised : (ks : List Kept) → AllByRecursion (IsStream count) ks → AllByRecursion Covers ks → AllByRecursion (IsStream count) (map (raised site mark) ks)
     each_raised [] each covers = tt
-    each_raised (k ∷ ks) each covers = (record { falling = each.0.falling; within = go (is_same_site k.site site) covers.0 }, each_raised ks each.1 covers.1)
+    each_raised (k ∷ ks) each covers = (record { falling = each.0.falling; earlier = each.0.earlier; within = go (is_same_site k.site site) covers.0 }, each_raised ks each.1 covers.1)
       where
         go : (b : Bool) → (b ≡ true → mark ≤ length k.entries) → cond b (max k.acked mark) k.acked ≤ length k.entries
         go true covered = omega (arith, each.0.within, covered refl)
         go false covered = each.0.within
 
-    alike_one : (k : Kept) (ks : List Kept) → AllByRecursion (λ (other : Kept). other.site ≡ k.site → other.entries ≡ k.entries) ks
-        → AllByRecursion (λ (other : Kept). other.site ≡ k.site → other.entries ≡ k.entries) (map (raised site mark) ks)
+    alike_one : (k : Kept) (ks : List Kept) → AllByRecursion (λ (other : Kept). other.site ≡ k.site → other ≡ k) ks
+        → AllByRecursion (λ (other : Kept). other.site ≡ k.site → other ≡ raised site mark k) (map (raised site mark) ks)
     alike_one k [] alike = tt
-    alike_one k (other ∷ ks) alike = (alike.0, alike_one k ks alike.1)
+    alike_one k (other ∷ ks) alike = (λ same. ap (raised site mark) (alike.0 same), alike_one k ks alike.1)
 
     alike_raised : (ks : List Kept) → AreAlike ks → AreAlike (map (raised site mark) ks)
     alike_raised [] alike = tt

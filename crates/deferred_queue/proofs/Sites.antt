@@ -15,6 +15,10 @@ same_bytes-Decides a b = slice_eq-Decides unsigned_Decides a b (same_bytes a b) 
 pub is_same_site-true : (a b : SiteName) → is_same_site a b ≡ true → a ≡ b
 is_same_site-true a b is = ap (λ (n : List ℕ). record { 0 = n }) ((same_bytes-Decides a.0 b.0).0 is)
 
+-- a site is the same as itself
+pub is_same_site-refl : (a : SiteName) → is_same_site a a ≡ true
+is_same_site-refl a = (same_bytes-Decides a.0 a.0).1 refl
+
 -- a number is itself
 pub eq_true : (a b : ℕ) → a ≡ b → (a == b) ≡ true
 eq_true a b same = grind (arith, nat_tests)

@@ -1,13 +1,16 @@
 -- What holds of the stream to a site, whatever was queued.
 use Rattle.std.proofs.Common.{◌≡◌, ℕ, suc, ◌+◌, ◌<◌, ◌≤◌, ◌==◌, Bool, true, false, cond, List, [], ◌∷◌, length, Option, Some, None, refl, subst, arith}
-use Rattle.std.specs.List.{AllByRecursion}
+use Rattle.std.specs.Option.{option_map}
+use Rattle.std.specs.List.{AllByRecursion, cons_option}
 use Rattle.std.proofs.lemmas.Bool.Decides.{nat_tests}
 use Rattle.rep_values.specs.declared.name.SiteName.{SiteName}
+use Rattle.rep_calls.specs.declared.call.Txn.{Txn}
 use Rattle.deferred_queue.specs.declared.destination.Destination.{Destination}
-use Rattle.deferred_queue.specs.Streams.{Deferred, InStream, is_same_site, destination_to, with_one, stream_to, at_position, last_position}
-use Rattle.deferred_queue.specs.Laws.{PositionsAreFull, NumbersRise, DependOnEarlier, DepsAreEarlier}
-use Rattle.deferred_queue.proofs.Sites.{is_same_site-true}
+use Rattle.deferred_queue.specs.Streams.{Deferred, InStream, destination_to, with_one, stream_to, at_position, place_of, last_position, numbered}
+use Rattle.deferred_queue.specs.Laws.{PositionsAreFull, NumbersRise, DependOnEarlier, DepsAreEarlier, NumbersAreQueued, SentAreInOrder, PlacesAreFound}
 use Rattle.deferred_queue.proofs.Positions.{at_position-within, found_position}
+use Rattle.deferred_queue.proofs.Sites.{eq_true, eq_false, eq_false_above}
+use Rattle.deferred_queue.proofs.Extending.{found_destination}
 
 -- a transaction stands at each position
 pub positions_are_full : PositionsAreFull
@@ -55,15 +58,6 @@ numbers_rise_in site (last ∷ older) early late a b before at_early at_late = g
 pub numbers_rise : NumbersRise
 numbers_rise = λ site deferred early late a b. numbers_rise_in site deferred early late a b
 
--- a destination that was found is one of them, to that site
-found_destination : (P : Destination → Type 0) (site : SiteName) (ds : List Destination) (d : Destination) → AllByRecursion P ds → destination_to site ds ≡ Some d → P d × (d.site ≡ site)
-found_destination P site [] d all found = absurd (cc found)
-found_destination P site (x ∷ xs) d all found = go (is_same_site x.site site) refl (found_destination P site xs d all.1) found
-  where
-    go : (b : Bool) → is_same_site x.site site ≡ b → (destination_to site xs ≡ Some d → P d × (d.site ≡ site)) → cond b (Some x) (destination_to site xs) ≡ Some d → P d × (d.site ≡ site)
-    go true is later there = let same : x ≡ d = cc there in rw (← same) (all.0, is_same_site-true x.site site is)
-    go false is later there = later there
-
 deps_are_earlier_in : (site : SiteName) (deferred : List Deferred) (position : ℕ) (a : InStream) → DependOnEarlier deferred → at_position position (stream_to site deferred) ≡ Some a → a.dep < position
 deps_are_earlier_in site [] position a each found = absurd (cc found)
 deps_are_earlier_in site (last ∷ older) position a each found = go (destination_to site last.to) refl (deps_are_earlier_in site older position a each.1) found
@@ -87,3 +81,84 @@ deps_are_earlier_in site (last ∷ older) position a each found = go (destinatio
 -- a dependency is an earlier position, in each stream
 pub deps_are_earlier : DepsAreEarlier
 deps_are_earlier = λ site deferred position a. deps_are_earlier_in site deferred position a
+
+-- a number up to the count stands in the queue at itself
+queued_at : (site : SiteName) (deferred : List Deferred) (position : ℕ) (a : InStream) → at_position position (stream_to site deferred) ≡ Some a
+    → option_map (λ (d : Deferred). d.txn) (at_position a.number deferred) ≡ Some a.txn
+queued_at site [] position a found = absurd (cc found)
+queued_at site (last ∷ older) position a found = go (destination_to site last.to) (queued_at site older position a) found
+  where
+    earlier : at_position position (stream_to site older) ≡ Some a → option_map (λ (d : Deferred). d.txn) (at_position a.number older) ≡ Some a.txn
+        → option_map (λ (d : Deferred). d.txn) (at_position a.number (last ∷ older)) ≡ Some a.txn
+    earlier there is = rw (eq_false a.number (length older + 1) (omega (arith, number_counted site older position a there))) is
+
+    top : (d : Destination) (b : Bool) → (at_position position (stream_to site older) ≡ Some a → option_map (λ (d : Deferred). d.txn) (at_position a.number older) ≡ Some a.txn)
+        → cond b (Some (record { number = length older + 1; dep = d.dep; txn = last.txn })) (at_position position (stream_to site older)) ≡ Some a
+        → option_map (λ (d : Deferred). d.txn) (at_position a.number (last ∷ older)) ≡ Some a.txn
+    top d true later there =
+        let same : record { number = length older + 1; dep = d.dep; txn = last.txn } ≡ a = cc there in
+        rw (← same, eq_true (length older + 1) (length older + 1) refl) refl
+    top d false later there = earlier there (later there)
+
+    go : (d : Option Destination) → (at_position position (stream_to site older) ≡ Some a → option_map (λ (d : Deferred). d.txn) (at_position a.number older) ≡ Some a.txn)
+        → at_position position (with_one d (length older + 1) last.txn (stream_to site older)) ≡ Some a → option_map (λ (d : Deferred). d.txn) (at_position a.number (last ∷ older)) ≡ Some a.txn
+    go None later there = earlier there (later there)
+    go (Some d) later there = top d (position == length (stream_to site older) + 1) later there
+
+-- what stands in a stream stands in the queue
+pub numbers_are_queued : NumbersAreQueued
+numbers_are_queued = λ site deferred position a. queued_at site deferred position a
+
+-- a queued transaction that isn't purged stands among those in order
+in_order_at : (number : ℕ) (deferred : List Deferred) (txn : Txn) → option_map (λ (d : Deferred). d.txn) (at_position number deferred) ≡ Some (Some txn)
+    → (place : ℕ) × (at_position (place + 1) (numbered deferred) ≡ Some (record { number = number; txn = txn }))
+in_order_at number [] txn found = absurd (cc found)
+in_order_at number (last ∷ older) txn found = go (number == length older + 1) refl (in_order_at number older txn) found
+  where
+    Placed : List Deferred → Type 0
+    Placed deferred = (place : ℕ) × (at_position (place + 1) (numbered deferred) ≡ Some (record { number = number; txn = txn }))
+
+    at_end : (t : Option Txn) → t ≡ Some txn → number ≡ length older + 1
+        → (place : ℕ) × (at_position (place + 1) (cons_option (option_map (λ (x : Txn). record { number = length older + 1; txn = x }) t) (numbered older)) ≡ Some (record { number = number; txn = txn }))
+    at_end None is here = absurd (cc is)
+    at_end (Some t) is here = let same : t ≡ txn = cc is in (length (numbered older), rw (eq_true (length (numbered older) + 1) (length (numbered older) + 1) refl, here, same) refl)
+
+    before : (t : Option Txn) → Placed older
+        → (place : ℕ) × (at_position (place + 1) (cons_option (option_map (λ (x : Txn). record { number = length older + 1; txn = x }) t) (numbered older)) ≡ Some (record { number = number; txn = txn }))
+    before None placed = placed
+    before (Some t) placed = (placed.0, rw (eq_false (placed.0 + 1) (length (numbered older) + 1) (omega (arith, (found_position (placed.0 + 1) (numbered older) _ placed.1).1))) placed.1)
+
+    go : (b : Bool) → (number == length older + 1) ≡ b → (option_map (λ (d : Deferred). d.txn) (at_position number older) ≡ Some (Some txn) → Placed older)
+        → option_map (λ (d : Deferred). d.txn) (cond b (Some last) (at_position number older)) ≡ Some (Some txn) → Placed (last ∷ older)
+    go true is later there = let txn_is : last.txn ≡ Some txn = cc there in let here : number ≡ length older + 1 = grind (arith, nat_tests) in at_end last.txn txn_is here
+    go false is later there = before last.txn (later there)
+
+-- so does what stands in a stream and isn't purged
+pub sent_are_in_order : SentAreInOrder
+sent_are_in_order = λ site deferred position a txn found is. in_order_at a.number deferred txn (rw is at (queued_at site deferred position a found))
+
+-- a number is found in a stream where it stands
+found_in : (site : SiteName) (deferred : List Deferred) (position : ℕ) (a : InStream) → at_position position (stream_to site deferred) ≡ Some a
+    → place_of a.number (stream_to site deferred) ≡ Some (record { position = position; dep = a.dep })
+found_in site [] position a found = absurd (cc found)
+found_in site (last ∷ older) position a found = go (destination_to site last.to) (found_in site older position a) found
+  where
+    top : (d : Destination) (b : Bool) → (position == length (stream_to site older) + 1) ≡ b
+        → (at_position position (stream_to site older) ≡ Some a → place_of a.number (stream_to site older) ≡ Some (record { position = position; dep = a.dep }))
+        → cond b (Some (record { number = length older + 1; dep = d.dep; txn = last.txn })) (at_position position (stream_to site older)) ≡ Some a
+        → cond (length older + 1 == a.number) (Some (record { position = length (stream_to site older) + 1; dep = d.dep })) (place_of a.number (stream_to site older)) ≡ Some (record { position = position; dep = a.dep })
+    top d true is later there =
+        let same : record { number = length older + 1; dep = d.dep; txn = last.txn } ≡ a = cc there in
+        let here : position ≡ length (stream_to site older) + 1 = grind (arith, nat_tests) in
+        rw (← same, eq_true (length older + 1) (length older + 1) refl, here) refl
+    top d false is later there = rw (eq_false_above (length older + 1) a.number (omega (arith, number_counted site older position a there))) (later there)
+
+    go : (d : Option Destination) → (at_position position (stream_to site older) ≡ Some a → place_of a.number (stream_to site older) ≡ Some (record { position = position; dep = a.dep }))
+        → at_position position (with_one d (length older + 1) last.txn (stream_to site older)) ≡ Some a
+        → place_of a.number (with_one d (length older + 1) last.txn (stream_to site older)) ≡ Some (record { position = position; dep = a.dep })
+    go None later there = later there
+    go (Some d) later there = top d (position == length (stream_to site older) + 1) refl later there
+
+-- each is found at its position
+pub places_are_found : PlacesAreFound
+places_are_found = λ site deferred position a. found_in site deferred position a

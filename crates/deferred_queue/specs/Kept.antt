@@ -1,17 +1,39 @@
 -- How a queue keeps its streams: one list of entries for each destination.
-use Rattle.std.specs.Prelude.{◌≡◌, ℕ, ◌+◌, ◌-◌, ◌≤◌, ◌==◌, Bool, cond, max, min, List, [], ◌∷◌, length, map, filter_map, Option, Some, None, option_map}
+use Rattle.std.specs.Prelude.{◌≡◌, ℕ, zero, suc, ◌+◌, ◌-◌, ◌≤◌, ◌==◌, Bool, true, cond, max, min, nat_le, List, [], ◌∷◌, length, map, filter_map, Option, Some, None, option_map}
 use Rattle.std.specs.List.{AllByRecursion}
 use Rattle.rep_values.specs.declared.name.SiteName.{SiteName}
 use Rattle.rep_calls.specs.declared.call.Txn.{Txn}
 use Rattle.deferred_queue.specs.declared.destination.Destination.{Destination}
-use Rattle.deferred_queue.specs.declared.stream.Entry.{Entry}
+use Rattle.deferred_queue.specs.declared.destination.Place.{Place}
+use Rattle.deferred_queue.specs.declared.entries.Entry.{Entry}
 use Rattle.deferred_queue.specs.Streams.{Deferred, Mark, IsDestination, is_same_site, destination_to}
 
--- what is kept for a destination: how far it has acknowledged, and its entries, the newest first
+module _ {X : Type 0} where
+  -- numbers from 1 to a bound, each below the one before
+  abbrev pub FallsFrom : ℕ → List (Entry X) → Type 0
+  FallsFrom bound [] = Unit {0}
+  FallsFrom bound (e ∷ es) = (1 ≤ e.number) × (e.number ≤ bound) × FallsFrom (e.number - 1) es
+
+  -- numbers from 1, each below the one before
+  abbrev pub Falls : List (Entry X) → Type 0
+  Falls entries = (bound : ℕ) × FallsFrom bound entries
+
+  -- the entry with a number
+  abbrev pub entry_of : ℕ → List (Entry X) → Option (Entry X)
+  entry_of number [] = None
+  entry_of number (e ∷ es) = cond (e.number == number) (Some e) (entry_of number es)
+
+  -- the position of the entry with a number, the oldest at 1
+  abbrev pub position_of : ℕ → List (Entry X) → Option ℕ
+  position_of number [] = None
+  position_of number (e ∷ es) = cond (e.number == number) (Some (length es + 1)) (position_of number es)
+
+-- what is kept for a destination: how far it has acknowledged, and its entries, the newest first: the positions that its
+-- transactions depend on
 pub record Kept : Type 0 where
   pub site : SiteName
   pub acked : ℕ
-  pub entries : List Entry
+  pub entries : List (Entry ℕ)
 
 -- what is kept, and how many entries can be added without memory
 pub record Held : Type 0 where
@@ -35,21 +57,39 @@ abbrev pub least : ℕ → List ℕ → ℕ
 least number [] = number
 least number (n ∷ ns) = min n (least number ns)
 
--- the entry of a transaction, by its number
-abbrev pub entry_of : ℕ → List Entry → Option Entry
-entry_of number [] = None
-entry_of number (e ∷ es) = cond (e.number == number) (Some e) (entry_of number es)
+-- a transaction by its number, None where it isn't kept
+abbrev pub txn_of : ℕ → List (Entry Txn) → Option Txn
+txn_of number kept = option_map (λ (e : Entry Txn). e.value) (entry_of number kept)
+
+-- the transactions with the numbers up to a count, the newest first
+abbrev pub txns_to : ℕ → List (Entry Txn) → List (Option Txn)
+txns_to zero kept = []
+txns_to (suc count) kept = txn_of (suc count) kept ∷ txns_to count kept
 
 -- a destination whose stream has an entry
-abbrev pub sent_to : SiteName → Option Entry → Option Destination
-sent_to site entry = option_map (λ (e : Entry). record { site = site; dep = e.dep }) entry
+abbrev pub sent_to : SiteName → Option (Entry ℕ) → Option Destination
+sent_to site entry = option_map (λ (e : Entry ℕ). record { site = site; dep = e.value }) entry
+
+-- the position of the entry with a number, and what it depends on
+abbrev pub place_in : ℕ → List (Entry ℕ) → Option Place
+place_in number [] = None
+place_in number (e ∷ es) = cond (e.number == number) (Some (record { position = length es + 1; dep = e.value })) (place_in number es)
+
+-- a position, if there is one, isn't behind a mark
+abbrev pub is_within : Option ℕ → ℕ → Bool
+is_within None acked = true
+is_within (Some position) acked = nat_le position acked
+
+-- the stream has no entry with a number, or has acknowledged it
+abbrev pub has_passed : ℕ → Kept → Bool
+has_passed number k = is_within (position_of number k.entries) k.acked
 
 -- the destinations of a transaction, by its number: the streams that have an entry of it
 abbrev pub destinations_of : ℕ → List Kept → List Destination
 destinations_of number streams = filter_map (λ (k : Kept). sent_to k.site (entry_of number k.entries)) streams
 
 -- the transactions, the newest first, with their destinations
-abbrev pub queued : List Kept → List Txn → List Deferred
+abbrev pub queued : List Kept → List (Option Txn) → List Deferred
 queued streams [] = []
 queued streams (txn ∷ older) = record { txn = txn; to = destinations_of (length older + 1) streams } ∷ queued streams older
 
@@ -62,7 +102,7 @@ abbrev pub marks_of : List Kept → List Mark
 marks_of streams = map mark_of streams
 
 -- the entries of the stream to a site, none for a site that is no destination
-abbrev pub entries_to : SiteName → List Kept → List Entry
+abbrev pub entries_to : SiteName → List Kept → List (Entry ℕ)
 entries_to site [] = []
 entries_to site (k ∷ ks) = cond (is_same_site k.site site) k.entries (entries_to site ks)
 
@@ -71,7 +111,7 @@ abbrev pub is_stream_to : SiteName → Held → Bool
 is_stream_to site h = is_same_site h.kept.site site
 
 -- the entries of a stream that was looked up
-abbrev pub entries_found : Option Held → List Entry
+abbrev pub entries_found : Option Held → List (Entry ℕ)
 entries_found None = []
 entries_found (Some h) = h.kept.entries
 
@@ -80,19 +120,21 @@ abbrev pub acked_found : Option Held → ℕ
 acked_found None = 0
 acked_found (Some h) = h.kept.acked
 
--- numbers from 1 to a bound, each below the one before
-abbrev pub FallsFrom : ℕ → List Entry → Type 0
-FallsFrom bound [] = Unit {0}
-FallsFrom bound (e ∷ es) = (1 ≤ e.number) × (e.number ≤ bound) × FallsFrom (e.number - 1) es
+-- each entry depends on an earlier position
+abbrev pub DependBack : List (Entry ℕ) → Type 0
+DependBack [] = Unit {0}
+DependBack (e ∷ es) = (e.value ≤ length es) × DependBack es
 
--- streams to the same site have the same entries
+-- streams to the same site are the same
 abbrev pub AreAlike : List Kept → Type 0
 AreAlike [] = Unit {0}
-AreAlike (k ∷ ks) = AllByRecursion (λ (other : Kept). other.site ≡ k.site → other.entries ≡ k.entries) ks × AreAlike ks
+AreAlike (k ∷ ks) = AllByRecursion (λ (other : Kept). other.site ≡ k.site → other ≡ k) ks × AreAlike ks
 
--- a stream whose numbers rise up to the count of transactions, and that is acknowledged up to its end at most
+-- a stream whose numbers rise up to the count of transactions, whose dependencies are earlier, and that is acknowledged up
+-- to its end at most
 pub record IsStream (count : ℕ) (k : Kept) : Type 0 where
   pub falling : FallsFrom count k.entries
+  pub earlier : DependBack k.entries
   pub within : k.acked ≤ length k.entries
 
 -- the streams of a queue of so many transactions
@@ -100,15 +142,20 @@ pub record AreStreams (count : ℕ) (streams : List Kept) : Type 0 where
   pub each : AllByRecursion (IsStream count) streams
   pub alike : AreAlike streams
 
+-- the streams and the kept transactions of a queue of so many transactions
+pub record IsQueue (count : ℕ) (streams : List Kept) (kept : List (Entry Txn)) : Type 0 where
+  pub streams_are : AreStreams count streams
+  pub falling : FallsFrom count kept
+
 -- a destination of the streams, and a position of its stream or 0
 pub record CanGo (streams : List Kept) (d : Destination) : Type 0 where
   pub destination : IsDestination (marks_of streams) d.site
   pub earlier : d.dep ≤ length (entries_to d.site streams)
 
 -- the entries with one more, where the transaction goes to the destination
-abbrev pub with_entry : Option Destination → ℕ → List Entry → List Entry
+abbrev pub with_entry : Option Destination → ℕ → List (Entry ℕ) → List (Entry ℕ)
 with_entry None number entries = entries
-with_entry (Some d) number entries = record { number = number; dep = d.dep } ∷ entries
+with_entry (Some d) number entries = record { number = number; value = d.dep } ∷ entries
 
 -- the room, less one where the transaction goes to the destination
 abbrev pub room_left : Option Destination → ℕ → ℕ

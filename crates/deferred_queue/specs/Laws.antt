@@ -1,9 +1,10 @@
 -- What holds of every stream of a queue.
-use Rattle.std.specs.Prelude.{◌≡◌, ◌≢◌, ℕ, ◌<◌, ◌≤◌, List, [], ◌∷◌, Some, None}
+use Rattle.std.specs.Prelude.{◌≡◌, ◌≢◌, ℕ, ◌+◌, ◌<◌, ◌≤◌, List, [], ◌∷◌, Some, None, option_map}
 use Rattle.std.specs.List.{AllByRecursion}
 use Rattle.rep_values.specs.declared.name.SiteName.{SiteName}
 use Rattle.deferred_queue.specs.declared.destination.Destination.{Destination}
-use Rattle.deferred_queue.specs.Streams.{Deferred, InStream, stream_to, at_position, last_position}
+use Rattle.rep_calls.specs.declared.call.Txn.{Txn}
+use Rattle.deferred_queue.specs.Streams.{Deferred, InStream, stream_to, at_position, place_of, last_position, numbered}
 
 -- a transaction stands at each position from 1 to the last
 abbrev pub PositionsAreFull : Type 0
@@ -24,3 +25,18 @@ DependOnEarlier (deferred ∷ older) = AllByRecursion (λ (d : Destination). d.d
 abbrev pub DepsAreEarlier : Type 0
 DepsAreEarlier = (site : SiteName) (deferred : List Deferred) (position : ℕ) (a : InStream) → DependOnEarlier deferred
     → at_position position (stream_to site deferred) ≡ Some a → a.dep < position
+
+-- the number of what stands in a stream is within the queue, and the queue has the same transaction at it
+abbrev pub NumbersAreQueued : Type 0
+NumbersAreQueued = (site : SiteName) (deferred : List Deferred) (position : ℕ) (a : InStream) → at_position position (stream_to site deferred) ≡ Some a
+    → option_map (λ (d : Deferred). d.txn) (at_position a.number deferred) ≡ Some a.txn
+
+-- where it isn't purged, it stands among the transactions in order
+abbrev pub SentAreInOrder : Type 0
+SentAreInOrder = (site : SiteName) (deferred : List Deferred) (position : ℕ) (a : InStream) (txn : Txn) → at_position position (stream_to site deferred) ≡ Some a → a.txn ≡ Some txn
+    → (place : ℕ) × (at_position (place + 1) (numbered deferred) ≡ Some (record { number = a.number; txn = txn }))
+
+-- by its number it is found at its position
+abbrev pub PlacesAreFound : Type 0
+PlacesAreFound = (site : SiteName) (deferred : List Deferred) (position : ℕ) (a : InStream) → at_position position (stream_to site deferred) ≡ Some a
+    → place_of a.number (stream_to site deferred) ≡ Some (record { position = position; dep = a.dep })

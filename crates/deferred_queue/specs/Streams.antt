@@ -1,13 +1,15 @@
 -- The transactions of a queue with their destinations, and the streams that they make.
-use Rattle.std.specs.Prelude.{◌≡◌, ◌≢◌, ℕ, ◌+◌, ◌≤◌, ◌==◌, Bool, cond, max, List, [], ◌∷◌, length, map, filter_map, Option, Some, None, option_map}
+use Rattle.std.specs.Prelude.{◌≡◌, ◌≢◌, ℕ, ◌+◌, ◌≤◌, ◌==◌, Bool, cond, max, nat_le, List, [], ◌∷◌, length, map, filter_map, Option, Some, None, option_map}
+use Rattle.std.specs.List.{cons_option, list_all}
 use Rattle.rep_values.specs.declared.name.SiteName.{SiteName}
 use Rattle.rep_values.specs.Name.{same_bytes}
 use Rattle.rep_calls.specs.declared.call.Txn.{Txn}
 use Rattle.deferred_queue.specs.declared.destination.Destination.{Destination}
+use Rattle.deferred_queue.specs.declared.destination.Place.{Place}
 
--- a transaction and its destinations, in the order in which the queue has them
+-- a transaction, None once it was purged, and its destinations, in the order in which the queue has them
 pub record Deferred : Type 0 where
-  pub txn : Txn
+  pub txn : Option Txn
   pub to : List Destination
 
 -- how far a destination has acknowledged its stream
@@ -30,13 +32,14 @@ abbrev pub destination_to : SiteName → List Destination → Option Destination
 destination_to site [] = None
 destination_to site (d ∷ ds) = cond (is_same_site d.site site) (Some d) (destination_to site ds)
 
--- a transaction in a stream: its number in the queue, the position that it depends on, and its calls
+-- a transaction in a stream: its number in the queue, the position that it depends on, and its calls, None once it was
+-- purged
 pub record InStream : Type 0 where
   pub number : ℕ
   pub dep : ℕ
-  pub txn : Txn
+  pub txn : Option Txn
 
-abbrev pub with_one : Option Destination → ℕ → Txn → List InStream → List InStream
+abbrev pub with_one : Option Destination → ℕ → Option Txn → List InStream → List InStream
 with_one None number txn stream = stream
 with_one (Some d) number txn stream = record { number = number; dep = d.dep; txn = txn } ∷ stream
 
@@ -50,6 +53,16 @@ stream_to site (deferred ∷ older) = with_one (destination_to site deferred.to)
 abbrev pub at_position : {X : Type 0} → ℕ → List X → Option X
 at_position position [] = None
 at_position position (x ∷ xs) = cond (position == length xs + 1) (Some x) (at_position position xs)
+
+-- what was found in a stream, where it isn't purged
+abbrev pub unpurged : Option InStream → Option InStream
+unpurged None = None
+unpurged (Some a) = option_map (λ (txn : Txn). a) a.txn
+
+-- where the transaction with a number stands in a stream
+abbrev pub place_of : ℕ → List InStream → Option Place
+place_of number [] = None
+place_of number (a ∷ older) = cond (a.number == number) (Some (record { position = length older + 1; dep = a.dep })) (place_of number older)
 
 -- the last position of the stream to a site, 0 where there is none
 abbrev pub last_position : SiteName → List Deferred → ℕ
@@ -82,12 +95,22 @@ abbrev pub AreApart : List Destination → Type 0
 AreApart [] = Unit {0}
 AreApart (d ∷ ds) = (destination_to d.site ds ≡ None) × AreApart ds
 
--- the queued transactions, each at its number
+-- each of these destinations has acknowledged the position that a transaction has in its stream: the one behind those of
+-- the older transactions
+abbrev pub is_acknowledged : List Mark → List Deferred → List Destination → Bool
+is_acknowledged marks older to = list_all (λ (d : Destination). nat_le (last_position d.site older + 1) (acked_by d.site marks)) to
+
+-- the queue without the transactions that each of their destinations has acknowledged
+abbrev pub purged : List Mark → List Deferred → List Deferred
+purged marks [] = []
+purged marks (deferred ∷ older) = record { txn = cond (is_acknowledged marks older deferred.to) None deferred.txn; to = deferred.to } ∷ purged marks older
+
+-- a transaction at its number
 pub record Numbered : Type 0 where
   pub number : ℕ
   pub txn : Txn
 
--- the transactions with their numbers, the newest first
+-- the transactions that aren't purged with their numbers, the newest first
 abbrev pub numbered : List Deferred → List Numbered
 numbered [] = []
-numbered (deferred ∷ older) = record { number = length older + 1; txn = deferred.txn } ∷ numbered older
+numbered (deferred ∷ older) = cons_option (option_map (λ (txn : Txn). record { number = length older + 1; txn = txn }) deferred.txn) (numbered older)

@@ -21,6 +21,13 @@ pub struct Sent<'a> {
     pub txn: &'a Txn,
 }
 
+/// Where a transaction stands in a stream: its position, from 1, and the earlier position that it depends on, 0 for none.
+#[derive(Clone, Copy)]
+pub struct Place {
+    pub position: u64,
+    pub dep: u64,
+}
+
 /// A queued transaction and its number, from 1.
 #[derive(Clone, Copy)]
 pub struct Queued<'a> {

@@ -2,14 +2,12 @@
 #![tactic(auto)]
 
 mod destination;
+mod entries;
 mod laws;
 mod queue;
 mod stream;
 mod streams;
 
-pub use destination::{Destination, Queued, Sent, are_apart};
+pub use destination::{Destination, Place, Queued, Sent, are_apart};
 pub use laws::stream_laws;
 pub use queue::Queue;
-
-#[cfg(test)]
-mod tests;

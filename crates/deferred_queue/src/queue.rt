@@ -1,44 +1,58 @@
 //! The queue of a site.
-ghost use Rattle.std.specs.Prelude.{◌≡◌, ◌↔◌, ◌+◌, ◌-◌, ◌≤◌, [], ◌∷◌, length, map, IfOk, OnOk, IsTrue, option_copied, slice_get};
+ghost use Rattle.std.specs.Prelude.{◌≡◌, ◌↔◌, ◌+◌, ◌-◌, ◌≤◌, ◌<◌, [], ◌∷◌, length, map, reverse, IfOk, IfSome, OnOk, IsTrue, Some, option_copied, slice_get};
 ghost use Rattle.std.specs.Option.{option_map};
 ghost use Rattle.std.specs.List.{AllByRecursion};
-ghost use Rattle.deferred_queue.specs.Streams.{CanBeSent, AreApart, in_order, at_position, stream_to, numbered, last_position, acked_by, raised_mark};
+ghost use Rattle.deferred_queue.specs.Streams.{CanBeSent, AreApart, in_order, at_position, stream_to, place_of, unpurged, purged, numbered, last_position, acked_by, raised_mark};
+ghost use Rattle.deferred_queue.specs.Kept.{Falls, entry_of};
 
+use crate::entries::{Entry, place_with};
 use crate::stream::Stream;
 use crate::streams::{
-    acked_to, can_go_to_each, entry_to, extend_each, last_to, new_each, raise_each, reserve_each,
+    acked_to, can_go_to_each, entry_to, extend_each, have_passed, last_to, new_each, place_to,
+    raise_each, reserve_each,
 };
-use crate::{Destination, Queued, Sent};
+use crate::{Destination, Place, Queued, Sent};
 use rep_calls::Txn;
 use rep_lists::NoMemory;
 use rep_values::SiteName;
 use std::alloc::Global;
 use std::marker::Model;
 
-/// The transactions that were queued, in the order of their numbers, and the streams to the destinations.
+/// The transactions that were queued and aren't purged, in the order of their numbers, and the streams to the
+/// destinations.
 #[derive(Drop)]
 pub struct Queue {
-    txns: Vec<Txn>,
+    count: u64,
+    txns: Vec<Entry<Txn>>,
     streams: Vec<Stream>,
 }
 
 impl Model for Queue {
-    ghost use Rattle.std.specs.Prelude.{◌-◌, length, reverse, vec_len, vec_capacity};
+    ghost use Rattle.std.specs.Prelude.{◌-◌, ◌^◌, min, reverse, vec_len, vec_capacity};
     ghost use Rattle.deferred_queue.specs.Streams.{Deferrals};
-    ghost use Rattle.deferred_queue.specs.Kept.{kept_of, rooms_of, marks_of, least, queued, AreStreams};
+    ghost use Rattle.deferred_queue.specs.Kept.{IsQueue, kept_of, rooms_of, marks_of, least, queued, txns_to};
 
     ghost Value = { Deferrals };
 
     ghost view = { λ q. record {
-      deferred = queued (kept_of q.streams.items) (reverse q.txns.items);
+      deferred = queued (kept_of q.streams.items) (txns_to q.count (reverse q.txns.items));
       marks = marks_of (kept_of q.streams.items);
-      spare = least (vec_capacity q.txns - vec_len q.txns) (rooms_of q.streams.items);
+      spare = least (min (vec_capacity q.txns - vec_len q.txns) (2 ^ 64 - 1 - q.count)) (rooms_of q.streams.items);
     } };
 
-    ghost invariant = { λ q. AreStreams (length (reverse q.txns.items)) (kept_of q.streams.items) };
+    ghost invariant = { λ q. IsQueue q.count (kept_of q.streams.items) (reverse q.txns.items) };
 }
 
-fn txn_at(txns: &[Txn], place: u64) -> Option<&Txn>
+/// The entry of the transaction with a number.
+fn entry_with(txns: &[Entry<Txn>], number: u64) -> Option<&Entry<Txn>>
+    requires { Falls (reverse txns.now) }
+    ensures { option_copied result ≡ entry_of number (reverse txns.now) }
+{
+    let place = place_with(txns, number)?;
+    Some(&txns[place])
+}
+
+fn entry_at(txns: &[Entry<Txn>], place: u64) -> Option<&Entry<Txn>>
     ensures { option_copied result ≡ slice_get txns.now place }
 {
     txns.get(place as usize)
@@ -52,6 +66,7 @@ impl Queue {
     {
         let streams = new_each(alloc, destinations)?;
         Ok(Queue {
+            count: 0,
             txns: Vec::new(alloc),
             streams,
         })
@@ -64,6 +79,10 @@ impl Queue {
         ensures marks { self.new.marks ≡ self.old.marks }
         ensures spare { self.old.spare ≤ self.new.spare }
     {
+        // Each transaction needs a number of its own, also where earlier ones were purged.
+        if self.count == u64::MAX {
+            return Err(NoMemory);
+        }
         self.txns.reserve(1)?;
         reserve_each(&mut self.streams)?;
         Ok(())
@@ -76,43 +95,57 @@ impl Queue {
         can_go_to_each(&self.streams, to)
     }
 
-    /// Queues a transaction for its destinations, and answers its number: the count of transactions. It takes no memory.
+    /// Queues a transaction for its destinations, and answers its number: the count of transactions, purged ones
+    /// included. It takes no memory.
     pub fn push_back(&mut self, txn: Txn, to: &[Destination]) -> u64
         requires room { 1 ≤ self.old.spare }
         requires destinations { AllByRecursion (CanBeSent self.old) to.now }
         requires apart { AreApart to.now }
         ensures number { result ≡ length self.old.deferred + 1 }
-        ensures deferred { self.new.deferred ≡ record { txn = txn; to = in_order self.old.marks to.now } ∷ self.old.deferred }
+        ensures deferred { self.new.deferred
+            ≡ record { txn = Some txn; to = in_order self.old.marks to.now } ∷ self.old.deferred }
         ensures marks { self.new.marks ≡ self.old.marks }
         ensures spare { self.old.spare ≤ self.new.spare + 1 }
     {
-        self.txns.push_reserved(txn);
-        let number = self.txns.len() as u64;
+        let number = self.count + 1;
+        self.txns.push_reserved(Entry { number, value: txn });
         extend_each(&mut self.streams, to, number);
+        self.count = number;
         number
     }
 
-    /// The transaction at a position of a stream; None exactly where no such position was given.
+    /// The transaction at a position of a stream; None exactly where no such position was given or it was purged.
     pub fn entry(&self, to: &SiteName, position: u64) -> Option<Sent<'_>>
-        ensures { option_map (λ sent. record { number = sent.number; dep = sent.dep; txn = sent.txn.now }) result
-            ≡ at_position position (stream_to to.now self.now.deferred) }
+        ensures sent { option_map (λ sent. record { number = sent.number; dep = sent.dep; txn = Some sent.txn.now }) result
+            ≡ unpurged (at_position position (stream_to to.now self.now.deferred)) }
+        ensures earlier { IfSome result (λ sent. sent.dep < position) }
     {
         let entry = entry_to(&self.streams, to, position)?;
+        let kept = entry_with(&self.txns, entry.number)?;
         Some(Sent {
             number: entry.number,
-            dep: entry.dep,
-            txn: &self.txns[entry.number as usize - 1],
+            dep: entry.value,
+            txn: &kept.value,
         })
     }
 
-    /// The transactions in rising number, places from 0; None exactly where the place is at or behind their end.
-    pub fn entry_in_order(&self, place: u64) -> Option<Queued<'_>>
-        ensures { option_map (λ queued. record { number = queued.number; txn = queued.txn.now }) result ≡ at_position (place + 1) (numbered self.now.deferred) }
+    /// Where a transaction stands in the stream to a site, purged or not; None exactly where it doesn't go to it.
+    pub fn place_of(&self, to: &SiteName, number: u64) -> Option<Place>
+        ensures { result ≡ place_of number (stream_to to.now self.now.deferred) }
     {
-        let txn = txn_at(&self.txns, place)?;
+        place_to(&self.streams, to, number)
+    }
+
+    /// The transactions that aren't purged in rising number, places from 0; None exactly where the place is at or
+    /// behind their end.
+    pub fn entry_in_order(&self, place: u64) -> Option<Queued<'_>>
+        ensures { option_map (λ queued. record { number = queued.number; txn = queued.txn.now }) result
+            ≡ at_position (place + 1) (numbered self.now.deferred) }
+    {
+        let entry = entry_at(&self.txns, place)?;
         Some(Queued {
-            number: place + 1,
-            txn,
+            number: entry.number,
+            txn: &entry.value,
         })
     }
 
@@ -124,6 +157,21 @@ impl Queue {
         ensures spare { self.new.spare ≡ self.old.spare }
     {
         raise_each(&mut self.streams, to, mark);
+    }
+
+    /// Lets go of the transactions that each of their destinations has acknowledged, those without one among them, and
+    /// answers how many they were. It takes no memory, and positions, numbers and dependencies stay.
+    pub fn purge(&mut self) -> u64
+        ensures deferred { self.new.deferred ≡ purged self.old.marks self.old.deferred }
+        ensures count { length (numbered self.new.deferred) + result ≡ length (numbered self.old.deferred) }
+        ensures marks { self.new.marks ≡ self.old.marks }
+        ensures spare { self.old.spare ≤ self.new.spare }
+    {
+        let before = self.txns.len();
+        let streams = self.streams.as_slice();
+        self.txns
+            .retain(|entry| !have_passed(streams, entry.number));
+        (before - self.txns.len()) as u64
     }
 
     /// The last position of the stream to a site, 0 where nothing was queued for it.

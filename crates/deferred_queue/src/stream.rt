@@ -1,33 +1,28 @@
 //! The stream to one destination.
-ghost use Rattle.std.specs.Prelude.{◌≡◌, ℕ, ◌+◌, ◌≤◌, length, OnOk, option_map, slice_get};
-ghost use Rattle.deferred_queue.specs.Streams.{at_position, destination_to};
-ghost use Rattle.deferred_queue.specs.Kept.{new_held, held_extended, held_raised, is_stream_to};
+ghost use Rattle.std.specs.Prelude.{◌≡◌, ℕ, ◌+◌, ◌-◌, ◌≤◌, length, option_copied, slice_get, OnOk};
+ghost use Rattle.deferred_queue.specs.Streams.{at_position};
+ghost use Rattle.deferred_queue.specs.Kept.{FallsFrom, new_held, held_extended, held_raised, is_stream_to, place_in, has_passed};
 
-use crate::Destination;
 use crate::destination::dep_of;
+use crate::entries::{Entry, place_with};
+use crate::{Destination, Place};
 use rep_lists::NoMemory;
 use rep_values::SiteName;
 use std::alloc::Global;
 use std::marker::Model;
 
-/// A queued transaction's number, and the earlier position of the stream that it depends on.
-#[derive(Clone, Copy)]
-pub(crate) struct Entry {
-    pub(crate) number: u64,
-    pub(crate) dep: u64,
-}
-
-/// What was queued for one destination, and how far that is acknowledged.
+/// What was queued for one destination, each entry with the position that it depends on, and how far that is
+/// acknowledged.
 #[derive(Drop)]
 pub(crate) struct Stream {
     site: SiteName,
     acked: u64,
-    entries: Vec<Entry>,
+    entries: Vec<Entry<u64>>,
 }
 
 impl Model for Stream {
     ghost use Rattle.std.specs.Prelude.{◌-◌, reverse, vec_len, vec_capacity};
-    ghost use Rattle.deferred_queue.specs.Kept.{Held};
+    ghost use Rattle.deferred_queue.specs.Kept.{Falls, Held};
 
     ghost Value = { Held };
 
@@ -35,12 +30,14 @@ impl Model for Stream {
       kept = record { site = s.site; acked = s.acked; entries = reverse s.entries.items };
       room = vec_capacity s.entries - vec_len s.entries;
     } };
+
+    ghost invariant = { λ s. Falls (reverse s.entries.items) };
 }
 
-fn entry_at(entries: &[Entry], place: usize) -> Option<Entry>
-    ensures { result ≡ slice_get entries.now place }
+fn entry_at(entries: &[Entry<u64>], place: usize) -> Option<&Entry<u64>>
+    ensures { option_copied result ≡ slice_get entries.now place }
 {
-    entries.get(place).copied()
+    entries.get(place)
 }
 
 impl Stream {
@@ -67,11 +64,13 @@ impl Stream {
 
     /// Adds an entry of the transaction, where it goes to this destination.
     pub(crate) fn extend(&mut self, to: &[Destination], number: u64)
-        requires { 1 ≤ self.old.room }
+        requires room { 1 ≤ self.old.room }
+        requires from_one { 1 ≤ number }
+        requires later { FallsFrom (number - 1) self.old.kept.entries }
         ensures { self.new ≡ held_extended to.now number self.old }
     {
         if let Some(dep) = dep_of(to, &self.site) {
-            self.entries.push_reserved(Entry { number, dep });
+            self.entries.push_reserved(Entry { number, value: dep });
         }
     }
 
@@ -92,13 +91,34 @@ impl Stream {
     }
 
     /// The entry at a position, from 1.
-    pub(crate) fn entry(&self, position: u64) -> Option<Entry>
-        ensures { result ≡ at_position position self.now.kept.entries }
+    pub(crate) fn entry(&self, position: u64) -> Option<&Entry<u64>>
+        ensures { option_copied result ≡ at_position position self.now.kept.entries }
     {
         if position == 0 {
             return None;
         }
         entry_at(&self.entries, position as usize - 1)
+    }
+
+    /// The position of a number, and what it depends on.
+    pub(crate) fn place_of(&self, number: u64) -> Option<Place>
+        ensures { result ≡ place_in number self.now.kept.entries }
+    {
+        let place = place_with(&self.entries, number)?;
+        Some(Place {
+            position: place as u64 + 1,
+            dep: self.entries[place].value,
+        })
+    }
+
+    /// Whether a number has no position here, or an acknowledged one.
+    pub(crate) fn has_passed(&self, number: u64) -> bool
+        ensures { result ≡ has_passed number self.now.kept }
+    {
+        match place_with(&self.entries, number) {
+            Some(place) => place as u64 + 1 <= self.acked,
+            None => true,
+        }
     }
 
     /// The last position, 0 where nothing was queued.

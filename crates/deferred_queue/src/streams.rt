@@ -1,11 +1,12 @@
 //! The streams of a queue, one for each destination.
-ghost use Rattle.std.specs.Prelude.{◌≡◌, ◌↔◌, ℕ, ◌≤◌, length, map, IfOk, OnOk, option_copied, IsTrue};
-ghost use Rattle.std.specs.List.{AllByRecursion, find};
+ghost use Rattle.std.specs.Prelude.{◌≡◌, ◌↔◌, ℕ, ◌-◌, ◌≤◌, length, map, IfOk, OnOk, option_copied, IsTrue};
+ghost use Rattle.std.specs.List.{AllByRecursion, find, list_all};
 ghost use Rattle.deferred_queue.specs.Streams.{at_position, acked_by};
-ghost use Rattle.deferred_queue.specs.Kept.{new_held, is_stream_to, kept_of, rooms_of, marks_of, least, entries_to, held_extended, held_raised, CanGo};
+ghost use Rattle.deferred_queue.specs.Kept.{FallsFrom, new_held, is_stream_to, kept_of, rooms_of, marks_of, least, entries_to, place_in, has_passed, held_extended, held_raised, CanGo};
 
-use crate::Destination;
-use crate::stream::{Entry, Stream};
+use crate::entries::Entry;
+use crate::stream::Stream;
+use crate::{Destination, Place};
 use rep_lists::NoMemory;
 use rep_values::SiteName;
 use std::alloc::Global;
@@ -29,13 +30,39 @@ fn stream_to<'a>(streams: &'a [Stream], site: &SiteName) -> Option<&'a Stream>
 }
 
 /// The entry at a position of the stream to a site.
-pub(crate) fn entry_to(streams: &[Stream], site: &SiteName, position: u64) -> Option<Entry>
-    ensures { result ≡ at_position position (entries_to site.now (kept_of streams.now)) }
+pub(crate) fn entry_to<'a>(
+    streams: &'a [Stream],
+    site: &SiteName,
+    position: u64,
+) -> Option<&'a Entry<u64>>
+    ensures { option_copied result ≡ at_position position (entries_to site.now (kept_of streams.now)) }
 {
     match stream_to(streams, site) {
         Some(stream) => stream.entry(position),
         None => None,
     }
+}
+
+/// Where a number stands in the stream to a site.
+pub(crate) fn place_to(streams: &[Stream], site: &SiteName, number: u64) -> Option<Place>
+    ensures { result ≡ place_in number (entries_to site.now (kept_of streams.now)) }
+{
+    match stream_to(streams, site) {
+        Some(stream) => stream.place_of(number),
+        None => None,
+    }
+}
+
+/// Whether each stream that a number has a position in has acknowledged it.
+pub(crate) fn have_passed(streams: &[Stream], number: u64) -> bool
+    ensures { result ≡ list_all (has_passed number) (kept_of streams.now) }
+{
+    for stream in streams {
+        if !stream.has_passed(number) {
+            return false;
+        }
+    }
+    true
 }
 
 /// The last position of the stream to a site.
@@ -94,7 +121,9 @@ pub(crate) fn reserve_each(streams: &mut [Stream]) -> Result<(), NoMemory>
 
 /// Adds an entry of a transaction to each stream to which it goes.
 pub(crate) fn extend_each(streams: &mut [Stream], to: &[Destination], number: u64)
-    requires { 1 ≤ least 1 (rooms_of streams.old) }
+    requires room { 1 ≤ least 1 (rooms_of streams.old) }
+    requires from_one { 1 ≤ number }
+    requires later { AllByRecursion (λ h. FallsFrom (number - 1) h.kept.entries) streams.old }
     ensures { streams.new ≡ map (held_extended to.now number) streams.old }
 {
     for stream in streams.iter_mut() {

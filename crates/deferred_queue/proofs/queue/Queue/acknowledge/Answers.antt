@@ -1,8 +1,8 @@
 use Rattle.std.proofs.Common.{◌≡◌, ◌++◌, length, reverse, map, take, drop, sym, ap, ◌∙◌, refl}
 use Rattle.std.proofs.lemmas.List.{length-map}
-use Rattle.deferred_queue.specs.Kept.{kept_of, raised, held_raised}
+use Rattle.deferred_queue.specs.Kept.{kept_of, txns_to, raised, held_raised}
 use Rattle.deferred_queue.proofs.InPlace.{written_back}
-use Rattle.deferred_queue.proofs.KeptStreams.{stream_to-queued}
+use Rattle.deferred_queue.proofs.KeptTxns.{stream_to-kept}
 use Rattle.deferred_queue.proofs.Raising.{kept_of-held_raised, rooms_of-held_raised, queued-raised, marks_of-raised, AreStreams-raised}
 use Rattle.deferred_queue.proofs.queue.Queue.acknowledge.Goals as goal
 
@@ -23,11 +23,11 @@ invariant_of-self c =
     let streams = kept_of c.self.inside.streams.items in
     let txns = reverse c.self.inside.txns.items in
     let asked = rw (← c.self.view_is) at c.requires in
-    let within = rw (stream_to-queued c.args.to.now streams txns c.self.invariant).same_length at asked in
-    rw (kept c) (AreStreams-raised c.args.to.now c.args.mark (length txns) streams within c.self.invariant)
+    let within = rw (stream_to-kept c.args.to.now c.self.inside.count streams txns c.self.invariant.streams_are).same_length at asked in
+    record { streams_are = rw (kept c) (AreStreams-raised c.args.to.now c.args.mark c.self.inside.count streams within c.self.invariant.streams_are); falling = c.self.invariant.falling }
 
 pub returns-clause-deferred : goal.returns-clause-deferred
-returns-clause-deferred c = rw (kept c, ← c.self.view_is) (queued-raised c.args.to.now c.args.mark (kept_of c.self.inside.streams.items) (reverse c.self.inside.txns.items))
+returns-clause-deferred c = rw (kept c, ← c.self.view_is) (queued-raised c.args.to.now c.args.mark (kept_of c.self.inside.streams.items) (txns_to c.self.inside.count (reverse c.self.inside.txns.items)))
 
 pub returns-clause-marks : goal.returns-clause-marks
 returns-clause-marks c = rw (kept c, ← c.self.view_is) (marks_of-raised c.args.to.now c.args.mark (kept_of c.self.inside.streams.items))

@@ -1,36 +1,42 @@
-use Rattle.std.proofs.Common.{◌≤◌, length, reverse, sym, arith}
-use Rattle.std.proofs.lemmas.List.{length-reverse}
-use Rattle.deferred_queue.specs.Kept.{kept_of, entries_to}
-use Rattle.deferred_queue.proofs.Positions.{at_position-read}
-use Rattle.deferred_queue.proofs.KeptStreams.{number_within, entries_to-falls, at_position-none, at_position-some}
+use Rattle.std.proofs.Common.{◌≡◌, Some, None, reverse, sym, ap, ◌∙◌}
+use Rattle.std.specs.Option.{option_map}
+use Rattle.rep_calls.specs.declared.call.Txn.{Txn}
+use Rattle.deferred_queue.specs.declared.entries.Entry.{Entry}
+use Rattle.deferred_queue.specs.Streams.{unpurged}
+use Rattle.deferred_queue.specs.Kept.{kept_of, txn_of}
+use Rattle.deferred_queue.proofs.KeptStreams.{earlier_at}
+use Rattle.deferred_queue.proofs.KeptTxns.{nothing_at, something_at}
 use Rattle.deferred_queue.proofs.queue.Queue.entry.Goals as goal
 
-pub returns-in_err-entry : goal.returns-in_err-entry
-returns-in_err-entry c =
+pub entry_with-requires : goal.entry_with-requires
+entry_with-requires c = rw c.deref-2.ensures.value (c.self.inside.count, c.self.invariant.falling)
+
+pub returns-in_err-entry-clause-sent : goal.returns-in_err-entry-clause-sent
+returns-in_err-entry-clause-sent c =
     let none = rw c.deref.ensures.value at c.in_err-entry.ensures in
-    rw (c.from_residual.ensures, ← c.self.view_is) (sym (at_position-none c.args.to.now (kept_of c.self.inside.streams.items) (reverse c.self.inside.txns.items) c.args.position c.self.invariant (sym none)))
+    let absent = nothing_at c.args.to.now c.self.inside.count c.args.position (kept_of c.self.inside.streams.items) (reverse c.self.inside.txns.items) c.self.invariant.streams_are (sym none) in
+    rw (c.from_residual.ensures, ← c.self.view_is) (sym (ap unpurged absent))
 
--- the entry's number is one of a queued transaction
-within : (c : goal.In_ok-entry) → (1 ≤ c.in_ok-entry.entry.number) × (c.in_ok-entry.entry.number ≤ length (reverse c.self.inside.txns.items))
-within c =
-    let streams = kept_of c.self.inside.streams.items in
-    let count = length (reverse c.self.inside.txns.items) in
+pub returns-in_err-kept-clause-sent : goal.returns-in_err-kept-clause-sent
+returns-in_err-kept-clause-sent c =
+    let kept = reverse c.self.inside.txns.items in
+    let entry = c.in_ok-entry.entry.now in
     let found = rw c.deref.ensures.value at c.in_ok-entry.ensures in
-    number_within count c.args.position (entries_to c.args.to.now streams) c.in_ok-entry.entry (entries_to-falls c.args.to.now count streams c.self.invariant.each) (sym found)
+    let gone : txn_of entry.number kept ≡ None = ap (option_map (λ (e : Entry Txn). e.value)) (sym (rw c.deref-2.ensures.value at c.in_err-kept.ensures)) in
+    let there = something_at c.args.to.now c.self.inside.count c.args.position (kept_of c.self.inside.streams.items) kept entry c.self.invariant.streams_are (sym found) in
+    rw (c.from_residual-in_err-kept.ensures, ← c.self.view_is) (sym (ap unpurged (rw gone at there)))
 
-pub overflow_sub-entry : goal.overflow_sub-entry
-overflow_sub-entry c = (within c).0
-
-pub index-requires : goal.index-requires
-index-requires c = omega (arith, (within c).0, (within c).1, length-reverse c.self.inside.txns.items, c.self.inside.txns.ok.0)
-
-pub returns : goal.returns
-returns c =
-    let streams = kept_of c.self.inside.streams.items in
-    let txns = c.self.inside.txns.items in
-    let count = length (reverse txns) in
-    let entry = c.in_ok-entry.entry in
+pub returns-clause-sent : goal.returns-clause-sent
+returns-clause-sent c =
+    let kept = reverse c.self.inside.txns.items in
+    let entry = c.in_ok-entry.entry.now in
     let found = rw c.deref.ensures.value at c.in_ok-entry.ensures in
-    let inside = number_within count c.args.position (entries_to c.args.to.now streams) entry (entries_to-falls c.args.to.now count streams c.self.invariant.each) (sym found) in
-    let there = at_position-read txns entry.number c.index.result.now inside.0 (omega (arith, inside.1, length-reverse txns)) c.index.ensures in
-    rw (← c.self.view_is) (sym (at_position-some c.args.to.now streams (reverse txns) c.args.position entry c.index.result.now c.self.invariant (sym found) there))
+    let held : txn_of entry.number kept ≡ Some c.in_ok-kept.kept.now.value = ap (option_map (λ (e : Entry Txn). e.value)) (sym (rw c.deref-2.ensures.value at c.in_ok-kept.ensures)) in
+    let there = something_at c.args.to.now c.self.inside.count c.args.position (kept_of c.self.inside.streams.items) kept entry c.self.invariant.streams_are (sym found) in
+    rw (← c.self.view_is) (sym (ap unpurged (rw held at there)))
+
+-- each entry depends on an earlier position
+pub returns-clause-earlier : goal.returns-clause-earlier
+returns-clause-earlier c =
+    let found = rw c.deref.ensures.value at c.in_ok-entry.ensures in
+    earlier_at c.args.to.now c.self.inside.count c.args.position (kept_of c.self.inside.streams.items) c.in_ok-entry.entry.now c.self.invariant.streams_are.each (sym found)

@@ -1,64 +1,87 @@
-use Rattle.std.proofs.Common.{◌≡◌, ◌+◌, ◌-◌, ◌≤◌, [], ◌∷◌, ◌++◌, length, reverse, map, take, drop, sym, ap, ◌∙◌, arith}
+use Rattle.std.proofs.Common.{◌≡◌, ◌+◌, ◌-◌, ◌^◌, ◌≤◌, min, [], ◌∷◌, ◌++◌, length, reverse, map, take, drop, refl, sym, ap, ◌∙◌, arith}
 use Rattle.std.specs.Prelude.{vec_len, vec_capacity}
-use Rattle.std.proofs.lemmas.List.{length-map, length-reverse, reverse-append}
-use Rattle.deferred_queue.specs.Kept.{kept_of, rooms_of, extended, held_extended}
+use Rattle.std.specs.List.{AllByRecursion}
+use Rattle.std.proofs.lemmas.List.{length-map, reverse-append}
+use Rattle.rep_lists.proofs.Each.{each_then}
+use Rattle.deferred_queue.specs.declared.destination.Destination.{Destination}
+use Rattle.deferred_queue.specs.Kept.{kept_of, rooms_of, txns_to, entries_to, extended, held_extended}
 use Rattle.deferred_queue.proofs.InPlace.{written_back}
 use Rattle.deferred_queue.proofs.KeptStreams.{length-queued}
+use Rattle.deferred_queue.proofs.KeptTxns.{length-txns_to, txns_to-pushed, stream_to-kept}
+use Rattle.deferred_queue.proofs.Numbers.{FallsFrom-higher}
 use Rattle.deferred_queue.proofs.Room.{least-first, least-one, least-held_extended}
-use Rattle.deferred_queue.proofs.Extending.{kept_of-held_extended, marks_of-extended, queued-pushed, AreStreams-extended}
+use Rattle.deferred_queue.proofs.Extending.{kept_of-held_extended, marks_of-extended, queued-pushed, AreStreams-extended, each_falls}
 use Rattle.deferred_queue.proofs.queue.Queue.push_back.Goals as goal
+
+-- a number is left
+pub overflow_add-number : goal.overflow_add-number
+overflow_add-number c =
+    let txns = c.self.inside.txns in
+    let room = rw (← c.self.view_is) at c.requires.room in
+    omega (arith, room, least-first (min (vec_capacity txns - vec_len txns) (2 ^ 64 - 1 - c.self.inside.count)) (rooms_of c.self.inside.streams.items))
 
 pub push_reserved-requires : goal.push_reserved-requires
 push_reserved-requires c =
     let txns = c.self.inside.txns in
     let room = rw (← c.self.view_is) at c.requires.room in
-    omega (arith, room, least-first (vec_capacity txns - vec_len txns) (rooms_of c.self.inside.streams.items))
+    omega (arith, room, least-first (min (vec_capacity txns - vec_len txns) (2 ^ 64 - 1 - c.self.inside.count)) (rooms_of c.self.inside.streams.items))
 
-pub extend_each-requires : goal.extend_each-requires
-extend_each-requires c =
+pub extend_each-requires-clause-room : goal.extend_each-requires-clause-room
+extend_each-requires-clause-room c =
     let txns = c.self.inside.txns in
     let room = rw (← c.self.view_is) at c.requires.room in
-    rw c.deref_mut.ensures.value (least-one (vec_capacity txns - vec_len txns) (rooms_of c.self.inside.streams.items) room)
+    rw c.deref_mut.ensures.value (least-one (min (vec_capacity txns - vec_len txns) (2 ^ 64 - 1 - c.self.inside.count)) (rooms_of c.self.inside.streams.items) room)
 
--- the number is one more than the count
-number : (c : goal.After-self-1) → c.len-number.result ≡ length (reverse c.self.inside.txns.items) + 1
-number c = omega (arith, c.len-number.ensures, c.push_reserved.ensures.len, length-reverse c.self.inside.txns.items, c.self.inside.txns.ok.0)
+pub extend_each-requires-clause-later : goal.extend_each-requires-clause-later
+extend_each-requires-clause-later c = rw c.deref_mut.ensures.value (each_falls c.self.inside.count (c.self.inside.count + 1) c.self.inside.streams.items refl c.self.invariant.streams_are.each)
 
-newest_first : (c : goal.After-self-1) → reverse c.push_reserved.new.self.items ≡ c.args.txn ∷ reverse c.self.inside.txns.items
-newest_first c = ap reverse c.push_reserved.ensures.items ∙ reverse-append c.self.inside.txns.items (c.args.txn ∷ [])
+newest_first : (c : goal.After-self-2-1) → reverse c.push_reserved.new.self.items ≡ record { number = c.self.inside.count + 1; value = c.args.txn } ∷ reverse c.self.inside.txns.items
+newest_first c = ap reverse c.push_reserved.ensures.items ∙ reverse-append c.self.inside.txns.items (record { number = c.self.inside.count + 1; value = c.args.txn } ∷ [])
 
 -- the streams of the queue are the extended ones
-all : (c : goal.After-self-1) → take c.self.inside.streams.len (c.extend_each.new.streams ++ drop (length c.extend_each.new.streams) c.self.inside.streams.items)
-    ≡ map (held_extended c.args.to.now c.len-number.result) c.self.inside.streams.items
+all : (c : goal.After-self-2-1) → take c.self.inside.streams.len (c.extend_each.new.streams ++ drop (length c.extend_each.new.streams) c.self.inside.streams.items)
+    ≡ map (held_extended c.args.to.now (c.self.inside.count + 1)) c.self.inside.streams.items
 all c =
     let items = c.self.inside.streams.items in
     let is = rw c.deref_mut.ensures.value at c.extend_each.ensures in
-    rw is (written_back (map (held_extended c.args.to.now c.len-number.result) items) _ c.self.inside.streams.len (length-map items (held_extended c.args.to.now c.len-number.result) ∙ sym c.self.inside.streams.ok.0))
+    rw is (written_back (map (held_extended c.args.to.now (c.self.inside.count + 1)) items) _ c.self.inside.streams.len (length-map items (held_extended c.args.to.now (c.self.inside.count + 1)) ∙ sym c.self.inside.streams.ok.0))
 
-kept : (c : goal.After-self-1) → kept_of (take c.self.inside.streams.len (c.extend_each.new.streams ++ drop (length c.extend_each.new.streams) c.self.inside.streams.items))
-    ≡ map (extended c.args.to.now c.len-number.result) (kept_of c.self.inside.streams.items)
-kept c = ap kept_of (all c) ∙ kept_of-held_extended c.args.to.now c.len-number.result c.self.inside.streams.items
+kept : (c : goal.After-self-2-1) → kept_of (take c.self.inside.streams.len (c.extend_each.new.streams ++ drop (length c.extend_each.new.streams) c.self.inside.streams.items))
+    ≡ map (extended c.args.to.now (c.self.inside.count + 1)) (kept_of c.self.inside.streams.items)
+kept c = ap kept_of (all c) ∙ kept_of-held_extended c.args.to.now (c.self.inside.count + 1) c.self.inside.streams.items
+
+-- each destination depends on a position that its stream has
+back : (c : goal.After-self-2-1) → AllByRecursion (λ (d : Destination). d.dep ≤ length (entries_to d.site (kept_of c.self.inside.streams.items))) c.args.to.now
+back c =
+    let streams = kept_of c.self.inside.streams.items in
+    let asked = rw (← c.self.view_is) at c.requires.destinations in
+    each_then _ _ (λ d is. rw (stream_to-kept d.site c.self.inside.count streams (reverse c.self.inside.txns.items) c.self.invariant.streams_are).same_length at is.earlier) c.args.to.now asked
 
 pub invariant_of-self : goal.invariant_of-self
-invariant_of-self c =
-    let streams = kept_of c.self.inside.streams.items in
-    let txns = reverse c.self.inside.txns.items in
-    let count : length (c.args.txn ∷ txns) ≡ c.len-number.result = omega (arith, number c) in
-    rw (kept c, newest_first c, count) (AreStreams-extended c.args.to.now (length txns) c.len-number.result streams (number c) c.self.invariant)
+invariant_of-self c = record {
+  streams_are = rw (kept c) (AreStreams-extended c.args.to.now c.self.inside.count (c.self.inside.count + 1) (kept_of c.self.inside.streams.items) refl (back c) c.self.invariant.streams_are);
+  falling = rw (newest_first c) (omega arith, omega arith, FallsFrom-higher c.self.inside.count (c.self.inside.count + 1 - 1) (reverse c.self.inside.txns.items) (omega arith) c.self.invariant.falling);
+}
 
 pub returns-clause-number : goal.returns-clause-number
-returns-clause-number c = rw (← c.self.view_is, length-queued (kept_of c.self.inside.streams.items) (reverse c.self.inside.txns.items)) (number c)
+returns-clause-number c =
+    rw (← c.self.view_is, length-queued (kept_of c.self.inside.streams.items) (txns_to c.self.inside.count (reverse c.self.inside.txns.items)), length-txns_to c.self.inside.count (reverse c.self.inside.txns.items)) refl
 
 pub returns-clause-deferred : goal.returns-clause-deferred
-returns-clause-deferred c = rw (kept c, newest_first c, ← c.self.view_is)
-    (queued-pushed c.args.to.now c.len-number.result (kept_of c.self.inside.streams.items) c.args.txn (reverse c.self.inside.txns.items) (number c) c.self.invariant.each)
+returns-clause-deferred c =
+    let streams = kept_of c.self.inside.streams.items in
+    let txns = reverse c.self.inside.txns.items in
+    rw (kept c, newest_first c, ← c.self.view_is, txns_to-pushed c.self.inside.count c.args.txn txns)
+    (queued-pushed c.args.to.now c.self.inside.count (c.self.inside.count + 1) streams c.args.txn (txns_to c.self.inside.count txns) (length-txns_to c.self.inside.count txns) refl c.self.invariant.streams_are.each)
 
 pub returns-clause-marks : goal.returns-clause-marks
-returns-clause-marks c = rw (kept c, ← c.self.view_is) (marks_of-extended c.args.to.now c.len-number.result (kept_of c.self.inside.streams.items))
+returns-clause-marks c = rw (kept c, ← c.self.view_is) (marks_of-extended c.args.to.now (c.self.inside.count + 1) (kept_of c.self.inside.streams.items))
 
 pub returns-clause-spare : goal.returns-clause-spare
 returns-clause-spare c =
     let old = c.self.inside.txns in
     let new = c.push_reserved.new.self in
-    let one_less : vec_capacity old - vec_len old ≤ vec_capacity new - vec_len new + 1 = omega (arith, c.push_reserved.ensures.len, c.push_reserved.ensures.capacity) in
-    rw (← c.self.view_is, all c) (least-held_extended c.args.to.now c.len-number.result (vec_capacity old - vec_len old) (vec_capacity new - vec_len new) c.self.inside.streams.items one_less)
+    let count = c.self.inside.count in
+    let one_less : min (vec_capacity old - vec_len old) (2 ^ 64 - 1 - count) ≤ min (vec_capacity new - vec_len new) (2 ^ 64 - 1 - (count + 1)) + 1 = omega (arith, c.push_reserved.ensures.len, c.push_reserved.ensures.capacity) in
+    rw (← c.self.view_is, all c)
+    (least-held_extended c.args.to.now (count + 1) (min (vec_capacity old - vec_len old) (2 ^ 64 - 1 - count)) (min (vec_capacity new - vec_len new) (2 ^ 64 - 1 - (count + 1))) c.self.inside.streams.items one_less)

@@ -1,10 +1,14 @@
-use Rattle.std.proofs.Common.{◌≡◌, ℕ, ◌-◌, ◌≤◌, List, length, sym, ap, ◌∙◌, arith}
+use Rattle.std.proofs.Common.{◌≡◌, ℕ, ◌-◌, ◌^◌, ◌≤◌, min, List, length, sym, ap, ◌∙◌, arith}
 use Rattle.std.specs.Prelude.{vec_len, vec_capacity}
 use Rattle.std.proofs.lemmas.List.{length-map}
 use Rattle.deferred_queue.specs.Kept.{Held, kept_of, rooms_of, least}
 use Rattle.deferred_queue.proofs.InPlace.{written_back}
 use Rattle.deferred_queue.proofs.Room.{least-all, least-more}
 use Rattle.deferred_queue.proofs.queue.Queue.reserve.Goals as goal
+
+-- the room for transactions, and the numbers that are left
+abbrev first : ℕ → ℕ → ℕ
+first room count = min room (2 ^ 64 - 1 - count)
 
 -- as many streams as hold the same
 same_length : (hs ks : List Held) → kept_of hs ≡ kept_of ks → length hs ≡ length ks
@@ -18,18 +22,19 @@ pub returns-in_err-reserve_each-clause-spare : goal.returns-in_err-reserve_each-
 returns-in_err-reserve_each-clause-spare c =
     let long : length c.reserve_each.new.streams ≡ c.self.inside.streams.len = same_length c.reserve_each.new.streams c.deref_mut.result.now c.reserve_each.ensures.kept ∙ c.deref_mut.ensures.len in
     rw (written_back c.reserve_each.new.streams _ c.self.inside.streams.len long, ← c.self.view_is)
-    (not_less (vec_capacity c.self.inside.txns - vec_len c.self.inside.txns) (vec_capacity c.reserve.new.self - vec_len c.reserve.new.self) c.self.inside.streams.items c.reserve_each.new.streams
+    (not_less (first (vec_capacity c.self.inside.txns - vec_len c.self.inside.txns) c.self.inside.count) (first (vec_capacity c.reserve.new.self - vec_len c.reserve.new.self) c.self.inside.count) c.self.inside.streams.items c.reserve_each.new.streams
     (omega (arith, c.in_ok-reserve.ensures.len, c.in_ok-reserve.ensures.capacity)) (rw c.deref_mut.ensures.value at c.reserve_each.ensures.room))
 
 pub returns-clause-ok : goal.returns-clause-ok
 returns-clause-ok c =
     let long : length c.reserve_each.new.streams ≡ c.self.inside.streams.len = same_length c.reserve_each.new.streams c.deref_mut.result.now c.reserve_each.ensures.kept ∙ c.deref_mut.ensures.len in
     rw (written_back c.reserve_each.new.streams _ c.self.inside.streams.len long)
-    (least-all (vec_capacity c.reserve.new.self - vec_len c.reserve.new.self) (rooms_of c.reserve_each.new.streams) (omega (arith, c.in_ok-reserve.ensures.ok, c.in_ok-reserve.ensures.len)) c.in_ok-reserve_each.ensures.ok)
+    (least-all (first (vec_capacity c.reserve.new.self - vec_len c.reserve.new.self) c.self.inside.count) (rooms_of c.reserve_each.new.streams)
+    (omega (arith, c.in_ok-reserve.ensures.ok, c.in_ok-reserve.ensures.len, c.self.ranges)) c.in_ok-reserve_each.ensures.ok)
 
 pub returns-clause-spare : goal.returns-clause-spare
 returns-clause-spare c =
     let long : length c.reserve_each.new.streams ≡ c.self.inside.streams.len = same_length c.reserve_each.new.streams c.deref_mut.result.now c.reserve_each.ensures.kept ∙ c.deref_mut.ensures.len in
     rw (written_back c.reserve_each.new.streams _ c.self.inside.streams.len long, ← c.self.view_is)
-    (not_less (vec_capacity c.self.inside.txns - vec_len c.self.inside.txns) (vec_capacity c.reserve.new.self - vec_len c.reserve.new.self) c.self.inside.streams.items c.reserve_each.new.streams
+    (not_less (first (vec_capacity c.self.inside.txns - vec_len c.self.inside.txns) c.self.inside.count) (first (vec_capacity c.reserve.new.self - vec_len c.reserve.new.self) c.self.inside.count) c.self.inside.streams.items c.reserve_each.new.streams
     (omega (arith, c.in_ok-reserve.ensures.len, c.in_ok-reserve.ensures.capacity)) (rw c.deref_mut.ensures.value at c.reserve_each.ensures.room))
