@@ -25,7 +25,7 @@ unfolding young_step
 young_step-refused w number line c read none = rw (read, none) refl
 
 -- a line that gives no command
-pub young_step-broken : (w : WorldState) (number : ℕ) (line : List ℕ) (stop : LineStop) → Fails stop (parsed_young line) → StopsBy (young_step w number line) w number stop
+pub young_step-broken : (Wants : Type 0) (w : WorldState) (number : ℕ) (line : List ℕ) (stop : LineStop) → Fails Wants stop (parsed_young line) → StopsBy (young_step w number line) w number stop
 unfolding young_step
-young_step-broken w number line (Rule rule) broken = rw broken refl
-young_step-broken w number line Memory broken = tt
+young_step-broken Wants w number line (Rule rule) broken = rw broken refl
+young_step-broken Wants w number line Memory broken = tt

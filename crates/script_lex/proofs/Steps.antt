@@ -1,5 +1,5 @@
 -- What each step of reading a line finds, and what it leaves.
-use Rattle.std.proofs.Common.{◌≡◌, ◌≢◌, ℕ, zero, suc, ◌-◌, ◌<◌, ◌≤◌, Bool, true, false, cond, eqb, ◌||◌, List, [], ◌∷◌, ◌++◌, length, take, drop, Option, Some, None, refl, sym, ◌∙◌, ap, arith, append_assoc, append-nil, length-take-le, length-drop, Ok, Err, nat_le}
+use Rattle.std.proofs.Common.{◌≡◌, ◌≢◌, ℕ, zero, suc, ◌-◌, ◌<◌, ◌≤◌, Bool, true, false, cond, eqb, ◌||◌, List, [], ◌∷◌, ◌++◌, length, take, drop, Option, Some, None, refl, sym, ◌∙◌, ap, arith, append_assoc, append-nil, length-take-le, length-drop, Ok, Err, Result, IsOk, is_ok, is_err, if◌then◌else◌, nat_le}
 use Rattle.std.specs.List.{list_all}
 use Rattle.std.specs.Option.{option_map}
 use Rattle.std.proofs.lemmas.Bool.Decides.{nat_tests}
@@ -7,10 +7,13 @@ use Rattle.rep_values.specs.Bytes.{is_letter, is_digit, is_printable}
 use Rattle.script_lex.specs.declared.bytes.Start.{Start}
 use Rattle.script_lex.specs.declared.bytes.Start.TheVariants as start
 use Rattle.script_lex.specs.declared.token.Token.{Token}
+use Rattle.script_lex.specs.declared.stop.LineStop.{LineStop}
+use Rattle.script_lex.specs.declared.stop.LineStop.TheVariants as stop
 use Rattle.script_lex.specs.Bytes.{is_word_byte, start_of}
 use Rattle.script_lex.specs.Forms.{form_by, has_form, longest}
 use Rattle.script_lex.specs.Tokens.{token_by, token_of, with_front, tokens_from}
-use Rattle.script_lex.specs.Lines.{or_rule, lexed, is_passed_over}
+use Rattle.script_lex.specs.Lines.{or_rule, lexed, is_passed_over, HasTokens}
+use Rattle.script_lex.specs.Stop.{Gives}
 use Rattle.script_lex.proofs.Longest.{form_behind, longest_up_to_form}
 use Rattle.script_lex.proofs.TextBytes.{and_both}
 
@@ -117,12 +120,29 @@ pub kept_more : (found more : List Token) (t : Token) (left left' whole : Option
 kept_more found more t left left' whole kept step pushed =
     rw pushed (more_tokens found t left' ∙ ap (option_map (λ ts. found ++ ts)) (sym step) ∙ kept)
 
+-- the same, where it may find no memory and isn't kept
+pub found_more : {E : Type 0} (kept more found : List Token) (t : Token) (lacks failed : Bool) (pushed : Result Unit E) (left left' whole : Option (List Token))
+    → option_map (λ ts. found ++ ts) left ≡ whole → (lacks ≡ false → kept ≡ found) → left ≡ with_front (Some t) left'
+    → failed ≡ is_err pushed → more ≡ (if is_ok pushed then kept ++ t ∷ [] else kept)
+    → (new : List Token) × (option_map (λ ts. new ++ ts) left' ≡ whole) × ((lacks || failed) ≡ false → more ≡ new)
+found_more kept more found t lacks failed pushed left left' whole found_so kept_so step fails more_so =
+    (found ++ t ∷ [], kept_more found (found ++ t ∷ []) t left left' whole found_so step refl, go lacks failed pushed kept_so fails more_so)
+  where
+    go : {E : Type 0} (lacks failed : Bool) (pushed : Result Unit E) → (lacks ≡ false → kept ≡ found) → failed ≡ is_err pushed → more ≡ (if is_ok pushed then kept ++ t ∷ [] else kept)
+        → (lacks || failed) ≡ false → more ≡ found ++ t ∷ []
+    go false failed (Ok u) kept_so fails more_so none = more_so ∙ ap (λ ts. ts ++ t ∷ []) (kept_so refl)
+    go false failed (Err e) kept_so fails more_so none = cc
+    go true failed pushed kept_so fails more_so none = cc
+
 pub broken : (found : List Token) (left whole : Option (List Token)) → option_map (λ ts. found ++ ts) left ≡ whole → left ≡ None → or_rule 4 whole ≡ Err 4
 broken found left whole kept none = rw (← kept, none) refl
 
 pub finished : (found : List Token) (rest : List ℕ) (whole : Option (List Token)) → option_map (λ ts. found ++ ts) (tokens_from 0 rest) ≡ whole → rest ≡ [] → or_rule 4 whole ≡ Ok found
 unfolding tokens_from
 finished found rest whole kept none = rw (← kept, none, append-nil) refl
+
+pub all_found : (found : List Token) (rest : List ℕ) (whole : Option (List Token)) → option_map (λ ts. found ++ ts) (tokens_from 0 rest) ≡ whole → rest ≡ [] → IsOk (or_rule 4 whole)
+all_found found rest whole kept none = ap is_ok (finished found rest whole kept none)
 
 pub all_drop : (p : ℕ → Bool) (n : ℕ) (xs : List ℕ) → list_all p xs ≡ true → list_all p (drop n xs) ≡ true
 all_drop p zero xs all = all
@@ -135,6 +155,13 @@ all_take p (suc n) [] all = refl
 all_take p (suc n) (x ∷ xs) all =
     let both = and_both (p x) (list_all p xs) all in
     rw both.0 (all_take p n xs both.1)
+
+-- want of memory may come where more holds
+pub gives_where : {X Y : Type 0} (Wants Wants' : Type 0) (view : X → Y) (r : Result X LineStop) (read : Result Y ℕ) → (Wants → Wants')
+    → Gives Wants view r read → Gives Wants' view r read
+gives_where Wants Wants' view (Ok x) read more gives = gives
+gives_where Wants Wants' view (Err stop.Memory) read more gives = more gives
+gives_where Wants Wants' view (Err (stop.Rule rule)) read more gives = gives
 
 -- The rules in their order.
 
@@ -150,5 +177,19 @@ unfolding lexed
 line_short line v w short prints passed =
     let under : nat_le (length line) 1024 ≡ true = grind (arith, nat_tests) in
     rw (under, prints, passed) refl
+
+-- a line that has tokens isn't passed over
+pub has_tokens : (line : List ℕ) (t : Token) (ts : List Token) → lexed line ≡ Ok (t ∷ ts) → HasTokens line
+unfolding lexed
+has_tokens line t ts read = (go (is_passed_over line) refl, ap is_ok read)
+  where
+    nothing : (short prints : Bool) → cond {A = Result (List Token) ℕ} short (cond prints (Ok []) (Err 3)) (Err 1) ≡ Ok (t ∷ ts) → ⊥
+    nothing true true is = cc
+    nothing true false is = cc
+    nothing false prints is = cc
+
+    go : (v : Bool) → is_passed_over line ≡ v → v ≡ false
+    go false passed = refl
+    go true passed = absurd (nothing (nat_le (length line) 1024) (list_all is_printable line) (rw passed at read))
 
 pub ruleset line_facts = (line_long, line_short)

@@ -1,5 +1,5 @@
 -- A line as its tokens, or the first rule that it breaks.
-use Rattle.std.specs.Prelude.{ℕ, Bool, true, ◌||◌, ◌==◌, nat_le, if◌then◌else◌, List, [], ◌∷◌, length, Option, Some, None, Result, Ok, Err}
+use Rattle.std.specs.Prelude.{ℕ, ◌≡◌, Bool, true, false, ◌||◌, ◌==◌, nat_le, if◌then◌else◌, List, [], ◌∷◌, length, Option, Some, None, Result, Ok, Err, IsOk}
 use Rattle.std.specs.List.{list_all}
 use Rattle.rep_values.specs.Bytes.{is_printable}
 use Rattle.script_lex.specs.declared.token.Token.{Token}
@@ -24,3 +24,7 @@ lexed line =
     (if is_passed_over line then Ok [] else or_rule 4 (tokens_from 0 line))
     else Err 3)
     else Err 1
+
+-- the line has tokens, which take memory: it isn't passed over, and breaks none of these rules
+abbrev pub HasTokens : List ℕ → Type 0
+HasTokens line = (is_passed_over line ≡ false) × IsOk (lexed line)

@@ -1,11 +1,11 @@
 //! The tokens of a line.
-ghost use Rattle.std.specs.Prelude.{◌≡◌, ◌≤◌, ◌<◌, true, length};
+ghost use Rattle.std.specs.Prelude.{◌≡◌, ◌≤◌, ◌<◌, true, length, IsOk};
 ghost use Rattle.std.specs.List.{list_all};
 ghost use Rattle.rep_values.specs.Bytes.{is_printable};
 ghost use Rattle.script_lex.specs.Bytes.{is_word_byte};
 ghost use Rattle.script_lex.specs.Forms.{has_form, is_closed, symbol_of};
 ghost use Rattle.script_lex.specs.Tokens.{digits_value, word_token, number_token, text_token, symbol_token, token_of, tokens_from};
-ghost use Rattle.script_lex.specs.Lines.{lexed, or_rule};
+ghost use Rattle.script_lex.specs.Lines.{lexed, or_rule, HasTokens};
 ghost use Rattle.script_lex.specs.Stop.{Gives};
 
 use crate::bytes::{Start, are_printable, is_passed_over, start_of};
@@ -98,12 +98,13 @@ fn token_of(bytes: &[u8]) -> Option<Token>
     }
 }
 
-/// The tokens of printable bytes, or rule 4.
+/// The tokens of printable bytes, or rule 4. Where a token finds no memory, those behind it are looked at all the same.
 fn tokens_of(alloc: Global, line: &[u8]) -> Result<Vec<Token>, LineStop>
     requires { list_all is_printable line.now ≡ true }
-    ensures { Gives (λ tokens. tokens.items) result (or_rule 4 (tokens_from 0 line.now)) }
+    ensures { Gives (IsOk (or_rule 4 (tokens_from 0 line.now))) (λ tokens. tokens.items) result (or_rule 4 (tokens_from 0 line.now)) }
 {
     let mut tokens = Vec::new(alloc);
+    let mut lacks = false;
     let mut rest = line;
     while let Some((first, after)) = first_of(rest) {
         if first == b' ' {
@@ -113,18 +114,21 @@ fn tokens_of(alloc: Global, line: &[u8]) -> Result<Vec<Token>, LineStop>
             let Some(token) = token_of(front) else {
                 return Err(LineStop::Rule(4));
             };
-            tokens.push(token)?;
+            lacks |= tokens.push(token).is_err();
             rest = after;
         }
+    }
+    if lacks {
+        return Err(LineStop::Memory);
     }
     Ok(tokens)
 }
 
 /// The tokens of a line, which has no end of line in it. It stops at the first of the rules 1, 3 and 4 that the line
-/// breaks, or for want of memory.
+/// breaks. Want of memory is answered only where it breaks none of them and isn't passed over.
 #[tactic(auto, using(crate::proofs::Steps::line_facts))]
 pub fn lex(alloc: Global, line: &[u8]) -> Result<Vec<Token>, LineStop>
-    ensures { Gives (λ tokens. tokens.items) result (lexed line.now) }
+    ensures { Gives (HasTokens line.now) (λ tokens. tokens.items) result (lexed line.now) }
 {
     if line.len() > LINE_BYTES {
         return Err(LineStop::Rule(1));

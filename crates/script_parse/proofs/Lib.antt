@@ -1,3 +1,4 @@
 -- The lemmas of this crate.
 pub mod ReadAgain
+pub mod ParsedLines
 mod WorkedLines

@@ -97,6 +97,7 @@ show_again shown.Errors site formed = rw formed refl
 show_again shown.Marks site formed = rw formed refl
 show_again shown.Journal site formed = rw formed refl
 show_again shown.Log site formed = rw formed refl
+show_again shown.Calls site formed = rw formed refl
 
 -- what a command is written as is read again
 pub reads_again : (c : Command) → IsWellFormed c → command_of (spelled c) ≡ gated (Ok c)

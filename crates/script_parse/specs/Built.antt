@@ -34,6 +34,7 @@ is_built_show shown.Errors = false
 is_built_show shown.Marks = false
 is_built_show shown.Journal = false
 is_built_show shown.Log = false
+is_built_show shown.Calls = false
 
 -- a command of a form that is built
 abbrev pub is_built : Command → Bool

@@ -61,7 +61,7 @@ commit_row = row command.Commit
 abbrev pub push_row : Reading Command
 push_row = row command.Push ⊛ site ⊛ site ⊛ optional (codes "count") whole_number
 
--- tables|queue|errors|marks|journal|log
+-- tables|queue|errors|marks|journal|log|calls
 abbrev pub shown_words : List (List ℕ × Shown)
 shown_words =
     (codes "tables", shown.Tables) ∷
@@ -70,8 +70,9 @@ shown_words =
     (codes "marks", shown.Marks) ∷
     (codes "journal", shown.Journal) ∷
     (codes "log", shown.Log) ∷
+    (codes "calls", shown.Calls) ∷
     []
 
--- show tables|queue|errors|marks|journal|log NAME
+-- show tables|queue|errors|marks|journal|log|calls NAME
 abbrev pub show_row : Reading Command
 show_row = row command.Show ⊛ choice shown_words ⊛ site

@@ -33,6 +33,7 @@ shown_word shown.Errors = codes "errors"
 shown_word shown.Marks = codes "marks"
 shown_word shown.Journal = codes "journal"
 shown_word shown.Log = codes "log"
+shown_word shown.Calls = codes "calls"
 
 -- the tokens of a column
 abbrev pub column_tokens : Column → List Token

@@ -1,12 +1,12 @@
 //! Which forms are built. A line of any other form is no command yet.
 ghost use Rattle.std.specs.Prelude.{◌≡◌, Ok};
 ghost use Rattle.std.specs.List.{list_all};
-ghost use Rattle.script_lex.specs.Stop.{Gives};
+ghost use Rattle.script_lex.specs.Stop.{GivesExactly};
 ghost use Rattle.script_parse.specs.Built.{is_built, is_built_column, is_built_show, gated};
 
 use crate::{Command, Shown};
 use rep_schema::{Column, Kind};
-use script_lex::LineStop;
+use script_lex::BrokenRule;
 
 fn is_built_column(column: &Column) -> bool
     ensures { result ≡ is_built_column column.now }
@@ -28,7 +28,8 @@ fn is_built_show(what: Shown) -> bool
 {
     match what {
         Shown::Tables => true,
-        Shown::Queue | Shown::Errors | Shown::Marks | Shown::Journal | Shown::Log => false,
+        Shown::Queue | Shown::Errors | Shown::Marks | Shown::Journal | Shown::Log | Shown::Calls =>
+            false,
     }
 }
 
@@ -49,12 +50,12 @@ fn is_built(command: &Command) -> bool
 }
 
 /// The command, or rule 5 where its form isn't built.
-pub fn gated(command: Command) -> Result<Command, LineStop>
-    ensures { Gives (λ command. command) result (gated (Ok command)) }
+pub fn gated(command: Command) -> Result<Command, BrokenRule>
+    ensures { GivesExactly (λ command. command) result (gated (Ok command)) }
 {
     if is_built(&command) {
         Ok(command)
     } else {
-        Err(LineStop::Rule(5))
+        Err(BrokenRule(5))
     }
 }

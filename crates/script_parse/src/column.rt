@@ -3,11 +3,11 @@ ghost use Rattle.std.specs.Prelude.{codes};
 ghost use Rattle.script_words.specs.Words.{is_named};
 ghost use Rattle.script_words.specs.Reading.{flag};
 ghost use Rattle.script_words.specs.Parts.{choice};
-ghost use Rattle.script_words.specs.Readers.{Reads};
+ghost use Rattle.script_words.specs.Readers.{ReadsExactly};
 ghost use Rattle.script_parse.specs.Columns.{kinds, column};
 
 use rep_schema::{Column, Kind};
-use script_lex::LineStop;
+use script_lex::BrokenRule;
 use script_words::{Part, Reader};
 
 const KINDS: [(&[u8], Kind); 5] = [
@@ -19,15 +19,15 @@ const KINDS: [(&[u8], Kind); 5] = [
 ];
 
 /// TYPE
-fn kind(tokens: &mut Reader<'_>) -> Result<Kind, LineStop>
-    ensures { Reads (choice kinds) result tokens.old tokens.new }
+fn kind(tokens: &mut Reader<'_>) -> Result<Kind, BrokenRule>
+    ensures { ReadsExactly (choice kinds) result tokens.old tokens.new }
 {
     tokens.choice(&KINDS)
 }
 
 /// `[: key]`
-fn key_flag(tokens: &mut Reader<'_>) -> Result<bool, LineStop>
-    ensures { Reads (flag (codes ":") (codes "key")) result tokens.old tokens.new }
+fn key_flag(tokens: &mut Reader<'_>) -> Result<bool, BrokenRule>
+    ensures { ReadsExactly (flag (codes ":") (codes "key")) result tokens.old tokens.new }
 {
     if !tokens.is_at(b":") {
         return Ok(false);
@@ -52,7 +52,7 @@ impl Part for ColumnPart {
     }
 
     #[tactic(auto, unfolding(crate::specs::Columns::column))]
-    fn read(tokens: &mut Reader<'_>) -> Result<Column, LineStop> {
+    fn read(tokens: &mut Reader<'_>) -> Result<Column, BrokenRule> {
         let name = tokens.name()?;
         tokens.pass(b":")?;
         let kind = kind(tokens)?;

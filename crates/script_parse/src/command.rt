@@ -35,7 +35,7 @@ pub enum Command {
         to: SiteName,
         count: Option<u64>,
     },
-    /// `show tables|queue|errors|marks|journal|log NAME`
+    /// `show tables|queue|errors|marks|journal|log|calls NAME`
     Show {
         what: Shown,
         site: SiteName,
@@ -51,4 +51,5 @@ pub enum Shown {
     Marks,
     Journal,
     Log,
+    Calls,
 }

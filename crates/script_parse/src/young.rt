@@ -1,5 +1,6 @@
 //! Lines as the first program reads them, which knows the rules 1, 3 and 5 alone.
 ghost use Rattle.std.specs.Prelude.{◌≡◌};
+ghost use Rattle.script_lex.specs.Lines.{HasTokens};
 ghost use Rattle.script_lex.specs.Stop.{Gives};
 ghost use Rattle.script_parse.specs.Young.{young_rule, parsed_young};
 
@@ -15,7 +16,7 @@ fn young_rule(rule: u8) -> u8
 
 /// The command that a line is, as `parse_line` gives it, with rule 5 in place of the rules 4 and 6.
 pub fn parse_first(alloc: Global, line: &[u8]) -> Result<Command, LineStop>
-    ensures { Gives (λ command. command) result (parsed_young line.now) }
+    ensures { Gives (HasTokens line.now) (λ command. command) result (parsed_young line.now) }
 {
     match parse_line(alloc, line) {
         Ok(command) => Ok(command),

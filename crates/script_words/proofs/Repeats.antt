@@ -1,11 +1,14 @@
 -- Steps of a loop over parts, with the parts that were found so far.
-use Rattle.std.proofs.Common.{◌≡◌, ℕ, zero, suc, ◌+◌, Bool, true, false, List, [], ◌∷◌, ◌++◌, length, Result, Ok, Err, refl, sym, ◌∙◌, ap, arith, append_assoc, append-nil}
+use Rattle.std.proofs.Common.{◌≡◌, ℕ, zero, suc, ◌+◌, Bool, true, false, List, [], ◌∷◌, ◌++◌, length, Result, Ok, Err, OnOk, is_err, ◌||◌, refl, sym, ◌∙◌, ap, arith, append_assoc, append-nil}
 use Rattle.script_lex.specs.declared.token.Token.{Token}
-use Rattle.script_lex.specs.declared.stop.LineStop.{LineStop}
-use Rattle.script_lex.specs.declared.stop.LineStop.TheVariants as stop
-use Rattle.script_lex.specs.Stop.{Fails}
-use Rattle.script_words.specs.Reading.{Reading, ◌>>=◌, begins, mark, after, many, with_found}
-use Rattle.script_words.specs.Readers.{Reads}
+use Rattle.script_words.specs.Reading.{Reading, ◌>>=◌, begins, many, with_found}
+
+-- a part is kept behind those that were found, or finds no memory
+pub more_kept : {A E : Type 0} (kept more found : List A) (x : A) (lacks failed : Bool) (pushed : Result Unit E) → (lacks ≡ false → kept ≡ found)
+    → failed ≡ is_err pushed → OnOk pushed (more ≡ kept ++ x ∷ []) → (lacks || failed) ≡ false → more ≡ found ++ x ∷ []
+more_kept kept more found x false failed (Ok u) kept_so fails more_so none = more_so ∙ ap (λ xs. xs ++ x ∷ []) (kept_so refl)
+more_kept kept more found x false failed (Err e) kept_so fails more_so none = cc
+more_kept kept more found x true failed pushed kept_so fails more_so none = cc
 
 module _ {A : Type 0} (starts : Token → Bool) (reading : Reading A) where
   many_stops : (n : ℕ) (ts : List Token) → begins starts ts ≡ false → many starts reading n ts ≡ Ok ([], ts)
@@ -39,11 +42,10 @@ module _ {A : Type 0} (starts : Token → Bool) (reading : Reading A) where
       rw pushed (sym (with_more found x (many starts reading m rest)) ∙ ap (with_found found) (sym step) ∙ kept)
 
   -- a part breaks a rule
-  pub found_fails : (found : List A) (m n : ℕ) (ts : List Token) (e : LineStop) (all : Result (List A × List Token) ℕ)
-      → with_found found (many starts reading n ts) ≡ all → n ≡ m + 1 → true ≡ begins starts ts → Fails e (reading ts) → Fails e all
+  pub found_fails : (found : List A) (m n : ℕ) (ts : List Token) (rule : ℕ) (all : Result (List A × List Token) ℕ)
+      → with_found found (many starts reading n ts) ≡ all → n ≡ m + 1 → true ≡ begins starts ts → reading ts ≡ Err rule → all ≡ Err rule
   unfolding many
-  found_fails found m n ts stop.Memory all kept count there read = tt
-  found_fails found m n ts (stop.Rule rule) all kept count there read =
+  found_fails found m n ts rule all kept count there read =
       let e : n ≡ suc m = omega arith in
       let step : many starts reading n ts ≡ Err rule = rw (e, sym there, read) refl in
       sym kept ∙ ap (with_found found) step
@@ -57,15 +59,3 @@ module _ {A : Type 0} (starts : Token → Bool) (reading : Reading A) where
       same : (r : Result (List A × List Token) ℕ) → with_found (x ∷ []) r ≡ (r >>= λ xs. Ok (x ∷ xs.0, xs.1))
       same (Ok xs) = refl
       same (Err e) = refl
-
--- A part behind its mark.
-
-module _ {A : Type 0} (word : List ℕ) (reading : Reading A) where
-  pub after_fails : (ts : List Token) (e : LineStop) → Fails e (mark word ts) → Fails e (after word reading ts)
-  after_fails ts stop.Memory fails = tt
-  after_fails ts (stop.Rule rule) fails = rw fails refl
-
-  pub after_reads : (ts rest new : List Token) (r : Result A LineStop) → mark word ts ≡ Ok rest → Reads reading r rest new → Reads (after word reading) r ts new
-  after_reads ts rest new (Ok x) passed reads = rw (passed, reads) refl
-  after_reads ts rest new (Err stop.Memory) passed reads = tt
-  after_reads ts rest new (Err (stop.Rule rule)) passed reads = rw (passed, reads) refl

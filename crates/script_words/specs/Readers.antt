@@ -1,16 +1,22 @@
 -- What a call on the reader read, and what it left.
-use Rattle.std.specs.Prelude.{◌≡◌, ℕ, List, Result, Ok, Err}
+use Rattle.std.specs.Prelude.{◌≡◌, ℕ, List, Result, Ok, Err, IsOk}
+use Rattle.script_lex.specs.declared.stop.BrokenRule.{BrokenRule}
 use Rattle.script_lex.specs.declared.stop.LineStop.{LineStop}
 use Rattle.script_lex.specs.declared.token.Token.{Token}
 use Rattle.script_lex.specs.Stop.{Fails}
 use Rattle.script_words.specs.Reading.{Reading}
 
 -- the reading gives the result from the old tokens and leaves the new ones, or breaks the rule
-abbrev pub Reads : {A : Type 0} → Reading A → Result A LineStop → List Token → List Token → Type 0
-Reads reading (Ok x) old new = reading old ≡ Ok (x, new)
-Reads reading (Err e) old new = Fails e (reading old)
+abbrev pub ReadsExactly : {A : Type 0} → Reading A → Result A BrokenRule → List Token → List Token → Type 0
+ReadsExactly reading (Ok x) old new = reading old ≡ Ok (x, new)
+ReadsExactly reading (Err broken) old new = reading old ≡ Err broken.0
 
 -- the same of a reading of which nothing is kept
-abbrev pub Passes : {A : Type 0} → (List Token → Result (List Token) ℕ) → Result A LineStop → List Token → List Token → Type 0
-Passes passing (Ok x) old new = passing old ≡ Ok new
-Passes passing (Err e) old new = Fails e (passing old)
+abbrev pub PassesExactly : {A : Type 0} → (List Token → Result (List Token) ℕ) → Result A BrokenRule → List Token → List Token → Type 0
+PassesExactly passing (Ok x) old new = passing old ≡ Ok new
+PassesExactly passing (Err broken) old new = passing old ≡ Err broken.0
+
+-- the same of a reading that takes memory, which is wanted only where no rule is broken
+abbrev pub Reads : {A : Type 0} → Reading A → Result A LineStop → List Token → List Token → Type 0
+Reads reading (Ok x) old new = reading old ≡ Ok (x, new)
+Reads reading (Err e) old new = Fails (IsOk (reading old)) e (reading old)

@@ -1,15 +1,15 @@
 //! The tokens of a line, read from the front.
 ghost use Rattle.std.specs.Prelude.{◌≡◌, [], ◌∷◌, MatchOption, length, drop, option_copied};
-ghost use Rattle.script_lex.specs.Stop.{Gives};
+ghost use Rattle.script_lex.specs.Stop.{GivesExactly};
 ghost use Rattle.script_words.specs.Words.{entries, is_named, is_valued, is_chosen};
 ghost use Rattle.script_words.specs.Reading.{front_of, begins, at, mark, ended};
 ghost use Rattle.script_words.specs.Parts.{name, whole_number, number, value, choice};
-ghost use Rattle.script_words.specs.Readers.{Reads, Passes};
+ghost use Rattle.script_words.specs.Readers.{ReadsExactly, PassesExactly};
 
 use crate::chosen::choice_of;
 use crate::words::{is_mark, name_of, number_of, value_of, whole_of};
 use rep_values::{Literal, Name};
-use script_lex::{LineStop, Token};
+use script_lex::{BrokenRule, Token};
 use std::marker::Model;
 
 /// The tokens that are left. A call that stops at rule 6 leaves the line without a form, and is the last one on it.
@@ -60,11 +60,11 @@ impl<'a> Reader<'a> {
 
     /// NAME, or rule 6.
     #[tactic(auto, unfolding(crate::specs::Reading::one))]
-    pub fn name(&mut self) -> Result<Name, LineStop>
-        ensures { Reads name result self.old self.new }
+    pub fn name(&mut self) -> Result<Name, BrokenRule>
+        ensures { ReadsExactly name result self.old self.new }
     {
         let Some(name) = self.peek().and_then(name_of) else {
-            return Err(LineStop::Rule(6));
+            return Err(BrokenRule(6));
         };
         self.skip();
         Ok(name)
@@ -72,11 +72,11 @@ impl<'a> Reader<'a> {
 
     /// WHOLE, or rule 6.
     #[tactic(auto, unfolding(crate::specs::Reading::one))]
-    pub fn whole_number(&mut self) -> Result<u64, LineStop>
-        ensures { Reads whole_number result self.old self.new }
+    pub fn whole_number(&mut self) -> Result<u64, BrokenRule>
+        ensures { ReadsExactly whole_number result self.old self.new }
     {
         let Some(number) = self.peek().and_then(whole_of) else {
-            return Err(LineStop::Rule(6));
+            return Err(BrokenRule(6));
         };
         self.skip();
         Ok(number)
@@ -84,11 +84,11 @@ impl<'a> Reader<'a> {
 
     /// A number, or rule 6.
     #[tactic(auto, unfolding(crate::specs::Reading::one))]
-    pub fn number(&mut self) -> Result<i64, LineStop>
-        ensures { Reads number result self.old self.new }
+    pub fn number(&mut self) -> Result<i64, BrokenRule>
+        ensures { ReadsExactly number result self.old self.new }
     {
         let Some(number) = self.peek().and_then(number_of) else {
-            return Err(LineStop::Rule(6));
+            return Err(BrokenRule(6));
         };
         self.skip();
         Ok(number)
@@ -96,11 +96,11 @@ impl<'a> Reader<'a> {
 
     /// VALUE, or rule 6.
     #[tactic(auto, unfolding(crate::specs::Reading::one))]
-    pub fn value(&mut self) -> Result<Literal, LineStop>
-        ensures { Reads value result self.old self.new }
+    pub fn value(&mut self) -> Result<Literal, BrokenRule>
+        ensures { ReadsExactly value result self.old self.new }
     {
         let Some(value) = self.peek().and_then(value_of) else {
-            return Err(LineStop::Rule(6));
+            return Err(BrokenRule(6));
         };
         self.skip();
         Ok(value)
@@ -108,14 +108,14 @@ impl<'a> Reader<'a> {
 
     /// What the next word or symbol stands for in the table, or rule 6.
     #[tactic(auto, unfolding(crate::specs::Reading::one))]
-    pub fn choice<T: Copy>(&mut self, table: &[(&[u8], T)]) -> Result<T, LineStop>
-        ensures { Reads (choice (entries table.now)) result self.old self.new }
+    pub fn choice<T: Copy>(&mut self, table: &[(&[u8], T)]) -> Result<T, BrokenRule>
+        ensures { ReadsExactly (choice (entries table.now)) result self.old self.new }
     {
         let Some(token) = self.peek() else {
-            return Err(LineStop::Rule(6));
+            return Err(BrokenRule(6));
         };
         let Some(value) = choice_of(table, token) else {
-            return Err(LineStop::Rule(6));
+            return Err(BrokenRule(6));
         };
         self.skip();
         Ok(value)
@@ -123,11 +123,11 @@ impl<'a> Reader<'a> {
 
     /// Passes over a word or a symbol that is written so, or stops at rule 6.
     #[tactic(auto, unfolding(crate::specs::Reading::mark))]
-    pub fn pass(&mut self, word: &[u8]) -> Result<(), LineStop>
-        ensures { Passes (mark word.now) result self.old self.new }
+    pub fn pass(&mut self, word: &[u8]) -> Result<(), BrokenRule>
+        ensures { PassesExactly (mark word.now) result self.old self.new }
     {
         if !self.is_at(word) {
-            return Err(LineStop::Rule(6));
+            return Err(BrokenRule(6));
         }
         self.skip();
         Ok(())
@@ -175,13 +175,13 @@ impl<'a> Reader<'a> {
     }
 
     /// Nothing, where no token is left, or rule 6.
-    pub fn end(&self) -> Result<(), LineStop>
-        ensures { Gives (λ done. done) result (ended tt self.now) }
+    pub fn end(&self) -> Result<(), BrokenRule>
+        ensures { GivesExactly (λ done. done) result (ended tt self.now) }
     {
         if self.left.is_empty() {
             Ok(())
         } else {
-            Err(LineStop::Rule(6))
+            Err(BrokenRule(6))
         }
     }
 }

@@ -4,12 +4,12 @@ ghost use Rattle.script_lex.specs.declared.token.Token.{Token};
 ghost use Rattle.script_words.specs.Words.{is_named, is_valued};
 ghost use Rattle.script_words.specs.Reading.{begins, after, several, some_of, separated};
 ghost use Rattle.script_words.specs.Parts.{name, value};
-ghost use Rattle.script_words.specs.Readers.{Reads};
+ghost use Rattle.script_words.specs.Readers.{Reads, ReadsExactly};
 
 use crate::Reader;
 use rep_lists::Items;
 use rep_values::{Literal, Name};
-use script_lex::LineStop;
+use script_lex::{BrokenRule, LineStop};
 use std::alloc::Global;
 
 /// A part of a form that may stand several times. Its first token tells that it stands there.
@@ -26,8 +26,8 @@ pub trait Part {
         ensures { result ≡ begins starts tokens.now };
 
     /// Reads one, or stops at rule 6.
-    fn read(tokens: &mut Reader<'_>) -> Result<Self::Item, LineStop>
-        ensures { Reads reading result tokens.old tokens.new };
+    fn read(tokens: &mut Reader<'_>) -> Result<Self::Item, BrokenRule>
+        ensures { ReadsExactly reading result tokens.old tokens.new };
 }
 
 /// NAME
@@ -44,7 +44,7 @@ impl Part for NamePart {
         tokens.is_at_name()
     }
 
-    fn read(tokens: &mut Reader<'_>) -> Result<Name, LineStop> {
+    fn read(tokens: &mut Reader<'_>) -> Result<Name, BrokenRule> {
         tokens.name()
     }
 }
@@ -63,27 +63,31 @@ impl Part for ValuePart {
         tokens.is_at_value()
     }
 
-    fn read(tokens: &mut Reader<'_>) -> Result<Literal, LineStop> {
+    fn read(tokens: &mut Reader<'_>) -> Result<Literal, BrokenRule> {
         tokens.value()
     }
 }
 
-/// As many as there are. It may want memory.
+/// As many as there are. Where one finds no memory, those behind it are read all the same.
 pub fn several<P: Part>(alloc: Global, tokens: &mut Reader<'_>) -> Result<Items<P::Item>, LineStop>
     ensures { Reads (several P.starts P.reading) result tokens.old tokens.new }
 {
     let mut found = Items::new(alloc);
+    let mut lacks = false;
     let most = tokens.len();
     for _ in 0..most {
         if !P::is_next(tokens) {
-            return Ok(found);
+            break;
         }
-        found.push(P::read(tokens)?)?;
+        lacks |= found.push(P::read(tokens)?).is_err();
+    }
+    if lacks {
+        return Err(LineStop::Memory);
     }
     Ok(found)
 }
 
-/// One or more. It may want memory.
+/// One or more.
 pub fn some_of<P: Part>(alloc: Global, tokens: &mut Reader<'_>) -> Result<Items<P::Item>, LineStop>
     ensures { Reads (some_of P.starts P.reading) result tokens.old tokens.new }
 {
@@ -94,14 +98,15 @@ pub fn some_of<P: Part>(alloc: Global, tokens: &mut Reader<'_>) -> Result<Items<
 }
 
 /// One behind the mark.
-fn after<P: Part>(word: &[u8], tokens: &mut Reader<'_>) -> Result<P::Item, LineStop>
-    ensures { Reads (after word.now P.reading) result tokens.old tokens.new }
+fn after<P: Part>(word: &[u8], tokens: &mut Reader<'_>) -> Result<P::Item, BrokenRule>
+    ensures { ReadsExactly (after word.now P.reading) result tokens.old tokens.new }
 {
     tokens.pass(word)?;
     P::read(tokens)
 }
 
-/// One, and as many further ones as stand behind the mark. It may want memory.
+/// One, and as many further ones as stand behind the mark. Where one finds no memory, those behind it are read all the
+/// same.
 pub fn separated<P: Part>(
     alloc: Global,
     word: &[u8],
@@ -110,12 +115,15 @@ pub fn separated<P: Part>(
     ensures { Reads (separated word.now P.reading) result tokens.old tokens.new }
 {
     let mut found = Items::new(alloc);
-    found.push(P::read(tokens)?)?;
+    let mut lacks = found.push(P::read(tokens)?).is_err();
     for _ in 0..tokens.len() {
         if !tokens.is_at(word) {
-            return Ok(found);
+            break;
         }
-        found.push(after::<P>(word, tokens)?)?;
+        lacks |= found.push(after::<P>(word, tokens)?).is_err();
+    }
+    if lacks {
+        return Err(LineStop::Memory);
     }
     Ok(found)
 }

@@ -1,7 +1,7 @@
 //! A line of groups, read one after the other.
 
 use crate::{NamePart, Reader, ValuePart, separated, several, some_of};
-use script_lex::{LineStop, lex};
+use script_lex::{BrokenRule, lex};
 use std::rt::HostRuntime;
 
 const WORDS: [(&[u8], u8); 2] = [(b"up", 1), (b"<=", 2)];
@@ -22,7 +22,7 @@ fn groups_are_read(rt: HostRuntime) {
         several::<ValuePart>(alloc, &mut left).map(|values| values.len()),
         Ok(3)
     );
-    assert_eq!(rt; left.pass(b","), Err(LineStop::Rule(6)));
+    assert_eq!(rt; left.pass(b","), Err(BrokenRule(6)));
     assert_eq!(rt; left.pass(b":"), Ok(()));
     assert_eq!(rt;
         separated::<NamePart>(alloc, b",", &mut left).map(|names| names.len()),

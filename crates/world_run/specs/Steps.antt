@@ -189,6 +189,7 @@ is_tables shown.Errors = false
 is_tables shown.Marks = false
 is_tables shown.Journal = false
 is_tables shown.Log = false
+is_tables shown.Calls = false
 
 -- the tables of the site at a place
 abbrev pub shown_at : Schema → List SiteState → ℕ → Option (List ℕ)

@@ -258,6 +258,7 @@ fn is_tables(what: Shown) -> bool
 {
     match what {
         Shown::Tables => true,
-        Shown::Queue | Shown::Errors | Shown::Marks | Shown::Journal | Shown::Log => false,
+        Shown::Queue | Shown::Errors | Shown::Marks | Shown::Journal | Shown::Log | Shown::Calls =>
+            false,
     }
 }
