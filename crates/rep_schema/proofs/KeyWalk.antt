@@ -11,7 +11,7 @@ use Rattle.rep_schema.specs.declared.schema.Column.{Column}
 use Rattle.rep_schema.specs.Tables.{Cells, key_of}
 
 -- a row without values has none in its key
-key_of-nil : (columns : List Column) → key_of columns [] ≡ []
+pub key_of-nil : (columns : List Column) → key_of columns [] ≡ []
 key_of-nil [] = refl
 key_of-nil (c ∷ cs) = refl
 

@@ -6,6 +6,7 @@ pub mod KeptTables
 pub mod FittingTests
 pub mod FoundRows
 pub mod ValuesAt
+mod RowWalk
 pub mod WithValues
 pub mod PartFit
 pub mod TakingBack

@@ -38,6 +38,11 @@ abbrev pub named_columns : Option Group → List ℕ
 named_columns None = []
 named_columns (Some group) = group.columns
 
+-- the columns of the shadow group where they are there, else those that are named
+abbrev pub held_columns : Option (List ℕ) → List ℕ → List ℕ
+held_columns None named = named
+held_columns (Some shadow) named = shadow
+
 -- the columns of a table's group, by the group's number; none where the table has no such group
 unfoldable pub group_columns_of : Schema → ℕ → ℕ → List ℕ
 group_columns_of schema table group = cond (group == shadow_group) (shadow_columns_of schema table) (named_columns (slice_get (groups_of schema table) group))

@@ -2,11 +2,12 @@
 use Rattle.std.specs.Prelude.{◌≡◌, ◌≢◌, ℕ, ◌+◌, ◌<◌, ℤ, pos, negsuc, ◌≤ℤ◌, List, [], ◌∷◌, length, map, slice_get, slice_index_or, Option, Some, None, Any, cond, filter}
 use Rattle.std.specs.List.{AllByRecursion}
 use Rattle.std.specs.declared.cmp.Ordering.{Ordering}
+use Rattle.std.specs.declared.cmp.Ordering.TheVariants.{Less, Equal, Greater}
 use Rattle.rep_lists.specs.Rising.{IsRising, find_at, put_at, take_at}
 use Rattle.rep_values.specs.declared.value.Value.{Value}
 use Rattle.rep_values.specs.declared.value.Value.TheVariants.{Num, Words}
 use Rattle.rep_values.specs.Number.{IsKeyLen}
-use Rattle.rep_values.specs.Order.{key_cmp}
+use Rattle.rep_values.specs.Order.{value_cmp, key_cmp}
 use Rattle.rep_schema.specs.declared.schema.Schema.{Schema}
 use Rattle.rep_schema.specs.declared.schema.TableEntry.{TableEntry}
 use Rattle.rep_schema.specs.declared.schema.Column.{Column}
@@ -72,6 +73,13 @@ beside columns key row = key_cmp (key_of columns row) key
 -- two rows compared by their keys
 abbrev pub row_cmp : List Column → Cells → Cells → Ordering
 row_cmp columns a b = key_cmp (key_of columns a) (key_of columns b)
+
+-- two values of rows compared, a row standing before those that go on where it ends
+abbrev pub cell_cmp : Option Value → Option Value → Ordering
+cell_cmp None None = Equal
+cell_cmp None (Some v) = Less
+cell_cmp (Some u) None = Greater
+cell_cmp (Some u) (Some v) = value_cmp u v
 
 -- the row with a key, if there is one
 abbrev pub find_row : List Column → Cells → Rows → Option Cells

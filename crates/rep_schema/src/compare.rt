@@ -1,7 +1,7 @@
 //! Rows beside keys and beside one another, by the columns of a table.
 ghost use Rattle.std.specs.Prelude.{◌≡◌, ◌<◌, ◌↔◌, length, slice_get, IsTrue};
 ghost use Rattle.rep_values.specs.Number.{IsKeyLen};
-ghost use Rattle.rep_schema.specs.Tables.{beside, key_of, columns_of, constraints_of, constraint_columns_of, picked, IsKeyed, RowFits};
+ghost use Rattle.rep_schema.specs.Tables.{beside, cell_cmp, row_cmp, key_of, columns_of, constraints_of, constraint_columns_of, picked, IsKeyed, RowFits};
 
 use crate::{Column, Constraint, Schema};
 use rep_values::{Key, Row, Value, compare_values, same_value};
@@ -31,6 +31,34 @@ pub fn compare_row(columns: &[Column], key: &[Value], row: &[Value]) -> Ordering
     }
 }
 
+/// Two rows compared at a place. A row stands before those that go on where it ends.
+fn compare_at(a: &[Value], b: &[Value], place: usize) -> Ordering
+    ensures { result ≡ cell_cmp (slice_get a.now place) (slice_get b.now place) }
+{
+    match (a.get(place), b.get(place)) {
+        (Some(x), Some(y)) => compare_values(x, y),
+        (None, None) => Ordering::Equal,
+        (None, Some(_)) => Ordering::Less,
+        (Some(_), None) => Ordering::Greater,
+    }
+}
+
+/// Where one row stands beside another in the order of keys. It takes no memory and builds no key.
+pub fn compare_rows(columns: &[Column], a: &[Value], b: &[Value]) -> Ordering
+    ensures { result ≡ row_cmp columns.now a.now b.now }
+{
+    for i in 0..columns.len() {
+        if columns[i].key {
+            match compare_at(a, b, i) {
+                Ordering::Equal => {}
+                Ordering::Less => return Ordering::Less,
+                Ordering::Greater => return Ordering::Greater,
+            }
+        }
+    }
+    Ordering::Equal
+}
+
 /// The key of a row: its values in the key columns, of which there are 1 to 4.
 pub fn key_of(columns: &[Column], row: &[Value]) -> Key
     requires { IsKeyLen (length (key_of columns.now row.now)) }
@@ -55,6 +83,13 @@ pub fn has_key(columns: &[Column], key: &[Value], row: &[Value]) -> bool
     ensures { IsTrue result ↔ (key_of columns.now row.now ≡ key.now) }
 {
     compare_row(columns, key, row).is_eq()
+}
+
+/// Whether two rows have one key.
+pub fn have_one_key(columns: &[Column], a: &[Value], b: &[Value]) -> bool
+    ensures { IsTrue result ↔ (key_of columns.now a.now ≡ key_of columns.now b.now) }
+{
+    compare_rows(columns, a, b).is_eq()
 }
 
 /// The columns of a table of the schema.

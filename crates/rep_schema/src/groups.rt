@@ -15,14 +15,14 @@ use std::marker::Model;
 /// The number of the shadow group. A named group's number is its place.
 pub const SHADOW: u8 = 255;
 
-/// The columns of one group of a table, in rising order. They are kept in place and take no memory.
+/// The columns of a shadow group, in rising order. They are kept in place.
 #[derive(Drop)]
-pub struct GroupColumns {
+struct ShadowColumns {
     cells: [u32; 32],
     len: usize,
 }
 
-impl Model for GroupColumns {
+impl Model for ShadowColumns {
     ghost use Rattle.std.specs.Prelude.{ℕ, ◌≤◌, List, take};
 
     ghost Value = { List ℕ };
@@ -32,11 +32,11 @@ impl Model for GroupColumns {
     ghost invariant = { λ g. g.len ≤ 32 };
 }
 
-impl GroupColumns {
-    fn empty() -> GroupColumns
+impl ShadowColumns {
+    fn empty() -> ShadowColumns
         ensures { result ≡ [] }
     {
-        GroupColumns {
+        ShadowColumns {
             cells: [0; 32],
             len: 0,
         }
@@ -50,15 +50,46 @@ impl GroupColumns {
         self.len += 1;
     }
 
-    fn of(columns: &[u32]) -> GroupColumns
-        requires { length columns.now ≤ 32 }
-        ensures { result ≡ columns.now }
+    fn as_slice(&self) -> &[u32]
+        ensures { result.now ≡ self.now }
     {
-        let mut cells = [0; 32];
-        cells[..columns.len()].copy_from_slice(columns);
+        &self.cells[..self.len]
+    }
+}
+
+/// The columns of one group of a table, in rising order: those of a named group where they stand in the schema, those
+/// of the shadow group computed. They take no memory.
+#[derive(Drop)]
+pub struct GroupColumns<'a> {
+    named: &'a [u32],
+    shadow: Option<ShadowColumns>,
+}
+
+impl<'a> Model for GroupColumns<'a> {
+    ghost use Rattle.std.specs.Prelude.{ℕ, List};
+    ghost use Rattle.rep_schema.specs.Groups.{held_columns};
+
+    ghost Value = { List ℕ };
+
+    ghost view = { λ g. held_columns g.shadow g.named.now };
+}
+
+impl<'a> GroupColumns<'a> {
+    fn of_named(named: &'a [u32]) -> GroupColumns<'a>
+        ensures { result ≡ named.now }
+    {
         GroupColumns {
-            cells,
-            len: columns.len(),
+            named,
+            shadow: None,
+        }
+    }
+
+    fn of_shadow(shadow: ShadowColumns) -> GroupColumns<'a>
+        ensures { result ≡ shadow }
+    {
+        GroupColumns {
+            named: &[],
+            shadow: Some(shadow),
         }
     }
 
@@ -66,7 +97,10 @@ impl GroupColumns {
     pub fn as_slice(&self) -> &[u32]
         ensures { result.now ≡ self.now }
     {
-        &self.cells[..self.len]
+        match &self.shadow {
+            Some(shadow) => shadow.as_slice(),
+            None => self.named,
+        }
     }
 }
 
@@ -95,11 +129,11 @@ pub fn is_grouped(groups: &[Group], column: usize) -> bool
 }
 
 /// The columns that are no key columns and in no named group.
-fn shadow_columns(groups: &[Group], columns: &[Column]) -> GroupColumns
+fn shadow_columns(groups: &[Group], columns: &[Column]) -> ShadowColumns
     requires { length columns.now ≤ most_columns }
     ensures { result ≡ shadow_from groups.now 0 columns.now }
 {
-    let mut shadow = GroupColumns::empty();
+    let mut shadow = ShadowColumns::empty();
     for i in 0..columns.len() {
         if !(columns[i].key || is_grouped(groups, i)) {
             shadow.add(i as u32);
@@ -108,26 +142,26 @@ fn shadow_columns(groups: &[Group], columns: &[Column]) -> GroupColumns
     shadow
 }
 
-fn named_columns(groups: &[Group], group: u8) -> GroupColumns
-    requires { length (named_columns (slice_get groups.now group)) ≤ most_columns }
-    ensures { result ≡ named_columns (slice_get groups.now group) }
+fn named_columns(groups: &[Group], group: u8) -> &[u32]
+    ensures { result.now ≡ named_columns (slice_get groups.now group) }
 {
     match groups.get(group as usize) {
-        Some(named) => GroupColumns::of(named.columns.as_slice()),
-        None => GroupColumns::empty(),
+        Some(named) => named.columns.as_slice(),
+        None => &[],
     }
 }
 
-/// The columns of a table's group, by the group's number; none where the table has no such group.
-pub fn group_columns(schema: &Schema, table: u32, group: u8) -> GroupColumns
+/// The columns of a table's group, by the group's number; none where the table has no such group. The shadow group's
+/// are computed at each call, so a caller passes them on.
+pub fn group_columns(schema: &Schema, table: u32, group: u8) -> GroupColumns<'_>
     requires table { table < length schema.now.tables }
     requires shape { HasShape schema.now }
     ensures { result ≡ group_columns_of schema.now table group }
 {
     if group == SHADOW {
-        shadow_columns(groups_of(schema, table), columns_of(schema, table))
+        GroupColumns::of_shadow(shadow_columns(groups_of(schema, table), columns_of(schema, table)))
     } else {
-        named_columns(groups_of(schema, table), group)
+        GroupColumns::of_named(named_columns(groups_of(schema, table), group))
     }
 }
 
@@ -141,7 +175,7 @@ fn cell(row: &[Value], place: u32) -> Option<&Value>
 pub fn values_at(alloc: Global, places: &[u32], row: &[Value]) -> Result<Items<Value>, NoMemory>
     ensures { IfOk result (λ values. values ≡ values_at places.now row.now) }
 {
-    let mut values = Items::new(alloc);
+    let mut values = Items::with_capacity(alloc, places.len())?;
     for place in places {
         if let Some(value) = cell(row, *place) {
             values.push(*value)?;

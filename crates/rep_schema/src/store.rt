@@ -1,5 +1,5 @@
 //! What a store of rows gives and keeps, whatever it is made of.
-ghost use Rattle.std.specs.Prelude.{◌≡◌, ◌≢◌, ℕ, ◌+◌, ◌<◌, ◌≤◌, ◌⊎◌, ◌↔◌, List, length, slice_get, slice_set, slice_index, option_copied, IsTrue, IsSome, OnOk, OnSome};
+ghost use Rattle.std.specs.Prelude.{◌≡◌, ◌≢◌, ℕ, ◌+◌, ◌<◌, ◌≤◌, ◌⊎◌, ◌↔◌, List, length, slice_get, slice_set, slice_index, option_copied, IsTrue, IsSome, IsOk, OnOk, OnSome};
 ghost use Rattle.rep_schema.specs.declared.schema.Schema.{Schema as SchemaValue};
 ghost use Rattle.rep_schema.specs.Tables.{Rows, columns_of, constraints_of, constraint_columns_of, key_of, find_row, put_row, take_row, rows_of, IsKeyed, RowFits, IsUniqueRow, IsHeldElsewhere, AreTables};
 
@@ -46,10 +46,12 @@ pub trait RowStore: Send + Drop {
         ensures { IsTrue result
             ↔ IsHeldElsewhere (columns_of (schema self.now) table) (constraint_columns_of (schema self.now) table constraint) row.now (rows_of (tables self.now) table) };
 
-    /// Makes room in a table for so many new rows, or finds no memory. Room that is there is never given up.
+    /// Makes room in a table for so many new rows, or finds no memory, which it never does where so much room is
+    /// there. Room is never given up.
     fn reserve(&mut self, table: u32, rows: u64) -> Result<(), NoMemory>
         requires { table < length (schema self.old).tables }
         ensures ok { OnOk result (rows ≤ slice_index (spare self.new) table) }
+        ensures succeeds { rows ≤ slice_index (spare self.old) table → IsOk result }
         ensures kept { slice_index (spare self.old) table ≤ slice_index (spare self.new) table }
         ensures schema { schema self.new ≡ schema self.old }
         ensures tables { tables self.new ≡ tables self.old }

@@ -1,9 +1,9 @@
 //! A store whose tables are sorted vectors.
-ghost use Rattle.std.specs.Prelude.{◌≡◌, ◌≢◌, ℕ, ◌+◌, ◌<◌, ◌≤◌, ◌⊎◌, ◌↔◌, [], length, replicate, slice_get, slice_set, slice_index, option_copied, IsTrue, IsSome, IfOk, OnOk, OnSome};
+ghost use Rattle.std.specs.Prelude.{◌≡◌, ◌≢◌, ℕ, ◌+◌, ◌<◌, ◌≤◌, ◌⊎◌, ◌↔◌, [], length, replicate, slice_get, slice_set, slice_index, option_copied, IsTrue, IsSome, IsOk, IfOk, OnOk, OnSome};
 ghost use Rattle.rep_schema.specs.Tables.{columns_of, constraints_of, constraint_columns_of, key_of, find_row, put_row, take_row, rows_of, IsKeyed, RowFits, IsUniqueRow, IsHeldElsewhere, AreTables};
 
 use crate::sorted_rows::SortedRows;
-use rep_schema::{RowStore, Schema, columns_of, constraint_columns, key_of};
+use rep_schema::{RowStore, Schema, columns_of, constraint_columns};
 use rep_values::{Key, NoMemory, Row};
 use std::alloc::Global;
 use std::marker::Model;
@@ -72,9 +72,8 @@ impl RowStore for ListTables {
     fn holds_unique(&self, table: u32, constraint: u32, row: &Row) -> bool {
         let columns = columns_of(&self.schema, table);
         let places = constraint_columns(&self.schema, table, constraint);
-        let key = key_of(columns, row.values());
         let rows = &self.stored[table as usize];
-        rows.holds(columns, places, key.values(), row.values())
+        rows.holds(columns, places, row.values())
     }
 
     fn reserve(&mut self, table: u32, rows: u64) -> Result<(), NoMemory> {
@@ -84,9 +83,8 @@ impl RowStore for ListTables {
 
     fn put(&mut self, table: u32, row: Row) -> Option<Row> {
         let columns = columns_of(&self.schema, table);
-        let key = key_of(columns, row.values());
         let rows = &mut self.stored[table as usize];
-        rows.put(columns, key.values(), row)
+        rows.put(columns, row)
     }
 
     fn take(&mut self, table: u32, key: &Key) -> Option<Row> {

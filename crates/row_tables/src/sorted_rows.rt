@@ -1,14 +1,14 @@
 //! The rows of one table, in rising order of key.
-ghost use Rattle.std.specs.Prelude.{◌≡◌, ◌≢◌, ◌+◌, ◌-◌, ◌<◌, ◌≤◌, ◌⊎◌, ◌↔◌, [], length, vec_len, vec_capacity, slice_get, option_copied, insert, IsTrue, IsSome, IfOk, IfErr, OnOk, OnSome};
+ghost use Rattle.std.specs.Prelude.{◌≡◌, ◌≢◌, ◌+◌, ◌≤◌, ◌⊎◌, ◌↔◌, [], length, slice_get, option_copied, IsTrue, IsSome, IsOk, IfOk, IfErr, OnOk, OnSome};
 ghost use Rattle.rep_lists.specs.Rising.{IsRising, IsThere, IsGap};
 ghost use Rattle.rep_schema.specs.Tables.{beside, row_cmp, key_of, find_row, put_row, take_row, picked, IsHeldElsewhere};
 
-use rep_schema::{Column, compare_row, has_key, same_picked};
+use rep_lists::RoomyList;
+use rep_schema::{Column, compare_row, compare_rows, have_one_key, same_picked};
 use rep_values::{NoMemory, Row, Value};
 use std::alloc::Global;
 use std::cmp::Ordering;
 use std::marker::Model;
-use std::mem;
 
 /// The place of the row with a key, or else the place where it would stand.
 fn search(rows: &[Row], columns: &[Column], key: &[Value]) -> Result<usize, usize>
@@ -23,6 +23,19 @@ fn search(rows: &[Row], columns: &[Column], key: &[Value]) -> Result<usize, usiz
     )
 }
 
+/// The place of the row with another row's key, or else the place where that one would stand. No key is built.
+fn search_like(rows: &[Row], columns: &[Column], like: &[Value]) -> Result<usize, usize>
+    requires { IsRising (row_cmp columns.now) rows.now }
+    ensures found { IfOk result (IsThere (beside columns.now (key_of columns.now like.now)) rows.now) }
+    ensures absent { IfErr result (IsGap (beside columns.now (key_of columns.now like.now)) rows.now) }
+{
+    rows.binary_search_by(
+        |row: &Row| -> Ordering
+            ensures { result ≡ row_cmp columns.entry.now row.now like.entry.now }
+        { compare_rows(columns, row.values(), like) },
+    )
+}
+
 fn find<'a>(rows: &'a [Row], columns: &[Column], key: &[Value]) -> Option<&'a Row>
     requires { IsRising (row_cmp columns.now) rows.now }
     ensures { option_copied result ≡ find_row columns.now key.now rows.now }
@@ -33,157 +46,141 @@ fn find<'a>(rows: &'a [Row], columns: &[Column], key: &[Value]) -> Option<&'a Ro
     }
 }
 
-fn take_out(rows: &mut Vec<Row>, columns: &[Column], key: &[Value]) -> Option<Row>
+fn take_out(rows: &mut RoomyList<Row>, columns: &[Column], key: &[Value]) -> Option<Row>
     requires { IsRising (row_cmp columns.now) rows.old.items }
     ensures taken { result ≡ find_row columns.now key.now rows.old.items }
     ensures rows { rows.new.items ≡ take_row columns.now key.now rows.old.items }
-    ensures room { vec_capacity rows.old - vec_len rows.old ≤ vec_capacity rows.new - vec_len rows.new }
+    ensures room { rows.old.spare ≤ rows.new.spare }
 {
-    match search(rows, columns, key) {
+    match search(rows.as_slice(), columns, key) {
         Ok(place) => Some(rows.remove(place)),
         Err(_) => None,
     }
 }
 
-/// Inserts a row. There is room for it, so this never fails.
-fn insert_in_room(rows: &mut Vec<Row>, place: usize, row: Row)
-    requires place { place ≤ vec_len rows.old }
-    requires room { vec_len rows.old < vec_capacity rows.old }
-    ensures rows { rows.new.items ≡ insert rows.old.items place row }
-    ensures room { vec_capacity rows.old - vec_len rows.old ≤ (vec_capacity rows.new - vec_len rows.new) + 1 }
-{
-    let _ = rows.insert(place, row);
-}
-
 /// Puts a row in its place, and hands back the row with its key.
-fn put_in(rows: &mut Vec<Row>, columns: &[Column], key: &[Value], row: Row) -> Option<Row>
+fn put_in(rows: &mut RoomyList<Row>, columns: &[Column], row: Row) -> Option<Row>
     requires rising { IsRising (row_cmp columns.now) rows.old.items }
-    requires key { key.now ≡ key_of columns.now row }
-    requires room { IsSome (find_row columns.now key.now rows.old.items) ⊎ (1 ≤ vec_capacity rows.old - vec_len rows.old) }
-    ensures replaced { result ≡ find_row columns.now key.now rows.old.items }
+    requires room { IsSome (find_row columns.now (key_of columns.now row) rows.old.items) ⊎ (1 ≤ rows.old.spare) }
+    ensures replaced { result ≡ find_row columns.now (key_of columns.now row) rows.old.items }
     ensures rows { rows.new.items ≡ put_row columns.now row rows.old.items }
-    ensures room_added { vec_capacity rows.old - vec_len rows.old ≤ (vec_capacity rows.new - vec_len rows.new) + 1 }
-    ensures room_replaced { OnSome result (vec_capacity rows.old - vec_len rows.old ≤ vec_capacity rows.new - vec_len rows.new) }
+    ensures room_added { rows.old.spare ≤ rows.new.spare + 1 }
+    ensures room_replaced { OnSome result (rows.old.spare ≤ rows.new.spare) }
 {
-    match search(rows, columns, key) {
-        Ok(place) => Some(mem::replace(&mut rows[place], row)),
+    match search_like(rows.as_slice(), columns, row.values()) {
+        Ok(place) => Some(rows.replace(place, row)),
         Err(place) => {
-            insert_in_room(rows, place, row);
+            rows.insert(place, row);
             None
         }
     }
 }
 
 /// Whether the other row has another key and the row's values at these places.
-fn clashes(
-    columns: &[Column],
-    places: &[u32],
-    key: &[Value],
-    row: &[Value],
-    other: &[Value],
-) -> bool
-    ensures { IsTrue result ↔ ((key_of columns.now other.now ≢ key.now) × (picked places.now other.now ≡ picked places.now row.now)) }
+fn clashes(columns: &[Column], places: &[u32], row: &[Value], other: &[Value]) -> bool
+    ensures { IsTrue result
+        ↔ ((key_of columns.now other.now ≢ key_of columns.now row.now) × (picked places.now other.now ≡ picked places.now row.now)) }
 {
-    same_picked(places, other, row) && !has_key(columns, key, other)
+    same_picked(places, other, row) && !have_one_key(columns, other, row)
 }
 
 /// Whether a row with another key has the row's values at these places.
-fn is_held_elsewhere(
-    rows: &[Row],
-    columns: &[Column],
-    places: &[u32],
-    key: &[Value],
-    row: &[Value],
-) -> bool
-    requires { key.now ≡ key_of columns.now row.now }
+fn is_held_elsewhere(rows: &[Row], columns: &[Column], places: &[u32], row: &[Value]) -> bool
     ensures { IsTrue result ↔ IsHeldElsewhere columns.now places.now row.now rows.now }
 {
     for other in rows {
-        if clashes(columns, places, key, row, other.values()) {
+        if clashes(columns, places, row, other.values()) {
             return true;
         }
     }
     false
 }
 
-/// A table's rows, in rising order of key.
+/// A table's rows, in rising order of key. The columns of the table are given to each call.
 #[derive(Drop)]
-pub(crate) struct SortedRows {
-    rows: Vec<Row>,
+pub struct SortedRows {
+    rows: RoomyList<Row>,
 }
 
 impl Model for SortedRows {
-    ghost use Rattle.std.specs.Prelude.{◌-◌, vec_len, vec_capacity};
     ghost use Rattle.row_tables.specs.Stored.{StoredTable};
 
     ghost Value = { StoredTable };
 
-    ghost view = { λ s. record { rows = s.rows.items; spare = vec_capacity s.rows - vec_len s.rows } };
+    ghost view = { λ s. record { rows = s.rows.items; spare = s.rows.spare } };
 }
 
 impl SortedRows {
-    pub(crate) fn new(alloc: Global) -> SortedRows
+    /// No rows, which take no memory.
+    pub fn new(alloc: Global) -> SortedRows
         ensures { result.rows ≡ [] }
     {
         SortedRows {
-            rows: Vec::new(alloc),
+            rows: RoomyList::new(alloc),
         }
     }
 
-    pub(crate) fn len(&self) -> usize
+    /// How many rows there are.
+    pub fn len(&self) -> usize
         ensures { result ≡ length self.now.rows }
     {
         self.rows.len()
     }
 
-    pub(crate) fn at(&self, place: usize) -> Option<&Row>
-        ensures { option_copied result ≡ slice_get self.now.rows place }
+    /// Whether there is no row.
+    pub fn is_empty(&self) -> bool
+        ensures { IsTrue result ↔ (self.now.rows ≡ []) }
     {
-        self.rows.get(place)
+        self.rows.is_empty()
     }
 
-    pub(crate) fn get(&self, columns: &[Column], key: &[Value]) -> Option<&Row>
+    /// The row at a place in the order of keys, from 0.
+    pub fn at(&self, place: usize) -> Option<&Row>
+        ensures { option_copied result ≡ slice_get self.now.rows place }
+    {
+        self.rows.as_slice().get(place)
+    }
+
+    /// The row with a key.
+    pub fn get(&self, columns: &[Column], key: &[Value]) -> Option<&Row>
         requires { IsRising (row_cmp columns.now) self.now.rows }
         ensures { option_copied result ≡ find_row columns.now key.now self.now.rows }
     {
-        find(&self.rows, columns, key)
+        find(self.rows.as_slice(), columns, key)
     }
 
-    pub(crate) fn holds(
-        &self,
-        columns: &[Column],
-        places: &[u32],
-        key: &[Value],
-        row: &[Value],
-    ) -> bool
-        requires { key.now ≡ key_of columns.now row.now }
+    /// Whether a row with another key has the row's values at these places.
+    pub fn holds(&self, columns: &[Column], places: &[u32], row: &[Value]) -> bool
         ensures { IsTrue result ↔ IsHeldElsewhere columns.now places.now row.now self.now.rows }
     {
-        is_held_elsewhere(&self.rows, columns, places, key, row)
+        is_held_elsewhere(self.rows.as_slice(), columns, places, row)
     }
 
-    pub(crate) fn reserve(&mut self, rows: usize) -> Result<(), NoMemory>
+    /// Makes room for so many new rows, or finds no memory. Room that is there is never given up.
+    pub fn reserve(&mut self, rows: usize) -> Result<(), NoMemory>
         ensures ok { OnOk result (rows ≤ self.new.spare) }
+        ensures succeeds { rows ≤ self.old.spare → IsOk result }
         ensures kept { self.old.spare ≤ self.new.spare }
         ensures rows { self.new.rows ≡ self.old.rows }
     {
-        self.rows.reserve(rows)?;
-        Ok(())
+        self.rows.reserve(rows)
     }
 
-    pub(crate) fn put(&mut self, columns: &[Column], key: &[Value], row: Row) -> Option<Row>
+    /// Adds a row, or puts it in the place of the row with its key, which it hands back. A new key uses up room for
+    /// one row.
+    pub fn put(&mut self, columns: &[Column], row: Row) -> Option<Row>
         requires rising { IsRising (row_cmp columns.now) self.old.rows }
-        requires key { key.now ≡ key_of columns.now row }
-        requires room { IsSome (find_row columns.now key.now self.old.rows) ⊎ (1 ≤ self.old.spare) }
-        ensures replaced { result ≡ find_row columns.now key.now self.old.rows }
+        requires room { IsSome (find_row columns.now (key_of columns.now row) self.old.rows) ⊎ (1 ≤ self.old.spare) }
+        ensures replaced { result ≡ find_row columns.now (key_of columns.now row) self.old.rows }
         ensures rows { self.new.rows ≡ put_row columns.now row self.old.rows }
         ensures room_added { self.old.spare ≤ self.new.spare + 1 }
         ensures room_replaced { OnSome result (self.old.spare ≤ self.new.spare) }
     {
-        put_in(&mut self.rows, columns, key, row)
+        put_in(&mut self.rows, columns, row)
     }
 
-    pub(crate) fn take(&mut self, columns: &[Column], key: &[Value]) -> Option<Row>
+    /// Takes the row with a key away and hands it back. Its room stays.
+    pub fn take(&mut self, columns: &[Column], key: &[Value]) -> Option<Row>
         requires { IsRising (row_cmp columns.now) self.old.rows }
         ensures taken { result ≡ find_row columns.now key.now self.old.rows }
         ensures rows { self.new.rows ≡ take_row columns.now key.now self.old.rows }

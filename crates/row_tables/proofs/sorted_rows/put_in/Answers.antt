@@ -5,26 +5,26 @@ use Rattle.row_tables.proofs.sorted_rows.put_in.Goals as goal
 
 pub returns-in-Ok-clause-replaced : goal.returns-in-Ok-clause-replaced
 returns-in-Ok-clause-replaced c =
-    let there = rw c.deref.ensures.value at c.in-Ok.ensures.found in
-    ap Some (c.replace.ensures.value ∙ c.index_mut.ensures.value) ∙ sym (find_there _ _ _ _ there)
+    let there = rw (c.as_slice.ensures, c.values.ensures.value) at c.in-Ok.ensures.found in
+    ap Some c.replace.ensures.value ∙ sym (find_there _ _ _ _ there)
 
 pub returns-in-Ok-clause-rows : goal.returns-in-Ok-clause-rows
 returns-in-Ok-clause-rows c =
-    let there = rw c.deref.ensures.value at c.in-Ok.ensures.found in
-    rw (c.replace.ensures.after, ← c.requires.key) (sym (put_there _ _ _ _ there))
+    let there = rw (c.as_slice.ensures, c.values.ensures.value) at c.in-Ok.ensures.found in
+    c.replace.ensures.items ∙ sym (put_there _ _ _ _ there)
 
 pub returns-in-Err-clause-replaced : goal.returns-in-Err-clause-replaced
-returns-in-Err-clause-replaced c = let gap = rw c.deref.ensures.value at c.in-Err.ensures.absent in sym (find_gap _ _ _ gap)
+returns-in-Err-clause-replaced c = let gap = rw (c.as_slice.ensures, c.values.ensures.value) at c.in-Err.ensures.absent in sym (find_gap _ _ _ gap)
 
 pub returns-in-Err-clause-rows : goal.returns-in-Err-clause-rows
 returns-in-Err-clause-rows c =
-    let gap = rw c.deref.ensures.value at c.in-Err.ensures.absent in
-    c.insert_in_room.ensures.rows ∙ rw (← c.requires.key) (sym (put_gap _ _ _ _ gap))
+    let gap = rw (c.as_slice.ensures, c.values.ensures.value) at c.in-Err.ensures.absent in
+    c.insert.ensures.items ∙ sym (put_gap _ _ _ _ gap)
 
 -- no row has the key, so there is room
-pub insert_in_room-requires-clause-room : goal.insert_in_room-requires-clause-room
-insert_in_room-requires-clause-room c =
-    let gap = rw c.deref.ensures.value at c.in-Err.ensures.absent in
+pub insert-requires-clause-room : goal.insert-requires-clause-room
+insert-requires-clause-room c =
+    let gap = rw (c.as_slice.ensures, c.values.ensures.value) at c.in-Err.ensures.absent in
     elim c.requires.room [
       | inl there ↦ absurd (false≢true (rw (find_gap _ _ _ gap) at there))
       | inr room ↦ omega arith

@@ -5,15 +5,8 @@ use Rattle.row_tables.specs.Stored.{Stored}
 use Rattle.row_tables.proofs.OneTable.{in_stored, rows_of-stored}
 use Rattle.row_tables.proofs.list_tables.ListTablesRowStore.holds_unique.Goals as goal
 
--- a row that fits has a value for each key column
-pub key_of-key-requires : goal.key_of-key-requires
-key_of-key-requires c =
-    let fits = subst (λ (s : Stored). RowFits (columns_of s.schema c.args.table) c.args.row.now) (sym c.self.view_is) c.requires.fits in
-    let keyed = subst (λ (s : Stored). IsKeyed (columns_of s.schema c.args.table)) (sym c.self.view_is) c.requires.keyed in
-    rw (c.columns_of-columns.ensures, c.values.ensures.value, length-key_of _ _ fits) keyed
-
 pub returns : goal.returns
 returns c =
     let below = subst (λ (s : Stored). c.args.table < length s.schema.tables) (sym c.self.view_is) c.requires.table in
     let rows = rows_of-stored _ _ (in_stored _ _ _ below c.self.invariant) _ c.index-rows.ensures in
-    rw (← c.self.view_is, rows, ← c.columns_of-columns.ensures, ← c.constraint_columns-places.ensures, ← c.values-3.ensures.value) c.holds.ensures
+    rw (← c.self.view_is, rows, ← c.columns_of-columns.ensures, ← c.constraint_columns-places.ensures, ← c.values.ensures.value) c.holds.ensures

@@ -6,13 +6,6 @@ use Rattle.row_tables.specs.Stored.{Stored}
 use Rattle.row_tables.proofs.OneTable.{stored_is_table, in_stored, rows_of-stored, spare-stored, spare-set, spare-set_other, rows_in-set, AreTables-stored}
 use Rattle.row_tables.proofs.list_tables.ListTablesRowStore.put.Goals as goal
 
--- a row that fits has a value for each key column
-pub key_of-key-requires : goal.key_of-key-requires
-key_of-key-requires c =
-    let fits = subst (λ (s : Stored). RowFits (columns_of s.schema c.args.table) c.args.row) (sym c.self.view_is) c.requires.fits in
-    let keyed = subst (λ (s : Stored). IsKeyed (columns_of s.schema c.args.table)) (sym c.self.view_is) c.requires.keyed in
-    rw (c.columns_of-columns.ensures, c.values.ensures.value, length-key_of _ _ fits) keyed
-
 pub invariant_of-self : goal.invariant_of-self
 invariant_of-self c =
     let below = subst (λ (s : Stored). c.args.table < length s.schema.tables) (sym c.self.view_is) c.requires.table in

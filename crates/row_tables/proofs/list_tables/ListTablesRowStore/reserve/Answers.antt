@@ -14,6 +14,12 @@ returns-clause-ok c =
     let below = subst (λ (s : Stored). c.args.table < length s.schema.tables) (sym c.self.view_is) c.requires in
     rw (spare-set _ _ (in_stored _ _ _ below c.self.invariant) _) c.reserve.ensures.ok
 
+pub returns-clause-succeeds : goal.returns-clause-succeeds
+returns-clause-succeeds c =
+    let below = subst (λ (s : Stored). c.args.table < length s.schema.tables) (sym c.self.view_is) c.requires in
+    let in_range = in_stored _ _ _ below c.self.invariant in
+    rw (← c.self.view_is, spare-stored _ _ in_range _ c.index_mut-stored.ensures.value) c.reserve.ensures.succeeds
+
 pub returns-clause-kept : goal.returns-clause-kept
 returns-clause-kept c =
     let below = subst (λ (s : Stored). c.args.table < length s.schema.tables) (sym c.self.view_is) c.requires in
