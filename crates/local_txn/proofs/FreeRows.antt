@@ -5,21 +5,12 @@ use Rattle.rep_values.specs.declared.refusal.Refusal.{Refusal}
 use Rattle.rep_schema.specs.declared.schema.Schema.{Schema}
 use Rattle.rep_schema.specs.declared.schema.Constraint.{Constraint}
 use Rattle.rep_schema.specs.Tables.{Cells, Rows, columns_of, constraints_of, constraint_columns_of, rows_of, RowFits, IsTable, IsUniqueRow}
-use Rattle.rep_declare.specs.Refusals.{first_refusal, or_then}
+use Rattle.rep_values.specs.RefusalSteps.{first_refusal}
+use Rattle.rep_values.proofs.RefusalSteps.{none_refuses}
 use Rattle.unique_resolve.specs.Settling.{is_held}
 use Rattle.unique_resolve.proofs.HeldValues.{held_test}
 use Rattle.local_txn.specs.Statements.{taken_step, unique_steps}
 use Rattle.local_txn.proofs.RowShapes.{found_at}
-
-pub or_then-None : (first following : Option Refusal) → or_then first following ≡ None → (first ≡ None) × (following ≡ None)
-or_then-None None following none = (refl, none)
-or_then-None (Some why) following none = cc
-
--- where no step refuses, none of them does
-pub none_refuses : {X : Type 0} (step : X → Option Refusal) (xs : List X) → first_refusal (map step xs) ≡ None → (i : ℕ) (x : X) → slice_get xs i ≡ Some x → step x ≡ None
-none_refuses step [] passes i x there = cc
-none_refuses step (y ∷ ys) passes zero x there = let both = or_then-None (step y) (first_refusal (map step ys)) passes in let same : y ≡ x = cc in rw (← same) both.0
-none_refuses step (y ∷ ys) passes (suc i) x there = let both = or_then-None (step y) (first_refusal (map step ys)) passes in none_refuses step ys both.1 i x there
 
 module _ (schema : Schema) (tables : List Rows) (table : ℕ) (row : Cells) (is_table : IsTable schema table (rows_of tables table)) (fits : RowFits (columns_of schema table) row)
     (passes : first_refusal (unique_steps schema tables table row) ≡ None) where

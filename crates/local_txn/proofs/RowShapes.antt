@@ -22,7 +22,7 @@ use Rattle.rep_schema.proofs.FittingTests.{row_test}
 use Rattle.rep_calls.specs.declared.statement.Set.{Set}
 use Rattle.rep_calls.specs.declared.statement.How.{How}
 use Rattle.rep_calls.specs.declared.statement.How.TheVariants.{To, Add}
-use Rattle.rep_declare.specs.Refusals.{first_refusal}
+use Rattle.rep_values.specs.RefusalSteps.{first_refusal}
 use Rattle.unique_resolve.specs.Settling.{is_held}
 use Rattle.local_txn.specs.Statements.{taken_step}
 use Rattle.rep_schema.specs.Kinds.{takes_amounts, is_of_kind, value_in_range, row_in_range}

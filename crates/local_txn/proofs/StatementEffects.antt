@@ -13,7 +13,8 @@ use Rattle.rep_schema.proofs.Leading.{IsChange-put, IsChange-take}
 use Rattle.rep_calls.specs.declared.statement.Statement.{Statement}
 use Rattle.rep_calls.specs.declared.statement.Statement.TheVariants.{Insert, Update, Delete}
 use Rattle.rep_calls.specs.declared.statement.Set.{Set}
-use Rattle.rep_declare.specs.Refusals.{first_refusal, refused, known}
+use Rattle.rep_values.specs.RefusalSteps.{first_refusal, refused, known}
+use Rattle.rep_values.proofs.RefusalSteps.{or_then-None, refused_not-None}
 use Rattle.unique_resolve.specs.Numbers.{first_numbers}
 use Rattle.unique_resolve.proofs.Settlements.{AreCounters-first}
 use Rattle.txn_effects.specs.Calls.{Effect, is_unchanged}
@@ -28,13 +29,8 @@ use Rattle.local_txn.specs.Sets.{names_columns, sets_fit, row_with}
 use Rattle.local_txn.specs.Statements.{row_at, row_set, row_before, row_after, row_steps, unique_steps, there, steps_in, change_in, statement_refusal, statement_changes}
 use Rattle.local_txn.specs.Running.{CanRun}
 use Rattle.local_txn.proofs.RowShapes.{RowFits-values_of}
-use Rattle.local_txn.proofs.FreeRows.{or_then-None, IsUniqueRow-free}
+use Rattle.local_txn.proofs.FreeRows.{IsUniqueRow-free}
 use Rattle.local_txn.proofs.StatementSteps.{RowFits-updated, same_row}
-
--- a test that refuses nothing passes
-passed : (test : Bool) (why : Refusal) → refused (not test) why ≡ None → test ≡ true
-passed true why none = refl
-passed false why none = cc
 
 -- changes with the first counters, which no statement moves
 abbrev pub effect_with : Schema → List Change → Effect
@@ -47,7 +43,7 @@ module _ (schema : Schema) (tables : List Rows) (table : ℕ) (able : CanRun sch
       → IsChange schema (record { table = table; before = before; after = Some row }) tables
   new_row row fits none before was =
       let both = or_then-None (refused (not (row_in_range row)) _) (first_refusal (unique_steps schema tables table row)) none in
-      let fit = fits (passed (row_in_range row) _ both.0) in
+      let fit = fits (refused_not-None (row_in_range row) _ both.0) in
       IsChange-put schema table tables able.of_table (able.keys table able.of_table) row before fit
       (IsUniqueRow-free schema tables table row (able.are.each table able.of_table) fit both.1) was
 
@@ -63,20 +59,20 @@ module _ (schema : Schema) (tables : List Rows) (table : ℕ) (able : CanRun sch
       let after = row_with sets (columns_of schema table) found in
       new_row after (λ range. RowFits-updated schema tables table able key sets known fits found here after (rw range refl)) none (Some found)
       (sym here ∙ sym (same_row schema tables table able key sets known fits found here after
-      (let both = or_then-None (refused (not (row_in_range after)) _) (first_refusal (unique_steps schema tables table after)) none in rw (passed (row_in_range after) _ both.0) refl)))
+      (let both = or_then-None (refused (not (row_in_range after)) _) (first_refusal (unique_steps schema tables table after)) none in rw (refused_not-None (row_in_range after) _ both.0) refl)))
 
   -- a statement that isn't refused changes its row as the tables allow
   IsChange-statement : (statement : Statement) → first_refusal (steps_in schema tables table statement) ≡ None → IsChange schema (change_of statement) tables
   IsChange-statement (Insert name values) none =
       let shape = or_then-None (refused (not (literals_fit schema (columns_of schema table) values)) _) _ none in
       let free = or_then-None (refused (is_some (row_at schema tables table (key_of (columns_of schema table) (values_of values)))) _) (first_refusal (row_steps schema tables table (values_of values))) shape.1 in
-      new_row (values_of values) (RowFits-values_of schema (columns_of schema table) values (passed (literals_fit schema (columns_of schema table) values) _ shape.0)) free.1
+      new_row (values_of values) (RowFits-values_of schema (columns_of schema table) values (refused_not-None (literals_fit schema (columns_of schema table) values) _ shape.0)) free.1
       (row_at schema tables table (key_of (columns_of schema table) (values_of values))) refl
   IsChange-statement (Update name key sets) none =
       let names = or_then-None (refused (not (names_columns (columns_of schema table) sets)) _) _ none in
       let shape = or_then-None (refused (not (key_literals_fit schema (columns_of schema table) key && sets_fit (columns_of schema table) sets)) _)
       (first_refusal (there (row_at schema tables table (values_of key)) (λ row. row_steps schema tables table (row_with sets (columns_of schema table) row)))) names.1 in
-      updated key sets (passed (names_columns (columns_of schema table) sets) _ names.0) (passed (key_literals_fit schema (columns_of schema table) key && sets_fit (columns_of schema table) sets) _ shape.0)
+      updated key sets (refused_not-None (names_columns (columns_of schema table) sets) _ names.0) (refused_not-None (key_literals_fit schema (columns_of schema table) key && sets_fit (columns_of schema table) sets) _ shape.0)
       (row_at schema tables table (values_of key)) refl shape.1
   IsChange-statement (Delete name key) none =
       IsChange-take schema table tables able.of_table (able.keys table able.of_table) (values_of key) (row_at schema tables table (values_of key)) refl

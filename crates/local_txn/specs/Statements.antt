@@ -11,7 +11,7 @@ use Rattle.rep_schema.specs.Tables.{Cells, Rows, columns_of, constraints_of, key
 use Rattle.rep_calls.specs.declared.statement.Statement.{Statement}
 use Rattle.rep_calls.specs.declared.statement.Statement.TheVariants.{Insert, Update, Delete}
 use Rattle.rep_calls.specs.declared.statement.Set.{Set}
-use Rattle.rep_declare.specs.Refusals.{refused, known, first_refusal}
+use Rattle.rep_values.specs.RefusalSteps.{refused, known, first_refusal}
 use Rattle.unique_resolve.specs.Settling.{is_held}
 use Rattle.txn_effects.specs.Calls.{changes_between}
 use Rattle.local_txn.specs.declared.local.Here.{Here}

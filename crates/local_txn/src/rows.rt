@@ -3,7 +3,7 @@ ghost use Rattle.std.specs.Prelude.{◌≡◌, ◌≢◌, ℕ, ◌+◌, ◌<◌,
 ghost use Rattle.rep_schema.specs.Tables.{columns_of, constraints_of, constraint_columns_of, key_of, rows_of, RowFits, IsUniqueRow};
 ghost use Rattle.rep_schema.specs.declared.schema.Constraint.{Constraint as ConstraintValue};
 ghost use Rattle.rep_schema.specs.Changes.{row_like};
-ghost use Rattle.rep_declare.specs.Refusals.{first_refusal};
+ghost use Rattle.rep_values.specs.RefusalSteps.{first_refusal};
 ghost use Rattle.unique_resolve.specs.Settling.{is_held};
 ghost use Rattle.txn_effects.specs.Calls.{changes_between};
 ghost use Rattle.txn_effects.specs.Transactions.{made_all};

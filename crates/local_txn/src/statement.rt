@@ -1,7 +1,7 @@
 //! One statement on a store.
 ghost use Rattle.std.specs.Prelude.{◌≡◌, ◌≢◌, ℕ, ◌+◌, ◌<◌, ◌≤◌, ◌^◌, ◌==◌, ◌&&◌, cond, length, slice_index, Some, None, IfOk, IfErr, OnOk, OnErr};
 ghost use Rattle.rep_schema.specs.Tables.{columns_of, key_of};
-ghost use Rattle.rep_declare.specs.Refusals.{first_refusal};
+ghost use Rattle.rep_values.specs.RefusalSteps.{first_refusal};
 ghost use Rattle.txn_effects.specs.Calls.{changes_between};
 ghost use Rattle.txn_effects.specs.Transactions.{made_all};
 ghost use Rattle.local_txn.specs.Literals.{key_literals_fit, values_of};

@@ -16,9 +16,10 @@ use Rattle.rep_schema.specs.Limits.{most_constraints}
 use Rattle.rep_schema.specs.Shape.{shadow_name, key_name, AreDistinct, ShareNone, HasGroupShape, HasConstraintShape, HasTableShape, HasShape}
 use Rattle.rep_declare.specs.declared.declaration.Declare.TheVariants as declare
 use Rattle.rep_schema.specs.Named.{is_group, is_constraint, table_named, places_named}
-use Rattle.rep_declare.specs.Refusals.{first_refusal, steps_of, refusal_of}
+use Rattle.rep_values.specs.RefusalSteps.{first_refusal}
+use Rattle.rep_declare.specs.Refusals.{steps_of, refusal_of}
 use Rattle.rep_declare.specs.Additions.{with_groups, with_constraints, declared}
-use Rattle.rep_declare.proofs.NoRefusal.{or_then-None, refused-None, full-None, taken-None, known-None}
+use Rattle.rep_values.proofs.RefusalSteps.{or_then-None, refused-None, full-None, taken-None, known-None}
 use Rattle.rep_declare.proofs.ListNames.{same_bytes-false, find-None, AreDistinct-push}
 use Rattle.rep_declare.proofs.PlacesNamed.{AreColumns-places_named, ShareNone-places_named}
 use Rattle.rep_declare.proofs.TableShapes.{HasShape-with_table_changed}

@@ -2,7 +2,6 @@
 pub mod NamedColumns
 mod Changed
 mod PriorityNames
-mod NoRefusal
 mod ListNames
 mod SiteShapes
 mod TableShapes

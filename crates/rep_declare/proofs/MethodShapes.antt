@@ -18,9 +18,10 @@ use Rattle.rep_declare.specs.declared.declaration.Declare.TheVariants as declare
 use Rattle.rep_declare.specs.declared.declaration.MethodWords.{MethodWords}
 use Rattle.rep_declare.specs.declared.declaration.MethodWords.TheVariants as words
 use Rattle.rep_schema.specs.Named.{is_group, is_priority, table_named, group_named}
-use Rattle.rep_declare.specs.Refusals.{first_refusal, unknown_column, words_column, steps_of, refusal_of}
+use Rattle.rep_values.specs.RefusalSteps.{first_refusal}
+use Rattle.rep_declare.specs.Refusals.{unknown_column, words_column, steps_of, refusal_of}
 use Rattle.rep_declare.specs.Additions.{with_changed, place_or_zero, priority_number, with_priority, with_words_priority, method_of, with_groups, with_method, with_priorities, declared}
-use Rattle.rep_declare.proofs.NoRefusal.{or_then-None, full-None, known-None}
+use Rattle.rep_values.proofs.RefusalSteps.{or_then-None, full-None, known-None}
 use Rattle.rep_declare.proofs.ListNames.{All-with_changed, AreDistinct-with_changed, AllPairs-with_changed}
 use Rattle.rep_declare.proofs.PlacesNamed.{column_number-below}
 use Rattle.rep_declare.proofs.TableShapes.{HasShape-with_table_changed}

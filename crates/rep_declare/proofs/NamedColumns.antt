@@ -6,7 +6,8 @@ use Rattle.rep_values.specs.declared.refusal.Refusal.{Refusal}
 use Rattle.rep_values.specs.Name.{same_bytes}
 use Rattle.rep_schema.specs.declared.schema.Column.{Column}
 use Rattle.rep_schema.specs.Named.{column_place}
-use Rattle.rep_declare.specs.Refusals.{or_then, column_step, columns_step}
+use Rattle.rep_values.specs.RefusalSteps.{or_then}
+use Rattle.rep_declare.specs.Refusals.{column_step, columns_step}
 
 module _ (columns : List Column) (is_taken : ℕ → Bool) (names : List (List ℕ)) (i : ℕ) (within : i < length names) (name : List ℕ) (is : name ≡ get_or names i name) where
   abbrev pub step_of : Option Refusal

@@ -13,9 +13,10 @@ use Rattle.rep_schema.specs.declared.schema.Column.{Column}
 use Rattle.rep_schema.specs.declared.schema.Kind.TheVariants as kind
 use Rattle.rep_schema.specs.Shape.{AreDistinct, AreColumns, ShareNone}
 use Rattle.rep_schema.specs.Named.{is_column, column_place, places_from, places_named}
-use Rattle.rep_declare.specs.Refusals.{unknown, column_step, columns_step}
+use Rattle.rep_values.specs.RefusalSteps.{unknown}
+use Rattle.rep_declare.specs.Refusals.{column_step, columns_step}
 use Rattle.rep_declare.specs.Additions.{place_or_zero, column_number}
-use Rattle.rep_declare.proofs.NoRefusal.{or_then-None, refused-None}
+use Rattle.rep_values.proofs.RefusalSteps.{or_then-None, refused-None}
 use Rattle.rep_declare.proofs.ListNames.{same_bytes-true, same_bytes-same, list_any-false, place-AreDistinct}
 
 -- what holds of the place of each column that is named holds of the places

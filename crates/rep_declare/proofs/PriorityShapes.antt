@@ -19,7 +19,7 @@ use Rattle.rep_declare.specs.declared.declaration.Declare.TheVariants as declare
 use Rattle.rep_schema.specs.Named.{is_priority, priority_named}
 use Rattle.rep_declare.specs.Refusals.{has_level, level_count, refusal_of}
 use Rattle.rep_declare.specs.Additions.{with_changed, with_priority, with_priorities, with_level, declared}
-use Rattle.rep_declare.proofs.NoRefusal.{or_then-None, refused-None, full-None}
+use Rattle.rep_values.proofs.RefusalSteps.{or_then-None, refused-None, full-None}
 use Rattle.rep_declare.proofs.ListNames.{same_bytes-false, find-None, list_any-false, AreDistinct-push, length-with_changed, All-with_changed, AreDistinct-with_changed}
 use Rattle.rep_declare.proofs.TableShapes.{HasShape-with_priorities}
 

@@ -19,7 +19,7 @@ use Rattle.rep_declare.specs.declared.declaration.Declare.TheVariants as declare
 use Rattle.rep_schema.specs.Named.{is_site, site_named, has_master}
 use Rattle.rep_declare.specs.Refusals.{refusal_of}
 use Rattle.rep_declare.specs.Additions.{with_changed, with_sites, with_site_level, declared}
-use Rattle.rep_declare.proofs.NoRefusal.{or_then-None, refused-None, full-None, taken-None}
+use Rattle.rep_values.proofs.RefusalSteps.{or_then-None, refused-None, full-None, taken-None}
 use Rattle.rep_declare.proofs.ListNames.{same_bytes-true, same_bytes-false, find-None, AreDistinct-push, count_by-with_changed, All-with_changed, AreDistinct-with_changed, Any-with_changed}
 
 -- sites of one name have the same name

@@ -20,7 +20,7 @@ use Rattle.rep_declare.specs.declared.declaration.Declare.TheVariants as declare
 use Rattle.rep_schema.specs.Named.{is_table, is_column, table_named}
 use Rattle.rep_declare.specs.Refusals.{share_a_name, refusal_of}
 use Rattle.rep_declare.specs.Additions.{new_table, made_convergent, with_table_changed, with_priorities, declared}
-use Rattle.rep_declare.proofs.NoRefusal.{or_then-None, refused-None, full-None, too_many-None, taken-None}
+use Rattle.rep_values.proofs.RefusalSteps.{or_then-None, refused-None, full-None, too_many-None, taken-None}
 use Rattle.rep_declare.proofs.ListNames.{same_bytes-false, find-None, list_any-false, AreDistinct-push, All-with_changed, AreDistinct-with_changed, length-with_changed}
 
 -- the columns have names of their own where none is shared

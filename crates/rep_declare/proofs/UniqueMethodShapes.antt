@@ -17,9 +17,10 @@ use Rattle.rep_declare.specs.declared.declaration.Declare.TheVariants as declare
 use Rattle.rep_declare.specs.declared.declaration.UniqueWords.{UniqueWords}
 use Rattle.rep_declare.specs.declared.declaration.UniqueWords.TheVariants as unique_words
 use Rattle.rep_schema.specs.Named.{is_constraint, table_named, constraint_named, constraint_methods, methods_named}
-use Rattle.rep_declare.specs.Refusals.{first_refusal, known, unknown_column, full, unique_words_column, refusal_of}
+use Rattle.rep_values.specs.RefusalSteps.{first_refusal, known, full}
+use Rattle.rep_declare.specs.Refusals.{unknown_column, unique_words_column, refusal_of}
 use Rattle.rep_declare.specs.Additions.{with_changed, unique_method_of, with_constraints, with_key_methods, with_unique_method, with_method_on, declared}
-use Rattle.rep_declare.proofs.NoRefusal.{or_then-None, full-None, known-None}
+use Rattle.rep_values.proofs.RefusalSteps.{or_then-None, full-None, known-None}
 use Rattle.rep_declare.proofs.ListNames.{length-with_changed, All-with_changed, AreDistinct-with_changed, AllPairs-with_changed}
 use Rattle.rep_declare.proofs.PlacesNamed.{column_number-below}
 use Rattle.rep_declare.proofs.TableShapes.{HasShape-with_table_changed}

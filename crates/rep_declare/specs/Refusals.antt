@@ -10,6 +10,7 @@ use Rattle.rep_values.specs.declared.value.Value.TheVariants.{Num, Words}
 use Rattle.rep_values.specs.Literal.{value_of_literal}
 use Rattle.rep_values.specs.Equality.{value_eq}
 use Rattle.rep_values.specs.Name.{same_bytes}
+use Rattle.rep_values.specs.RefusalSteps.{refused, or_then, first_refusal, unknown, taken, known, full, too_many}
 use Rattle.rep_schema.specs.declared.schema.Schema.{Schema}
 use Rattle.rep_schema.specs.declared.schema.Column.{Column}
 use Rattle.rep_schema.specs.declared.schema.PriorityGroup.{PriorityGroup}
@@ -25,35 +26,6 @@ use Rattle.rep_schema.specs.Fitting.{is_in_range}
 use Rattle.rep_schema.specs.Shape.{shadow_name, key_name, is_master, is_snapshot}
 use Rattle.rep_schema.specs.Groups.{is_grouped}
 use Rattle.rep_schema.specs.Named.{is_column, site_named, has_master, table_named, group_named, constraint_named, methods_named, priority_named, column_place, is_constrained}
-
-abbrev pub refused : Bool → Refusal → Option Refusal
-refused test why = cond test (Some why) None
-
--- the first of two refusals
-abbrev pub or_then : Option Refusal → Option Refusal → Option Refusal
-or_then None following = following
-or_then (Some why) following = Some why
-
--- the first step that refuses
-abbrev pub first_refusal : List (Option Refusal) → Option Refusal
-first_refusal [] = None
-first_refusal (step ∷ steps) = or_then step (first_refusal steps)
-
--- what a name stands for has to be there
-abbrev pub unknown : {X : Type 0} → Option X → Option Refusal
-unknown found = refused (is_none found) refusal.UnknownName
-
--- what a name stands for must not be there yet
-abbrev pub taken : {X : Type 0} → Option X → Option Refusal
-taken found = refused (is_some found) refusal.NameTaken
-
--- there are so many, and that is the most
-abbrev pub full : ℕ → ℕ → Limit → Option Refusal
-full most count what = refused (nat_le most count) (refusal.LimitReached what)
-
--- there would be too many
-abbrev pub too_many : ℕ → ℕ → Limit → Option Refusal
-too_many most count what = refused (not (nat_le count most)) (refusal.LimitReached what)
 
 -- a number lies outside ±10^15
 abbrev pub out_of_range : ℤ → Option Refusal
@@ -98,11 +70,6 @@ unique_words_column unique.Discard = None
 abbrev pub unknown_column : List Column → Option (List ℕ) → Option Refusal
 unknown_column columns None = None
 unknown_column columns (Some name) = unknown (column_place columns name)
-
--- what follows where something of this name is there; else the name is unknown
-abbrev pub known : {X : Type 0} → Option X → (X → List (Option Refusal)) → List (Option Refusal)
-known None steps = Some refusal.UnknownName ∷ []
-known (Some found) steps = steps found
 
 abbrev pub has_level : Value → Option PriorityGroup → Bool
 has_level value None = false

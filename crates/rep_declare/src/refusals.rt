@@ -6,7 +6,8 @@ ghost use Rattle.rep_values.specs.Literal.{value_of_literal};
 ghost use Rattle.rep_values.specs.Equality.{value_eq};
 ghost use Rattle.rep_schema.specs.Limits.{most_methods};
 ghost use Rattle.rep_schema.specs.Shape.{is_master, is_snapshot, shadow_name, key_name};
-ghost use Rattle.rep_declare.specs.Refusals.{refusal_of, first_refusal, refused, full, share_a_name, column_step, columns_step, unknown_column, words_column, unique_words_column, value_out_of_range};
+ghost use Rattle.rep_values.specs.RefusalSteps.{first_refusal, refused, full};
+ghost use Rattle.rep_declare.specs.Refusals.{refusal_of, share_a_name, column_step, columns_step, unknown_column, words_column, unique_words_column, value_out_of_range};
 ghost use Rattle.rep_schema.specs.Groups.{is_grouped};
 ghost use Rattle.rep_schema.specs.Named.{column_place, is_column, is_constrained};
 

@@ -9,3 +9,4 @@ pub mod Equality
 pub mod Order
 pub mod OrderLaws
 pub mod Refusal
+pub mod RefusalSteps

@@ -15,7 +15,10 @@ pub use bytes::{is_digit, is_letter};
 pub use key::Key;
 pub use literal::Literal;
 pub use name::{Name, SiteName, TableName};
-pub use order::{compare_keys, compare_values, key_order_laws, same_value, same_values};
+pub use order::{
+    compare_keys, compare_names, compare_values, key_order_laws, name_order_laws, same_value,
+    same_values,
+};
 pub use refusal::{ApplyError, Limit, Refusal};
 pub use rep_lists::NoMemory;
 pub use row::Row;

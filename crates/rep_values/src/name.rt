@@ -1,11 +1,13 @@
 //! Names of at most 30 bytes, kept in place.
-ghost use Rattle.std.specs.Prelude.{◌≡◌, ℕ, ◌-◌, ◌≤◌, ◌++◌, ◌↔◌, length, replicate, nat_eq, true, IsTrue, Some, None, if◌then◌else◌};
+ghost use Rattle.std.specs.Prelude.{◌≡◌, ℕ, ◌-◌, ◌≤◌, ◌++◌, ◌↔◌, length, replicate, nat_eq, true, IsTrue, Some, None, refl, if◌then◌else◌};
+ghost use Rattle.std.specs.Ordering.{nat_cmp};
 ghost use Rattle.std.specs.Cmp.{partial_equiv_from_equiv};
-ghost use Rattle.std.specs.Cmp.Lexicographic.{pointwise, nat_list_eq_equiv};
+ghost use Rattle.std.specs.Cmp.Lexicographic.{pointwise, slice_cmp, nat_list_eq_equiv, nat_list_cmp_total, texts_po, texts_ties};
 ghost use Rattle.std.specs.List.{list_all};
 ghost use Rattle.rep_values.specs.Name.{is_name, is_name_byte, same_bytes};
 
-use crate::{is_digit, is_letter};
+use crate::{Text, is_digit, is_letter};
+use std::cmp::Ordering;
 use std::marker::Model;
 
 /// 1 to 30 bytes: a letter, then letters, digits and underscores. It is kept in place and takes no memory.
@@ -87,6 +89,16 @@ impl Name {
         &self.cells[..self.len as usize]
     }
 
+    /// The name as a text, which each name is.
+    pub fn text(&self) -> Text
+        ensures { result ≡ self.now }
+    {
+        match Text::of(self.bytes()) {
+            Some(text) => text,
+            None => unreachable!(),
+        }
+    }
+
     /// Whether two names are the same.
     pub fn is_same(&self, other: &Name) -> bool
         ensures value { result ≡ same_bytes self.now other.now }
@@ -110,10 +122,54 @@ impl Eq for Name {
     ghost laws = { nat_list_eq_equiv };
 }
 
+impl PartialOrd for Name {
+    ghost partial_cmp = { λ a b. Some (slice_cmp nat_cmp a b) };
+
+    ghost laws = { texts_po };
+
+    fn partial_cmp(&self, other: &Name) -> Option<Ordering> {
+        Some(self.cmp(other))
+    }
+}
+
+impl Ord for Name {
+    ghost cmp = { slice_cmp nat_cmp };
+
+    ghost total = { nat_list_cmp_total };
+
+    ghost matches_partial_cmp = { λ a b. refl };
+
+    ghost matches_eq = { texts_ties };
+
+    fn cmp(&self, other: &Name) -> Ordering {
+        self.bytes().cmp(other.bytes())
+    }
+}
+
 /// The name of a site.
-#[derive(Clone, Copy, PartialEq, Eq)]
+#[derive(Clone, Copy, PartialEq, Eq, PartialOrd, Ord)]
 pub struct SiteName(pub Name);
 
 /// The name of a table.
-#[derive(Clone, Copy, PartialEq, Eq)]
+#[derive(Clone, Copy, PartialEq, Eq, PartialOrd, Ord)]
 pub struct TableName(pub Name);
+
+impl SiteName {
+    /// Whether two sites have the same name.
+    pub fn is_same(&self, other: &SiteName) -> bool
+        ensures value { result ≡ same_bytes self.now.0 other.now.0 }
+        ensures meaning { IsTrue result ↔ (self.now ≡ other.now) }
+    {
+        self.0.is_same(&other.0)
+    }
+}
+
+impl TableName {
+    /// Whether two tables have the same name.
+    pub fn is_same(&self, other: &TableName) -> bool
+        ensures value { result ≡ same_bytes self.now.0 other.now.0 }
+        ensures meaning { IsTrue result ↔ (self.now ≡ other.now) }
+    {
+        self.0.is_same(&other.0)
+    }
+}

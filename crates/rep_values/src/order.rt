@@ -1,9 +1,9 @@
-//! The order of values and of keys.
+//! The order of values, of keys and of names.
 ghost use Rattle.std.specs.Prelude.{◌≡◌, ◌↔◌, IsTrue};
 ghost use Rattle.std.specs.Cmp.{IsTotalOrder};
-ghost use Rattle.rep_values.specs.Order.{value_cmp, key_cmp, TellsApart};
+ghost use Rattle.rep_values.specs.Order.{value_cmp, key_cmp, name_cmp, TellsApart};
 
-use crate::{Key, Value};
+use crate::{Key, Name, Value};
 use std::cmp::Ordering;
 
 /// Numbers by size, texts by bytes with a proper prefix first, a number before a text.
@@ -24,6 +24,19 @@ pub fn compare_keys(a: &Key, b: &Key) -> Ordering
 pub fn key_order_laws()
     ensures total { IsTotalOrder key_cmp }
     ensures exact { TellsApart key_cmp }
+{}
+
+/// Byte by byte; a proper prefix of a name comes first. It takes no memory.
+pub fn compare_names(a: &Name, b: &Name) -> Ordering
+    ensures { result ≡ name_cmp a.now b.now }
+{
+    a.cmp(b)
+}
+
+/// The order of names is total, and names that compare equal are the same.
+pub fn name_order_laws()
+    ensures total { IsTotalOrder name_cmp }
+    ensures exact { TellsApart name_cmp }
 {}
 
 /// Whether two lists have the same values, place by place.

@@ -1,12 +1,13 @@
 //! Why a transaction is in error, and why a command is refused.
 ghost use Rattle.std.specs.Prelude.{◌≡◌};
 ghost use Rattle.rep_values.specs.Refusal.{refusal_number};
+ghost use Rattle.rep_values.specs.declared.refusal.Refusal.TheVariants.{Memory};
 
-use crate::Name;
+use crate::{Name, NoMemory};
 
 /// Why a transaction that came from another site is not applied. A column group in no named group is called
 /// `shadow`, and the primary key's constraint is called `key`.
-#[derive(Clone, Copy)]
+#[derive(Clone, Copy, PartialEq, Eq)]
 pub enum ApplyError {
     /// The row that the call names isn't there.
     NoRow,
@@ -44,7 +45,7 @@ pub enum Limit {
 }
 
 /// Why a command is refused. The numbers are those of `number`.
-#[derive(Clone, Copy)]
+#[derive(Clone, Copy, PartialEq, Eq)]
 pub enum Refusal {
     UnknownName,
     NameTaken,
@@ -67,6 +68,14 @@ pub enum Refusal {
     LimitReached(Limit),
     SchemaRule(u8),
     Memory,
+}
+
+impl From<NoMemory> for Refusal {
+    ghost from_gives = { λ _ refusal. refusal ≡ Memory };
+
+    fn from(_: NoMemory) -> Refusal {
+        Refusal::Memory
+    }
 }
 
 impl Refusal {

@@ -1,7 +1,7 @@
 -- Testing a row constraint by constraint.
 use Rattle.std.proofs.Common.{◌≡◌, map, drop}
 use Rattle.rep_schema.specs.Tables.{constraints_of}
-use Rattle.rep_declare.specs.Refusals.{first_refusal}
+use Rattle.rep_values.specs.RefusalSteps.{first_refusal}
 use Rattle.local_txn.specs.Statements.{taken_step}
 use Rattle.local_txn.proofs.rows.unique_refusal.Given as goal
 
