@@ -15,7 +15,7 @@ use crate::rows::{copy_of_row, has_row, key_in, put_free};
 use crate::sets::{names_columns, set_row, sets_fit};
 use crate::stop::Stop;
 use rep_calls::{Set, Statement};
-use rep_schema::{Change, Column, RowStore, Schema, columns_of};
+use rep_schema::{Change, Column, RowStore, Schema, columns_of, row_in_range};
 use rep_values::{Literal, Refusal};
 use std::alloc::Global;
 
