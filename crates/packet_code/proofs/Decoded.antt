@@ -21,12 +21,15 @@ packet_in_is bytes x all e =
     let s = packet-exact.sound bytes b.0.1 b.0.0 all b.1 in
     rw (← w.0) (record { plain = s.0; bytes_are = sym (append-nil (packet_bytes b.0.0)) ∙ ap (λ xs. packet_bytes b.0.0 ++ xs) (sym w.1) ∙ s.1 })
 
+-- the packet that bytes are the encoding of is read
+pub packet_in-IsEncoding : (bytes : List ℕ) (x : Packet) → IsEncoding bytes x → packet_in bytes ≡ Some x
+packet_in-IsEncoding bytes x is =
+    let read : packet bytes ≡ Some (x, []) = ap packet (sym is.bytes_are ∙ sym (append-nil (packet_bytes x))) ∙ packet-exact.complete x [] is.plain in
+    rw read refl
+
 -- where none is read, no packet has these bytes
 pub packet_in_none : (bytes : List ℕ) → packet_in bytes ≡ None → (x : Packet) → IsEncoding bytes x → ⊥
-packet_in_none bytes e x is =
-    let read : packet bytes ≡ Some (x, []) = ap packet (sym is.bytes_are ∙ sym (append-nil (packet_bytes x))) ∙ packet-exact.complete x [] is.plain in
-    let found : packet_in bytes ≡ Some x = rw read refl in
-    cc
+packet_in_none bytes e x is = let found = packet_in-IsEncoding bytes x is in cc
 
 -- bytes one by one are bytes
 pub AreBytes-each : (bytes : List ℕ) → ((i : ℕ) → i < length bytes → get_or bytes i 0 < 256) → AreBytes bytes

@@ -3,7 +3,7 @@ use Rattle.std.proofs.Common.{◌≡◌, ℕ, zero, suc, ◌≤◌, ◌&&◌, Bo
 use Rattle.std.proofs.lemmas.Bool.{leb-true}
 use Rattle.rep_schema.specs.Tables.{Cells}
 use Rattle.packet_code.specs.Reading.{Reading, nothing, byte, either, times, limited}
-use Rattle.packet_code.specs.Forms.{value, values, row, key}
+use Rattle.packet_code.specs.Forms.{value, values, row}
 use Rattle.packet_code.proofs.Exact.{bound, same_read, both_true}
 
 -- as many as are counted
@@ -34,8 +34,3 @@ values_length most bytes rest xs e =
 pub row_length : (bytes rest : List ℕ) (xs : Cells) → row bytes ≡ Some (xs, rest) → (1 ≤ length xs) × (length xs ≤ 32)
 unfolding row
 row_length bytes rest xs e = values_length 32 bytes rest xs e
-
--- a key has 1 to 4 values
-pub key_length : (bytes rest : List ℕ) (xs : Cells) → key bytes ≡ Some (xs, rest) → (1 ≤ length xs) × (length xs ≤ 4)
-unfolding key
-key_length bytes rest xs e = values_length 4 bytes rest xs e

@@ -207,26 +207,26 @@ carry-exact : IsExact (IsPacketOfKind 1) packet_rest carry
 carry-exact = made-exact (IsPacketOfKind 1) packet_rest carry_of
     (pair-exact site-exact (λ from is. pair-exact site-exact (λ to is. pair-exact place-exact (λ at is. txn-exact))))
     (λ p is. (
-      ((is.0, is.1.0, is.1.1.0, is.1.1.1), refl),
+      (record { sender = is.0; receiver = is.1.0; at = is.1.1.0; sent = is.1.1.1 }, refl),
       carry_pieces (name_bytes p.0) (name_bytes p.1.0) (to_be_bytes w64 p.1.1.0.0) (to_be_bytes w64 p.1.1.0.1.0) (to_be_bytes w64 p.1.1.0.1.1) (txn_bytes p.1.1.1),
     ))
     back
   where
     back : (packet : Packet) → IsPacketOfKind 1 packet
         → (p : SiteName × (SiteName × ((ℕ × (ℕ × ℕ)) × Txn))) × (IsSiteName p.0 × (IsSiteName p.1.0 × (IsPlace p.1.1.0.0 p.1.1.0.1.0 p.1.1.0.1.1 × IsPlainTxn p.1.1.1))) × (carry_of p ≡ packet)
-    back (Carry from to number position dep sent) is = ((from, (to, ((number, (position, dep)), sent))), (is.0.0, (is.0.1, (is.0.2, is.0.3))), refl)
+    back (Carry from to number position dep sent) is = ((from, (to, ((number, (position, dep)), sent))), (is.0.sender, (is.0.receiver, (is.0.at, is.0.sent))), refl)
     back (Mark from to finished) is = cc
 
 mark-exact : IsExact (IsPacketOfKind 2) packet_rest mark
 mark-exact = made-exact (IsPacketOfKind 2) packet_rest mark_of
     (pair-exact site-exact (λ from is. pair-exact site-exact (λ to is. u64-exact)))
-    (λ p is. (((is.0, is.1.0, is.1.1), refl), append_assoc (name_bytes p.0) (name_bytes p.1.0) (to_be_bytes w64 p.1.1)))
+    (λ p is. ((record { sender = is.0; receiver = is.1.0; mark_fits = is.1.1 }, refl), append_assoc (name_bytes p.0) (name_bytes p.1.0) (to_be_bytes w64 p.1.1)))
     back
   where
     back : (packet : Packet) → IsPacketOfKind 2 packet
         → (p : SiteName × (SiteName × ℕ)) × (IsSiteName p.0 × (IsSiteName p.1.0 × (p.1.1 < 2 ^ 64))) × (mark_of p ≡ packet)
     back (Carry from to number position dep sent) is = cc
-    back (Mark from to finished) is = ((from, (to, finished)), (is.0.0, (is.0.1, is.0.2)), refl)
+    back (Mark from to finished) is = ((from, (to, finished)), (is.0.sender, (is.0.receiver, is.0.mark_fits)), refl)
 
 -- no packet is of another kind
 no_packet : (kind : ℕ) → (kind == 1) ≡ false → (kind == 2) ≡ false → (packet : Packet) → IsPacketOfKind kind packet → ⊥

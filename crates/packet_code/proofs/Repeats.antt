@@ -10,6 +10,11 @@ module _ {A : Type 0} (reading : Reading A) where
   with_more found x (Some xs) = ap (λ ys. Some (ys, xs.1)) (sym (append_assoc found (x ∷ []) xs.0))
   with_more found x None = refl
 
+  -- where none was found yet
+  pub with_found-none : (read : Option (List A × List ℕ)) → with_found [] read ≡ read
+  with_found-none (Some xs) = refl
+  with_found-none None = refl
+
   -- all are read
   pub found_ends : (found : List A) (n : ℕ) (bytes : List ℕ) (all : Option (List A × List ℕ)) → with_found found (times n reading bytes) ≡ all
       → n ≡ 0 → all ≡ Some (found, bytes)

@@ -1,18 +1,14 @@
--- What is sealed is decoded, and to the packet that was sealed.
-use Rattle.std.proofs.Common.{◌≡◌, ℕ, List, [], ◌++◌, None, ap, ◌∙◌}
-use Rattle.std.proofs.Math.Logic.{∥∥₁_elim}
+-- Bytes that are a packet's encoding are that packet, sealed.
+use Rattle.std.proofs.Common.{◌≡◌, ℕ, List, refl}
 use Rattle.packet_code.specs.declared.packet.Packet.{Packet}
-use Rattle.packet_code.specs.Limits.{IsPacket}
-use Rattle.packet_code.specs.Spelling.{packet_bytes, IsEncoding, IsDecoded}
-use Rattle.packet_code.specs.Sealing.{AreSealed}
-use Rattle.packet_code.proofs.Exact.{no_spelling_begins_another}
-use Rattle.packet_code.proofs.PacketsExact.{packet-exact}
+use Rattle.packet_code.specs.Spelling.{IsEncoding}
+use Rattle.packet_code.specs.Sealing.{sealed_packet}
+use Rattle.packet_code.proofs.Decoded.{packet_in-IsEncoding}
 
--- sealed bytes are decoded to a packet
-pub sealed_is_decoded : (bytes : List ℕ) → AreSealed bytes → IsDecoded bytes None → ⊥
-sealed_is_decoded bytes is none = ∥∥₁_elim is (λ x y. absurd x) (λ r. none r.0 r.1)
+-- the packet of an encoding is the one that was encoded
+pub sealed_packet-IsEncoding : (bytes : List ℕ) (x : Packet) → IsEncoding bytes x → sealed_packet bytes ≡ x
+sealed_packet-IsEncoding bytes x is = rw (packet_in-IsEncoding bytes x is) refl
 
--- bytes are the encoding of one packet
-pub one_encoded : (bytes : List ℕ) (found packet : Packet) → IsEncoding bytes found → IsPacket packet → bytes ≡ packet_bytes packet → found ≡ packet
-one_encoded bytes found packet is plain e =
-    (no_spelling_begins_another packet-exact found packet [] [] is.plain plain (ap (λ xs. xs ++ []) (is.bytes_are ∙ e))).0
+-- so the bytes are the encoding of what is sealed
+pub sealed-IsEncoding : (bytes : List ℕ) (x : Packet) → IsEncoding bytes x → IsEncoding bytes (sealed_packet bytes)
+sealed-IsEncoding bytes x is = rw (sealed_packet-IsEncoding bytes x is) is

@@ -79,7 +79,20 @@ pub record IsPlace (number position dep : ℕ) : Type 0 where
 abbrev pub IsSiteName : SiteName → Type 0
 IsSiteName site = is_name site.0 ≡ true
 
+-- a transaction on its way within all limits
+pub record IsCarry (from to : SiteName) (number position dep : ℕ) (txn : Txn) : Type 0 where
+  pub sender : IsSiteName from
+  pub receiver : IsSiteName to
+  pub at : IsPlace number position dep
+  pub sent : IsPlainTxn txn
+
+-- a mark within all limits
+pub record IsMark (from to : SiteName) (mark : ℕ) : Type 0 where
+  pub sender : IsSiteName from
+  pub receiver : IsSiteName to
+  pub mark_fits : mark < 2 ^ 64
+
 -- a packet within all limits
 abbrev pub IsPacket : Packet → Type 0
-IsPacket (Carry from to number position dep txn) = IsSiteName from × IsSiteName to × IsPlace number position dep × IsPlainTxn txn
-IsPacket (Mark from to mark) = IsSiteName from × IsSiteName to × (mark < 2 ^ 64)
+IsPacket (Carry from to number position dep txn) = IsCarry from to number position dep txn
+IsPacket (Mark from to mark) = IsMark from to mark

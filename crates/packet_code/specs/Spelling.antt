@@ -50,12 +50,16 @@ packet_bytes (Carry from to number position dep txn) = 1 ∷ 1 ∷ name_bytes fr
     ++ to_be_bytes w64 number ++ to_be_bytes w64 position ++ to_be_bytes w64 dep ++ txn_bytes txn
 packet_bytes (Mark from to mark) = 1 ∷ 2 ∷ name_bytes from ++ name_bytes to ++ to_be_bytes w64 mark
 
--- bytes are the encoding of a packet
+-- bytes are the encoding of a packet: those that are written
 pub record IsEncoding (bytes : List ℕ) (packet : Packet) : Type 0 where
   pub plain : IsPacket packet
   pub bytes_are : packet_bytes packet ≡ bytes
 
--- what bytes are decoded to: the packet that they are the encoding of; nothing where they are no packet's
+-- bytes that are accepted as a packet: its encoding alone
+abbrev pub IsAccepted : List ℕ → Packet → Type 0
+IsAccepted bytes packet = IsEncoding bytes packet
+
+-- what bytes are decoded to: the packet that they are accepted as; nothing where they are accepted as none
 abbrev pub IsDecoded : List ℕ → Option Packet → Type 0
-IsDecoded bytes None = (packet : Packet) → ¬ IsEncoding bytes packet
-IsDecoded bytes (Some packet) = IsEncoding bytes packet
+IsDecoded bytes None = (packet : Packet) → ¬ IsAccepted bytes packet
+IsDecoded bytes (Some packet) = IsAccepted bytes packet

@@ -70,7 +70,7 @@ fn update(alloc: Global, bytes: &mut Reader<'_>) -> Result<Call, Stop>
     ensures { Reads update result bytes.old bytes.new }
 {
     let table = bytes.u16_number()? as u32;
-    let key = key(alloc, bytes)?;
+    let key = key(bytes)?;
     let parts = parts(alloc, bytes)?;
     Ok(Call::Update { table, key, parts })
 }

@@ -1,9 +1,10 @@
 //! The bytes of a packet, one piece behind the other.
-ghost use Rattle.std.specs.Prelude.{◌≡◌, ◌∷◌, ◌++◌, length, IfOk, OnOk};
+ghost use Rattle.std.specs.Prelude.{◌≡◌, ◌≤◌, ◌<◌, ◌∷◌, ◌++◌, length, IfOk, OnOk};
 ghost use Rattle.std.specs.Int.{w16, w32, w64, to_be_bytes};
 ghost use Rattle.std.specs.List.{AllByRecursion, flat_map};
-ghost use Rattle.packet_code.specs.Limits.{IsPlainPart, ArePlainParts, IsPlainTable, IsPlainCall, IsPlainTxn, IsPacket};
-ghost use Rattle.packet_code.specs.Spelling.{name_bytes, value_bytes, values_bytes, part_bytes, parts_bytes, call_bytes, txn_bytes, packet_bytes};
+ghost use Rattle.packet_code.specs.Limits.{IsPlainPart, ArePlainParts, IsPlainTable, IsPlainCall, IsPlainTxn, IsSiteName, IsPacket};
+ghost use Rattle.packet_code.specs.declared.packet.Packet.TheVariants.{Carry, Mark};
+ghost use Rattle.packet_code.specs.Spelling.{name_bytes, value_bytes, values_bytes, part_bytes, parts_bytes, call_bytes, txn_bytes, packet_bytes, IsEncoding};
 ghost use Rattle.rep_values.specs.Number.{IsRowLen};
 
 use crate::Packet;
@@ -29,8 +30,10 @@ fn push_table(out: &mut Vec<u8>, table: u32) -> Result<(), NoMemory>
     Ok(())
 }
 
-fn push_name(out: &mut Vec<u8>, site: SiteName) -> Result<(), NoMemory>
-    ensures { OnOk result (out.new.items ≡ out.old.items ++ name_bytes site) }
+/// A name has the form of one, whatever it is.
+fn push_name(out: &mut Vec<u8>, site: &SiteName) -> Result<(), NoMemory>
+    ensures bytes { OnOk result (out.new.items ≡ out.old.items ++ name_bytes site.now) }
+    ensures form { IsSiteName site.now }
 {
     let bytes = site.0.bytes();
     out.push(bytes.len() as u8)?;
@@ -143,17 +146,59 @@ fn push_txn(out: &mut Vec<u8>, txn: &Txn) -> Result<(), NoMemory>
 }
 
 /// The version, what the packet is, and its sites.
-fn push_head(out: &mut Vec<u8>, kind: u8, from: SiteName, to: SiteName) -> Result<(), NoMemory>
-    ensures { OnOk result (out.new.items ≡ out.old.items ++ 1 ∷ kind ∷ name_bytes from ++ name_bytes to) }
+fn push_head(out: &mut Vec<u8>, kind: u8, from: &SiteName, to: &SiteName) -> Result<(), NoMemory>
+    ensures head { OnOk result (out.new.items ≡ out.old.items ++ 1 ∷ kind ∷ name_bytes from.now ++ name_bytes to.now) }
+    ensures from { OnOk result (IsSiteName from.now) }
+    ensures to { OnOk result (IsSiteName to.now) }
 {
     out.extend_from_slice(&[1, kind])?;
     push_name(out, from)?;
     push_name(out, to)
 }
 
-fn push_packet(out: &mut Vec<u8>, packet: &Packet) -> Result<(), NoMemory>
+/// The bytes of a packet that carries a transaction.
+pub(crate) fn carry_bytes(
+    alloc: Global,
+    from: &SiteName,
+    to: &SiteName,
+    number: u64,
+    position: u64,
+    dep: u64,
+    txn: &Txn,
+) -> Result<Vec<u8>, NoMemory>
+    requires from_one { 1 ≤ number }
+    requires earlier { dep < position }
+    requires plain { IsPlainTxn txn.now }
+    ensures { IfOk result (λ bytes. IsEncoding bytes.items (Carry from.now to.now number position dep txn.now)) }
+{
+    let mut out = Vec::with_capacity(alloc, 256)?;
+    push_head(&mut out, 1, from, to)?;
+    push_number(&mut out, number)?;
+    push_number(&mut out, position)?;
+    push_number(&mut out, dep)?;
+    push_txn(&mut out, txn)?;
+    Ok(out)
+}
+
+/// The bytes of a mark.
+pub(crate) fn mark_bytes(
+    alloc: Global,
+    from: &SiteName,
+    to: &SiteName,
+    mark: u64,
+) -> Result<Vec<u8>, NoMemory>
+    ensures { IfOk result (λ bytes. IsEncoding bytes.items (Mark from.now to.now mark)) }
+{
+    let mut out = Vec::with_capacity(alloc, 72)?;
+    push_head(&mut out, 2, from, to)?;
+    push_number(&mut out, mark)?;
+    Ok(out)
+}
+
+/// The bytes of a packet.
+pub fn encode(alloc: Global, packet: &Packet) -> Result<Vec<u8>, NoMemory>
     requires { IsPacket packet.now }
-    ensures { OnOk result (out.new.items ≡ out.old.items ++ packet_bytes packet.now) }
+    ensures { IfOk result (λ bytes. bytes.items ≡ packet_bytes packet.now) }
 {
     match packet {
         Packet::Carry {
@@ -163,26 +208,7 @@ fn push_packet(out: &mut Vec<u8>, packet: &Packet) -> Result<(), NoMemory>
             position,
             dep,
             txn,
-        } => {
-            push_head(out, 1, *from, *to)?;
-            push_number(out, *number)?;
-            push_number(out, *position)?;
-            push_number(out, *dep)?;
-            push_txn(out, txn)
-        }
-        Packet::Mark { from, to, mark } => {
-            push_head(out, 2, *from, *to)?;
-            push_number(out, *mark)
-        }
+        } => carry_bytes(alloc, from, to, *number, *position, *dep, txn),
+        Packet::Mark { from, to, mark } => mark_bytes(alloc, from, to, *mark),
     }
-}
-
-/// The bytes of a packet.
-pub fn encode(alloc: Global, packet: &Packet) -> Result<Vec<u8>, NoMemory>
-    requires { IsPacket packet.now }
-    ensures { IfOk result (λ bytes. bytes.items ≡ packet_bytes packet.now) }
-{
-    let mut out = Vec::new(alloc);
-    push_packet(&mut out, packet)?;
-    Ok(out)
 }

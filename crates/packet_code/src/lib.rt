@@ -19,8 +19,3 @@ pub use laws::no_encoding_begins_another;
 pub use limits::is_packet;
 pub use packet::Packet;
 pub use sealed::Sealed;
-
-#[cfg(test)]
-mod decode_tests;
-#[cfg(test)]
-mod tests;

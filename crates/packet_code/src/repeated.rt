@@ -17,7 +17,7 @@ pub trait Piece: Drop {
         ensures { Reads reading result bytes.old bytes.new };
 }
 
-/// So many of them. It takes memory for those alone that it reads.
+/// So many of them. The room for all of them is taken at once, so callers bound the count.
 pub fn times<P: Piece>(
     alloc: Global,
     bytes: &mut Reader<'_>,
@@ -25,11 +25,11 @@ pub fn times<P: Piece>(
 ) -> Result<Items<P>, Stop>
     ensures { Reads (times count P.reading) result bytes.old bytes.new }
 {
-    let mut found = Items::new(alloc);
+    let mut found = Vec::with_capacity(alloc, count)?;
     for _ in 0..count {
         found.push(P::read(alloc, bytes)?)?;
     }
-    Ok(found)
+    Ok(Items::from_vec(found))
 }
 
 /// So many of them, where it is 1 to the most.

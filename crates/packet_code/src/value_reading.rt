@@ -1,7 +1,8 @@
 //! Names, values, rows and keys, read from bytes.
-ghost use Rattle.std.specs.Prelude.{◌≡◌};
+ghost use Rattle.std.specs.Prelude.{◌≡◌, ◌≤◌};
 ghost use Rattle.rep_schema.specs.Fitting.{is_in_range};
 ghost use Rattle.packet_code.specs.Forms.{site, number_value, text_value, value, values, row, key};
+ghost use Rattle.packet_code.specs.Reading.{times};
 ghost use Rattle.packet_code.specs.Readers.{Reads, ReadsAs};
 
 use crate::reader::Reader;
@@ -82,34 +83,39 @@ pub fn row_values(alloc: Global, bytes: &mut Reader<'_>) -> Result<Items<Value>,
     values(alloc, bytes, 32)
 }
 
-/// The values of a key.
-#[tactic(auto, unfolding(crate::specs::Forms::key))]
-fn key_values(alloc: Global, bytes: &mut Reader<'_>) -> Result<Items<Value>, Stop>
-    ensures { Reads key result bytes.old bytes.new }
-{
-    values(alloc, bytes, 4)
-}
-
 /// A row.
 #[tactic(auto, using(crate::proofs::Lengths::row_length))]
 pub fn row(alloc: Global, bytes: &mut Reader<'_>) -> Result<Row, Stop>
     ensures { Reads row result bytes.old bytes.new }
 {
     let values = row_values(alloc, bytes)?;
-    match Row::of(alloc, values.as_slice())? {
+    match Row::from_items(values) {
         Some(row) => Ok(row),
         None => Err(Stop::Form),
     }
 }
 
-/// A key.
-#[tactic(auto, using(crate::proofs::Lengths::key_length))]
-pub fn key(alloc: Global, bytes: &mut Reader<'_>) -> Result<Key, Stop>
+/// A key of so many values.
+fn key_values(bytes: &mut Reader<'_>, count: usize) -> Result<Key, Stop>
+    requires some { 1 ≤ count }
+    requires most { count ≤ 4 }
+    ensures { Reads (times count value) result bytes.old bytes.new }
+{
+    let mut key = Key::first(value(bytes)?);
+    for _ in 1..count {
+        key.push(value(bytes)?);
+    }
+    Ok(key)
+}
+
+/// A key. It takes no memory.
+#[tactic(auto, unfolding(crate::specs::Forms::key))]
+pub fn key(bytes: &mut Reader<'_>) -> Result<Key, Stop>
     ensures { Reads key result bytes.old bytes.new }
 {
-    let values = key_values(alloc, bytes)?;
-    match Key::of(values.as_slice()) {
-        Some(key) => Ok(key),
-        None => Err(Stop::Form),
+    let count = bytes.byte()? as usize;
+    if count < 1 || count > 4 {
+        return Err(Stop::Form);
     }
+    key_values(bytes, count)
 }

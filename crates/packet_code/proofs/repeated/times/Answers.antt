@@ -7,16 +7,16 @@ use Rattle.packet_code.proofs.repeated.times.Goals as goal
 
 pub returns-in_err-read : goal.returns-in_err-read
 returns-in_err-read g c =
-    let p = err_from_is_err_and c.from_residual.result c.from_residual.ensures.1 in
-    rw (p.1, p.2) (found_fails g.P.Piece.reading c.loop.found (c.args.count - (c.loop.counter + 1)) (c.args.count - c.loop.counter) c.loop.bytes
+    let p = err_from_is_err_and c.from_residual-in_err-read.result c.from_residual-in_err-read.ensures.1 in
+    rw (p.1, p.2) (found_fails g.P.Piece.reading c.loop.found.items (c.args.count - (c.loop.counter + 1)) (c.args.count - c.loop.counter) c.loop.bytes
     c.in_err-read.field-0.0 (times c.args.count g.P.Piece.reading c.args.bytes.now) c.loop.invariant (omega (arith, c.loop-test.true)) c.in_err-read.ensures)
 
 pub loop-preserved : goal.loop-preserved
 loop-preserved g c =
-    found_more g.P.Piece.reading c.loop.found c.push.new.self (c.args.count - (c.loop.counter + 1)) (c.args.count - c.loop.counter) c.loop.bytes c.read.new.bytes
-    c.in_ok-read.field-0 (times c.args.count g.P.Piece.reading c.args.bytes.now) c.loop.invariant (omega (arith, c.loop-test.true)) c.in_ok-read.ensures c.in_ok-push.ensures.ok
+    found_more g.P.Piece.reading c.loop.found.items c.push.new.self.items (c.args.count - (c.loop.counter + 1)) (c.args.count - c.loop.counter) c.loop.bytes c.read.new.bytes
+    c.in_ok-read.field-0 (times c.args.count g.P.Piece.reading c.args.bytes.now) c.loop.invariant (omega (arith, c.loop-test.true)) c.in_ok-read.ensures c.in_ok-push.ensures.items
 
 pub returns : goal.returns
-returns g c =
-    found_ends g.P.Piece.reading c.loop.found (c.args.count - c.loop.counter) c.loop.bytes (times c.args.count g.P.Piece.reading c.args.bytes.now)
-    c.loop.invariant (omega (arith, c.loop-test.false))
+returns g c = rw c.from_vec.ensures
+    (found_ends g.P.Piece.reading c.loop.found.items (c.args.count - c.loop.counter) c.loop.bytes (times c.args.count g.P.Piece.reading c.args.bytes.now)
+    c.loop.invariant (omega (arith, c.loop-test.false)))

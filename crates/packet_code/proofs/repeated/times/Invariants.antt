@@ -5,4 +5,4 @@ use Rattle.packet_code.proofs.repeated.times.Given as goal
 
 -- the parts found so far and those that are left are those of the start
 abbrev pub invariant-loop : goal.invariant-loop
-invariant-loop g l = with_found l.found (times (l.count - l.counter) g.P.Piece.reading l.bytes) ≡ times l.count g.P.Piece.reading l.initial.bytes
+invariant-loop g l = with_found l.found.items (times (l.count - l.counter) g.P.Piece.reading l.bytes) ≡ times l.count g.P.Piece.reading l.initial.bytes
