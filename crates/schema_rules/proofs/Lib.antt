@@ -1,2 +1,3 @@
 -- The worked examples of this crate.
 mod RuleExamples
+pub mod SoundRules

@@ -2,5 +2,7 @@
 pub mod KeyRules
 pub mod MethodRules
 pub mod ConstraintRules
+pub mod Forms
 pub mod ConvergentRules
 pub mod Rules
+pub mod Soundness

@@ -6,7 +6,7 @@ use Rattle.rep_schema.specs.Shape.{is_master}
 use Rattle.schema_rules.specs.KeyRules.{is_well_keyed, is_off_the_key}
 use Rattle.schema_rules.specs.MethodRules.{each_group, each_method, names_own_columns, adds_one_number, compares_times, compares_amounts, ranks_plain_values, compares_sites}
 use Rattle.schema_rules.specs.ConstraintRules.{each_constraint, has_plain_columns, has_good_appends}
-use Rattle.schema_rules.specs.ConvergentRules.{each_convergent, is_keyed_by_site, has_groups_alone, has_convergent_form, has_levels}
+use Rattle.schema_rules.specs.ConvergentRules.{each_convergent, is_keyed_by_site, has_groups_alone, have_forms, has_levels}
 
 -- there is a master
 abbrev pub has_some_master : Schema → Bool
@@ -28,7 +28,7 @@ rules_of schema =
     list_all has_good_appends schema.tables ∷
     each_convergent is_keyed_by_site schema ∷
     each_convergent has_groups_alone schema ∷
-    each_convergent (λ table. list_all (has_convergent_form table.columns) table.groups) schema ∷
+    each_convergent have_forms schema ∷
     has_levels schema ∷
     []
 

@@ -4,13 +4,10 @@ ghost use Rattle.std.specs.List.{list_any, list_all, find};
 ghost use Rattle.std.specs.Option.{option_eq};
 ghost use Rattle.std.specs.Ordering.{int_eq};
 ghost use Rattle.rep_schema.specs.Groups.{is_grouped, shadow_from};
-ghost use Rattle.rep_schema.specs.Kinds.{is_some_and, is_stamp, is_site_kind, has_kind, has_place};
-ghost use Rattle.schema_rules.specs.MethodRules.{extreme_column, site_column};
-ghost use Rattle.schema_rules.specs.ConvergentRules.{each_convergent, is_keyed_by_site, has_groups_alone, is_additive, is_discard, latest_column, is_sum_group, is_extreme_group, is_latest_group, has_convergent_form, share_a_level, are_levelled, has_levels};
+ghost use Rattle.schema_rules.specs.ConvergentRules.{each_convergent, is_keyed_by_site, has_groups_alone, have_forms, share_a_level, are_levelled, has_levels};
 
-use crate::columns::{is_site_at, is_stamp_at};
-use crate::method_rules::{extreme_column, is_one_number, site_column};
-use rep_schema::{Column, Group, Method, Schema, SiteEntry, TableEntry, has_place, is_grouped};
+use crate::forms::form_of;
+use rep_schema::{Column, Group, Schema, SiteEntry, TableEntry, is_grouped};
 
 fn first_key(columns: &[Column]) -> Option<&Column>
     ensures { option_copied result ≡ find (λ column. column.key) columns.now }
@@ -67,148 +64,24 @@ pub(crate) fn each_has_groups_alone(schema: &Schema) -> bool
         .all(|table| !table.convergent || has_groups_alone(table))
 }
 
-fn is_additive(method: &Method) -> bool
-    ensures { result ≡ is_additive method.now }
-{
-    match method {
-        Method::Additive => true,
-        Method::Latest(_)
-        | Method::Earliest(_)
-        | Method::Overwrite
-        | Method::Discard
-        | Method::Average
-        | Method::Maximum(_)
-        | Method::Minimum(_)
-        | Method::Priority {
-            column: _,
-            group: _,
-        }
-        | Method::SitePriority(_) => false,
-    }
-}
-
-fn is_discard(method: &Method) -> bool
-    ensures { result ≡ is_discard method.now }
-{
-    match method {
-        Method::Discard => true,
-        Method::Latest(_)
-        | Method::Earliest(_)
-        | Method::Overwrite
-        | Method::Additive
-        | Method::Average
-        | Method::Maximum(_)
-        | Method::Minimum(_)
-        | Method::Priority {
-            column: _,
-            group: _,
-        }
-        | Method::SitePriority(_) => false,
-    }
-}
-
-fn latest_column(method: &Method) -> Option<u32>
-    ensures { result ≡ latest_column method.now }
-{
-    match method {
-        Method::Latest(column) => Some(*column),
-        Method::Earliest(_)
-        | Method::Overwrite
-        | Method::Discard
-        | Method::Additive
-        | Method::Average
-        | Method::Maximum(_)
-        | Method::Minimum(_)
-        | Method::Priority {
-            column: _,
-            group: _,
-        }
-        | Method::SitePriority(_) => None,
-    }
-}
-
-fn is_sum_group(columns: &[Column], group: &Group) -> bool
-    ensures { result ≡ is_sum_group columns.now group.now }
-{
-    let [method] = group.methods.as_slice() else {
-        return false;
-    };
-    is_one_number(columns, group.columns.as_slice()) && is_additive(method)
-}
-
-fn takes_own_extreme(places: &[u32], method: &Method) -> bool
-    ensures { result ≡ is_some_and (has_place places.now) (extreme_column method.now) }
-{
-    match extreme_column(method) {
-        None => false,
-        Some(place) => has_place(places, place as usize),
-    }
-}
-
-fn is_extreme_group(columns: &[Column], group: &Group) -> bool
-    ensures { result ≡ is_extreme_group columns.now group.now }
-{
-    let [first, second] = group.methods.as_slice() else {
-        return false;
-    };
-    let places = group.columns.as_slice();
-    is_one_number(columns, places) && takes_own_extreme(places, first) && is_discard(second)
-}
-
-fn takes_own_latest(columns: &[Column], places: &[u32], method: &Method) -> bool
-    ensures { result ≡ is_some_and (λ place. has_place places.now place && has_kind is_stamp columns.now place) (latest_column method.now) }
-{
-    match latest_column(method) {
-        None => false,
-        Some(place) => has_place(places, place as usize) && is_stamp_at(columns, place),
-    }
-}
-
-fn compares_own_sites(columns: &[Column], places: &[u32], method: &Method) -> bool
-    ensures { result ≡ is_some_and (λ place. has_place places.now place && has_kind is_site_kind columns.now place) (site_column method.now) }
-{
-    match site_column(method) {
-        None => false,
-        Some(place) => has_place(places, place as usize) && is_site_at(columns, place),
-    }
-}
-
-fn is_latest_group(columns: &[Column], group: &Group) -> bool
-    ensures { result ≡ is_latest_group columns.now group.now }
-{
-    let [first, second] = group.methods.as_slice() else {
-        return false;
-    };
-    let places = group.columns.as_slice();
-    takes_own_latest(columns, places, first) && compares_own_sites(columns, places, second)
-}
-
-fn has_convergent_form(columns: &[Column], group: &Group) -> bool
-    ensures { result ≡ has_convergent_form columns.now group.now }
-{
-    is_sum_group(columns, group)
-        || is_extreme_group(columns, group)
-        || is_latest_group(columns, group)
-}
-
-fn have_convergent_form(table: &TableEntry) -> bool
-    ensures { result ≡ list_all (has_convergent_form table.now.columns) table.now.groups }
+fn have_forms(table: &TableEntry) -> bool
+    ensures { result ≡ have_forms table.now }
 {
     let columns = table.columns.as_slice();
     table
         .groups
         .iter()
-        .all(|group| has_convergent_form(columns, group))
+        .all(|group| form_of(columns, group).is_some())
 }
 
 /// Whether every group of a convergent table has one of the four forms.
-pub(crate) fn each_has_convergent_forms(schema: &Schema) -> bool
-    ensures { result ≡ each_convergent (λ table. list_all (has_convergent_form table.columns) table.groups) schema.now }
+pub(crate) fn each_has_forms(schema: &Schema) -> bool
+    ensures { result ≡ each_convergent have_forms schema.now }
 {
     schema
         .tables
         .iter()
-        .all(|table| !table.convergent || have_convergent_form(table))
+        .all(|table| !table.convergent || have_forms(table))
 }
 
 fn has_convergent(tables: &[TableEntry]) -> bool

@@ -4,8 +4,12 @@
 mod columns;
 mod constraint_rules;
 mod convergent_rules;
+mod forms;
 mod key_rules;
+mod laws;
 mod method_rules;
 mod rules;
 
+pub use forms::{Form, form_of};
+pub use laws::soundness_law;
 pub use rules::check;

@@ -6,7 +6,7 @@ ghost use Rattle.schema_rules.specs.Rules.{rules_of, broken_rule};
 
 use crate::constraint_rules::{each_has_plain_columns, have_good_appends};
 use crate::convergent_rules::{
-    each_has_convergent_forms, each_has_groups_alone, each_is_keyed_by_site, has_levels,
+    each_has_forms, each_has_groups_alone, each_is_keyed_by_site, has_levels,
 };
 use crate::key_rules::{are_well_keyed, each_off_the_key};
 use crate::method_rules::{
@@ -39,7 +39,7 @@ fn rules_of(schema: &Schema) -> [bool; 15]
         have_good_appends(schema.tables.as_slice()),
         each_is_keyed_by_site(schema),
         each_has_groups_alone(schema),
-        each_has_convergent_forms(schema),
+        each_has_forms(schema),
         has_levels(schema),
     ]
 }
