@@ -16,6 +16,3 @@ pub use laws::{
     calls_of_changes_fit, found_groups_tell, parts_lead_to_the_row_after, rows_before_match,
     rows_differ_in_some_group,
 };
-
-#[cfg(test)]
-mod tests;

@@ -28,7 +28,8 @@ use Rattle.unique_resolve.specs.Numbers.{Numbers}
 use Rattle.unique_resolve.specs.Settling.{is_held, settled_each, Settlement, settlement_of}
 use Rattle.unique_resolve.proofs.HeldValues.{held_test}
 use Rattle.txn_effects.specs.Parts.{result_then, settled_parts}
-use Rattle.txn_effects.specs.Calls.{RowEffect, settled_effect, changes_between, Effect, call_effect}
+use Rattle.rep_schema.specs.Putting.{changes_between}
+use Rattle.txn_effects.specs.Calls.{RowEffect, settled_effect, Effect, call_effect}
 use Rattle.txn_effects.specs.Transactions.{behind, calls_effect}
 use Rattle.txn_effects.proofs.TransactionEffects.{calls_effect-Ok}
 use Rattle.local_txn.proofs.PartsApart.{settled_parts-own}

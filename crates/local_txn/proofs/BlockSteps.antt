@@ -1,5 +1,5 @@
 -- One statement after another.
-use Rattle.std.proofs.Common.{◌≡◌, ◌⊎◌, ℕ, ◌+◌, ◌<◌, ◌≤◌, Bool, true, false, cond, List, [], ◌∷◌, ◌++◌, length, drop, Ok, Err, refl, sym, ap, ◌∙◌, subst, inl, inr, arith, append_assoc}
+use Rattle.std.proofs.Common.{◌≡◌, ◌⊎◌, ℕ, ◌+◌, ◌<◌, ◌≤◌, Bool, List, [], ◌∷◌, ◌++◌, length, drop, Ok, Err, refl, sym, ap, ◌∙◌, subst, inl, inr, arith, append_assoc}
 use Rattle.std.specs.Prelude.{Option, Some, None, Result}
 use Rattle.std.specs.List.{position}
 use Rattle.std.proofs.lemmas.List.Quantifiers.{position-Some}
@@ -7,14 +7,15 @@ use Rattle.rep_schema.specs.declared.schema.Schema.{Schema}
 use Rattle.rep_schema.specs.declared.change.Change.{Change}
 use Rattle.rep_schema.specs.Shape.{HasShape}
 use Rattle.rep_schema.specs.Tables.{Rows, AreTables}
-use Rattle.rep_schema.specs.Changes.{is_taken_from, room_for}
+use Rattle.rep_schema.specs.Changes.{room_for}
 use Rattle.rep_schema.proofs.Leading.{room_for-append}
 use Rattle.rep_calls.specs.declared.statement.Statement.{Statement}
 use Rattle.rep_schema.specs.Named.{is_table}
 use Rattle.txn_effects.specs.Calls.{HasKeys}
-use Rattle.txn_effects.specs.Transactions.{made_all}
+use Rattle.rep_schema.specs.Putting.{made_all}
 use Rattle.txn_effects.specs.Laws.{IsApplied}
-use Rattle.txn_effects.proofs.TransactionEffects.{made_all-append, IsApplied-then}
+use Rattle.rep_schema.proofs.Making.{made_all-append, room_for-length}
+use Rattle.txn_effects.proofs.TransactionEffects.{IsApplied-then}
 use Rattle.local_txn.specs.declared.local.Here.{Here}
 use Rattle.local_txn.specs.declared.local.LocalStop.{LocalStop}
 use Rattle.local_txn.specs.declared.stop.Stop.{Stop}
@@ -32,17 +33,6 @@ behind-none (Err stop) = refl
 behind-behind : (changes others : List Change) (result : Result (List Change) LocalStop) → behind changes (behind others result) ≡ behind (changes ++ others) result
 behind-behind changes others (Ok later) = ap (λ cs. Ok cs) (sym (append_assoc changes others later))
 behind-behind changes others (Err stop) = refl
-
--- each change wants room for one row at most
-room_for-length : (t : ℕ) (changes : List Change) → room_for t changes ≤ length changes
-room_for-length t [] = omega arith
-room_for-length t (change ∷ changes) =
-    let sum = room_for-append t (change ∷ []) changes in
-    omega (arith, sum, one (is_taken_from t change), room_for-length t changes)
-  where
-    one : (b : Bool) → cond b 1 0 ≤ 1
-    one true = omega arith
-    one false = omega arith
 
 -- there is room for the changes so far and those of one more statement
 pub room_for-more : (t : ℕ) (done changes : List Change) (spare spare' rows : ℕ) → room_for t done ≤ spare → (rows ≤ spare') ⊎ ((spare ≤ spare') × (room_for t changes ≡ 0))

@@ -17,9 +17,10 @@ use Rattle.rep_values.specs.RefusalSteps.{first_refusal, refused, known}
 use Rattle.rep_values.proofs.RefusalSteps.{or_then-None, refused_not-None}
 use Rattle.unique_resolve.specs.Numbers.{first_numbers}
 use Rattle.unique_resolve.proofs.Settlements.{AreCounters-first}
-use Rattle.txn_effects.specs.Calls.{Effect, is_unchanged}
+use Rattle.rep_schema.specs.Putting.{is_unchanged}
+use Rattle.txn_effects.specs.Calls.{Effect}
 use Rattle.txn_effects.specs.Laws.{IsApplied}
-use Rattle.txn_effects.proofs.CallEffects.{is_unchanged-Decides}
+use Rattle.rep_schema.proofs.Making.{is_unchanged-Decides}
 use Rattle.txn_effects.proofs.TransactionEffects.{IsApplied-none}
 use Rattle.local_txn.specs.declared.local.Here.{Here}
 use Rattle.local_txn.specs.Held.{table_name, table_place, held_of, holds, held_table}

@@ -13,7 +13,7 @@ use Rattle.rep_schema.proofs.Shapes.{length-columns_of}
 use Rattle.rep_schema.proofs.FoundRows.{found_row, key_of-found}
 use Rattle.rep_calls.specs.declared.statement.Set.{Set}
 use Rattle.rep_values.specs.RefusalSteps.{first_refusal}
-use Rattle.txn_effects.specs.Calls.{changes_between}
+use Rattle.rep_schema.specs.Putting.{changes_between}
 use Rattle.rep_schema.specs.Kinds.{row_in_range}
 use Rattle.local_txn.specs.Literals.{literals_fit, key_literals_fit, values_of}
 use Rattle.local_txn.specs.Sets.{names_columns, names_one_twice, sets_fit, row_with, row_where_in_range}

@@ -7,7 +7,7 @@ use Rattle.rep_schema.specs.declared.schema.Schema.{Schema}
 use Rattle.rep_schema.specs.declared.change.Change.{Change}
 use Rattle.rep_schema.specs.Tables.{Rows}
 use Rattle.rep_calls.specs.declared.statement.Statement.{Statement}
-use Rattle.txn_effects.specs.Transactions.{made_all}
+use Rattle.rep_schema.specs.Putting.{made_all}
 use Rattle.local_txn.specs.declared.local.Here.{Here}
 use Rattle.local_txn.specs.declared.local.LocalStop.{LocalStop}
 use Rattle.local_txn.specs.Statements.{statement_refusal, statement_changes}

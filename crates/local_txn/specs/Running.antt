@@ -28,11 +28,6 @@ abbrev pub StopsAs : Option Refusal → Stop → Type 0
 StopsAs refused (Refused why) = refused ≡ Some why
 StopsAs refused NoRoom = Unit {0}
 
--- no row was found, and that is the refusal; want of memory needs no cause
-abbrev pub NoRowAs : {A : Type 0} → Option A → Stop → Type 0
-NoRowAs found (Refused why) = (found ≡ None) × (why ≡ refusal.NoRow)
-NoRowAs found NoRoom = Unit {0}
-
 -- why the block stops at this statement
 abbrev pub stop_of : ℕ → Stop → LocalStop
 stop_of statement (Refused why) = record { statement = statement; refusal = why }

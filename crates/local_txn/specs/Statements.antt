@@ -13,7 +13,7 @@ use Rattle.rep_calls.specs.declared.statement.Statement.TheVariants.{Insert, Upd
 use Rattle.rep_calls.specs.declared.statement.Set.{Set}
 use Rattle.rep_values.specs.RefusalSteps.{refused, known, first_refusal}
 use Rattle.unique_resolve.specs.Settling.{is_held}
-use Rattle.txn_effects.specs.Calls.{changes_between}
+use Rattle.rep_schema.specs.Putting.{changes_between}
 use Rattle.local_txn.specs.declared.local.Here.{Here}
 use Rattle.local_txn.specs.Held.{table_name, table_place, held_table}
 use Rattle.rep_schema.specs.Kinds.{row_in_range}

@@ -12,8 +12,3 @@ mod stop;
 
 pub use local::{Here, Local, LocalStop, Stamps};
 pub use run::run_local;
-
-#[cfg(test)]
-mod tests;
-#[cfg(test)]
-mod two_sites_tests;

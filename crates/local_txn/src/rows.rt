@@ -5,18 +5,16 @@ ghost use Rattle.rep_schema.specs.declared.schema.Constraint.{Constraint as Cons
 ghost use Rattle.rep_schema.specs.Changes.{row_like};
 ghost use Rattle.rep_values.specs.RefusalSteps.{first_refusal};
 ghost use Rattle.unique_resolve.specs.Settling.{is_held};
-ghost use Rattle.txn_effects.specs.Calls.{changes_between};
-ghost use Rattle.txn_effects.specs.Transactions.{made_all};
+ghost use Rattle.rep_schema.specs.Putting.{changes_between, made_all, changes_of};
 ghost use Rattle.local_txn.specs.Statements.{taken_step, unique_steps, row_at};
-ghost use Rattle.txn_apply.specs.Stops.{changes_of};
-ghost use Rattle.local_txn.specs.Running.{CanRun, RunsAs, StopsAs, NoRowAs};
+ghost use Rattle.local_txn.specs.Running.{CanRun, RunsAs, StopsAs};
 
 use crate::stop::Stop;
-use rep_lists::{Copies, NoMemory};
-use rep_schema::{Change, Constraint, RowStore, Schema, columns_of, constraint_count, key_of};
+use rep_schema::{
+    Change, Constraint, RowStore, Schema, columns_of, constraint_count, key_of, put_if_changed,
+};
 use rep_values::{Key, Refusal, Row};
 use std::alloc::Global;
-use txn_apply::put_if_changed;
 
 /// The key of a row that fits a table.
 pub(crate) fn key_in<R: RowStore>(store: &R, table: u32, row: &Row) -> Key
@@ -33,26 +31,6 @@ pub(crate) fn has_row<R: RowStore>(store: &R, table: u32, key: &Key) -> bool
     ensures { result ≡ is_some (row_at (R.schema store.now) (R.tables store.now) table key.now) }
 {
     store.get(table, key).is_some()
-}
-
-/// A copy of the row with a key.
-pub(crate) fn copy_of_row<R: RowStore>(
-    store: &R,
-    alloc: Global,
-    table: u32,
-    key: &Key,
-) -> Result<Row, Stop>
-    requires { table < length (R.schema store.now).tables }
-    ensures ok { IfOk result (λ row. row_at (R.schema store.now) (R.tables store.now) table key.now ≡ Some row) }
-    ensures err { IfErr result (NoRowAs (row_at (R.schema store.now) (R.tables store.now) table key.now)) }
-{
-    match store.get(table, key) {
-        None => Err(Stop::Refused(Refusal::NoRow)),
-        Some(found) => {
-            let row = found.copy(alloc)?;
-            Ok(row)
-        }
-    }
 }
 
 fn constraint_at(schema: &Schema, table: u32, place: usize) -> &Constraint
@@ -122,6 +100,6 @@ pub(crate) fn put_free<R: RowStore>(
     if let Some(refusal) = unique_refusal(store, table, &row) {
         return Err(Stop::Refused(refusal));
     }
-    let change = put_if_changed(store, alloc, table, row)?;
+    let change = put_if_changed(alloc, store, table, row)?;
     Ok(change)
 }

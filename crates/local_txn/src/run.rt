@@ -9,10 +9,10 @@ ghost use Rattle.conflict_detect.specs.Fits.{TxnFits};
 ghost use Rattle.conflict_detect.specs.ChangeCalls.{call_of};
 ghost use Rattle.unique_resolve.specs.Numbers.{Numbers};
 ghost use Rattle.txn_effects.specs.Calls.{HasKeys};
-ghost use Rattle.txn_effects.specs.Transactions.{made_all, txn_effect};
+ghost use Rattle.rep_schema.specs.Putting.{made_all, changes_of};
+ghost use Rattle.txn_effects.specs.Transactions.{txn_effect};
 ghost use Rattle.local_txn.specs.Statements.{statement_refusal, statement_changes};
 ghost use Rattle.local_txn.specs.Locals.{statements_effect, local_effect};
-ghost use Rattle.txn_apply.specs.Stops.{changes_of};
 ghost use Rattle.local_txn.specs.Running.{RunsAs, StopsAs, EndsAs};
 
 use crate::held::held_table;
@@ -22,17 +22,9 @@ use crate::{Here, Local, LocalStop, Stamps};
 use conflict_detect::call_of;
 use rep_calls::{Statement, Txn};
 use rep_lists::{Items, NoMemory};
-use rep_schema::{Change, Changes, RowStore, Schema, undo};
+use rep_schema::{Change, Changes, RowStore, Schema, holds_tables, push_change, undo};
 use rep_values::{Limit, Refusal};
 use std::alloc::Global;
-use txn_apply::push_change;
-
-// A store's rows are tables of its schema.
-fn holds_tables<R: RowStore>(store: &R)
-    ensures { AreTables (R.schema store.now) (R.tables store.now) }
-{
-    let _schema = store.schema();
-}
 
 /// Runs one statement, after it took room for so many further rows of its table.
 fn run_in_room<R: RowStore>(

@@ -2,20 +2,18 @@
 ghost use Rattle.std.specs.Prelude.{◌≡◌, ◌≢◌, ℕ, ◌+◌, ◌<◌, ◌≤◌, ◌^◌, ◌==◌, ◌&&◌, cond, length, slice_index, Some, None, IfOk, IfErr, OnOk, OnErr};
 ghost use Rattle.rep_schema.specs.Tables.{columns_of, key_of};
 ghost use Rattle.rep_values.specs.RefusalSteps.{first_refusal};
-ghost use Rattle.txn_effects.specs.Calls.{changes_between};
-ghost use Rattle.txn_effects.specs.Transactions.{made_all};
+ghost use Rattle.rep_schema.specs.Putting.{changes_between, made_all, changes_of};
 ghost use Rattle.local_txn.specs.Literals.{key_literals_fit, values_of};
 ghost use Rattle.local_txn.specs.Sets.{sets_fit};
 ghost use Rattle.local_txn.specs.Statements.{row_at, row_set, insert_steps, update_steps, delete_steps, steps_in, change_in};
-ghost use Rattle.txn_apply.specs.Stops.{changes_of};
 ghost use Rattle.local_txn.specs.Running.{CanRun, RunsAs, StopsAs};
 
 use crate::literals::{key_literals_fit, key_of_literals, literals_fit, row_of};
-use crate::rows::{copy_of_row, has_row, key_in, put_free};
+use crate::rows::{has_row, key_in, put_free};
 use crate::sets::{names_columns, set_row, sets_fit};
 use crate::stop::Stop;
 use rep_calls::{Set, Statement};
-use rep_schema::{Change, Column, RowStore, Schema, columns_of, row_in_range};
+use rep_schema::{Change, Column, RowStore, Schema, columns_of, copy_of_row, row_in_range};
 use rep_values::{Literal, Refusal};
 use std::alloc::Global;
 
@@ -83,8 +81,10 @@ fn update_row<R: RowStore>(
     if !update_fits(store.schema(), columns, key, sets) {
         return Err(Stop::Refused(Refusal::RowShape));
     }
-    let row = copy_of_row(store, alloc, table, &key_of_literals(key))?;
-    let Some(row) = set_row(columns, sets, row) else {
+    let Some(found) = copy_of_row(alloc, store, table, &key_of_literals(key))? else {
+        return Err(Stop::Refused(Refusal::NoRow));
+    };
+    let Some(row) = set_row(columns, sets, found) else {
         return Err(Stop::Refused(Refusal::ValueRange));
     };
     let change = put_free(store, alloc, table, row)?;

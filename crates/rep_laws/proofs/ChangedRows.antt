@@ -10,9 +10,8 @@ use Rattle.rep_schema.specs.declared.change.Change.{Change}
 use Rattle.rep_schema.specs.Tables.{Cells, Rows, columns_of, key_of, row_cmp, find_row, put_row, rows_of, AreTables}
 use Rattle.rep_schema.specs.Changes.{made_in}
 use Rattle.rep_schema.proofs.FoundRows.{find_row-put_own, find_row-put_other, find_row-take_own, find_row-take_other, key_of-found}
-use Rattle.txn_effects.specs.Calls.{is_unchanged, changes_between}
-use Rattle.txn_effects.specs.Transactions.{made_all}
-use Rattle.txn_effects.proofs.CallEffects.{is_unchanged-Decides}
+use Rattle.rep_schema.specs.Putting.{is_unchanged, changes_between, made_all}
+use Rattle.rep_schema.proofs.Making.{is_unchanged-Decides}
 use Rattle.rep_laws.proofs.TokenTests.{AreElsewhere}
 
 module _ (columns : List Column) (key : Cells) (rows : Rows) (rising : IsRising (row_cmp columns) rows) where

@@ -9,7 +9,7 @@ use Rattle.txn_effects.specs.Calls.{Effect}
 use Rattle.txn_effects.specs.Transactions.{Failure, tables_by, numbers_by}
 use Rattle.txn_effects.specs.Laws.{CanApply}
 use Rattle.txn_effects.proofs.TransactionEffects.{IsApplied-txn_effect}
-use Rattle.txn_effects.proofs.SoundSchemas.{HasKeys-sound, KeysStandAlone-sound}
+use Rattle.rep_laws.proofs.SoundSchemas.{HasKeys-sound, KeysStandAlone-sound}
 use Rattle.rep_laws.specs.Commuting.{Content, IsContent, IsSound, effect_on, content_after}
 
 module _ (schema : Schema) (sound : IsSound schema) (origin : SiteName) (txn : Txn) (fits : TxnFits schema txn) where

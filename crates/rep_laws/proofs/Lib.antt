@@ -1,4 +1,5 @@
 -- The lemmas of this crate, from the bottom up.
+pub mod SoundSchemas
 pub mod TokenTests
 pub mod ConstrainedValues
 pub mod RowsAlike

@@ -12,9 +12,11 @@ use Rattle.rep_calls.specs.declared.call.Txn.{Txn}
 use Rattle.conflict_detect.specs.Fits.{CallFits}
 use Rattle.txn_effects.specs.Parts.{result_then}
 use Rattle.txn_effects.specs.Calls.{HasKeys, KeysStandAlone, Effect, call_effect}
-use Rattle.txn_effects.specs.Transactions.{made_all, Failure, failing_at, behind, calls_effect, tables_by, numbers_by}
-use Rattle.txn_effects.proofs.TransactionEffects.{made_all-append, IsApplied-call_effect}
-use Rattle.txn_effects.proofs.SoundSchemas.{HasKeys-sound, KeysStandAlone-sound}
+use Rattle.rep_schema.specs.Putting.{made_all}
+use Rattle.txn_effects.specs.Transactions.{Failure, failing_at, behind, calls_effect, tables_by, numbers_by}
+use Rattle.rep_schema.proofs.Making.{made_all-append}
+use Rattle.txn_effects.proofs.TransactionEffects.{IsApplied-call_effect}
+use Rattle.rep_laws.proofs.SoundSchemas.{HasKeys-sound, KeysStandAlone-sound}
 use Rattle.dependency_index.specs.declared.token.Token.{Token}
 use Rattle.dependency_index.specs.Tokens.{txn_tokens}
 use Rattle.rep_laws.specs.Commuting.{Content, effect_on, IsContent, AgreeOn, AgreeOff, EndAlike, TouchesItsTokens, TransactionsTouchTheirTokens}

@@ -2,5 +2,7 @@
 #![tactic(auto)]
 
 mod commuting;
+mod schemas;
 
 pub use commuting::{independent_transactions_commute, transactions_touch_their_tokens};
+pub use schemas::sound_schemas_have_keys;

@@ -11,6 +11,7 @@ pub mod WithValues
 pub mod PartFit
 pub mod TakingBack
 pub mod Leading
+pub mod Making
 pub mod Shapes
 mod FewNumbers
 pub mod GroupShapes

@@ -8,3 +8,4 @@ pub mod Groups
 pub mod Named
 pub mod Sites
 pub mod Changes
+pub mod Putting

@@ -1,8 +1,7 @@
 -- The sites of a schema: who sends to whom, and which tables one holds.
-use Rattle.std.specs.Prelude.{ℕ, Bool, false, cond, not, ◌&&◌, List, [], ◌∷◌, Option, Some, None, map, filter, slice_index_or}
+use Rattle.std.specs.Prelude.{ℕ, Bool, false, not, ◌&&◌, List, [], Option, Some, None, map, filter, slice_index_or}
 use Rattle.std.specs.List.{find}
 use Rattle.rep_values.specs.declared.name.SiteName.{SiteName}
-use Rattle.rep_values.specs.Name.{same_bytes}
 use Rattle.rep_schema.specs.declared.schema.Schema.{Schema}
 use Rattle.rep_schema.specs.declared.schema.SiteEntry.{SiteEntry}
 use Rattle.rep_schema.specs.Shape.{is_master}

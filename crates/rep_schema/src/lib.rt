@@ -7,6 +7,7 @@ mod conditions;
 mod groups;
 mod kinds;
 mod named;
+mod putting;
 mod schema;
 mod store;
 mod table_set;
@@ -27,6 +28,7 @@ pub use named::{
     group_name, has_column, has_master, is_key_name, is_shadow_name, is_taken, key_name,
     priority_place, shadow_name, table_place,
 };
+pub use putting::{copy_of_row, holds_tables, push_change, put_if_changed, put_with_change};
 pub use schema::{
     Column, Constraint, Group, Kind, Method, PriorityGroup, PriorityLevel, Schema, SiteEntry,
     TableEntry, UniqueMethod,

@@ -16,7 +16,7 @@ use Rattle.rep_schema.specs.Fitting.{is_in_range}
 use Rattle.rep_schema.specs.Groups.{group_columns_of, columns_in_group, group_values}
 use Rattle.rep_schema.proofs.PartFit.{RowFits-values_at}
 use Rattle.rep_calls.specs.declared.call.Part.{Part}
-use Rattle.conflict_detect.specs.Fits.{PartFits}
+use Rattle.resolve_methods.specs.PartValues.{HasGroupValues}
 use Rattle.resolve_methods.specs.declared.decision.Decision.{Decision}
 use Rattle.resolve_methods.specs.declared.decision.Decision.TheVariants.{TakeNew, TakeNumber, Keep, Undecided, Range}
 use Rattle.resolve_methods.specs.Ranks.{number_of, level_of, site_level_of}
@@ -102,7 +102,7 @@ averaged_takes (Some new) (Some current) n in_new in_current takes =
     let same : int_div (current +ℤ new) (pos 2) ≡ n = cc in
     (current, refl, subst IsInRange same (IsInRange-mean current new in_current in_new))
 
-module _ (schema : Schema) (table : ℕ) (part : Part) (current : Cells) (n : ℤ) (part_fits : PartFits schema table part) (fits : RowFits (columns_of schema table) current) where
+module _ (schema : Schema) (table : ℕ) (part : Part) (current : Cells) (n : ℤ) (part_fits : HasGroupValues schema table part) (fits : RowFits (columns_of schema table) current) where
   -- a number taken beside the row's one fits the group's one column
   fits_beside : TakesBeside (number_of (only (group_values schema table part.group current))) n → RowFits (columns_in_group schema table part.group) (Num n ∷ [])
   fits_beside takes =

@@ -1,4 +1,5 @@
 -- The definitions of this crate.
+pub mod PartValues
 pub mod Ranks
 pub mod Decide
 pub mod OrderCases

@@ -15,6 +15,3 @@ pub use laws::{
     mean_is_the_same_from_either_side, order_is_ignored,
 };
 pub use methods::decide;
-
-#[cfg(test)]
-mod tests;

@@ -3,7 +3,7 @@ ghost use Rattle.std.specs.Prelude.{◌≡◌, ◌<◌, length, slice_get, optio
 ghost use Rattle.rep_schema.specs.Tables.{columns_of, RowFits};
 ghost use Rattle.rep_schema.specs.Shape.{HasShape};
 ghost use Rattle.rep_schema.specs.Groups.{group_values};
-ghost use Rattle.conflict_detect.specs.Fits.{PartFits};
+ghost use Rattle.resolve_methods.specs.PartValues.{HasGroupValues};
 ghost use Rattle.resolve_methods.specs.Ranks.{number_of, level_of, site_level_of};
 ghost use Rattle.resolve_methods.specs.Decide.{greater_stays, only, by_order, added, averaged, new_in, decided_by, first_decision, methods_of, decision_of};
 ghost use Rattle.resolve_methods.specs.OrderCases.{decided_at};
@@ -70,7 +70,7 @@ fn by_number(
 fn by_amount(schema: &Schema, table: u32, part: &Part, current: &[Value]) -> Decision
     requires table { table < length schema.now.tables }
     requires shape { HasShape schema.now }
-    requires part { PartFits schema.now table part.now }
+    requires part { HasGroupValues schema.now table part.now }
     requires row { RowFits (columns_of schema.now table) current.now }
     ensures { result ≡ added (number_of (only part.now.old)) (number_of (only part.now.new)) (number_of (only (group_values schema.now table part.now.group current.now))) }
 {
@@ -84,7 +84,7 @@ fn by_amount(schema: &Schema, table: u32, part: &Part, current: &[Value]) -> Dec
 fn by_mean(schema: &Schema, table: u32, part: &Part, current: &[Value]) -> Decision
     requires table { table < length schema.now.tables }
     requires shape { HasShape schema.now }
-    requires part { PartFits schema.now table part.now }
+    requires part { HasGroupValues schema.now table part.now }
     requires row { RowFits (columns_of schema.now table) current.now }
     ensures { result ≡ averaged (number_of (only part.now.new)) (number_of (only (group_values schema.now table part.now.group current.now))) }
 {
@@ -138,7 +138,7 @@ fn decided_by(
 ) -> Decision
     requires table { table < length schema.now.tables }
     requires shape { HasShape schema.now }
-    requires part { PartFits schema.now table part.now }
+    requires part { HasGroupValues schema.now table part.now }
     requires row { RowFits (columns_of schema.now table) current.now }
     ensures { result ≡ decided_by schema.now table part.now current.now method }
 {
@@ -176,7 +176,7 @@ fn first_decision(
 ) -> Decision
     requires table { table < length schema.now.tables }
     requires shape { HasShape schema.now }
-    requires part { PartFits schema.now table part.now }
+    requires part { HasGroupValues schema.now table part.now }
     requires row { RowFits (columns_of schema.now table) current.now }
     ensures { result ≡ first_decision schema.now table part.now current.now methods.now }
 {
@@ -211,7 +211,7 @@ fn methods_of(schema: &Schema, table: u32, group: u8) -> &[Method]
 pub fn decide(schema: &Schema, table: u32, part: &Part, current: &Row) -> Decision
     requires table { table < length schema.now.tables }
     requires shape { HasShape schema.now }
-    requires part { PartFits schema.now table part.now }
+    requires part { HasGroupValues schema.now table part.now }
     requires row { RowFits (columns_of schema.now table) current.now }
     ensures { result ≡ decision_of schema.now table part.now current.now }
 {

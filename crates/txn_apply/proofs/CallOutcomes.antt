@@ -1,5 +1,5 @@
 -- What a call does, by what was found and settled.
-use Rattle.std.proofs.Common.{◌≡◌, ℕ, ◌<◌, Bool, true, false, cond, List, [], ◌∷◌, length, Option, Some, None, Ok, Err, refl, sym, ap, ◌∙◌}
+use Rattle.std.proofs.Common.{◌≡◌, ℕ, ◌<◌, Bool, true, false, List, [], ◌∷◌, length, Option, Some, None, Ok, Err, refl, sym, ap, ◌∙◌}
 use Rattle.rep_values.specs.declared.name.SiteName.{SiteName}
 use Rattle.rep_values.specs.declared.refusal.ApplyError.TheVariants.{DeleteConflict}
 use Rattle.rep_schema.specs.declared.schema.Schema.{Schema}
@@ -18,21 +18,11 @@ use Rattle.unique_resolve.specs.Numbers.{Numbers, AreCounters}
 use Rattle.unique_resolve.specs.Settling.{settlement_of}
 use Rattle.unique_resolve.proofs.Settlements.{RowFits-settled, key_of-settled, IsUniqueRow-settled}
 use Rattle.txn_effects.specs.Parts.{result_then, settled_parts}
-use Rattle.txn_effects.specs.Calls.{KeysStandAlone, RowEffect, effect_by, is_unchanged, changes_between, Effect, call_effect}
+use Rattle.rep_schema.specs.Putting.{changes_between}
+use Rattle.txn_effects.specs.Calls.{KeysStandAlone, RowEffect, effect_by, Effect, call_effect}
 use Rattle.txn_effects.proofs.PartEffects.{key_of-settled_parts, RowFits-settled_parts}
-use Rattle.txn_effects.proofs.CallEffects.{is_unchanged-Decides}
+use Rattle.rep_schema.proofs.Making.{changes_between-same}
 use Rattle.txn_apply.specs.Putting.{IsPuttable, PutsAs}
-
--- a row that stays as it was is no change
-changes_between-same : (table : ℕ) (row : Option Cells) → changes_between table row row ≡ []
-changes_between-same table row = go (is_unchanged row row) ((is_unchanged-Decides row row).1 refl)
-  where
-    change : Change
-    change = record { table = table; before = row; after = row }
-
-    go : (b : Bool) → b ≡ true → cond {A = List Change} b [] (change ∷ []) ≡ []
-    go true is = refl
-    go false is = cc
 
 module _ (schema : Schema) (tables : List Rows) (table : ℕ) (before : Option Cells) (numbers : Numbers) (changes : List Change) where
   abbrev made : List Change → Effect

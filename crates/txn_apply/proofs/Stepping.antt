@@ -1,5 +1,5 @@
 -- One call after another.
-use Rattle.std.proofs.Common.{◌≡◌, ◌≢◌, ℕ, ◌<◌, ◌≤◌, Bool, true, false, cond, List, [], ◌∷◌, ◌++◌, length, get_or, Ok, sym, ap, ◌∙◌, subst, inl, inr, arith}
+use Rattle.std.proofs.Common.{◌≡◌, ◌≢◌, ℕ, ◌<◌, ◌≤◌, List, ◌++◌, length, get_or, Ok, sym, ap, ◌∙◌, subst, inl, inr, arith}
 use Rattle.std.specs.List.{AllByRecursion}
 use Rattle.std.proofs.lemmas.Bool.{cases_eq}
 use Rattle.rep_lists.proofs.Each.{each_at}
@@ -8,27 +8,17 @@ use Rattle.rep_schema.specs.declared.schema.Schema.{Schema}
 use Rattle.rep_schema.specs.declared.change.Change.{Change}
 use Rattle.rep_schema.specs.Shape.{HasShape}
 use Rattle.rep_schema.specs.Tables.{Rows, AreTables}
-use Rattle.rep_schema.specs.Changes.{is_taken_from, room_for}
+use Rattle.rep_schema.specs.Changes.{room_for}
 use Rattle.rep_schema.proofs.Leading.{room_for-append}
 use Rattle.rep_calls.specs.declared.call.Call.{Call}
 use Rattle.conflict_detect.specs.Fits.{table_of, CallFits}
 use Rattle.unique_resolve.specs.Numbers.{Numbers}
 use Rattle.txn_effects.specs.Calls.{HasKeys, KeysStandAlone, Effect, call_effect}
-use Rattle.txn_effects.specs.Transactions.{made_all}
+use Rattle.rep_schema.specs.Putting.{made_all}
 use Rattle.txn_effects.specs.Laws.{IsApplied}
-use Rattle.txn_effects.proofs.TransactionEffects.{made_all-append, IsApplied-then, IsApplied-call_effect}
+use Rattle.rep_schema.proofs.Making.{made_all-append, room_for-length}
+use Rattle.txn_effects.proofs.TransactionEffects.{IsApplied-then, IsApplied-call_effect}
 use Rattle.txn_effects.proofs.RoomForChanges.{room_for-call_effect_elsewhere}
-
--- each change wants room for one row at most
-pub room_for-length : (t : ℕ) (changes : List Change) → room_for t changes ≤ length changes
-room_for-length t [] = omega arith
-room_for-length t (change ∷ changes) =
-    let sum = room_for-append t (change ∷ []) changes in
-    omega (arith, sum, one (is_taken_from t change), room_for-length t changes)
-  where
-    one : (b : Bool) → cond b 1 0 ≤ 1
-    one true = omega arith
-    one false = omega arith
 
 -- there is room for the changes so far and those of one more call, where its table has room for all
 pub room_for-more : (schema : Schema) (tables : List Rows) (numbers : Numbers) (origin : SiteName) (call : Call) (one : Effect) (t : ℕ) (done : List Change) (spare spare' rows : ℕ)

@@ -7,7 +7,7 @@ use Rattle.rep_schema.specs.Tables.{Rows, columns_of, rows_of, RowFits, IsUnique
 use Rattle.rep_schema.specs.Changes.{row_like}
 use Rattle.unique_resolve.specs.declared.settled.Settled.{Settled}
 use Rattle.unique_resolve.specs.declared.settled.Settled.TheVariants.{Fits, Dropped, Conflict}
-use Rattle.txn_effects.specs.Calls.{changes_between}
+use Rattle.rep_schema.specs.Putting.{changes_between}
 use Rattle.txn_apply.specs.declared.stop.CallStop.{CallStop}
 use Rattle.txn_apply.specs.declared.stop.CallStop.TheVariants.{Failed, Memory}
 

@@ -1,7 +1,6 @@
 -- How an answer that isn't success stands beside what a call or a transaction does.
-use Rattle.std.specs.Prelude.{◌≡◌, ℕ, List, [], ◌∷◌, Option, Some, None, Result, Ok, Err}
+use Rattle.std.specs.Prelude.{◌≡◌, ℕ, List, Result, Ok, Err}
 use Rattle.rep_values.specs.declared.refusal.ApplyError.{ApplyError}
-use Rattle.rep_values.specs.declared.refusal.ApplyError.TheVariants.{NoRow}
 use Rattle.rep_schema.specs.declared.schema.Schema.{Schema}
 use Rattle.rep_schema.specs.Shape.{HasShape}
 use Rattle.rep_schema.specs.Tables.{Rows, AreTables}
@@ -16,11 +15,6 @@ use Rattle.txn_apply.specs.declared.stop.ApplyStop.TheVariants.{Failed, Memory}
 use Rattle.txn_apply.specs.declared.stop.CallStop.{CallStop}
 use Rattle.txn_apply.specs.declared.stop.CallStop.TheVariants.{Failed as CallFailed, Memory as NoMemoryLeft}
 
--- no change, or one
-abbrev pub changes_of : Option Change → List Change
-changes_of None = []
-changes_of (Some change) = change ∷ []
-
 -- with the error that there is; want of memory needs no cause
 abbrev pub CallStopsAs : {A : Type 0} → Result A ApplyError → CallStop → Type 0
 CallStopsAs outcome (CallFailed error) = outcome ≡ Err error
@@ -34,11 +28,6 @@ StopsAs outcome Memory = Unit {0}
 abbrev pub stop_of : ℕ → CallStop → ApplyStop
 stop_of call (CallFailed error) = Failed call error
 stop_of call NoMemoryLeft = Memory
-
--- no row was found, and that is the error; want of memory needs no cause
-abbrev pub NoRowAs : {A : Type 0} → Option A → CallStop → Type 0
-NoRowAs found (CallFailed error) = (found ≡ None) × (error ≡ NoRow)
-NoRowAs found NoMemoryLeft = Unit {0}
 
 -- a call makes these changes and leaves these counters
 abbrev pub CallsAs : Result Effect ApplyError → List Change → Numbers → Type 0

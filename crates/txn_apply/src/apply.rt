@@ -6,27 +6,20 @@ ghost use Rattle.rep_schema.specs.Changes.{LeadsTo, room_for};
 ghost use Rattle.conflict_detect.specs.Fits.{table_of, TxnFits};
 ghost use Rattle.unique_resolve.specs.Numbers.{AreCounters};
 ghost use Rattle.txn_effects.specs.Calls.{HasKeys, KeysStandAlone, call_effect};
-ghost use Rattle.txn_effects.specs.Transactions.{made_all, txn_effect};
-ghost use Rattle.txn_apply.specs.Stops.{changes_of, CallStopsAs, CallsAs, CanCall, StopsAs};
+ghost use Rattle.rep_schema.specs.Putting.{made_all, changes_of};
+ghost use Rattle.txn_effects.specs.Transactions.{txn_effect};
+ghost use Rattle.txn_apply.specs.Stops.{CallStopsAs, CallsAs, CanCall, StopsAs};
 
 use crate::ApplyStop;
 use crate::call::apply_call;
-use crate::putting::push_change;
 use crate::stop::{CallStop, stop_at};
 use conflict_detect::table_of;
 use rep_calls::{Call, Txn};
 use rep_lists::{Copies, Items};
-use rep_schema::{Change, Changes, RowStore, undo};
+use rep_schema::{Change, Changes, RowStore, holds_tables, push_change, undo};
 use rep_values::SiteName;
 use std::alloc::Global;
 use unique_resolve::Counters;
-
-// A store's rows are tables of its schema.
-fn holds_tables<R: RowStore>(store: &R)
-    ensures { AreTables (R.schema store.now) (R.tables store.now) }
-{
-    let _schema = store.schema();
-}
 
 /// Applies one call, after it took room for so many further rows of its table.
 fn apply_in_room<R: RowStore>(

@@ -5,17 +5,16 @@ ghost use Rattle.rep_schema.specs.Tables.{columns_of, key_of, find_row, put_row,
 ghost use Rattle.rep_schema.specs.Changes.{row_like};
 ghost use Rattle.conflict_detect.specs.Fits.{table_of, CallFits};
 ghost use Rattle.unique_resolve.specs.Numbers.{AreCounters};
-ghost use Rattle.txn_effects.specs.Calls.{HasKeys, KeysStandAlone, is_unchanged, changes_between, call_effect};
-ghost use Rattle.txn_effects.specs.Transactions.{made_all};
-ghost use Rattle.txn_apply.specs.Stops.{changes_of, CallStopsAs, CallsAs, CanCall, NoRowAs};
+ghost use Rattle.rep_schema.specs.Putting.{is_unchanged, changes_between, made_all, changes_of};
+ghost use Rattle.txn_effects.specs.Calls.{HasKeys, KeysStandAlone, call_effect};
+ghost use Rattle.txn_apply.specs.Stops.{CallStopsAs, CallsAs, CanCall};
 ghost use Rattle.txn_apply.specs.Putting.{IsPuttable, PutsAs, ConflictsAs};
 
 use crate::part::settle_parts;
-use crate::putting::{key_in, put_if_changed};
 use crate::stop::CallStop;
 use rep_calls::{Call, Part};
 use rep_lists::{Copies, Items, NoMemory};
-use rep_schema::{Change, RowStore, columns_of, key_of};
+use rep_schema::{Change, RowStore, copy_of_row, key_in, put_if_changed};
 use rep_values::{ApplyError, Key, Row, SiteName, same_values};
 use std::alloc::Global;
 use unique_resolve::{Counters, Settled, settle_unique};
@@ -41,7 +40,7 @@ fn put_settled<R: RowStore>(
 {
     match settled {
         Settled::Fits(row) => {
-            let change = put_if_changed(store, alloc, table, row)?;
+            let change = put_if_changed(alloc, store, table, row)?;
             Ok(change)
         }
         Settled::Dropped => Ok(None),
@@ -73,26 +72,6 @@ fn insert_row<R: RowStore>(
     Ok(change)
 }
 
-/// A copy of the row with a key.
-fn copy_of_row<R: RowStore>(
-    store: &R,
-    alloc: Global,
-    table: u32,
-    key: &Key,
-) -> Result<Row, CallStop>
-    requires { table < length (R.schema store.now).tables }
-    ensures ok { IfOk result (λ row. find_row (columns_of (R.schema store.now) table) key.now (rows_of (R.tables store.now) table) ≡ Some row) }
-    ensures err { IfErr result (NoRowAs (find_row (columns_of (R.schema store.now) table) key.now (rows_of (R.tables store.now) table))) }
-{
-    match store.get(table, key) {
-        None => Err(CallStop::Failed(ApplyError::NoRow)),
-        Some(found) => {
-            let row = found.copy(alloc)?;
-            Ok(row)
-        }
-    }
-}
-
 fn update_row<R: RowStore>(
     store: &mut R,
     alloc: Global,
@@ -112,7 +91,9 @@ fn update_row<R: RowStore>(
     ensures same_room { OnErr result (R.spare store.new ≡ R.spare store.old) }
     ensures room { (t : ℕ) → slice_index (R.spare store.old) t ≤ slice_index (R.spare store.new) t + cond (t == table) 1 0 }
 {
-    let mut row = copy_of_row(store, alloc, table, key)?;
+    let Some(mut row) = copy_of_row(alloc, store, table, key)? else {
+        return Err(CallStop::Failed(ApplyError::NoRow));
+    };
     settle_parts(store.schema(), table, parts.as_slice(), &mut row)?;
     let settled = settle_unique(store, table, row, false, origin, counters);
     let change = put_settled(store, alloc, table, settled)?;
@@ -135,7 +116,7 @@ fn delete_row<R: RowStore>(
     ensures same_room { OnErr result (R.spare store.new ≡ R.spare store.old) }
     ensures room { (t : ℕ) → slice_index (R.spare store.old) t ≤ slice_index (R.spare store.new) t + cond (t == table) 1 0 }
 {
-    let key = key_in(store, table, row);
+    let key = key_in(store.schema(), table, row);
     let Some(found) = store.get(table, &key) else {
         return Err(CallStop::Failed(ApplyError::NoRow));
     };

@@ -1,7 +1,6 @@
 -- What one call leaves of the row that it names, and of the counters.
 use Rattle.std.proofs.Common.{◌≡◌, ℕ, ◌<◌, List, length, Bool, true, false, cond, Some, None, Ok, Err, refl, sym, ap, ◌∙◌, subst}
 use Rattle.std.specs.Prelude.{Option}
-use Rattle.std.specs.Bool.{Decides}
 use Rattle.rep_values.specs.declared.name.SiteName.{SiteName}
 use Rattle.rep_values.specs.declared.refusal.ApplyError.TheVariants.{DeleteConflict}
 use Rattle.rep_schema.specs.declared.schema.Schema.{Schema}
@@ -12,7 +11,6 @@ use Rattle.rep_schema.specs.Shape.{HasShape}
 use Rattle.rep_schema.specs.Groups.{are_same}
 use Rattle.rep_schema.proofs.FoundRows.{found_row, key_of-found}
 use Rattle.rep_schema.proofs.Leading.{IsChange-put, IsChange-take}
-use Rattle.rep_schema.proofs.ValuesAt.{are_same-Decides}
 use Rattle.rep_calls.specs.declared.call.Call.{Call}
 use Rattle.rep_calls.specs.declared.call.Call.TheVariants.{Insert, Update, Delete}
 use Rattle.conflict_detect.specs.Fits.{table_of, CallFits}
@@ -22,18 +20,9 @@ use Rattle.unique_resolve.specs.Numbers.{Numbers, AreCounters}
 use Rattle.unique_resolve.specs.Settling.{settlement_of}
 use Rattle.unique_resolve.proofs.Settlements.{AreCounters-settled, RowFits-settled, key_of-settled, IsUniqueRow-settled}
 use Rattle.txn_effects.specs.Parts.{settled_parts}
-use Rattle.txn_effects.specs.Calls.{HasKeys, KeysStandAlone, row_named, RowEffect, effect_by, settled_effect, row_effect, is_unchanged}
+use Rattle.txn_effects.specs.Calls.{HasKeys, KeysStandAlone, row_named, RowEffect, effect_by, settled_effect, row_effect}
 use Rattle.txn_effects.proofs.Results.{result_then-Ok}
 use Rattle.txn_effects.proofs.PartEffects.{RowFits-settled_parts, key_of-settled_parts}
-
--- the test whether a row is as before
-pub is_unchanged-Decides : (before after : Option Cells) → Decides (is_unchanged before after) (before ≡ after)
-is_unchanged-Decides None None = (λ yes. refl, λ same. refl)
-is_unchanged-Decides None (Some row) = (λ yes. cc, λ same. cc)
-is_unchanged-Decides (Some row) None = (λ yes. cc, λ same. cc)
-is_unchanged-Decides (Some row) (Some other) =
-    let test = are_same-Decides row other in
-    (λ yes. ap Some (test.0 yes), λ same. let inner : row ≡ other = cc in test.1 inner)
 
 module _ (schema : Schema) (tables : List Rows) (numbers : Numbers) (origin : SiteName) (counters : AreCounters schema numbers) where
   -- there are as many counters after a settlement

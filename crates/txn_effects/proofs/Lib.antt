@@ -4,5 +4,4 @@ pub mod PartEffects
 pub mod CallEffects
 pub mod TransactionEffects
 pub mod RoomForChanges
-pub mod SoundSchemas
 mod WorkedTransactions

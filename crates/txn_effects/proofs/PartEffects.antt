@@ -19,6 +19,7 @@ use Rattle.conflict_detect.specs.Differing.{is_matched}
 use Rattle.resolve_methods.specs.declared.decision.Decision.{Decision}
 use Rattle.resolve_methods.specs.declared.decision.Decision.TheVariants.{TakeNew, TakeNumber, Keep, Undecided, Range}
 use Rattle.resolve_methods.specs.Decide.{decision_of}
+use Rattle.resolve_methods.specs.PartValues.{HasGroupValues}
 use Rattle.resolve_methods.proofs.TakenNumber.{RowFits-taken_number}
 use Rattle.rep_schema.specs.Named.{group_name}
 use Rattle.txn_effects.specs.Parts.{values_by, settled_values, settled_part, settled_parts}
@@ -45,6 +46,10 @@ shadow_off_the_key groups columns n (c ∷ cs) from =
     go true grouped plain there later = later
     go false true plain there later = later
     go false false plain there later = (rw there plain, later)
+
+-- the values of a part that fits match its group
+pub HasGroupValues-PartFits : (schema : Schema) (table : ℕ) (part : Part) → PartFits schema table part → HasGroupValues schema table part
+HasGroupValues-PartFits schema table part fits = record { old = fits.old; new = fits.new }
 
 module _ (schema : Schema) (table : ℕ) where
   module _ (apart : KeysStandAlone schema) (below : table < length schema.tables) where
@@ -80,7 +85,7 @@ module _ (schema : Schema) (table : ℕ) where
         decided TakeNew decides e = let is : part.new ≡ values = cc in subst (RowFits (columns_in_group schema table part.group)) is part_fits.new
         decided (TakeNumber n) decides e =
             let is : Num n ∷ [] ≡ values = cc in
-            subst (RowFits (columns_in_group schema table part.group)) is (RowFits-taken_number schema table part row n part_fits fits decides)
+            subst (RowFits (columns_in_group schema table part.group)) is (RowFits-taken_number schema table part row n (HasGroupValues-PartFits schema table part part_fits) fits decides)
         decided Keep decides e =
             let is : group_values schema table part.group row ≡ values = cc in
             subst (RowFits (columns_in_group schema table part.group)) is (RowFits-values_at (group_columns_of schema table part.group) (columns_of schema table) row fits)

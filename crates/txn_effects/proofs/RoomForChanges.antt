@@ -1,7 +1,6 @@
 -- The room that taking one call's changes back wants.
-use Rattle.std.proofs.Common.{◌≡◌, ◌≢◌, ℕ, ◌≤◌, List, [], ◌∷◌, Bool, true, false, cond, Ok, refl, subst, arith}
-use Rattle.std.specs.Prelude.{Option, is_none, ◌==◌, ◌&&◌}
-use Rattle.std.proofs.lemmas.Bool.{ne_eqb}
+use Rattle.std.proofs.Common.{◌≡◌, ◌≢◌, ℕ, ◌≤◌, List, Ok, subst}
+use Rattle.std.specs.Prelude.{Option}
 use Rattle.rep_values.specs.declared.name.SiteName.{SiteName}
 use Rattle.rep_schema.specs.declared.schema.Schema.{Schema}
 use Rattle.rep_schema.specs.Tables.{Cells, Rows}
@@ -9,28 +8,10 @@ use Rattle.rep_schema.specs.Changes.{room_for}
 use Rattle.rep_calls.specs.declared.call.Call.{Call}
 use Rattle.conflict_detect.specs.Fits.{table_of}
 use Rattle.unique_resolve.specs.Numbers.{Numbers}
-use Rattle.txn_effects.specs.Calls.{row_named, RowEffect, row_effect, is_unchanged, changes_between, Effect, call_effect}
+use Rattle.rep_schema.proofs.Making.{room_for-changes_between, room_for-changes_elsewhere}
+use Rattle.rep_schema.specs.Putting.{changes_between}
+use Rattle.txn_effects.specs.Calls.{row_named, RowEffect, row_effect, Effect, call_effect}
 use Rattle.txn_effects.proofs.Results.{result_then-Ok}
-
--- one row at most
-pub room_for-changes_between : (t table : ℕ) (before after : Option Cells) → room_for t (changes_between table before after) ≤ 1
-room_for-changes_between t table before after = go (is_unchanged before after)
-  where
-    taken : (b : Bool) → cond b 1 0 ≤ 1
-    taken true = omega arith
-    taken false = omega arith
-
-    go : (b : Bool) → room_for t (cond b [] (record { table = table; before = before; after = after } ∷ [])) ≤ 1
-    go true = omega arith
-    go false = omega (arith, taken ((table == t) && is_none after))
-
--- and none in another table
-pub room_for-changes_elsewhere : (t table : ℕ) (before after : Option Cells) → table ≢ t → room_for t (changes_between table before after) ≡ 0
-room_for-changes_elsewhere t table before after other = go (is_unchanged before after)
-  where
-    go : (b : Bool) → room_for t (cond b [] (record { table = table; before = before; after = after } ∷ [])) ≡ 0
-    go true = refl
-    go false = rw (ne_eqb table t other) refl
 
 module _ (schema : Schema) (tables : List Rows) (numbers : Numbers) (origin : SiteName) (call : Call) (effect : Effect) (gives : call_effect schema tables numbers origin call ≡ Ok effect) where
   -- the changes of a call that succeeds are those of the row that it names

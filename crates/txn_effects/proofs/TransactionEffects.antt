@@ -9,7 +9,7 @@ use Rattle.rep_values.specs.declared.refusal.ApplyError.{ApplyError}
 use Rattle.rep_schema.specs.declared.schema.Schema.{Schema}
 use Rattle.rep_schema.specs.declared.change.Change.{Change}
 use Rattle.rep_schema.specs.Tables.{Cells, Rows, AreTables}
-use Rattle.rep_schema.specs.Changes.{made, IsChange}
+use Rattle.rep_schema.specs.Changes.{IsChange}
 use Rattle.rep_schema.specs.Shape.{HasShape}
 use Rattle.rep_schema.proofs.TakingBack.{AreTables-made}
 use Rattle.rep_schema.proofs.Leading.{LeadsTo-append}
@@ -17,16 +17,13 @@ use Rattle.rep_calls.specs.declared.call.Call.{Call}
 use Rattle.rep_calls.specs.declared.call.Txn.{Txn}
 use Rattle.conflict_detect.specs.Fits.{table_of, CallFits}
 use Rattle.unique_resolve.specs.Numbers.{Numbers, AreCounters}
-use Rattle.txn_effects.specs.Calls.{HasKeys, KeysStandAlone, row_named, RowEffect, row_effect, is_unchanged, changes_between, Effect, call_effect}
-use Rattle.txn_effects.specs.Transactions.{made_all, Failure, failing_at, behind, calls_effect, txn_effect}
+use Rattle.rep_schema.specs.Putting.{is_unchanged, changes_between, made_all}
+use Rattle.txn_effects.specs.Calls.{HasKeys, KeysStandAlone, row_named, RowEffect, row_effect, Effect, call_effect}
+use Rattle.txn_effects.specs.Transactions.{Failure, failing_at, behind, calls_effect, txn_effect}
 use Rattle.txn_effects.specs.Laws.{CanApply, IsApplied}
 use Rattle.txn_effects.proofs.Results.{result_then-Ok}
-use Rattle.txn_effects.proofs.CallEffects.{is_unchanged-Decides, AreCounters-row_effect, IsChange-row_effect}
-
--- the tables after changes and others behind them
-pub made_all-append : (schema : Schema) (changes others : List Change) (tables : List Rows) → made_all schema (changes ++ others) tables ≡ made_all schema others (made_all schema changes tables)
-made_all-append schema [] others tables = refl
-made_all-append schema (change ∷ changes) others tables = made_all-append schema changes others (made schema change tables)
+use Rattle.rep_schema.proofs.Making.{is_unchanged-Decides, made_all-append}
+use Rattle.txn_effects.proofs.CallEffects.{AreCounters-row_effect, IsChange-row_effect}
 
 -- each of some values and of others behind them
 each_append : {X : Type 0} (P : X → Type 0) (xs ys : List X) → AllByRecursion P xs → AllByRecursion P ys → AllByRecursion P (xs ++ ys)

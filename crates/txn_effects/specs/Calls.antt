@@ -1,5 +1,5 @@
 -- What one call does: what becomes of the row that it names, and of the counters.
-use Rattle.std.specs.Prelude.{◌≡◌, ℕ, ◌<◌, Bool, true, false, cond, List, [], ◌∷◌, length, Option, Some, None, IfSome, Result, Ok, Err, slice_get}
+use Rattle.std.specs.Prelude.{◌≡◌, ℕ, ◌<◌, true, false, cond, List, length, Option, Some, None, IfSome, Result, Ok, Err, slice_get}
 use Rattle.std.specs.List.{AllByRecursion}
 use Rattle.rep_values.specs.declared.name.SiteName.{SiteName}
 use Rattle.rep_values.specs.declared.refusal.ApplyError.{ApplyError}
@@ -11,6 +11,7 @@ use Rattle.rep_schema.specs.Tables.{Cells, Rows, columns_of, key_of, find_row, r
 use Rattle.rep_schema.specs.Groups.{groups_of, named_columns, are_same}
 use Rattle.rep_calls.specs.declared.call.Call.{Call}
 use Rattle.rep_calls.specs.declared.call.Call.TheVariants.{Insert, Update, Delete}
+use Rattle.rep_schema.specs.Putting.{changes_between}
 use Rattle.conflict_detect.specs.Fits.{table_of}
 use Rattle.unique_resolve.specs.declared.settled.Settled.{Settled}
 use Rattle.unique_resolve.specs.declared.settled.Settled.TheVariants.{Fits, Dropped, Conflict}
@@ -64,17 +65,6 @@ row_effect schema tables numbers origin (Update table key parts) (Some found) = 
     (λ row. settled_effect (settlement_of schema tables numbers origin table false row) (Some found))
 row_effect schema tables numbers origin (Delete table row) None = Err NoRow
 row_effect schema tables numbers origin (Delete table row) (Some found) = cond (are_same found row) (Ok (record { after = None; numbers = numbers })) (Err DeleteConflict)
-
--- the same row, or none both times
-abbrev pub is_unchanged : Option Cells → Option Cells → Bool
-is_unchanged None None = true
-is_unchanged None (Some row) = false
-is_unchanged (Some row) None = false
-is_unchanged (Some row) (Some other) = are_same row other
-
--- the change of a row, where it changed
-abbrev pub changes_between : ℕ → Option Cells → Option Cells → List Change
-changes_between table before after = cond (is_unchanged before after) [] (record { table = table; before = before; after = after } ∷ [])
 
 -- what changed, and the counters
 pub record Effect : Type 0 where

@@ -1,17 +1,17 @@
 -- Laws of transactions.
-use Rattle.std.specs.Prelude.{◌≡◌, ◌≢◌, List, None, Ok}
+use Rattle.std.specs.Prelude.{◌≡◌, ◌≢◌, List, Ok}
 use Rattle.std.specs.List.{AllByRecursion}
 use Rattle.rep_values.specs.declared.name.SiteName.{SiteName}
 use Rattle.rep_schema.specs.declared.schema.Schema.{Schema}
 use Rattle.rep_schema.specs.Shape.{HasShape}
 use Rattle.rep_schema.specs.Tables.{Rows, AreTables}
 use Rattle.rep_schema.specs.Changes.{LeadsTo}
-use Rattle.schema_rules.specs.Rules.{broken_rule}
 use Rattle.rep_calls.specs.declared.call.Txn.{Txn}
 use Rattle.conflict_detect.specs.Fits.{TxnFits}
 use Rattle.unique_resolve.specs.Numbers.{Numbers, AreCounters}
 use Rattle.txn_effects.specs.Calls.{HasKeys, KeysStandAlone, Effect}
-use Rattle.txn_effects.specs.Transactions.{made_all, txn_effect}
+use Rattle.rep_schema.specs.Putting.{made_all}
+use Rattle.txn_effects.specs.Transactions.{txn_effect}
 
 -- a schema with shape and keys, which are in no group, its tables, its counters, and a transaction that fits it
 pub record CanApply (schema : Schema) (tables : List Rows) (numbers : Numbers) (txn : Txn) : Type 0 where
@@ -33,7 +33,3 @@ pub record IsApplied (schema : Schema) (tables : List Rows) (effect : Effect) : 
 abbrev pub TransactionsLeadToTheirTables : Type 0
 TransactionsLeadToTheirTables = (schema : Schema) (origin : SiteName) (txn : Txn) (tables : List Rows) (numbers : Numbers) (effect : Effect)
     → CanApply schema tables numbers txn → txn_effect schema origin txn tables numbers ≡ Ok effect → IsApplied schema tables effect
-
--- a schema that breaks no rule has keys, and they stand alone
-abbrev pub SoundSchemasHaveKeys : Type 0
-SoundSchemasHaveKeys = (schema : Schema) → HasShape schema → broken_rule schema ≡ None → HasKeys schema × KeysStandAlone schema

@@ -5,17 +5,12 @@ use Rattle.rep_values.specs.declared.refusal.ApplyError.{ApplyError}
 use Rattle.rep_schema.specs.declared.schema.Schema.{Schema}
 use Rattle.rep_schema.specs.declared.change.Change.{Change}
 use Rattle.rep_schema.specs.Tables.{Rows}
-use Rattle.rep_schema.specs.Changes.{made}
+use Rattle.rep_schema.specs.Putting.{made_all}
 use Rattle.rep_calls.specs.declared.call.Call.{Call}
 use Rattle.rep_calls.specs.declared.call.Txn.{Txn}
 use Rattle.unique_resolve.specs.Numbers.{Numbers}
 use Rattle.txn_effects.specs.Parts.{result_then}
 use Rattle.txn_effects.specs.Calls.{Effect, call_effect}
-
--- the tables after changes in their order
-abbrev pub made_all : Schema → List Change → List Rows → List Rows
-made_all schema [] tables = tables
-made_all schema (change ∷ changes) tables = made_all schema changes (made schema change tables)
 
 -- the call that fails, counted from 1, and why
 pub record Failure : Type 0 where

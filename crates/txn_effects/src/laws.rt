@@ -1,12 +1,7 @@
 //! Laws over what transactions do. The functions are empty: their contracts are the laws.
-ghost use Rattle.txn_effects.specs.Laws.{TransactionsLeadToTheirTables, SoundSchemasHaveKeys};
+ghost use Rattle.txn_effects.specs.Laws.{TransactionsLeadToTheirTables};
 
 /// A transaction that succeeds leads by its changes from the tables before it to those after it.
 pub fn transactions_lead_to_their_tables()
     ensures { TransactionsLeadToTheirTables }
-{}
-
-/// A schema that breaks no rule has what applying a transaction asks of it.
-pub fn sound_schemas_have_keys()
-    ensures { SoundSchemasHaveKeys }
 {}

@@ -3,4 +3,4 @@
 
 mod laws;
 
-pub use laws::{sound_schemas_have_keys, transactions_lead_to_their_tables};
+pub use laws::transactions_lead_to_their_tables;

@@ -8,6 +8,3 @@ mod trying;
 
 pub use counters::Counters;
 pub use settled::{Settled, settle_unique};
-
-#[cfg(test)]
-mod tests;

@@ -2,12 +2,11 @@
 use Rattle.std.proofs.Common.{◌≡◌, ◌≤◌, ◌++◌, ◌∷◌, ◌+◌, length, drop, refl, ap, ◌∙◌, arith}
 use Rattle.std.specs.Prelude.{None, slice_index}
 use Rattle.rep_lists.proofs.Places.{drop_from_place}
-use Rattle.txn_effects.specs.Transactions.{made_all}
+use Rattle.rep_schema.specs.Putting.{made_all, changes_of}
 use Rattle.txn_effects.proofs.TransactionEffects.{IsApplied-none}
 use Rattle.unique_resolve.specs.Numbers.{first_numbers}
 use Rattle.unique_resolve.proofs.Settlements.{AreCounters-first}
 use Rattle.local_txn.specs.Statements.{statement_refusal, statement_changes}
-use Rattle.txn_apply.specs.Stops.{changes_of}
 use Rattle.local_txn.specs.Running.{StopsAs}
 use Rattle.local_txn.proofs.BlockSteps.{room_for-more, IsApplied-more, made_all-more, so_far-none, so_far-Ok, so_far-Err}
 use Rattle.local_txn.proofs.run.run_statements.Goals as goal

@@ -3,7 +3,7 @@ use Rattle.std.proofs.Common.{◌≡◌, ℕ, ◌+◌, ◌≤◌, length, drop}
 use Rattle.std.specs.Prelude.{slice_index, vec_len, vec_capacity}
 use Rattle.rep_schema.specs.Changes.{room_for}
 use Rattle.txn_effects.specs.Laws.{IsApplied}
-use Rattle.txn_effects.specs.Transactions.{made_all}
+use Rattle.rep_schema.specs.Putting.{made_all}
 use Rattle.local_txn.specs.Locals.{behind, statements_effect}
 use Rattle.local_txn.proofs.StatementEffects.{effect_with}
 use Rattle.local_txn.proofs.run.run_statements.Given as goal

@@ -5,9 +5,8 @@ use Rattle.std.specs.Prelude.{slice_index}
 use Rattle.rep_lists.proofs.Places.{drop_from_place}
 use Rattle.conflict_detect.specs.Fits.{CallFits}
 use Rattle.txn_effects.specs.Calls.{Effect, call_effect}
-use Rattle.txn_effects.specs.Transactions.{made_all}
+use Rattle.rep_schema.specs.Putting.{made_all, changes_of}
 use Rattle.txn_effects.proofs.TransactionEffects.{so_far-Ok}
-use Rattle.txn_apply.specs.Stops.{changes_of}
 use Rattle.txn_apply.proofs.Stepping.{room_for-more, IsApplied-more, made_all-more}
 use Rattle.txn_apply.proofs.apply.apply_txn.Goals as goal
 

@@ -3,7 +3,8 @@ use Rattle.std.proofs.Common.{◌≡◌, ℕ, ◌+◌, ◌≤◌, length, drop}
 use Rattle.std.specs.Prelude.{slice_index, vec_len, vec_capacity}
 use Rattle.rep_schema.specs.Changes.{room_for}
 use Rattle.txn_effects.specs.Laws.{IsApplied}
-use Rattle.txn_effects.specs.Transactions.{behind, calls_effect, made_all}
+use Rattle.rep_schema.specs.Putting.{made_all}
+use Rattle.txn_effects.specs.Transactions.{behind, calls_effect}
 use Rattle.txn_apply.proofs.apply.apply_txn.Given as goal
 
 -- the calls so far are applied, and those that are left decide

@@ -11,8 +11,9 @@ pub returns-then-not-same_values-clause-err : goal.returns-then-not-same_values-
 returns-then-not-same_values-clause-err g c =
     let schema = g.R.RowStore.schema c.args.store.now in
     let tables = g.R.RowStore.tables c.args.store.now in
+    let own : c.key_in-key.result ≡ key_of (columns_of schema c.args.table) c.args.row.now = rw c.schema.ensures.value at c.key_in-key.ensures in
     let found : find_row (columns_of schema c.args.table) (key_of (columns_of schema c.args.table) c.args.row.now) (rows_of tables c.args.table) ≡ Some c.in-Some.found.now =
-    rw (← c.key_in-key.ensures) (sym c.in-Some.ensures) in
+    rw (← own) (sym c.in-Some.ensures) in
     let same = rw (c.values.ensures.value, c.values-2.ensures.value) at c.same_values.ensures in
     let other : are_same c.in-Some.found.now c.args.row.now ≡ false = sym (one_answer _ _ same (are_same-Decides c.in-Some.found.now c.args.row.now)) ∙ c.if-not-same_values.true in
     call_effect-Delete_other schema tables c.args.counters.now c.args.origin.now c.args.table c.args.row.now c.in-Some.found.now found other
@@ -21,8 +22,9 @@ pub returns-clause-ok : goal.returns-clause-ok
 returns-clause-ok g c =
     let schema = g.R.RowStore.schema c.args.store.now in
     let tables = g.R.RowStore.tables c.args.store.now in
+    let own : c.key_in-key.result ≡ key_of (columns_of schema c.args.table) c.args.row.now = rw c.schema.ensures.value at c.key_in-key.ensures in
     let found : find_row (columns_of schema c.args.table) (key_of (columns_of schema c.args.table) c.args.row.now) (rows_of tables c.args.table) ≡ Some c.in-Some.found.now =
-    rw (← c.key_in-key.ensures) (sym c.in-Some.ensures) in
+    rw (← own) (sym c.in-Some.ensures) in
     let same = rw (c.values.ensures.value, c.values-2.ensures.value) at c.same_values.ensures in
     let there : are_same c.in-Some.found.now c.args.row.now ≡ true = sym (one_answer _ _ same (are_same-Decides c.in-Some.found.now c.args.row.now)) ∙ c.if-not-same_values.false in
     rw (c.take-before.ensures.taken, ← c.in-Some.ensures) (call_effect-Delete schema tables c.args.counters.now c.args.origin.now c.args.table c.args.row.now c.in-Some.found.now found there)

@@ -5,7 +5,8 @@ use Rattle.unique_resolve.specs.Numbers.{Numbers}
 use Rattle.unique_resolve.specs.Settling.{settlement_of}
 use Rattle.rep_calls.specs.declared.call.Call.TheVariants.{Insert}
 use Rattle.txn_effects.specs.Calls.{call_effect}
-use Rattle.txn_apply.specs.Stops.{CallsAs, changes_of}
+use Rattle.rep_schema.specs.Putting.{changes_of}
+use Rattle.txn_apply.specs.Stops.{CallsAs}
 use Rattle.txn_apply.specs.Putting.{PutsAs}
 use Rattle.txn_apply.proofs.CallOutcomes.{IsPuttable-settled, call_effect-Insert}
 use Rattle.txn_apply.proofs.call.insert_row.Goals as goal

@@ -1,0 +1,11 @@
+-- What the methods ask of a part of an update.
+use Rattle.std.specs.Prelude.{ℕ}
+use Rattle.rep_schema.specs.declared.schema.Schema.{Schema}
+use Rattle.rep_schema.specs.Tables.{RowFits}
+use Rattle.rep_schema.specs.Groups.{columns_in_group}
+use Rattle.rep_calls.specs.declared.call.Part.{Part}
+
+-- the old and the new values of a part match the columns of its group
+pub record HasGroupValues (schema : Schema) (table : ℕ) (part : Part) : Type 0 where
+  pub old : RowFits (columns_in_group schema table part.group) part.old
+  pub new : RowFits (columns_in_group schema table part.group) part.new

@@ -1,5 +1,0 @@
-use Rattle.txn_effects.proofs.SoundSchemas.{HasKeys-sound, KeysStandAlone-sound}
-use Rattle.txn_effects.proofs.laws.sound_schemas_have_keys.Goals as goal
-
-pub returns : goal.returns
-returns c schema shape sound = (HasKeys-sound schema sound shape, KeysStandAlone-sound schema sound)
