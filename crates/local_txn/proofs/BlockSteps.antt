@@ -10,7 +10,7 @@ use Rattle.rep_schema.specs.Tables.{Rows, AreTables}
 use Rattle.rep_schema.specs.Changes.{room_for}
 use Rattle.rep_schema.proofs.Leading.{room_for-append}
 use Rattle.rep_calls.specs.declared.statement.Statement.{Statement}
-use Rattle.rep_schema.specs.Named.{is_table}
+use Rattle.rep_schema.specs.Named.{is_table, table_place}
 use Rattle.txn_effects.specs.Calls.{HasKeys}
 use Rattle.rep_schema.specs.Putting.{made_all}
 use Rattle.txn_effects.specs.Laws.{IsApplied}
@@ -20,7 +20,7 @@ use Rattle.local_txn.specs.declared.local.Here.{Here}
 use Rattle.local_txn.specs.declared.local.LocalStop.{LocalStop}
 use Rattle.local_txn.specs.declared.stop.Stop.{Stop}
 use Rattle.local_txn.specs.declared.stop.Stop.TheVariants.{Refused, NoRoom}
-use Rattle.local_txn.specs.Held.{table_name, table_place, held_table}
+use Rattle.local_txn.specs.Held.{table_name, held_table}
 use Rattle.local_txn.specs.Statements.{statement_refusal, statement_changes}
 use Rattle.local_txn.specs.Locals.{behind, statements_effect}
 use Rattle.local_txn.specs.Running.{CanRun, StopsAs, EndsAs, stop_of}

@@ -2,7 +2,6 @@
 use Rattle.std.proofs.Common.{◌≡◌, ℕ, Bool, true, false, List, [], ◌∷◌, refl, sym, ◌∙◌}
 use Rattle.std.specs.Prelude.{Option, Some, None, ◌&&◌, cond, not, is_some}
 use Rattle.std.proofs.lemmas.Bool.Decides.{not_from_Decides}
-use Rattle.rep_values.specs.declared.refusal.Refusal.{Refusal}
 use Rattle.rep_values.specs.declared.literal.Literal.{Literal}
 use Rattle.rep_schema.specs.declared.schema.Schema.{Schema}
 use Rattle.rep_schema.specs.declared.change.Change.{Change}
@@ -23,7 +22,8 @@ use Rattle.txn_effects.specs.Laws.{IsApplied}
 use Rattle.rep_schema.proofs.Making.{is_unchanged-Decides}
 use Rattle.txn_effects.proofs.TransactionEffects.{IsApplied-none}
 use Rattle.local_txn.specs.declared.local.Here.{Here}
-use Rattle.local_txn.specs.Held.{table_name, table_place, held_of, holds, held_table}
+use Rattle.rep_schema.specs.Named.{table_place}
+use Rattle.local_txn.specs.Held.{table_name, held_of, holds, held_table}
 use Rattle.rep_schema.specs.Kinds.{row_in_range}
 use Rattle.local_txn.specs.Literals.{literals_fit, key_literals_fit, values_of}
 use Rattle.local_txn.specs.Sets.{names_columns, sets_fit, row_with}

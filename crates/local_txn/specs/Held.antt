@@ -1,5 +1,5 @@
 -- The table that a statement names.
-use Rattle.std.specs.Prelude.{ℕ, Bool, false, cond, Option, Some, None}
+use Rattle.std.specs.Prelude.{ℕ, Bool, cond, Option, Some, None}
 use Rattle.rep_values.specs.declared.name.TableName.{TableName}
 use Rattle.rep_schema.specs.declared.schema.Schema.{Schema}
 use Rattle.rep_calls.specs.declared.statement.Statement.{Statement}

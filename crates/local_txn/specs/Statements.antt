@@ -15,7 +15,8 @@ use Rattle.rep_values.specs.RefusalSteps.{refused, known, first_refusal}
 use Rattle.unique_resolve.specs.Settling.{is_held}
 use Rattle.rep_schema.specs.Putting.{changes_between}
 use Rattle.local_txn.specs.declared.local.Here.{Here}
-use Rattle.local_txn.specs.Held.{table_name, table_place, held_table}
+use Rattle.rep_schema.specs.Named.{table_place}
+use Rattle.local_txn.specs.Held.{table_name, held_table}
 use Rattle.rep_schema.specs.Kinds.{row_in_range}
 use Rattle.local_txn.specs.Literals.{literals_fit, key_literals_fit, values_of}
 use Rattle.local_txn.specs.Sets.{names_columns, sets_fit, row_with}
