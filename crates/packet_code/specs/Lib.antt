@@ -1,5 +1,6 @@
 -- The definitions of this crate.
 pub mod Limits
+pub mod Texts
 pub mod Spelling
 pub mod Laws
 pub mod Reading

@@ -4,14 +4,19 @@ ghost use Rattle.std.specs.Int.{w16, w32, w64, to_be_bytes};
 ghost use Rattle.std.specs.List.{AllByRecursion, flat_map};
 ghost use Rattle.packet_code.specs.Limits.{IsPlainPart, ArePlainParts, IsPlainTable, IsPlainCall, IsPlainTxn, IsSiteName, IsPacket};
 ghost use Rattle.packet_code.specs.declared.packet.Packet.TheVariants.{Carry, Mark};
+ghost use Rattle.packet_code.specs.Texts.{TxnHasTextForm};
 ghost use Rattle.packet_code.specs.Spelling.{name_bytes, value_bytes, values_bytes, part_bytes, parts_bytes, call_bytes, txn_bytes, packet_bytes, IsEncoding};
 ghost use Rattle.rep_values.specs.Number.{IsRowLen};
 
 use crate::Packet;
+use crate::room::txn_room;
 use rep_calls::{Call, Part, Txn};
 use rep_lists::NoMemory;
 use rep_values::{SiteName, Value};
 use std::alloc::Global;
+
+/// The bytes in front of the calls of a transaction between sites whose names have 30 bytes.
+const HEAD_ROOM: usize = 92;
 
 /// Its eight bytes.
 fn push_number(out: &mut Vec<u8>, number: u64) -> Result<(), NoMemory>
@@ -168,10 +173,11 @@ pub(crate) fn carry_bytes(
 ) -> Result<Vec<u8>, NoMemory>
     requires from_one { 1 ≤ number }
     requires earlier { dep < position }
-    requires plain { IsPlainTxn txn.now }
+    requires plain { TxnHasTextForm txn.now → IsPlainTxn txn.now }
     ensures { IfOk result (λ bytes. IsEncoding bytes.items (Carry from.now to.now number position dep txn.now)) }
 {
-    let mut out = Vec::with_capacity(alloc, 256)?;
+    let room = txn_room(txn).saturating_add(HEAD_ROOM);
+    let mut out = Vec::with_capacity(alloc, room)?;
     push_head(&mut out, 1, from, to)?;
     push_number(&mut out, number)?;
     push_number(&mut out, position)?;
@@ -189,7 +195,7 @@ pub(crate) fn mark_bytes(
 ) -> Result<Vec<u8>, NoMemory>
     ensures { IfOk result (λ bytes. IsEncoding bytes.items (Mark from.now to.now mark)) }
 {
-    let mut out = Vec::with_capacity(alloc, 72)?;
+    let mut out = Vec::with_capacity(alloc, HEAD_ROOM)?;
     push_head(&mut out, 2, from, to)?;
     push_number(&mut out, mark)?;
     Ok(out)

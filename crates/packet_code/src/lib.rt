@@ -9,6 +9,7 @@ mod limits;
 mod packet;
 mod reader;
 mod repeated;
+mod room;
 mod sealed;
 mod stop;
 mod value_reading;

@@ -2,6 +2,7 @@
 ghost use Rattle.std.specs.Prelude.{◌≡◌, ◌≤◌, ◌<◌, IfOk};
 ghost use Rattle.packet_code.specs.declared.packet.Packet.TheVariants.{Carry, Mark};
 ghost use Rattle.packet_code.specs.Limits.{IsSiteName, IsPlainTxn, IsPacket};
+ghost use Rattle.packet_code.specs.Texts.{TxnHasTextForm};
 ghost use Rattle.packet_code.specs.Spelling.{packet_bytes};
 
 use crate::encoding::{carry_bytes, mark_bytes};
@@ -41,7 +42,8 @@ impl Sealed {
         })
     }
 
-    /// The packet that carries a transaction, sealed, without a copy of the transaction.
+    /// The packet that carries a transaction, sealed, without a copy of the transaction. A text has the form of one,
+    /// whatever it is.
     pub fn seal_carry(
         alloc: Global,
         from: &SiteName,
@@ -53,7 +55,7 @@ impl Sealed {
     ) -> Result<Sealed, NoMemory>
         requires from_one { 1 ≤ number }
         requires earlier { dep < position }
-        requires plain { IsPlainTxn txn.now }
+        requires plain { TxnHasTextForm txn.now → IsPlainTxn txn.now }
         ensures { IfOk result (λ sealed. sealed ≡ Carry from.now to.now number position dep txn.now) }
     {
         Ok(Sealed {

@@ -1,0 +1,79 @@
+//! The packets among bytes that are nearly those of one.
+
+use crate::pieces::bytes_of_pieces;
+use crate::unpacked::is_kept;
+use case_lines::CaseStop;
+use packet_code::decode;
+use rep_lists::NoMemory;
+use std::alloc::Global;
+
+/// How many bytes are a packet's, and whether each such packet has its bytes again.
+#[derive(Clone, Copy)]
+struct Found {
+    packets: u64,
+    kept: bool,
+}
+
+/// Takes in one more.
+fn take_in(alloc: Global, found: &mut Found, bytes: &[u8]) -> Result<(), NoMemory> {
+    if let Some(packet) = decode(alloc, bytes)? {
+        found.packets = found.packets.saturating_add(1);
+        found.kept = found.kept && is_kept(alloc, &packet, bytes)?;
+    }
+    Ok(())
+}
+
+/// All that differ at one place.
+fn changed(alloc: Global, found: &mut Found, bytes: &mut [u8]) -> Result<(), NoMemory> {
+    for place in 0..bytes.len() {
+        let was = bytes[place];
+        for byte in 0..256u32 {
+            let byte = byte as u8;
+            if byte != was {
+                bytes[place] = byte;
+                take_in(alloc, found, bytes)?;
+            }
+        }
+        bytes[place] = was;
+    }
+    Ok(())
+}
+
+/// All that end early.
+fn cut(alloc: Global, found: &mut Found, bytes: &[u8]) -> Result<(), NoMemory> {
+    for length in 0..bytes.len() {
+        take_in(alloc, found, &bytes[..length])?;
+    }
+    Ok(())
+}
+
+/// All that have one byte more.
+fn longer(alloc: Global, found: &mut Found, bytes: &mut Vec<u8>) -> Result<(), NoMemory> {
+    for byte in 0..256u32 {
+        bytes.push(byte as u8)?;
+        take_in(alloc, found, bytes)?;
+        let _ = bytes.pop();
+    }
+    Ok(())
+}
+
+/// How many are packets of those that differ at one place, end early, or have one byte more.
+pub fn near(alloc: Global, pieces: &str) -> Result<String, CaseStop> {
+    let mut bytes = bytes_of_pieces(alloc, pieces)?;
+    let none = Found {
+        packets: 0,
+        kept: true,
+    };
+    let (mut other, mut shorter, mut more) = (none, none, none);
+    changed(alloc, &mut other, &mut bytes)?;
+    cut(alloc, &mut shorter, &bytes)?;
+    longer(alloc, &mut more, &mut bytes)?;
+    let mut out = format!(in alloc;
+        "{} changed, {} cut, {} longer",
+        other.packets, shorter.packets, more.packets
+    )?;
+    if !(other.kept && shorter.kept && more.kept) {
+        out.push_str(" and others")?;
+    }
+    Ok(out)
+}

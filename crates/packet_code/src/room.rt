@@ -1,0 +1,73 @@
+//! How many bytes a transaction takes. A wrong number would cost time and nothing else; what is looked through on the
+//! way tells that each text has the form of one.
+ghost use Rattle.std.specs.List.{AllByRecursion};
+ghost use Rattle.packet_code.specs.Texts.{HasTextForm, HaveTextForm, PartHasTextForm, CallHasTextForm, TxnHasTextForm};
+
+use rep_calls::{Call, Part, Txn};
+use rep_values::Value;
+
+/// The kind, and the number or the length and the text.
+fn value_room(value: &Value) -> usize
+    ensures { HasTextForm value.now }
+{
+    match value {
+        Value::Num(_) => 9,
+        Value::Words(text) => text.bytes().len() + 2,
+    }
+}
+
+fn values_room(values: &[Value]) -> usize
+    ensures { HaveTextForm values.now }
+{
+    let mut room: usize = 0;
+    for value in values {
+        room = room.saturating_add(value_room(value));
+    }
+    room
+}
+
+fn part_room(part: &Part) -> usize
+    ensures { PartHasTextForm part.now }
+{
+    values_room(part.old.as_slice())
+        .saturating_add(values_room(part.new.as_slice()))
+        .saturating_add(2)
+}
+
+fn parts_room(parts: &[Part]) -> usize
+    ensures { AllByRecursion PartHasTextForm parts.now }
+{
+    let mut room: usize = 0;
+    for part in parts {
+        room = room.saturating_add(part_room(part));
+    }
+    room
+}
+
+/// The kind, the table, one or two counts, and what they count.
+fn call_room(call: &Call) -> usize
+    ensures { CallHasTextForm call.now }
+{
+    let room = match call {
+        Call::Insert { table: _, row } | Call::Delete { table: _, row } => {
+            values_room(row.values())
+        }
+        Call::Update {
+            table: _,
+            key,
+            parts,
+        } => values_room(key.values()).saturating_add(parts_room(parts.as_slice())),
+    };
+    room.saturating_add(5)
+}
+
+/// The bytes of all calls, or up to one more for each.
+pub(crate) fn txn_room(txn: &Txn) -> usize
+    ensures { TxnHasTextForm txn.now }
+{
+    let mut room: usize = 0;
+    for call in txn.calls.as_slice() {
+        room = room.saturating_add(call_room(call));
+    }
+    room
+}
