@@ -5,7 +5,8 @@ use Rattle.std.specs.List.{find}
 use Rattle.std.proofs.lemmas.Bool.{false≢true}
 use Rattle.rep_schema.specs.declared.schema.PriorityGroup.{PriorityGroup}
 use Rattle.rep_schema.specs.Named.{is_priority}
-use Rattle.rep_declare.specs.Additions.{with_priority}
+use Rattle.rep_values.specs.Name.{same_bytes}
+use Rattle.rep_declare.specs.Additions.{with_priority, with_changed}
 
 module _ (name : List ℕ) where
   -- one is there: nothing is added
@@ -26,3 +27,14 @@ module _ (name : List ℕ) where
         → cond b (g ∷ gs) (g ∷ with_priority name gs) ≡ g ∷ gs ++ record { name = name; levels = [] } ∷ []
     at true is later = absurd (false≢true (sym (ap is_some is)))
     at false is later = ap (λ xs. g ∷ xs) (later is)
+
+  -- where none is there, what is changed is the one that is added
+  pub with_changed-new : (change : PriorityGroup → PriorityGroup) → same_bytes name name ≡ true → (groups : List PriorityGroup) → find (is_priority name) groups ≡ None
+      → with_changed (is_priority name) change (with_priority name groups) ≡ groups ++ change (record { name = name; levels = [] }) ∷ []
+  with_changed-new change same [] found = rw same refl
+  with_changed-new change same (g ∷ gs) found = at (is_priority name g) refl found (with_changed-new change same gs) where
+    at : (b : Bool) → is_priority name g ≡ b → cond b (Some g) (find (is_priority name) gs) ≡ None
+        → (find (is_priority name) gs ≡ None → with_changed (is_priority name) change (with_priority name gs) ≡ gs ++ change (record { name = name; levels = [] }) ∷ [])
+        → with_changed (is_priority name) change (cond b (g ∷ gs) (g ∷ with_priority name gs)) ≡ g ∷ gs ++ change (record { name = name; levels = [] }) ∷ []
+    at true test is later = absurd (false≢true (sym (ap is_some is)))
+    at false test is later = rw test (ap (λ xs. g ∷ xs) (later is))

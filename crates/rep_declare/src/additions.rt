@@ -1,11 +1,12 @@
 //! What declarations add to a schema.
-ghost use Rattle.std.specs.Prelude.{◌≡◌, ◌⊎◌, ◌++◌, [], ◌∷◌, None, Some, IfErr, IfOk, OnOk, OnErr};
+ghost use Rattle.std.specs.Prelude.{◌≡◌, true, false, ◌⊎◌, ◌++◌, [], ◌∷◌, None, Some, IfErr, IfOk, OnOk, OnErr};
 ghost use Rattle.rep_values.specs.declared.refusal.Refusal.TheVariants.{Memory};
+ghost use Rattle.std.specs.List.{find};
 ghost use Rattle.rep_values.specs.Literal.{value_of_literal};
 ghost use Rattle.rep_schema.specs.Shape.{HasShape};
-ghost use Rattle.rep_schema.specs.Named.{is_priority};
+ghost use Rattle.rep_schema.specs.Named.{is_priority, is_table, is_group};
 ghost use Rattle.rep_declare.specs.Refusals.{refusal_of};
-ghost use Rattle.rep_declare.specs.Additions.{ColumnNamed, declared, with_priority, with_words_priority, with_changed, with_level, with_sites};
+ghost use Rattle.rep_declare.specs.Additions.{ColumnNamed, declared, with_priority, with_words_priority, with_changed, with_level, with_sites, with_groups, with_method, method_of};
 
 use crate::changes::change_one;
 use crate::priority_changes::LevelAdded;
@@ -15,7 +16,9 @@ use crate::table_changes::{
 };
 use crate::{Declare, MethodWords, UniqueWords, refusal_of};
 use rep_lists::{Copies, Items, NoMemory};
-use rep_schema::{Column, PriorityGroup, Schema, SiteEntry, TableEntry, find_priority};
+use rep_schema::{
+    Column, PriorityGroup, PriorityLevel, Schema, SiteEntry, TableEntry, find_priority,
+};
 use rep_values::{Literal, Name, Refusal, SiteName, TableName};
 use std::alloc::Global;
 
@@ -93,6 +96,57 @@ fn with_words_priority(
     }
 }
 
+// Whether the priority group of a name is there.
+fn has_priority(groups: &[PriorityGroup], name: &Name) -> bool
+    ensures there { result ≡ true → with_priority name.now groups.now ≡ groups.now }
+    ensures new { result ≡ false → find (is_priority name.now) groups.now ≡ None }
+{
+    match find_priority(groups, name) {
+        Some(_found) => true,
+        None => false,
+    }
+}
+
+// Whether a method names a priority group that isn't there yet.
+fn brings_group(groups: &[PriorityGroup], words: &MethodWords) -> bool
+    ensures { result ≡ false → with_words_priority words.now groups.now ≡ groups.now }
+{
+    match words {
+        MethodWords::Priority { column: _, group } => !has_priority(groups, group),
+        MethodWords::Latest(_)
+        | MethodWords::Earliest(_)
+        | MethodWords::Overwrite
+        | MethodWords::Discard
+        | MethodWords::Additive
+        | MethodWords::Average
+        | MethodWords::Maximum(_)
+        | MethodWords::Minimum(_)
+        | MethodWords::SitePriority(_) => false,
+    }
+}
+
+// Adds a method that may name one of these priority groups.
+fn change_method(
+    alloc: Global,
+    tables: &mut Items<TableEntry>,
+    priorities: &[PriorityGroup],
+    table: TableName,
+    group: Name,
+    words: &MethodWords,
+) -> Result<(), NoMemory>
+    ensures ok { OnOk result (tables.new ≡ with_changed (is_table table)
+        (λ entry. with_groups (with_changed (is_group group) (with_method (method_of priorities.now entry.columns words.now)) entry.groups) entry) tables.old) }
+    ensures err { OnErr result (tables.new ≡ tables.old) }
+{
+    let method = MethodIn {
+        table,
+        group,
+        words: *words,
+        priorities,
+    };
+    change_one(alloc, &method, tables)
+}
+
 fn add_method(
     alloc: Global,
     schema: &mut Schema,
@@ -103,16 +157,41 @@ fn add_method(
     ensures ok { OnOk result (schema.new ≡ declared (Declare.Method table group words.now) schema.old) }
     ensures err { OnErr result (schema.new ≡ schema.old) }
 {
+    if !brings_group(schema.priorities.as_slice(), words) {
+        let priorities = schema.priorities.as_slice();
+        return change_method(alloc, &mut schema.tables, priorities, table, group, words);
+    }
     let priorities = with_words_priority(alloc, &schema.priorities, words)?;
-    let method = MethodIn {
+    change_method(
+        alloc,
+        &mut schema.tables,
+        priorities.as_slice(),
         table,
         group,
-        words: *words,
-        priorities: priorities.as_slice(),
-    };
-    change_one(alloc, &method, &mut schema.tables)?;
+        words,
+    )?;
     schema.priorities = priorities;
     Ok(())
+}
+
+// A priority group with one level.
+fn group_of_level(
+    alloc: Global,
+    name: &Name,
+    value: &Literal,
+    level: i64,
+) -> Result<PriorityGroup, NoMemory>
+    ensures { IfOk result (λ group. group ≡ with_level (value_of_literal value.now) level record { name = name.now; levels = [] }) }
+{
+    let mut levels = Items::with_capacity(alloc, 1)?;
+    levels.push(PriorityLevel {
+        value: value.value(),
+        level,
+    })?;
+    Ok(PriorityGroup {
+        name: *name,
+        levels,
+    })
 }
 
 fn add_level(
@@ -125,14 +204,17 @@ fn add_level(
     ensures ok { OnOk result (schema.new ≡ declared (Declare.Priority group.now value.now level) schema.old) }
     ensures err { OnErr result (schema.new ≡ schema.old) }
 {
-    let mut priorities = with_priority(alloc, &schema.priorities, group)?;
     let added = LevelAdded {
         group: *group,
         value: value.value(),
         level,
     };
-    change_one(alloc, &added, &mut priorities)?;
-    schema.priorities = priorities;
+    if has_priority(schema.priorities.as_slice(), group) {
+        change_one(alloc, &added, &mut schema.priorities)?;
+        return Ok(());
+    }
+    let one = group_of_level(alloc, group, value, level)?;
+    schema.priorities.push(one)?;
     Ok(())
 }
 

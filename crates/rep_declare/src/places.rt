@@ -1,5 +1,5 @@
 //! The places of the columns and priority groups that declarations name.
-ghost use Rattle.std.specs.Prelude.{◌≡◌, None, Some, IfOk};
+ghost use Rattle.std.specs.Prelude.{◌≡◌, None, Some, ◌<◌, IfOk, OnErr};
 ghost use Rattle.std.specs.List.{list_any, position};
 ghost use Rattle.rep_values.specs.Name.{same_bytes};
 ghost use Rattle.rep_schema.specs.Named.{is_priority, places_named};
@@ -13,7 +13,8 @@ use std::alloc::Global;
 
 // A place that was found, or 0. One that 32 bits can't name finds no memory: no schema has so many things.
 fn place(found: Option<usize>) -> Result<u32, NoMemory>
-    ensures { IfOk result (λ place. place ≡ place_or_zero found) }
+    ensures ok { IfOk result (λ place. place ≡ place_or_zero found) }
+    ensures err { OnErr result (4294967295 < place_or_zero found) }
 {
     match found {
         None => Ok(0),
@@ -28,7 +29,8 @@ fn place(found: Option<usize>) -> Result<u32, NoMemory>
 
 /// The place of the column of a name, or 0.
 fn column_number(columns: &[Column], name: &Name) -> Result<u32, NoMemory>
-    ensures { IfOk result (λ number. number ≡ column_number columns.now name.now) }
+    ensures ok { IfOk result (λ number. number ≡ column_number columns.now name.now) }
+    ensures err { OnErr result (4294967295 < column_number columns.now name.now) }
 {
     let number = place(column_place(columns, name))?;
     Ok(number)
@@ -36,7 +38,8 @@ fn column_number(columns: &[Column], name: &Name) -> Result<u32, NoMemory>
 
 /// The place of the priority group of a name, or 0.
 fn priority_number(groups: &[PriorityGroup], name: &Name) -> Result<u32, NoMemory>
-    ensures { IfOk result (λ number. number ≡ priority_number groups.now name.now) }
+    ensures ok { IfOk result (λ number. number ≡ priority_number groups.now name.now) }
+    ensures err { OnErr result (4294967295 < priority_number groups.now name.now) }
 {
     let number = place(priority_place(groups, name))?;
     Ok(number)
