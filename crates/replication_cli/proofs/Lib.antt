@@ -1,5 +1,3 @@
 -- The lemmas of this crate.
-pub mod HaltLemmas
-pub mod ToldLemmas
 pub mod YoungSteps
 mod WorkedScripts

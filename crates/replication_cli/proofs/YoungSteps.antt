@@ -9,7 +9,7 @@ use Rattle.script_parse.specs.declared.command.Command.{Command}
 use Rattle.script_parse.specs.Young.{parsed_young}
 use Rattle.world_run.specs.World.{WorldState}
 use Rattle.world_run.specs.Steps.{command_step}
-use Rattle.replication_cli.specs.Lines.{StopsBy}
+use Rattle.script_drive.specs.Lines.{StopsBy}
 use Rattle.replication_cli.specs.Young.{young_step}
 
 -- a command that is run

@@ -1,7 +1,3 @@
 -- The definitions of this crate.
-pub mod Codes
-pub mod Lines
-pub mod Halts
-pub mod Outcome
 pub mod Young
 pub mod Words

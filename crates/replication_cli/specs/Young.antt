@@ -7,7 +7,7 @@ use Rattle.script_parse.specs.declared.command.Command.{Command}
 use Rattle.script_parse.specs.Young.{parsed_young}
 use Rattle.world_run.specs.World.{WorldState, first_world}
 use Rattle.world_run.specs.Steps.{command_step, Outcome}
-use Rattle.replication_cli.specs.Lines.{line_step}
+use Rattle.script_drive.specs.Lines.{line_step}
 
 -- a refused command is a malformed line while the program is young
 abbrev pub stepped : WorldState → ℕ → Outcome → Stepped WorldState

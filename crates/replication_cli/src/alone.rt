@@ -1,8 +1,8 @@
 //! The world of a script, whose lines are run one by one.
 ghost use Rattle.replication_cli.specs.Young.{young_step};
 
-use crate::run::LineRunner;
 use report_text::Lines;
+use script_drive::LineRunner;
 use script_lex::LineStop;
 use script_parse::parse_first;
 use std::alloc::Global;

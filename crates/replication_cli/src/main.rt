@@ -2,18 +2,11 @@
 #![tactic(auto)]
 
 mod alone;
-mod drive;
-#[cfg(test)]
-mod drive_tests;
 mod program;
-mod run;
-#[cfg(test)]
-mod script_tests;
-mod status;
 
 pub use program::{run_alone, run_program};
 use rep_io::{StdSink, StdSource};
-pub use status::Status;
+pub use script_drive::Status;
 use std::alloc::{AllocError, Global};
 use std::env::Env;
 use std::process::ExitCode;
@@ -33,10 +26,19 @@ fn slices_of(alloc: Global, words: &[String]) -> Result<Vec<&str>, AllocError> {
     words.iter().map(|word| word.as_str()).collect(alloc)
 }
 
+/// The status where the words can't be had: words that are no text are none that the program knows.
+fn status_without_words(error: &io::Error) -> Status {
+    match error.kind() {
+        io::ErrorKind::OutOfMemory => Status::Memory,
+        _ => Status::Usage,
+    }
+}
+
 fn main(rt: HostRuntime) -> ExitCode {
     let alloc = rt.alloc();
-    let Ok(words) = words_of(&rt) else {
-        return ExitCode::from(Status::Usage.code());
+    let words = match words_of(&rt) {
+        Ok(words) => words,
+        Err(error) => return ExitCode::from(status_without_words(&error).code()),
     };
     let Ok(words) = slices_of(alloc, &words) else {
         return ExitCode::from(Status::Memory.code());

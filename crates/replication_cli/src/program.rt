@@ -3,15 +3,14 @@ ghost use Rattle.std.specs.Prelude.{◌≡◌, ◌≢◌, ◌↔◌, true, false
 ghost use Rattle.rep_io.specs.Faults.{Rose};
 ghost use Rattle.rep_lines.specs.Told.{Tells};
 ghost use Rattle.world_run.specs.World.{first_world};
-ghost use Rattle.replication_cli.specs.Lines.{line_step};
-ghost use Rattle.replication_cli.specs.Outcome.{Told};
+ghost use Rattle.script_drive.specs.Lines.{line_step};
+ghost use Rattle.script_drive.specs.Outcome.{Told};
 ghost use Rattle.replication_cli.specs.Young.{young_step};
 ghost use Rattle.replication_cli.specs.Words.{are_run};
 
 use crate::alone::Alone;
-use crate::drive::drive;
-use crate::status::Status;
 use rep_io::{Sink, Source};
+use script_drive::{Status, drive};
 use std::alloc::Global;
 use world_run::World;
 

@@ -2,8 +2,8 @@
 use Rattle.std.proofs.Common.{subst}
 use Rattle.rep_lines.specs.Told.{Tells}
 use Rattle.world_run.specs.World.{WorldState}
-use Rattle.replication_cli.specs.Lines.{line_step}
-use Rattle.replication_cli.specs.Outcome.{Told}
+use Rattle.script_drive.specs.Lines.{line_step}
+use Rattle.script_drive.specs.Outcome.{Told}
 use Rattle.replication_cli.specs.Young.{young_step}
 use Rattle.replication_cli.proofs.program.run_alone.Goals as goal
 

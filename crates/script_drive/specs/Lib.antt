@@ -1,0 +1,5 @@
+-- The definitions of this crate.
+pub mod Codes
+pub mod Lines
+pub mod Halts
+pub mod Outcome

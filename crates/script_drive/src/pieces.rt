@@ -1,0 +1,46 @@
+//! A script that is read piece by piece from a source, and its report that goes to a sink.
+ghost use Rattle.std.specs.Prelude.{◌≡◌, ◌≢◌};
+ghost use Rattle.rep_io.specs.Faults.{Rose};
+ghost use Rattle.rep_lines.specs.Told.{Tells};
+ghost use Rattle.script_drive.specs.Lines.{line_step};
+ghost use Rattle.script_drive.specs.Outcome.{Told};
+
+use crate::run::{Halt, LineRunner, MOST_PROGRESS, Run};
+use crate::status::Status;
+use rep_io::{Sink, Source};
+use std::alloc::Global;
+
+const PIECE: usize = 4_096;
+
+/// Runs a script line by line, and offers the report of each line before it reads on.
+pub fn drive<X: LineRunner, S: Source, K: Sink>(
+    alloc: Global,
+    runner: X,
+    source: &mut S,
+    sink: &mut K,
+) -> Status
+    ensures told { Tells (Told (line_step X.step) (X.state runner) result) (S.left source.old) (S.left source.new) (K.taken sink.old) (K.taken sink.new) }
+    ensures read { result ≡ Status.ReadFault → Rose (S.faults source.old) (S.faults source.new) }
+    ensures write { result ≡ Status.WriteFault → Rose (K.faults sink.old) (K.faults sink.new) }
+    ensures ran { result ≢ Status.Usage }
+{
+    let Ok(mut run) = Run::start(alloc, runner) else {
+        return Status::Memory;
+    };
+    let mut piece = [0u8; PIECE];
+    for _ in 0..MOST_PROGRESS {
+        let Ok(count) = source.read(&mut piece) else {
+            return Status::ReadFault;
+        };
+        if count == 0 {
+            if let Err(halt) = run.finish(alloc, sink) {
+                return halt.status();
+            }
+            return Status::Done;
+        }
+        if let Err(halt) = run.feed(alloc, &piece[..count], sink) {
+            return halt.status();
+        }
+    }
+    unreachable!()
+}

@@ -1,0 +1,187 @@
+//! A script that is run line by line, as its bytes come.
+ghost use Rattle.std.specs.Prelude.{◌≡◌, ◌≢◌, ◌≤◌, ◌<◌, ◌+◌, ◌*◌, ◌^◌, ℕ, List, [], ◌∷◌, length, take, false, IfOk, IfErr, OnOk, OnErr};
+ghost use Rattle.std.specs.Io.KnownBytes.{Appends};
+ghost use Rattle.rep_io.specs.Faults.{Rose};
+ghost use Rattle.rep_lines.specs.Lines.{newline};
+ghost use Rattle.rep_lines.specs.Runs.{Stepped, goes};
+ghost use Rattle.rep_lines.specs.Fed.{FedInto, beginning, prints_from, stops_from};
+ghost use Rattle.report_text.specs.Texts.{malformed_text};
+ghost use Rattle.script_drive.specs.Lines.{line_step, StopsBy};
+ghost use Rattle.script_drive.specs.Halts.{HaltsInto, RefusesInto, HasWriteCause, status_of, progress};
+
+use crate::status::Status;
+use rep_io::{Sink, offer};
+use report_text::{Lines, malformed_line};
+use script_lex::LineStop;
+use std::alloc::{AllocError, Global};
+use std::marker::Model;
+
+const MOST_LINES: u32 = 200_000;
+
+const MOST_BYTES: usize = 1_024;
+
+/// No run goes on that is further.
+pub(crate) const MOST_PROGRESS: u32 = 205_002_049;
+
+/// What runs the lines of a script.
+pub trait LineRunner: Drop {
+    /// What lines change.
+    type State;
+
+    /// The state that the lines so far led to.
+    ghost state: { Self → Self.State };
+
+    /// What a line within the limits does to a state, by its number and its bytes.
+    ghost step: { Self.State → ℕ → List ℕ → Stepped Self.State };
+
+    /// Runs a line, and gives what it prints. After a stop no further line is run.
+    fn run_line(&mut self, alloc: Global, number: u32, line: &[u8]) -> Result<Lines, LineStop>
+        ensures ok { IfOk result (λ lines. step (state self.old) number line.now ≡ goes (state self.new) lines.bytes) }
+        ensures stop { IfErr result (StopsBy (step (state self.old) number line.now) (state self.old) number) };
+}
+
+/// Why a run ends before its script does.
+#[derive(Clone, Copy, Debug, PartialEq, Eq)]
+pub enum Halt {
+    /// A line broke a rule, and this was told.
+    Malformed,
+    /// The sink failed.
+    WriteFault,
+    /// There was no memory.
+    Memory,
+}
+
+impl Halt {
+    /// The status of such a run.
+    pub fn status(self) -> Status
+        ensures { result ≡ status_of self }
+    {
+        match self {
+            Halt::Malformed => Status::Malformed,
+            Halt::WriteFault => Status::WriteFault,
+            Halt::Memory => Status::Memory,
+        }
+    }
+}
+
+/// A script that is being run: what runs its lines, the number of the line that comes, and its bytes so far.
+#[derive(Drop)]
+pub struct Run<X: LineRunner> {
+    runner: X,
+    number: u32,
+    line: Vec<u8>,
+}
+
+impl<X: LineRunner> Model for Run<X> {
+    ghost use Rattle.std.specs.Prelude.{◌≤◌, length, vec_capacity};
+    ghost use Rattle.rep_lines.specs.Fed.{Standing};
+
+    ghost Value = { Standing X.State };
+
+    ghost view = { λ r. record { state = X.state r.runner; number = r.number; line = r.line.items } };
+
+    ghost invariant = { λ r. (r.number ≤ 200001) × (length r.line.items ≤ 1024) × (1024 ≤ vec_capacity r.line) };
+}
+
+impl<X: LineRunner> Run<X> {
+    /// A run of which nothing was read yet. The room for a line is taken now.
+    pub fn start(alloc: Global, runner: X) -> Result<Run<X>, AllocError>
+        ensures { IfOk result (λ run. run ≡ beginning (X.state runner)) }
+    {
+        let line = Vec::with_capacity(alloc, MOST_BYTES)?;
+        Ok(Run {
+            runner,
+            number: 1,
+            line,
+        })
+    }
+
+    /// Runs each line that the piece ends, and offers what it prints.
+    pub fn feed<K: Sink>(&mut self, alloc: Global, piece: &[u8], sink: &mut K) -> Result<(), Halt>
+        ensures fed { OnOk result (FedInto (line_step X.step) (K.taken sink.old) (K.taken sink.new) self.old piece.now self.new) }
+        ensures halted { IfErr result (λ halt. HaltsInto (line_step X.step) (K.taken sink.old) (K.taken sink.new) halt self.old piece.now) }
+        ensures cause { HasWriteCause (K.faults sink.old) (K.faults sink.new) result }
+        ensures further { OnOk result (progress self.old + length piece.now ≤ progress self.new) }
+        ensures within { OnOk result (0 < length piece.now → progress self.new ≤ MOST_PROGRESS) }
+    {
+        for byte in piece {
+            self.take(alloc, *byte, sink)?;
+        }
+        Ok(())
+    }
+
+    /// Ends the run: its last line is run where it isn't empty, as if its end stood there.
+    pub fn finish<K: Sink>(mut self, alloc: Global, sink: &mut K) -> Result<(), Halt>
+        ensures fed { OnOk result ((out : List ℕ) × Appends (K.taken sink.old) (K.taken sink.new) out
+            × (out ≡ prints_from (line_step X.step) self []) × (stops_from (line_step X.step) self [] ≡ false)) }
+        ensures halted { IfErr result (λ halt. HaltsInto (line_step X.step) (K.taken sink.old) (K.taken sink.new) halt self (newline ∷ [])) }
+        ensures some { OnErr result (self.line ≢ []) }
+        ensures cause { HasWriteCause (K.faults sink.old) (K.faults sink.new) result }
+    {
+        if self.line.is_empty() {
+            return Ok(());
+        }
+        self.take(alloc, b'\n', sink)
+    }
+
+    // Takes the next byte, and runs the line that it ends.
+    fn take<K: Sink>(&mut self, alloc: Global, byte: u8, sink: &mut K) -> Result<(), Halt>
+        ensures fed { OnOk result (FedInto (line_step X.step) (K.taken sink.old) (K.taken sink.new) self.old (byte ∷ []) self.new) }
+        ensures halted { IfErr result (λ halt. HaltsInto (line_step X.step) (K.taken sink.old) (K.taken sink.new) halt self.old (byte ∷ [])) }
+        ensures cause { HasWriteCause (K.faults sink.old) (K.faults sink.new) result }
+        ensures further { OnOk result (progress self.old + 1 ≤ progress self.new) }
+        ensures within { OnOk result (progress self.new ≤ MOST_PROGRESS) }
+    {
+        if self.number > MOST_LINES {
+            return Err(refuse(alloc, self.number, 2, sink));
+        }
+        if byte == b'\n' {
+            return self.end_line(alloc, sink);
+        }
+        if self.line.len() >= MOST_BYTES {
+            return Err(refuse(alloc, self.number, 1, sink));
+        }
+        self.line.push_reserved(byte);
+        Ok(())
+    }
+
+    // Runs the line that stands, and offers what it prints.
+    fn end_line<K: Sink>(&mut self, alloc: Global, sink: &mut K) -> Result<(), Halt>
+        requires { self.old.number ≤ 200000 }
+        ensures fed { OnOk result (FedInto (line_step X.step) (K.taken sink.old) (K.taken sink.new) self.old (newline ∷ []) self.new) }
+        ensures halted { IfErr result (λ halt. HaltsInto (line_step X.step) (K.taken sink.old) (K.taken sink.new) halt self.old (newline ∷ [])) }
+        ensures cause { HasWriteCause (K.faults sink.old) (K.faults sink.new) result }
+        ensures further { OnOk result (progress self.old + 1 ≤ progress self.new) }
+        ensures within { OnOk result (progress self.new ≤ MOST_PROGRESS) }
+    {
+        match self.runner.run_line(alloc, self.number, &self.line) {
+            Ok(lines) => {
+                let Ok(()) = offer(sink, lines.bytes()) else {
+                    return Err(Halt::WriteFault);
+                };
+                self.line.clear();
+                self.number += 1;
+                Ok(())
+            }
+            Err(LineStop::Rule(rule)) => Err(refuse(alloc, self.number, rule, sink)),
+            Err(LineStop::Memory) => Err(Halt::Memory),
+        }
+    }
+}
+
+// Tells of the rule that a line breaks.
+fn refuse<K: Sink>(alloc: Global, number: u32, rule: u8, sink: &mut K) -> Halt
+    ensures told { RefusesInto (K.taken sink.old) (K.taken sink.new) (malformed_text number rule) result }
+    ensures later { K.faults sink.old ≤ K.faults sink.new }
+    ensures cause { result ≡ Halt.WriteFault → Rose (K.faults sink.old) (K.faults sink.new) }
+{
+    let mut told = Lines::make(alloc);
+    let Ok(()) = told.reserve(256) else {
+        return Halt::Memory;
+    };
+    malformed_line(&mut told, number, rule);
+    let Ok(()) = offer(sink, told.bytes()) else {
+        return Halt::WriteFault;
+    };
+    Halt::Malformed
+}
