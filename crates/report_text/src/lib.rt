@@ -10,6 +10,3 @@ pub use lines::Lines;
 pub use printed::{PushCount, commit_line, malformed_line, push_line};
 pub use shown::add_tables;
 pub use word::Word;
-
-#[cfg(test)]
-mod tests;

@@ -13,6 +13,3 @@ pub use command::{Command, Shown};
 pub use forms::parse_line;
 pub use laws::form_laws;
 pub use young::parse_first;
-
-#[cfg(test)]
-mod tests;

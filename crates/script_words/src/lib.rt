@@ -9,6 +9,3 @@ mod words;
 pub use chosen::choice_of;
 pub use reader::Reader;
 pub use repeated::{NamePart, Part, ValuePart, separated, several, some_of};
-
-#[cfg(test)]
-mod tests;

@@ -14,6 +14,3 @@ mod world;
 pub use insertion::Insertion;
 pub use stop::Stop;
 pub use world::World;
-
-#[cfg(test)]
-mod tests;
