@@ -1,5 +1,6 @@
 -- The definitions of this crate.
 pub mod Fits
+pub mod KeysNamed
 pub mod FitTests
 pub mod Differing
 pub mod ChangeCalls

@@ -5,16 +5,13 @@ use Rattle.std.specs.List.{list_any}
 use Rattle.rep_values.specs.declared.name.SiteName.{SiteName}
 use Rattle.rep_values.specs.Name.{same_bytes}
 use Rattle.dependency_index.specs.Dependencies.{NotedStream, noted_to, IsIndexed}
+use Rattle.dependency_index.proofs.KeptStreams.{sites_of}
 use Rattle.dependency_index.proofs.FirstStreams.{is_to, same_bytes-Decides}
-
--- the sites of the streams
-abbrev pub sites_of : List NotedStream → List SiteName
-sites_of streams = map (λ (s : NotedStream). s.site) streams
 
 indexed_at : (site : SiteName) (ss : List NotedStream) (k : ℕ) → k < length (sites_of ss) → get_or (sites_of ss) k site ≡ site → noted_to site ss ≡ None → ⊥
 indexed_at site [] k within is none = absurd (omega arith)
 indexed_at site (s ∷ ss) zero within is none =
-    let here : is_to site s ≡ true = (same_bytes-Decides s.site.0 site.0).1 (ap (λ (n : SiteName). n.0) is) in
+    let here : is_to site s ≡ true = (same_bytes-Decides s.kept.site.0 site.0).1 (ap (λ (n : SiteName). n.0) is) in
     let found : Some s ≡ None = ap (λ b. cond b (Some s) (noted_to site ss)) (sym here) ∙ none in
     cc
 indexed_at site (s ∷ ss) (suc k) within is none = go (is_to site s) none (indexed_at site ss k (omega arith) is)

@@ -10,14 +10,14 @@ use Rattle.std.proofs.lemmas.Iterator.Adapters.{position_from-zero}
 use Rattle.rep_values.specs.declared.name.SiteName.{SiteName}
 use Rattle.rep_values.specs.Name.{same_bytes}
 use Rattle.dependency_index.specs.declared.token.Token.{Token}
-use Rattle.dependency_index.specs.Dependencies.{NotedStream, last_noted, last_where, dependency_number, noted_to, noted_in, noted_count, IsIndexed, IsNoted}
+use Rattle.dependency_index.specs.Dependencies.{NotedStream, last_noted, last_where, dependency_number, noted_to, count_in, noted_in, noted_count, IsIndexed, IsNoted}
 use Rattle.dependency_index.specs.Tokens.{has_token}
-use Rattle.dependency_index.specs.Noting.{with_tokens, greatest_noted}
-use Rattle.dependency_index.proofs.NotedTokens.{greatest_noted-is, last_noted-with_tokens}
+use Rattle.dependency_index.specs.Noting.{greatest_noted}
+use Rattle.dependency_index.proofs.NotedTokens.{greatest_noted-is}
 
 -- a stream to a site
 abbrev pub is_to : SiteName → NotedStream → Bool
-is_to site s = same_bytes s.site.0 site.0
+is_to site s = same_bytes s.kept.site.0 site.0
 
 -- names that pass the test are the same
 pub same_bytes-Decides : (a b : List ℕ) → Decides (same_bytes a b) (a ≡ b)
@@ -54,11 +54,11 @@ noted_to-set_at site (s ∷ ss) zero t d within here before = rw here refl
 noted_to-set_at site (s ∷ ss) (suc i) t d within here before = rw (before 0 (omega arith)) (noted_to-set_at site ss i t d (omega arith) here (λ k lt. before (suc k) (omega arith)))
 
 -- after it is changed, the changed one
-pub noted_to-set : (site : SiteName) (ss : List NotedStream) (i : ℕ) (s t : NotedStream) → Some i ≡ position (is_to site) ss → s ≡ get_or ss i s → t.site ≡ s.site
+pub noted_to-set : (site : SiteName) (ss : List NotedStream) (i : ℕ) (s t : NotedStream) → Some i ≡ position (is_to site) ss → s ≡ get_or ss i s → t.kept.site ≡ s.kept.site
     → noted_to site (set ss i t) ≡ Some t
 noted_to-set site ss i s t found is same =
     let there = position-Some (is_to site) ss i s (sym found) in
-    let here : is_to site t ≡ true = ap (λ (n : SiteName). same_bytes n.0 site.0) (same ∙ ap (λ (x : NotedStream). x.site) is) ∙ there.1 in
+    let here : is_to site t ≡ true = ap (λ (n : SiteName). same_bytes n.0 site.0) (same ∙ ap (λ (x : NotedStream). x.kept.site) is) ∙ there.1 in
     noted_to-set_at site ss i t s there.0 here there.2
 
 noted_to-set_behind : (site : SiteName) (ss : List NotedStream) (i : ℕ) (t d : NotedStream) → i < length ss → is_to site t ≡ false → is_to site (get_or ss i d) ≡ false
@@ -76,25 +76,25 @@ not_to to site s other here = go (is_to site s) refl
 
     go : (b : Bool) → is_to site s ≡ b → b ≡ false
     go true both =
-        let first = (same_bytes-Decides s.site.0 to.0).0 here in
-        let second = (same_bytes-Decides s.site.0 site.0).0 both in
+        let first = (same_bytes-Decides s.kept.site.0 to.0).0 here in
+        let second = (same_bytes-Decides s.kept.site.0 site.0).0 both in
         absurd (other (ap name (sym first ∙ second)))
     go false is = refl
 
 -- and for other sites the same is found
-pub noted_to-set_other : (to site : SiteName) (ss : List NotedStream) (i : ℕ) (s t : NotedStream) → Some i ≡ position (is_to to) ss → s ≡ get_or ss i s → t.site ≡ s.site
+pub noted_to-set_other : (to site : SiteName) (ss : List NotedStream) (i : ℕ) (s t : NotedStream) → Some i ≡ position (is_to to) ss → s ≡ get_or ss i s → t.kept.site ≡ s.kept.site
     → to ≢ site → noted_to site (set ss i t) ≡ noted_to site ss
 noted_to-set_other to site ss i s t found is same other =
     let there = position-Some (is_to to) ss i s (sym found) in
     let old : is_to site (get_or ss i s) ≡ false = not_to to site (get_or ss i s) other there.1 in
-    let new : is_to site t ≡ false = ap (λ (n : SiteName). same_bytes n.0 site.0) (same ∙ ap (λ (x : NotedStream). x.site) is) ∙ old in
+    let new : is_to site t ≡ false = ap (λ (n : SiteName). same_bytes n.0 site.0) (same ∙ ap (λ (x : NotedStream). x.kept.site) is) ∙ old in
     noted_to-set_behind site ss i t s there.0 new old
 
 -- the destinations are the same
-pub sites-set : (ss : List NotedStream) (i : ℕ) (t d : NotedStream) → t.site ≡ (get_or ss i d).site → map (λ (s : NotedStream). s.site) (set ss i t) ≡ map (λ (s : NotedStream). s.site) ss
+pub sites-set : (ss : List NotedStream) (i : ℕ) (t d : NotedStream) → t.kept.site ≡ (get_or ss i d).kept.site → map (λ (s : NotedStream). s.kept.site) (set ss i t) ≡ map (λ (s : NotedStream). s.kept.site) ss
 sites-set [] i t d same = refl
-sites-set (s ∷ ss) zero t d same = ap (λ site. site ∷ map (λ (s : NotedStream). s.site) ss) same
-sites-set (s ∷ ss) (suc i) t d same = ap (λ rest. s.site ∷ rest) (sites-set ss i t d same)
+sites-set (s ∷ ss) zero t d same = ap (λ site. site ∷ map (λ (s : NotedStream). s.kept.site) ss) same
+sites-set (s ∷ ss) (suc i) t d same = ap (λ rest. s.kept.site ∷ rest) (sites-set ss i t d same)
 
 -- a place is found exactly where there is a stream
 pub is_some-position : (site : SiteName) (ss : List NotedStream) → IsTrue (is_some (position (is_to site) ss)) ↔ IsIndexed ss site
@@ -113,12 +113,13 @@ is_some-position site ss = go (position (is_to site) ss) refl
 
 -- what is noted of a stream gives dependency numbers
 pub greatest_noted-found : (ss : List NotedStream) (site : SiteName) (s : NotedStream) (tokens : List Token) (stream : List (List Token)) → noted_to site ss ≡ Some s
-    → IsNoted ss site stream → greatest_noted tokens s.noted ≡ dependency_number tokens stream
-greatest_noted-found ss site s tokens stream found is = greatest_noted-is s.noted stream (λ token. rw found at (is.last token)) tokens
+    → IsNoted ss site stream → greatest_noted tokens (last_noted s.kept) ≡ dependency_number tokens stream
+greatest_noted-found ss site s tokens stream found is = greatest_noted-is (last_noted s.kept) stream (λ token. rw found at (is.last token)) tokens
 
 -- tokens noted at the next position are the stream's next transaction
 pub IsNoted-next : (old new : List NotedStream) (site : SiteName) (s t : NotedStream) (position : ℕ) (tokens : List Token) (stream : List (List Token))
-    → noted_to site old ≡ Some s → noted_to site new ≡ Some t → position ≡ noted_count old site + 1 → t.count ≡ position → t.noted ≡ with_tokens position tokens s.noted
+    → noted_to site old ≡ Some s → noted_to site new ≡ Some t → position ≡ noted_count old site + 1 → t.kept.count ≡ position
+    → ((token : Token) → last_noted t.kept token ≡ cond (has_token tokens token) position (last_noted s.kept token))
     → IsNoted old site stream → IsNoted new site (tokens ∷ stream)
 IsNoted-next old new site s t position tokens stream found changed next count noted is = record { count = number; last = last }
   where
@@ -128,5 +129,9 @@ IsNoted-next old new site s t position tokens stream found changed next count no
     number : noted_count new site ≡ suc (length stream)
     number = rw changed (omega (arith, count, at_end))
 
-    last : (token : Token) → last_noted token (noted_in (noted_to site new)) ≡ last_where (λ (ts : List Token). has_token ts token) (tokens ∷ stream)
-    last token = rw (changed, noted, last_noted-with_tokens token position tokens s.noted, at_end) (ap (λ n. cond (has_token tokens token) (length stream + 1) n) (rw found at (is.last token)))
+    last : (token : Token) → noted_in (noted_to site new) token ≡ last_where (λ (ts : List Token). has_token ts token) (tokens ∷ stream)
+    last token = rw (changed, noted token, at_end) (ap (λ n. cond (has_token tokens token) (length stream + 1) n) (rw found at (is.last token)))
+
+-- what is noted of a site stays where the same is found of it
+pub IsNoted-found : (old new : List NotedStream) (site : SiteName) (stream : List (List Token)) → noted_to site new ≡ noted_to site old → IsNoted old site stream → IsNoted new site stream
+IsNoted-found old new site stream same is = record { count = ap count_in same ∙ is.count; last = λ token. ap (λ (found : Option NotedStream). noted_in found token) same ∙ is.last token }

@@ -5,17 +5,15 @@ use Rattle.std.specs.List.{AllByRecursion}
 use Rattle.rep_values.specs.declared.name.SiteName.{SiteName}
 use Rattle.rep_values.specs.Name.{same_bytes}
 use Rattle.dependency_index.specs.declared.token.Token.{Token}
-use Rattle.dependency_index.specs.Dependencies.{NotedStream, last_noted, noted_to, count_in, noted_in, room_in, room_for, IsIndexed, IsNoted}
+use Rattle.dependency_index.specs.Dependencies.{NotedStream, noted_to, count_in, noted_in, room_in, room_for, IsIndexed, IsNoted}
 use Rattle.dependency_index.specs.Noting.{IsUnnoted, IsKept, AreKept}
 
 kept_itself : (s : NotedStream) → IsKept s s
-kept_itself s = record { site = refl; count = refl; noted = refl; room = omega arith }
+kept_itself s = record { kept = record { site = refl; count = refl; last = λ token. refl }; room = omega arith }
 
 kept_then : (r s t : NotedStream) → IsKept r s → IsKept s t → IsKept r t
 kept_then r s t first next = record {
-  site = next.site ∙ first.site;
-  count = next.count ∙ first.count;
-  noted = next.noted ∙ first.noted;
+  kept = record { site = next.kept.site ∙ first.kept.site; count = next.kept.count ∙ first.kept.count; last = λ token. next.kept.last token ∙ first.kept.last token };
   room = omega (arith, first.room, next.room);
 }
 
@@ -38,35 +36,39 @@ length-kept [] (t ∷ ts) all = absurd all
 length-kept (s ∷ ss) [] all = absurd all
 length-kept (s ∷ ss) (t ∷ ts) all = ap suc (length-kept ss ts all.1)
 
+-- the sites of the streams
+abbrev pub sites_of : List NotedStream → List SiteName
+sites_of ss = map (λ (s : NotedStream). s.kept.site) ss
+
 -- so the destinations are the same
-pub sites-kept : (ss ts : List NotedStream) → AreKept ss ts → map (λ (s : NotedStream). s.site) ts ≡ map (λ (s : NotedStream). s.site) ss
+pub sites-kept : (ss ts : List NotedStream) → AreKept ss ts → sites_of ts ≡ sites_of ss
 sites-kept [] [] all = refl
 sites-kept [] (t ∷ ts) all = absurd all
 sites-kept (s ∷ ss) [] all = absurd all
-sites-kept (s ∷ ss) (t ∷ ts) all = rw (all.0.site, sites-kept ss ts all.1)
+sites-kept (s ∷ ss) (t ∷ ts) all = rw (all.0.kept.site, sites-kept ss ts all.1)
 
 -- what is found before and after, where streams are kept
 pub record IsFoundKept (old new : Option NotedStream) : Type 0 where
   pub count : count_in new ≡ count_in old
-  pub noted : noted_in new ≡ noted_in old
+  pub last : (token : Token) → noted_in new token ≡ noted_in old token
   pub room : room_in old ≤ room_in new
 
 -- of kept streams the same is found
 pub noted_to-kept : (site : SiteName) (ss ts : List NotedStream) → AreKept ss ts → IsFoundKept (noted_to site ss) (noted_to site ts)
-noted_to-kept site [] [] all = record { count = refl; noted = refl; room = omega arith }
+noted_to-kept site [] [] all = record { count = refl; last = λ token. refl; room = omega arith }
 noted_to-kept site [] (t ∷ ts) all = absurd all
 noted_to-kept site (s ∷ ss) [] all = absurd all
-noted_to-kept site (s ∷ ss) (t ∷ ts) all = rw (ap (λ (n : SiteName). same_bytes n.0 site.0) all.0.site) (go (same_bytes s.site.0 site.0) (noted_to-kept site ss ts all.1))
+noted_to-kept site (s ∷ ss) (t ∷ ts) all = rw (ap (λ (n : SiteName). same_bytes n.0 site.0) all.0.kept.site) (go (same_bytes s.kept.site.0 site.0) (noted_to-kept site ss ts all.1))
   where
     go : (here : Bool) → IsFoundKept (noted_to site ss) (noted_to site ts) → IsFoundKept (cond here (Some s) (noted_to site ss)) (cond here (Some t) (noted_to site ts))
-    go true rest = record { count = all.0.count; noted = all.0.noted; room = all.0.room }
+    go true rest = record { count = all.0.kept.count; last = all.0.kept.last; room = all.0.room }
     go false rest = rest
 
 -- so the same is noted
 pub IsNoted-kept : (ss ts : List NotedStream) (site : SiteName) (stream : List (List Token)) → AreKept ss ts → IsNoted ss site stream → IsNoted ts site stream
 IsNoted-kept ss ts site stream all is = record {
   count = (noted_to-kept site ss ts all).count ∙ is.count;
-  last = λ token. ap (last_noted token) (noted_to-kept site ss ts all).noted ∙ is.last token;
+  last = λ token. (noted_to-kept site ss ts all).last token ∙ is.last token;
 }
 
 -- a destination's stream is one of them, so what holds of each holds of it
@@ -74,7 +76,7 @@ pub room_for-each : (n : ℕ) (site : SiteName) (ss ts : List NotedStream) → A
 room_for-each n site [] [] all each is = absurd (is refl)
 room_for-each n site [] (t ∷ ts) all each is = absurd all
 room_for-each n site (s ∷ ss) [] all each is = absurd all
-room_for-each n site (s ∷ ss) (t ∷ ts) all each is = rw (ap (λ (n : SiteName). same_bytes n.0 site.0) all.0.site) (go (same_bytes s.site.0 site.0) (room_for-each n site ss ts all.1 each.1) is)
+room_for-each n site (s ∷ ss) (t ∷ ts) all each is = rw (ap (λ (n : SiteName). same_bytes n.0 site.0) all.0.kept.site) (go (same_bytes s.kept.site.0 site.0) (room_for-each n site ss ts all.1 each.1) is)
   where
     go : (here : Bool) → (IsIndexed ss site → n ≤ room_for ts site) → cond here (Some s) (noted_to site ss) ≢ None → n ≤ room_in (cond here (Some t) (noted_to site ts))
     go true rest is = each.0
@@ -95,16 +97,16 @@ room_taken n ts place t within is each =
 -- nothing is noted of what is found
 record IsFoundUnnoted (found : Option NotedStream) : Type 0 where
   count : count_in found ≡ 0
-  noted : noted_in found ≡ []
+  last : (token : Token) → noted_in found token ≡ 0
 
 -- of new streams nothing is noted
 pub IsNoted-new : (site : SiteName) (ss : List NotedStream) → AllByRecursion IsUnnoted ss → IsNoted ss site []
-IsNoted-new site ss each = record { count = (found ss each).count; last = λ token. ap (last_noted token) (found ss each).noted }
+IsNoted-new site ss each = record { count = (found ss each).count; last = (found ss each).last }
   where
     found : (ss : List NotedStream) → AllByRecursion IsUnnoted ss → IsFoundUnnoted (noted_to site ss)
-    found [] each = record { count = refl; noted = refl }
-    found (s ∷ ss) each = go (same_bytes s.site.0 site.0) (found ss each.1)
+    found [] each = record { count = refl; last = λ token. refl }
+    found (s ∷ ss) each = go (same_bytes s.kept.site.0 site.0) (found ss each.1)
       where
         go : (here : Bool) → IsFoundUnnoted (noted_to site ss) → IsFoundUnnoted (cond here (Some s) (noted_to site ss))
-        go true rest = record { count = each.0.count; noted = each.0.noted }
+        go true rest = record { count = each.0.count; last = each.0.last }
         go false rest = rest

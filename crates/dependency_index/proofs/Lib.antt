@@ -1,8 +1,8 @@
 -- The lemmas of this crate, from the bottom up.
 pub mod TouchedColumns
-pub mod SameTokens
 pub mod NotedTokens
+mod NotedMaps
 pub mod KeptStreams
 pub mod FirstStreams
 pub mod Destinations
-mod TwoTables
+mod DependencyLaws

@@ -2,9 +2,9 @@
 use Rattle.std.proofs.Common.{◌≡◌, ℕ, suc, ◌+◌, ◌≤◌, Bool, true, false, cond, max, List, [], ◌∷◌, length, refl, sym, ◌∙◌, arith}
 use Rattle.std.specs.Prelude.{◌||◌}
 use Rattle.dependency_index.specs.declared.token.Token.{Token}
-use Rattle.dependency_index.specs.Tokens.{is_same_token, has_token, share_token}
-use Rattle.dependency_index.specs.Dependencies.{Noted, last_where, dependency_number, last_noted}
-use Rattle.dependency_index.specs.Noting.{with_tokens, greatest_noted}
+use Rattle.dependency_index.specs.Tokens.{has_token, share_token}
+use Rattle.dependency_index.specs.Dependencies.{last_where, dependency_number}
+use Rattle.dependency_index.specs.Noting.{greatest_noted}
 
 -- no position is above the length
 pub last_where-bound : {X : Type 0} (p : X → Bool) (xs : List X) → last_where p xs ≤ length xs
@@ -33,22 +33,9 @@ last_where-or p q (x ∷ xs) = go (p x) (q x) (last_where-or p q xs)
     go false false rest = rest
 
 -- where the last position of each token is noted, the greatest of them is the dependency number
-pub greatest_noted-is : (noted : List Noted) (stream : List (List Token))
-    → ((token : Token) → last_noted token noted ≡ last_where (λ tokens. has_token tokens token) stream)
+pub greatest_noted-is : (noted : Token → ℕ) (stream : List (List Token))
+    → ((token : Token) → noted token ≡ last_where (λ tokens. has_token tokens token) stream)
     → (tokens : List Token) → greatest_noted tokens noted ≡ dependency_number tokens stream
 greatest_noted-is noted stream last [] = sym (last_where-never stream)
 greatest_noted-is noted stream last (token ∷ tokens) =
     rw (last token, greatest_noted-is noted stream last tokens) (sym (last_where-or (λ others. has_token others token) (share_token tokens) stream))
-
--- the last position of a token, after tokens were noted at one
-pub last_noted-with_tokens : (token : Token) (position : ℕ) (tokens : List Token) (noted : List Noted)
-    → last_noted token (with_tokens position tokens noted) ≡ cond (has_token tokens token) position (last_noted token noted)
-last_noted-with_tokens token position [] noted = refl
-last_noted-with_tokens token position (t ∷ ts) noted =
-    last_noted-with_tokens token position ts (record { token = t; position = position } ∷ noted) ∙ go (is_same_token token t) (has_token ts token)
-  where
-    go : (here later : Bool) → cond later position (cond here position (last_noted token noted)) ≡ cond (here || later) position (last_noted token noted)
-    go true true = refl
-    go true false = refl
-    go false true = refl
-    go false false = refl

@@ -1,5 +1,7 @@
 -- On which earlier position of a stream a transaction depends, and what an index of a stream tells.
 use Rattle.std.specs.Prelude.{◌≡◌, ◌≢◌, ℕ, ◌+◌, Bool, cond, List, [], ◌∷◌, length, Option, Some, None}
+use Rattle.std.specs.Option.{unwrap_or}
+use Rattle.std.specs.Map.{lookup}
 use Rattle.rep_values.specs.declared.name.SiteName.{SiteName}
 use Rattle.rep_values.specs.Name.{same_bytes}
 use Rattle.dependency_index.specs.declared.token.Token.{Token}
@@ -15,17 +17,20 @@ last_where holds (x ∷ xs) = cond (holds x) (length xs + 1) (last_where holds x
 abbrev pub dependency_number : List Token → List (List Token) → ℕ
 dependency_number tokens stream = last_where (share_token tokens) stream
 
--- a token that was noted, and a position at which it was
-pub record Noted : Type 0 where
-  pub token : Token
-  pub position : ℕ
-
--- what is noted of the stream to one site, the newest first, how many positions were noted, and for how many more tokens
--- there is room
-pub record NotedStream : Type 0 where
+-- what is noted of the stream to one site: how many positions, and each token that was noted with its last position, in
+-- no order that counts
+pub record NotedTo : Type 0 where
   pub site : SiteName
   pub count : ℕ
-  pub noted : List Noted
+  pub entries : List (Token × ℕ)
+
+-- the last position at which a token was noted, 0 where it never was
+abbrev pub last_noted : NotedTo → Token → ℕ
+last_noted noted token = unwrap_or (lookup (is_same_token token) noted.entries) 0
+
+-- what is noted of a stream, and for how many more tokens there is room
+pub record NotedStream : Type 0 where
+  pub kept : NotedTo
   pub room : ℕ
 
 -- what a contract sees of an index: its streams, one for each destination
@@ -35,15 +40,15 @@ pub record NotedIndex : Type 0 where
 -- the first stream to a site, if there is one
 abbrev pub noted_to : SiteName → List NotedStream → Option NotedStream
 noted_to site [] = None
-noted_to site (s ∷ ss) = cond (same_bytes s.site.0 site.0) (Some s) (noted_to site ss)
+noted_to site (s ∷ ss) = cond (same_bytes s.kept.site.0 site.0) (Some s) (noted_to site ss)
 
 abbrev pub count_in : Option NotedStream → ℕ
 count_in None = 0
-count_in (Some s) = s.count
+count_in (Some s) = s.kept.count
 
-abbrev pub noted_in : Option NotedStream → List Noted
-noted_in None = []
-noted_in (Some s) = s.noted
+abbrev pub noted_in : Option NotedStream → Token → ℕ
+noted_in None token = 0
+noted_in (Some s) token = last_noted s.kept token
 
 abbrev pub room_in : Option NotedStream → ℕ
 room_in None = 0
@@ -57,11 +62,6 @@ noted_count streams site = count_in (noted_to site streams)
 abbrev pub room_for : List NotedStream → SiteName → ℕ
 room_for streams site = room_in (noted_to site streams)
 
--- the last position at which a token was noted, 0 where it never was
-abbrev pub last_noted : Token → List Noted → ℕ
-last_noted token [] = 0
-last_noted token (n ∷ ns) = cond (is_same_token token n.token) n.position (last_noted token ns)
-
 -- an index has an entry for a site
 abbrev pub IsIndexed : List NotedStream → SiteName → Type 0
 IsIndexed streams site = noted_to site streams ≢ None
@@ -70,4 +70,4 @@ IsIndexed streams site = noted_to site streams ≢ None
 -- token the last position that has it
 pub record IsNoted (streams : List NotedStream) (site : SiteName) (stream : List (List Token)) : Type 0 where
   pub count : noted_count streams site ≡ length stream
-  pub last : (token : Token) → last_noted token (noted_in (noted_to site streams)) ≡ last_where (λ tokens. has_token tokens token) stream
+  pub last : (token : Token) → noted_in (noted_to site streams) token ≡ last_where (λ tokens. has_token tokens token) stream

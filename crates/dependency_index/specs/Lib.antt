@@ -1,4 +1,6 @@
 -- The definitions of this crate.
 pub mod Tokens
+pub mod SameTokens
 pub mod Dependencies
 pub mod Noting
+pub mod Laws

@@ -1,28 +1,34 @@
 -- What noting tokens, and taking room for them, does to one stream.
 use Rattle.std.specs.Prelude.{◌≡◌, ℕ, ◌≤◌, max, List, [], ◌∷◌}
+use Rattle.std.specs.Option.{unwrap_or}
+use Rattle.std.specs.HashMap as map
 use Rattle.dependency_index.specs.declared.token.Token.{Token}
-use Rattle.dependency_index.specs.Dependencies.{Noted, NotedStream, last_noted}
+use Rattle.dependency_index.specs.Tokens.{is_same_token}
+use Rattle.dependency_index.specs.Dependencies.{NotedTo, NotedStream, last_noted}
 
--- what is noted after each of these tokens was noted at a position
-abbrev pub with_tokens : ℕ → List Token → List Noted → List Noted
-with_tokens position [] noted = noted
-with_tokens position (token ∷ tokens) noted = with_tokens position tokens (record { token = token; position = position } ∷ noted)
+-- the position that a map has of a token, 0 where it has none
+abbrev pub last_in : {S : Type 0} → map.HashMap Token ℕ S → Token → ℕ
+last_in kept token = unwrap_or (map.get is_same_token kept token) 0
 
 -- the greatest of the last positions at which these tokens were noted, 0 where none was
-abbrev pub greatest_noted : List Token → List Noted → ℕ
-greatest_noted [] noted = 0
-greatest_noted (token ∷ tokens) noted = max (last_noted token noted) (greatest_noted tokens noted)
+abbrev pub greatest_noted : List Token → (Token → ℕ) → ℕ
+greatest_noted [] last = 0
+greatest_noted (token ∷ tokens) last = max (last token) (greatest_noted tokens last)
 
 -- nothing is noted
 pub record IsUnnoted (s : NotedStream) : Type 0 where
-  pub count : s.count ≡ 0
-  pub noted : s.noted ≡ []
+  pub count : s.kept.count ≡ 0
+  pub last : (token : Token) → last_noted s.kept token ≡ 0
+
+-- the same is noted
+pub record IsSame (old new : NotedTo) : Type 0 where
+  pub site : new.site ≡ old.site
+  pub count : new.count ≡ old.count
+  pub last : (token : Token) → last_noted new token ≡ last_noted old token
 
 -- the same is noted, and there is no less room
 pub record IsKept (old new : NotedStream) : Type 0 where
-  pub site : new.site ≡ old.site
-  pub count : new.count ≡ old.count
-  pub noted : new.noted ≡ old.noted
+  pub kept : IsSame old.kept new.kept
   pub room : old.room ≤ new.room
 
 -- each stream is kept

@@ -1,5 +1,5 @@
 -- What a transaction touches, and when two transactions are independent.
-use Rattle.std.specs.Prelude.{◌≡◌, ℕ, ◌==◌, ◌&&◌, Bool, false, not, cond, List, [], ◌∷◌, length, flat_map}
+use Rattle.std.specs.Prelude.{◌≡◌, ℕ, ◌==◌, ◌&&◌, Bool, true, false, not, cond, List, [], ◌∷◌, length, flat_map}
 use Rattle.std.specs.List.{list_any}
 use Rattle.rep_schema.specs.declared.schema.Schema.{Schema}
 use Rattle.rep_schema.specs.declared.schema.Constraint.{Constraint}
@@ -10,7 +10,7 @@ use Rattle.rep_calls.specs.declared.call.Call.TheVariants.{Insert, Update, Delet
 use Rattle.rep_calls.specs.declared.call.Part.{Part}
 use Rattle.rep_calls.specs.declared.call.Txn.{Txn}
 use Rattle.conflict_detect.specs.Fits.{table_of}
-use Rattle.txn_effects.specs.Calls.{key_named}
+use Rattle.conflict_detect.specs.KeysNamed.{key_named}
 use Rattle.dependency_index.specs.declared.token.Token.{Token}
 use Rattle.dependency_index.specs.declared.token.Token.TheVariants as token
 
@@ -63,3 +63,8 @@ share_token tokens others = list_any (has_token others) tokens
 -- two transactions share no token
 abbrev pub AreIndependent : Schema → Txn → Txn → Type 0
 AreIndependent schema txn other = share_token (txn_tokens schema txn) (txn_tokens schema other) ≡ false
+
+-- a token of a table's constraints
+abbrev pub is_unique_token : Token → Bool
+is_unique_token (token.Key table key) = false
+is_unique_token (token.Unique table) = true

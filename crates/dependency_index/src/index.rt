@@ -4,7 +4,7 @@ ghost use Rattle.std.specs.List.{position, AllByRecursion};
 ghost use Rattle.rep_values.specs.declared.name.SiteName.{SiteName};
 ghost use Rattle.rep_values.specs.Name.{same_bytes};
 ghost use Rattle.dependency_index.specs.declared.token.Token.{Token};
-ghost use Rattle.dependency_index.specs.Dependencies.{dependency_number, noted_to, noted_count, room_for, IsIndexed, IsNoted};
+ghost use Rattle.dependency_index.specs.Dependencies.{dependency_number, noted_count, room_for, IsIndexed, IsNoted};
 ghost use Rattle.dependency_index.specs.Noting.{IsUnnoted, AreKept};
 
 use crate::Tokens;
@@ -30,7 +30,7 @@ impl Model for Index {
 
 /// The place of the first stream to a site.
 fn place_to(streams: &[Stream], site: &SiteName) -> Option<usize>
-    ensures { result ≡ position (λ s. same_bytes s.site.0 site.now.0) streams.now }
+    ensures { result ≡ position (λ s. same_bytes s.kept.site.0 site.now.0) streams.now }
 {
     streams.iter().position(|stream| stream.is_to(site))
 }
@@ -38,7 +38,7 @@ fn place_to(streams: &[Stream], site: &SiteName) -> Option<usize>
 /// A stream to each destination, in which nothing is noted.
 fn new_streams(alloc: Global, destinations: &[SiteName]) -> Result<Vec<Stream>, NoMemory>
     ensures unnoted { IfOk result (λ streams. AllByRecursion IsUnnoted streams.items) }
-    ensures destinations { IfOk result (λ streams. map (λ s. s.site) streams.items ≡ destinations.now) }
+    ensures destinations { IfOk result (λ streams. map (λ s. s.kept.site) streams.items ≡ destinations.now) }
 {
     let mut streams = Vec::with_capacity(alloc, destinations.len())?;
     for site in destinations {
@@ -63,7 +63,7 @@ impl Index {
     /// Nothing is noted yet.
     pub fn make(alloc: Global, destinations: &[SiteName]) -> Result<Index, NoMemory>
         ensures noted { IfOk result (λ index. (site : SiteName) → IsNoted index.streams site []) }
-        ensures destinations { IfOk result (λ index. map (λ s. s.site) index.streams ≡ destinations.now) }
+        ensures destinations { IfOk result (λ index. map (λ s. s.kept.site) index.streams ≡ destinations.now) }
     {
         let streams = new_streams(alloc, destinations)?;
         Ok(Index { streams })
@@ -90,8 +90,8 @@ impl Index {
     pub fn reserve(&mut self, tokens: &Tokens) -> Result<(), NoMemory>
         ensures ok { OnOk result ((site : SiteName) → IsIndexed self.old.streams site → length tokens.now.list ≤ room_for self.new.streams site) }
         ensures noted { (site : SiteName) (stream : List (List Token)) → IsNoted self.old.streams site stream → IsNoted self.new.streams site stream }
+        ensures destinations { map (λ s. s.kept.site) self.new.streams ≡ map (λ s. s.kept.site) self.old.streams }
         ensures room { (site : SiteName) → room_for self.old.streams site ≤ room_for self.new.streams site }
-        ensures destinations { map (λ s. s.site) self.new.streams ≡ map (λ s. s.site) self.old.streams }
     {
         reserve_each(&mut self.streams, tokens.list.len())?;
         Ok(())
@@ -105,9 +105,10 @@ impl Index {
         requires room { length tokens.now.list ≤ room_for self.old.streams to.now }
         ensures dependency { (stream : List (List Token)) → IsNoted self.old.streams to.now stream → result ≡ dependency_number tokens.now.list stream }
         ensures noted { (stream : List (List Token)) → IsNoted self.old.streams to.now stream → IsNoted self.new.streams to.now (tokens.now.list ∷ stream) }
-        ensures others { (site : SiteName) → to.now ≢ site → noted_to site self.new.streams ≡ noted_to site self.old.streams }
+        ensures others { (site : SiteName) (stream : List (List Token)) → to.now ≢ site → IsNoted self.old.streams site stream → IsNoted self.new.streams site stream }
         ensures room { room_for self.old.streams to.now ≤ room_for self.new.streams to.now + length tokens.now.list }
-        ensures destinations { map (λ s. s.site) self.new.streams ≡ map (λ s. s.site) self.old.streams }
+        ensures other_room { (site : SiteName) → to.now ≢ site → room_for self.new.streams site ≡ room_for self.old.streams site }
+        ensures destinations { map (λ s. s.kept.site) self.new.streams ≡ map (λ s. s.kept.site) self.old.streams }
     {
         let Some(place) = place_to(&self.streams, to) else {
             unreachable!()

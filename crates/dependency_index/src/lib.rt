@@ -1,14 +1,14 @@
 //! What a transaction touches, and on which earlier position of a stream it depends.
 #![tactic(auto)]
 
+mod hashing;
 mod index;
+mod laws;
 mod stream;
 mod token;
 mod touched;
 
 pub use index::Index;
+pub use laws::dependency_laws;
 pub use token::{Token, Tokens};
-pub use touched::tokens_of;
-
-#[cfg(test)]
-mod tests;
+pub use touched::{has_unique_token, tokens_of};

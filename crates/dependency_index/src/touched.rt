@@ -1,17 +1,16 @@
 //! The tokens of a transaction that fits a schema.
-ghost use Rattle.std.specs.Prelude.{◌≡◌, ◌<◌, ◌==◌, ◌++◌, length, IfOk, OnOk};
+ghost use Rattle.std.specs.Prelude.{◌≡◌, ◌<◌, ◌++◌, length, IfOk, OnOk};
 ghost use Rattle.std.specs.List.{list_any};
 ghost use Rattle.rep_schema.specs.Shape.{HasShape};
-ghost use Rattle.rep_schema.specs.Tables.{columns_of, constraints_of};
 ghost use Rattle.conflict_detect.specs.Fits.{CallFits, TxnFits};
-ghost use Rattle.txn_effects.specs.Calls.{HasKeys, key_named};
-ghost use Rattle.dependency_index.specs.Tokens.{has_constraints, is_constrained, has_constrained_column, touches_constraints, call_tokens, txn_tokens};
+ghost use Rattle.conflict_detect.specs.KeysNamed.{HasKeys, key_named};
+ghost use Rattle.dependency_index.specs.Tokens.{is_constrained, has_constrained_column, touches_constraints, call_tokens, txn_tokens, is_unique_token};
 
 use crate::{Token, Tokens};
 use conflict_detect::table_of;
 use rep_calls::{Call, Part, Txn};
 use rep_lists::{Items, NoMemory};
-use rep_schema::{Constraint, Schema, constraints_of, group_columns, has_place, key_in};
+use rep_schema::{Schema, constraint_count, constraints_of, group_columns, is_taken, key_in};
 use rep_values::Key;
 use std::alloc::Global;
 
@@ -27,25 +26,11 @@ fn key_named(schema: &Schema, call: &Call) -> Key
     }
 }
 
-fn has_constraints(schema: &Schema, table: u32) -> bool
-    requires { table < length schema.now.tables }
-    ensures { result ≡ has_constraints schema.now table }
-{
-    constraints_of(schema, table).len() != 0
-}
-
-/// Whether a column stands in one of these constraints.
-fn stands_in_one(constraints: &[Constraint], column: u32) -> bool
-    ensures { result ≡ list_any (λ constraint. list_any (λ c. c == column) constraint.columns) constraints.now }
-{
-    constraints.iter().any(|constraint| has_place(constraint.columns.as_slice(), column as usize))
-}
-
 fn is_constrained(schema: &Schema, table: u32, column: u32) -> bool
     requires { table < length schema.now.tables }
     ensures { result ≡ is_constrained schema.now table column }
 {
-    stands_in_one(constraints_of(schema, table), column)
+    is_taken(constraints_of(schema, table), column as usize)
 }
 
 fn has_constrained_place(schema: &Schema, table: u32, columns: &[u32]) -> bool
@@ -88,8 +73,12 @@ fn touches_constraints(schema: &Schema, call: &Call) -> bool
     requires fits { CallFits schema.now call.now }
     ensures { result ≡ touches_constraints schema.now call.now }
 {
+    // Most tables have no constraint, and then no group's columns are looked at.
+    if constraint_count(schema, table_of(call)) == 0 {
+        return false;
+    }
     match call {
-        Call::Insert { table, .. } | Call::Delete { table, .. } => has_constraints(schema, *table),
+        Call::Insert { .. } | Call::Delete { .. } => true,
         Call::Update { table, parts, .. } => has_constrained_part(schema, *table, parts.as_slice()),
     }
 }
@@ -122,4 +111,18 @@ pub fn tokens_of(alloc: Global, schema: &Schema, txn: &Txn) -> Result<Tokens, No
         add_call(&mut list, schema, call)?;
     }
     Ok(Tokens { list })
+}
+
+/// Whether the tokens of a transaction that fits the schema have one of a table's constraints. It takes no memory.
+pub fn has_unique_token(schema: &Schema, txn: &Txn) -> bool
+    requires shape { HasShape schema.now }
+    requires fits { TxnFits schema.now txn.now }
+    ensures { result ≡ list_any is_unique_token (txn_tokens schema.now txn.now) }
+{
+    for call in txn.calls.as_slice() {
+        if touches_constraints(schema, call) {
+            return true;
+        }
+    }
+    false
 }

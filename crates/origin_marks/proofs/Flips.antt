@@ -107,7 +107,8 @@ turned_twice true true = refl
 turned_twice true false = refl
 turned_twice false odd = refl
 
-odd_next : (n : ℕ) → is_odd (1 + n) ≡ not (is_odd n)
+-- the next number is odd where this one isn't
+pub odd_next : (n : ℕ) → is_odd (1 + n) ≡ not (is_odd n)
 odd_next n = grind (arith, nat_tests)
 
 odd_cons : (b : Bool) (n : ℕ) → is_odd (cond b 1 0 + n) ≡ turned b (is_odd n)

@@ -3,4 +3,6 @@ pub mod Marks
 pub mod Counts
 pub mod Flips
 pub mod Low
+mod LowUpTo
+mod Highest
 mod MarkExamples

@@ -1,9 +1,10 @@
 //! Edges of intervals of positions, in falling order.
-ghost use Rattle.std.specs.Prelude.{◌≡◌, ◌+◌, ◌-◌, ◌≤◌, ◌<◌, ◌==◌, ◌||◌, length, nat_lt, slice_index, vec_len, vec_capacity, insert, IfOk, IfErr};
+ghost use Rattle.std.specs.Prelude.{◌≡◌, ◌+◌, ◌-◌, ◌≤◌, ◌<◌, ◌==◌, ◌||◌, length, nat_lt, slice_index, IfOk, IfErr};
 ghost use Rattle.std.specs.Ordering.{nat_cmp};
 ghost use Rattle.rep_lists.specs.Rising.{IsThere, IsGap};
 ghost use Rattle.origin_marks.specs.Edges.{IsFalling, count_below, flipped};
 
+use rep_lists::RoomyList;
 use std::cmp::Ordering;
 
 /// The place of an edge, or else the place where it would stand.
@@ -30,28 +31,18 @@ pub(crate) fn edges_below(edges: &[u64], position: u64) -> usize
     }
 }
 
-/// Inserts an edge. There is room for it, so this never fails.
-fn insert_in_room(edges: &mut Vec<u64>, place: usize, edge: u64)
-    requires place { place ≤ vec_len edges.old }
-    requires room { vec_len edges.old < vec_capacity edges.old }
-    ensures edges { edges.new.items ≡ insert edges.old.items place edge }
-    ensures room { vec_capacity edges.old - vec_len edges.old ≤ (vec_capacity edges.new - vec_len edges.new) + 1 }
-{
-    let _ = edges.insert(place, edge);
-}
-
 /// Takes an edge out, or puts it in where it isn't there.
-fn flip(edges: &mut Vec<u64>, edge: u64)
+fn flip(edges: &mut RoomyList<u64>, edge: u64)
     requires falling { IsFalling edges.old.items }
-    requires room { 1 ≤ vec_capacity edges.old - vec_len edges.old }
+    requires room { 1 ≤ edges.old.spare }
     ensures edges { edges.new.items ≡ flipped edge edges.old.items }
-    ensures room { vec_capacity edges.old - vec_len edges.old ≤ (vec_capacity edges.new - vec_len edges.new) + 1 }
+    ensures room { edges.old.spare ≤ edges.new.spare + 1 }
 {
-    match search(edges, edge) {
+    match search(edges.as_slice(), edge) {
         Ok(place) => {
             edges.remove(place);
         }
-        Err(place) => insert_in_room(edges, place, edge),
+        Err(place) => edges.insert(place, edge),
     }
 }
 
@@ -64,16 +55,18 @@ fn is_free(edges: &[u64], place: usize, position: u64) -> bool
 }
 
 /// Flips both edges beside a position, so that it is finished and no other one changes.
-pub(crate) fn flip_beside(edges: &mut Vec<u64>, position: u64)
+pub(crate) fn flip_beside(edges: &mut RoomyList<u64>, position: u64)
     requires falling { IsFalling edges.old.items }
     requires from_one { 1 ≤ position }
-    requires room { 2 ≤ vec_capacity edges.old - vec_len edges.old }
+    requires room { 2 ≤ edges.old.spare }
     ensures edges { edges.new.items ≡ flipped position (flipped (position - 1) edges.old.items) }
-    ensures room { vec_capacity edges.old - vec_len edges.old ≤ (vec_capacity edges.new - vec_len edges.new) + 2 }
+    ensures room { edges.old.spare ≤ edges.new.spare + 2 }
 {
-    match search(edges, position - 1) {
+    match search(edges.as_slice(), position - 1) {
         // An interval that ends before the position grows in its place.
-        Ok(place) if is_free(edges, place, position) => edges[place] = position,
+        Ok(place) if is_free(edges.as_slice(), place, position) => {
+            edges.replace(place, position);
+        }
         _ => {
             flip(edges, position - 1);
             flip(edges, position);

@@ -1,9 +1,9 @@
 //! The finished positions of one sender.
 ghost use Rattle.std.specs.Prelude.{◌≡◌, ℕ, ◌+◌, ◌<◌, ◌≤◌, ◌==◌, ◌||◌, ◌&&◌, false, not, nat_le, OnOk};
-ghost use Rattle.origin_marks.specs.Marks.{finished, IsLowWater};
+ghost use Rattle.origin_marks.specs.Marks.{finished, IsLowWater, IsHighest};
 
 use crate::edges::{edges_below, flip_beside};
-use rep_lists::NoMemory;
+use rep_lists::{NoMemory, RoomyList};
 use std::alloc::Global;
 use std::marker::Model;
 
@@ -12,17 +12,17 @@ use std::marker::Model;
 pub struct Finished {
     // The edges of the intervals of finished positions: 0 and 2 where 1 and 2 are finished. A position far ahead
     // costs two edges. The highest comes first, so what is finished behind the low-water mark moves only edges at the end.
-    edges: Vec<u64>,
+    edges: RoomyList<u64>,
 }
 
 impl Model for Finished {
-    ghost use Rattle.std.specs.Prelude.{◌-◌, ◌/◌, vec_len, vec_capacity};
+    ghost use Rattle.std.specs.Prelude.{◌/◌};
     ghost use Rattle.origin_marks.specs.Marks.{Marked};
     ghost use Rattle.origin_marks.specs.Edges.{IsEdges};
 
     ghost Value = { Marked };
 
-    ghost view = { λ f. record { edges = f.edges.items; room = (vec_capacity f.edges - vec_len f.edges) / 2 } };
+    ghost view = { λ f. record { edges = f.edges.items; room = f.edges.spare / 2 } };
 
     ghost invariant = { λ f. IsEdges f.edges.items };
 }
@@ -33,7 +33,7 @@ impl Finished {
         ensures { (p : ℕ) → finished result p ≡ false }
     {
         Finished {
-            edges: Vec::new(alloc),
+            edges: RoomyList::new(alloc),
         }
     }
 
@@ -62,7 +62,7 @@ impl Finished {
     pub fn is_finished(&self, position: u64) -> bool
         ensures { result ≡ finished self.now position }
     {
-        edges_below(&self.edges, position) % 2 == 1
+        edges_below(self.edges.as_slice(), position) % 2 == 1
     }
 
     /// The greatest number with all positions from 1 up to it finished.
@@ -72,6 +72,16 @@ impl Finished {
         match self.edges.as_slice() {
             [.., mark, lowest] => { if *lowest == 0 { *mark } else { 0 } }
             _ => 0,
+        }
+    }
+
+    /// The greatest finished position, 0 where none is.
+    pub fn highest(&self) -> u64
+        ensures { IsHighest (finished self.now) result }
+    {
+        match self.edges.as_slice() {
+            [highest, ..] => *highest,
+            [] => 0,
         }
     }
 

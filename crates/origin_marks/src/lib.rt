@@ -7,6 +7,3 @@ mod laws;
 
 pub use finished::Finished;
 pub use laws::low_water_laws;
-
-#[cfg(test)]
-mod tests;

@@ -7,21 +7,18 @@ use Rattle.rep_values.specs.declared.refusal.ApplyError.TheVariants.{NoRow, Dele
 use Rattle.rep_schema.specs.declared.schema.Schema.{Schema}
 use Rattle.rep_schema.specs.declared.schema.Column.{Column}
 use Rattle.rep_schema.specs.declared.change.Change.{Change}
-use Rattle.rep_schema.specs.Tables.{Cells, Rows, columns_of, key_of, find_row, rows_of, IsKeyed}
+use Rattle.rep_schema.specs.Tables.{Cells, Rows, columns_of, find_row, rows_of}
 use Rattle.rep_schema.specs.Groups.{groups_of, named_columns, are_same}
 use Rattle.rep_calls.specs.declared.call.Call.{Call}
 use Rattle.rep_calls.specs.declared.call.Call.TheVariants.{Insert, Update, Delete}
 use Rattle.rep_schema.specs.Putting.{changes_between}
 use Rattle.conflict_detect.specs.Fits.{table_of}
+pub use Rattle.conflict_detect.specs.KeysNamed.{HasKeys, key_named}
 use Rattle.unique_resolve.specs.declared.settled.Settled.{Settled}
 use Rattle.unique_resolve.specs.declared.settled.Settled.TheVariants.{Fits, Dropped, Conflict}
 use Rattle.unique_resolve.specs.Numbers.{Numbers}
 use Rattle.unique_resolve.specs.Settling.{Settlement, settlement_of}
 use Rattle.txn_effects.specs.Parts.{result_then, settled_parts}
-
--- every table has 1 to 4 key columns
-abbrev pub HasKeys : Schema → Type 0
-HasKeys schema = (table : ℕ) → table < length schema.tables → IsKeyed (columns_of schema table)
 
 -- a column at this place is no key column
 abbrev pub IsOffTheKey : List Column → ℕ → Type 0
@@ -31,12 +28,6 @@ IsOffTheKey columns place = IfSome (slice_get columns place) (λ column. column.
 abbrev pub KeysStandAlone : Schema → Type 0
 KeysStandAlone schema = (table : ℕ) → table < length schema.tables → (group : ℕ)
     → AllByRecursion (IsOffTheKey (columns_of schema table)) (named_columns (slice_get (groups_of schema table) group))
-
--- the key of the row that a call names
-abbrev pub key_named : Schema → Call → Cells
-key_named schema (Insert table row) = key_of (columns_of schema table) row
-key_named schema (Update table key parts) = key
-key_named schema (Delete table row) = key_of (columns_of schema table) row
 
 -- the row that a call names, where it is there
 abbrev pub row_named : Schema → List Rows → Call → Option Cells

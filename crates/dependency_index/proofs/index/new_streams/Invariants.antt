@@ -8,5 +8,5 @@ use Rattle.dependency_index.proofs.index.new_streams.Given as goal
 abbrev pub invariant-loop-site : goal.invariant-loop-site
 invariant-loop-site l = record {
   unnoted : AllByRecursion IsUnnoted l.streams.items;
-  sites : map (λ s. s.site) l.streams.items ≡ take l.site-index l.destinations;
+  sites : map (λ s. s.kept.site) l.streams.items ≡ take l.site-index l.destinations;
 }

@@ -7,4 +7,4 @@ use Rattle.dependency_index.proofs.touched.is_constrained.Goals as goal
 
 pub returns : goal.returns
 returns c =
-    c.stands_in_one.ensures ∙ rw c.constraints_of.ensures (sym (list_any-flat_map (λ (n : ℕ). n == c.args.column) (λ (constraint : Constraint). constraint.columns) (constraints_of c.args.schema.now c.args.table)))
+    c.is_taken.ensures ∙ rw c.constraints_of.ensures (sym (list_any-flat_map (λ (n : ℕ). n == c.args.column) (λ (constraint : Constraint). constraint.columns) (constraints_of c.args.schema.now c.args.table)))

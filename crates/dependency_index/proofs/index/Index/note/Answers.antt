@@ -1,6 +1,7 @@
 -- Noting a transaction.
-use Rattle.std.proofs.Common.{sym, ◌∙◌, arith}
-use Rattle.dependency_index.proofs.FirstStreams.{noted_to-place, noted_to-none, noted_to-set, noted_to-set_other, sites-set, greatest_noted-found, IsNoted-next}
+use Rattle.std.proofs.Common.{sym, ap, ◌∙◌, arith}
+use Rattle.dependency_index.specs.Dependencies.{room_in}
+use Rattle.dependency_index.proofs.FirstStreams.{noted_to-place, noted_to-none, noted_to-set, noted_to-set_other, sites-set, greatest_noted-found, IsNoted-next, IsNoted-found}
 use Rattle.dependency_index.proofs.index.Index.note.Goals as goal
 
 -- the destination has a place
@@ -32,7 +33,12 @@ returns-clause-noted c =
 pub returns-clause-others : goal.returns-clause-others
 returns-clause-others c =
     let found = rw c.deref.ensures.value at c.in-Some.ensures in
-    rw (← c.self.view_is) (λ site other. noted_to-set_other _ site _ _ _ _ found c.index_mut-stream.ensures.value c.note.ensures.site other)
+    rw (← c.self.view_is) (λ site stream other is. IsNoted-found _ _ site stream (noted_to-set_other _ site _ _ _ _ found c.index_mut-stream.ensures.value c.note.ensures.site other) is)
+
+pub returns-clause-other_room : goal.returns-clause-other_room
+returns-clause-other_room c =
+    let found = rw c.deref.ensures.value at c.in-Some.ensures in
+    rw (← c.self.view_is) (λ site other. ap room_in (noted_to-set_other _ site _ _ _ _ found c.index_mut-stream.ensures.value c.note.ensures.site other))
 
 pub returns-clause-room : goal.returns-clause-room
 returns-clause-room c =

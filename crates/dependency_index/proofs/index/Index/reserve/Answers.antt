@@ -8,9 +8,6 @@ returns-in_err-reserve_each-clause-noted c = rw (← c.self.view_is) (λ site st
 pub returns-in_err-reserve_each-clause-room : goal.returns-in_err-reserve_each-clause-room
 returns-in_err-reserve_each-clause-room c = rw (← c.self.view_is) (λ site. (noted_to-kept site _ _ c.reserve_each.ensures.kept).room)
 
-pub returns-in_err-reserve_each-clause-destinations : goal.returns-in_err-reserve_each-clause-destinations
-returns-in_err-reserve_each-clause-destinations c = rw (← c.self.view_is) (sites-kept _ _ c.reserve_each.ensures.kept)
-
 pub returns-clause-ok : goal.returns-clause-ok
 returns-clause-ok c =
     let room = rw c.len.ensures at c.in_ok-reserve_each.ensures.ok in
@@ -21,6 +18,9 @@ returns-clause-noted c = rw (← c.self.view_is) (λ site stream is. IsNoted-kep
 
 pub returns-clause-room : goal.returns-clause-room
 returns-clause-room c = rw (← c.self.view_is) (λ site. (noted_to-kept site _ _ c.reserve_each.ensures.kept).room)
+
+pub returns-in_err-reserve_each-clause-destinations : goal.returns-in_err-reserve_each-clause-destinations
+returns-in_err-reserve_each-clause-destinations c = rw (← c.self.view_is) (sites-kept _ _ c.reserve_each.ensures.kept)
 
 pub returns-clause-destinations : goal.returns-clause-destinations
 returns-clause-destinations c = rw (← c.self.view_is) (sites-kept _ _ c.reserve_each.ensures.kept)
