@@ -5,3 +5,4 @@ pub mod FedLemmas
 pub mod EndLemmas
 pub mod LimitLemmas
 pub mod ToldLemmas
+mod KeptLemmas

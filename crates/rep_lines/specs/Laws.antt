@@ -1,7 +1,7 @@
 -- Laws of lines, and of what they print.
-use Rattle.std.specs.Prelude.{◌≡◌, ℕ, ◌<◌, ◌≤◌, List, [], ◌++◌, length, true, All}
+use Rattle.std.specs.Prelude.{◌≡◌, ℕ, ◌<◌, ◌≤◌, Bool, List, [], ◌++◌, length, true, All}
 use Rattle.rep_lines.specs.Lines.{whole_lines, pending, lines_after, joined, IsUnbroken}
-use Rattle.rep_lines.specs.Runs.{Stepped, halts, printed, is_stopped}
+use Rattle.rep_lines.specs.Runs.{Stepped, halts, printed, is_stopped, state_after}
 use Rattle.rep_lines.specs.Limits.{limited}
 use Rattle.rep_lines.specs.Fed.{Begins, Standing, Fed, prints_from, stops_from}
 
@@ -34,6 +34,15 @@ module _ {W : Type 0} (step : W → ℕ → List ℕ → Stepped W) where
   abbrev pub GoesOn : Standing W → List ℕ → List ℕ → Standing W → List ℕ → Type 0
   GoesOn old bytes out new rest = Fed step old bytes out new
       → (prints_from step old (bytes ++ rest) ≡ out ++ prints_from step new rest) × (stops_from step old (bytes ++ rest) ≡ stops_from step new rest)
+
+  -- no step leaves the states of which it holds
+  abbrev pub StepsKeep : (W → Bool) → Type 0
+  StepsKeep holds = (w : W) (n : ℕ) (line : List ℕ) → holds w ≡ true → holds (step w n line).state ≡ true
+
+  -- what every step keeps holds behind any lines, and wherever a run stands that was fed bytes
+  pub record HoldsThroughout (holds : W → Bool) : Type 0 where
+    pub behind : (w : W) (n : ℕ) (lines : List (List ℕ)) → holds w ≡ true → holds (state_after step w n lines) ≡ true
+    pub fed : (old : Standing W) (bytes out : List ℕ) (new : Standing W) → Fed step old bytes out new → holds old.state ≡ true → holds new.state ≡ true
 
   -- the limits are tested in this order, and a line within them is under its own step
   pub record LimitsComeFirst (most_lines most_bytes : ℕ) (refusal : ℕ → ℕ → List ℕ) (w : W) (n : ℕ) (line : List ℕ) : Type 0 where

@@ -1,9 +1,9 @@
 //! Laws of lines and of what they print, for a step of any kind.
-ghost use Rattle.std.specs.Prelude.{ℕ, List, All};
+ghost use Rattle.std.specs.Prelude.{ℕ, Bool, List, All};
 ghost use Rattle.rep_lines.specs.Lines.{IsUnbroken};
 ghost use Rattle.rep_lines.specs.Runs.{Stepped};
 ghost use Rattle.rep_lines.specs.Fed.{Standing};
-ghost use Rattle.rep_lines.specs.Laws.{LinesJoin, LinesAreThese, LinesOfPieces, FrontIsPrinted, StopIsLast, GoesOn, LimitsComeFirst};
+ghost use Rattle.rep_lines.specs.Laws.{LinesJoin, LinesAreThese, LinesOfPieces, FrontIsPrinted, StopIsLast, GoesOn, StepsKeep, HoldsThroughout, LimitsComeFirst};
 
 /// Each byte stands in one line or behind the last, and no line goes over an end.
 pub fn lines_join_to_the_bytes()
@@ -37,6 +37,12 @@ pub fn stop_is_last<W>()
 pub fn run_goes_on<W>()
     ensures { (step : W → ℕ → List ℕ → Stepped W) (old : Standing W) (bytes out : List ℕ) (new : Standing W)
         (rest : List ℕ) → GoesOn step old bytes out new rest }
+{}
+
+/// What each step keeps holds of every state of a run.
+pub fn what_steps_keep_holds<W>()
+    ensures { (step : W → ℕ → List ℕ → Stepped W) (holds : W → Bool) → StepsKeep step holds
+        → HoldsThroughout step holds }
 {}
 
 /// What the limits of a script's lines refuse.
