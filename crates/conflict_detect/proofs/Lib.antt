@@ -2,7 +2,7 @@
 mod FitWalk
 pub mod FitTested
 mod Gathered
-mod FewParts
+pub mod FewParts
 pub mod RowAfter
 pub mod CallFit
 pub mod OwnCall

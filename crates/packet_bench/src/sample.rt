@@ -34,9 +34,9 @@ fn site(bytes: &[u8]) -> Option<SiteName> {
     Some(SiteName(Name::of(bytes)?))
 }
 
-/// The call, on its way from NYC to LON.
-fn carried(alloc: Global, call: Call) -> Result<Option<Packet>, NoMemory> {
-    let (Some(from), Some(to)) = (site(b"NYC"), site(b"LON")) else {
+/// The call, on its way between sites of these names.
+fn carried(alloc: Global, from: &[u8], to: &[u8], call: Call) -> Result<Option<Packet>, NoMemory> {
+    let (Some(from), Some(to)) = (site(from), site(to)) else {
         return Ok(None);
     };
     Ok(Some(Packet::Carry {
@@ -57,7 +57,7 @@ pub fn insert_packet(alloc: Global) -> Result<Option<Packet>, NoMemory> {
     let Some(row) = Row::of(alloc, &values)? else {
         return Ok(None);
     };
-    carried(alloc, Call::Insert { table: 3, row })
+    carried(alloc, b"NYC", b"LON", Call::Insert { table: 3, row })
 }
 
 fn part(alloc: Global, group: u8, old: Value, new: Value) -> Result<Part, NoMemory> {
@@ -77,7 +77,8 @@ fn three_parts(alloc: Global, old: Value, new: Value) -> Result<Items<Part>, NoM
     Ok(parts)
 }
 
-/// A transaction of one update that changes a column of each of three groups, under a key of two values.
+/// A transaction of one update of the storm, without its stamps: a column of each of three groups changes, under a key of
+/// two values.
 pub fn update_packet(alloc: Global) -> Result<Option<Packet>, NoMemory> {
     let (Some(home), Some(old), Some(new)) = (words(b"A"), words(b"base"), words(b"n12345")) else {
         return Ok(None);
@@ -88,6 +89,8 @@ pub fn update_packet(alloc: Global) -> Result<Option<Packet>, NoMemory> {
     let parts = three_parts(alloc, old, new)?;
     carried(
         alloc,
+        b"A",
+        b"B",
         Call::Update {
             table: 0,
             key,

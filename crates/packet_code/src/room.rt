@@ -7,6 +7,7 @@ use rep_calls::{Call, Part, Txn};
 use rep_values::Value;
 
 /// The kind, and the number or the length and the text.
+#[inline(always)]
 fn value_room(value: &Value) -> usize
     ensures { HasTextForm value.now }
 {
@@ -16,6 +17,7 @@ fn value_room(value: &Value) -> usize
     }
 }
 
+#[inline(always)]
 fn values_room(values: &[Value]) -> usize
     ensures { HaveTextForm values.now }
 {

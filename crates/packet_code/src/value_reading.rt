@@ -47,6 +47,7 @@ fn text_value(bytes: &mut Reader<'_>) -> Result<Value, Stop>
     }
 }
 
+#[inline(always)]
 #[tactic(auto, unfolding(crate::specs::Forms::value), using(crate::proofs::Behind::read_behind))]
 fn value(bytes: &mut Reader<'_>) -> Result<Value, Stop>
     ensures { Reads value result bytes.old bytes.new }

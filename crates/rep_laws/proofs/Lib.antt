@@ -15,3 +15,4 @@ pub mod SameContent
 pub mod ContentAfter
 pub mod EitherOrder
 mod WorkedIndependence
+mod PlainCalls

@@ -1,3 +1,4 @@
 -- The definitions of this crate.
 pub mod SoundSchemas
 pub mod Commuting
+pub mod Packets
