@@ -77,8 +77,8 @@ fn three_parts(alloc: Global, old: Value, new: Value) -> Result<Items<Part>, NoM
     Ok(parts)
 }
 
-/// A transaction of one update of the storm, without its stamps: a column of each of three groups changes, under a key of
-/// two values.
+/// A transaction of one update of the storm, without its stamps: a column of each of three groups changes, under a key
+/// of two values.
 pub fn update_packet(alloc: Global) -> Result<Option<Packet>, NoMemory> {
     let (Some(home), Some(old), Some(new)) = (words(b"A"), words(b"base"), words(b"n12345")) else {
         return Ok(None);

@@ -22,7 +22,7 @@ use Rattle.rep_calls.specs.declared.call.Call.TheVariants.{Insert, Update, Delet
 use Rattle.rep_calls.specs.declared.call.Part.{Part}
 use Rattle.conflict_detect.specs.Fits.{IsGroupOf, PartFits, CallFits}
 use Rattle.conflict_detect.proofs.FewParts.{length-UpdateFits}
-use Rattle.txn_effects.specs.Calls.{HasKeys}
+use Rattle.conflict_detect.specs.KeysNamed.{HasKeys}
 use Rattle.packet_code.specs.Limits.{IsPlainValue, IsPlainRow, IsPlainKey, is_group_number, IsPlainPart, IsPlainCall}
 use Rattle.packet_code.specs.Texts.{HasTextForm, HaveTextForm, PartHasTextForm, CallHasTextForm}
 

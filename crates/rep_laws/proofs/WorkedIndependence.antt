@@ -172,8 +172,8 @@ schema_has_shape = record {
   site_masters = All-from_recursion (HasMaster schema.sites) schema.sites (tt, tt);
   tables = All-from_recursion (HasTableShape 0) schema.tables (
     table_has_shape (codes "T") (code_constraint ∷ []) (omega arith)
-    (All-from_recursion (HasConstraintShape 2) (code_constraint ∷ []) (code_constraint_has_shape, tt))
-    (All-from_recursion (λ c. c.name ≢ key_name) (code_constraint ∷ []) ((λ same. cc), tt)),
+        (All-from_recursion (HasConstraintShape 2) (code_constraint ∷ []) (code_constraint_has_shape, tt))
+        (All-from_recursion (λ c. c.name ≢ key_name) (code_constraint ∷ []) ((λ same. cc), tt)),
     (table_has_shape (codes "S") [] (omega arith) (All-from_recursion _ [] tt) (All-from_recursion _ [] tt), tt),
   );
   table_number = omega arith;
@@ -210,20 +210,26 @@ insert_fits = record { calls = (record { table = omega arith; content = ((omega 
 update_fits : TxnFits schema (update 1 1)
 unfolding group_columns_of
 update_fits = record {
-  calls = (record {
-    table = omega arith;
-    content = record {
-      key_fits = ((omega arith, omega arith), tt);
-      some = omega arith;
-      parts_fit = (record {
-        group = Contains-named schema 1 0 (omega arith);
-        old = ((omega arith, omega arith), tt);
-        new = ((omega arith, omega arith), tt);
-        differ = λ same. cc;
-      }, tt);
-      rise = λ k within. absurd (omega (arith, within));
-    };
-  }, tt);
+  calls = (
+    record {
+      table = omega arith;
+      content = record {
+        key_fits = ((omega arith, omega arith), tt);
+        some = omega arith;
+        parts_fit = (
+          record {
+            group = Contains-named schema 1 0 (omega arith);
+            old = ((omega arith, omega arith), tt);
+            new = ((omega arith, omega arith), tt);
+            differ = λ same. cc;
+          },
+          tt,
+        );
+        rise = λ k within. absurd (omega (arith, within));
+      };
+    },
+    tt,
+  );
 }
 
 -- so the law says that they commute

@@ -4,7 +4,7 @@ use Rattle.rep_schema.specs.declared.schema.Schema.{Schema}
 use Rattle.rep_schema.specs.Shape.{HasShape}
 use Rattle.rep_calls.specs.declared.call.Txn.{Txn}
 use Rattle.conflict_detect.specs.Fits.{TxnFits}
-use Rattle.txn_effects.specs.Calls.{HasKeys}
+use Rattle.conflict_detect.specs.KeysNamed.{HasKeys}
 use Rattle.packet_code.specs.Limits.{IsPlainTxn}
 use Rattle.packet_code.specs.Texts.{TxnHasTextForm}
 
