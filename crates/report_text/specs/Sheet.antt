@@ -14,6 +14,18 @@ pub record Appends (old new : Sheet) (piece : List ℕ) : Type 0 where
   pub bytes : new.bytes ≡ old.bytes ++ piece
   pub room : old.room ≤ new.room + length piece
 
+-- the bytes stand in front of the others
+abbrev pub StandBefore : List ℕ → List ℕ → Type 0
+StandBefore bytes longer = (more : List ℕ) × (longer ≡ bytes ++ more)
+
+-- a line has at most so many bytes, where it has no row
+abbrev pub most_line : ℕ
+most_line = 256
+
+-- a value behind its space has at most so many bytes
+abbrev pub most_value : ℕ
+most_value = 67
+
 -- a text between quotes
 abbrev pub quoted : List ℕ → List ℕ
 quoted text = 39 ∷ (text ++ 39 ∷ [])

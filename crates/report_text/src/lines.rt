@@ -9,6 +9,9 @@ use rep_values::NoMemory;
 use std::alloc::Global;
 use std::marker::Model;
 
+/// The most bytes of a line without a row.
+pub const MOST_LINE: u64 = 256;
+
 /// The report bytes of one command. Room is taken first, so that a line can be put without want of memory.
 #[derive(Drop)]
 pub struct Lines {

@@ -1,6 +1,6 @@
 //! Lines of at most 256 bytes, which are put into room that is there.
 ghost use Rattle.std.specs.Prelude.{◌≤◌};
-ghost use Rattle.report_text.specs.Sheet.{Appends};
+ghost use Rattle.report_text.specs.Sheet.{Appends, most_line};
 ghost use Rattle.report_text.specs.Texts.{commit_text, push_text, malformed_text};
 
 use crate::{Lines, Word};
@@ -18,7 +18,7 @@ pub struct PushCount {
 
 /// `commit SITE NUMBER`
 pub fn commit_line(lines: &mut Lines, site: SiteName, number: u64)
-    requires { 256 ≤ lines.old.room }
+    requires { most_line ≤ lines.old.room }
     ensures { Appends lines.old lines.new (commit_text site.0 number) }
 {
     lines.put_line(b"commit", &[Word::Name(site.0), Word::Number(number)]);
@@ -26,7 +26,7 @@ pub fn commit_line(lines: &mut Lines, site: SiteName, number: u64)
 
 /// `push A B sent N done D errors E low M`
 pub fn push_line(lines: &mut Lines, from: SiteName, to: SiteName, count: PushCount)
-    requires { 256 ≤ lines.old.room }
+    requires { most_line ≤ lines.old.room }
     ensures { Appends lines.old lines.new (push_text from.0 to.0 count) }
 {
     lines.put_line(
@@ -48,7 +48,7 @@ pub fn push_line(lines: &mut Lines, from: SiteName, to: SiteName, count: PushCou
 
 /// `malformed LINE RULE`
 pub fn malformed_line(lines: &mut Lines, line: u32, rule: u8)
-    requires { 256 ≤ lines.old.room }
+    requires { most_line ≤ lines.old.room }
     ensures { Appends lines.old lines.new (malformed_text line rule) }
 {
     lines.put_line(

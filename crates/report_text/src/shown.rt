@@ -1,20 +1,24 @@
 //! What the show commands print, which takes memory.
-ghost use Rattle.std.specs.Prelude.{◌≡◌, ◌≤◌, ◌<◌, ◌+◌, ◌*◌, ◌∷◌, ◌++◌, length, drop, map, OnOk};
+ghost use Rattle.std.specs.Prelude.{◌≡◌, ◌≤◌, ◌<◌, ◌+◌, ◌*◌, ◌∷◌, ◌++◌, length, drop, map, OnOk, OnErr};
 ghost use Rattle.std.specs.List.{flat_map};
 ghost use Rattle.rep_values.specs.Number.{IsRowLen};
 ghost use Rattle.rep_schema.specs.Tables.{rows_of};
-ghost use Rattle.report_text.specs.Sheet.{Appends, spaced};
+ghost use Rattle.report_text.specs.Sheet.{Appends, StandBefore, spaced, most_value};
 ghost use Rattle.report_text.specs.Texts.{value_text, row_text, table_text, tables_text};
 
+use crate::lines::MOST_LINE;
 use crate::{Lines, Word};
 use rep_schema::RowStore;
 use rep_values::{NoMemory, Row, SiteName, TableName, Value};
 
+/// The most bytes of a row's line: its word, 32 values of at most 67 bytes with their spaces, and its end.
+const MOST_ROW: u64 = 2_148;
+
 /// Each value behind a space.
 fn put_values(lines: &mut Lines, values: &[Value])
-    requires { 67 * length values.now ≤ lines.old.room }
+    requires { most_value * length values.now ≤ lines.old.room }
     ensures text { Appends lines.old lines.new (spaced (map value_text values.now)) }
-    ensures room { lines.old.room ≤ lines.new.room + 67 * length values.now }
+    ensures room { lines.old.room ≤ lines.new.room + most_value * length values.now }
 {
     for value in values {
         match *value {
@@ -27,9 +31,10 @@ fn put_values(lines: &mut Lines, values: &[Value])
 /// `row VALUES`
 fn add_row(lines: &mut Lines, values: &[Value]) -> Result<(), NoMemory>
     requires { IsRowLen (length values.now) }
-    ensures { OnOk result (lines.new.bytes ≡ lines.old.bytes ++ row_text values.now) }
+    ensures ok { OnOk result (lines.new.bytes ≡ lines.old.bytes ++ row_text values.now) }
+    ensures err { OnErr result (lines.new.bytes ≡ lines.old.bytes) }
 {
-    lines.reserve(2_200)?;
+    lines.reserve(MOST_ROW)?;
     lines.put(b"row");
     put_values(lines, values);
     lines.put(b"\n");
@@ -56,10 +61,11 @@ fn add_table<R: RowStore>(
     table: u32,
 ) -> Result<(), NoMemory>
     requires { table < length (R.schema store.now).tables }
-    ensures { OnOk result (lines.new.bytes ≡ lines.old.bytes ++ table_text name.0 (rows_of (R.tables store.now) table)) }
+    ensures ok { OnOk result (lines.new.bytes ≡ lines.old.bytes ++ table_text name.0 (rows_of (R.tables store.now) table)) }
+    ensures err { OnErr result (StandBefore lines.old.bytes lines.new.bytes) }
 {
     let count = store.count(table);
-    lines.reserve(256)?;
+    lines.reserve(MOST_LINE)?;
     lines.put_line(b"table", &[Word::Name(name.0), Word::Number(count)]);
     for place in 0..count {
         add_row(lines, row_at(store, table, place).values())?;
@@ -68,12 +74,13 @@ fn add_table<R: RowStore>(
 }
 
 /// What `show tables` prints of a site: its name, and each table in declared order with its rows. Where there is no
-/// memory, part of it may stand in the lines.
+/// memory, what stood in the lines still stands in front, and part of this may stand behind it.
 pub fn add_tables<R: RowStore>(lines: &mut Lines, site: SiteName, store: &R) -> Result<(), NoMemory>
     requires { length (R.schema store.now).tables ≤ 32 }
-    ensures { OnOk result (lines.new.bytes ≡ lines.old.bytes ++ tables_text site.0 (R.schema store.now) (R.tables store.now)) }
+    ensures ok { OnOk result (lines.new.bytes ≡ lines.old.bytes ++ tables_text site.0 (R.schema store.now) (R.tables store.now)) }
+    ensures err { OnErr result (StandBefore lines.old.bytes lines.new.bytes) }
 {
-    lines.reserve(256)?;
+    lines.reserve(MOST_LINE)?;
     lines.put_line(b"tables", &[Word::Name(site.0)]);
     let schema = store.schema();
     for table in 0..schema.tables.len() {

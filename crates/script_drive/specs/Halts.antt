@@ -8,6 +8,7 @@ use Rattle.rep_lines.specs.Runs.{Stepped}
 use Rattle.rep_lines.specs.Fed.{Standing, EndsStoppedInto, EndsShortInto}
 use Rattle.script_drive.specs.declared.status.Status.{Status}
 use Rattle.script_drive.specs.declared.status.Status.TheVariants as status
+use Rattle.script_drive.specs.Lines.{most_bytes}
 use Rattle.script_drive.specs.declared.run.Halt.{Halt}
 use Rattle.script_drive.specs.declared.run.Halt.TheVariants.{Malformed, WriteFault, Memory}
 
@@ -36,4 +37,4 @@ pub record HasWriteCause {T : Type 0} (before now : ℕ) (result : Result T Halt
 
 -- how far a run is, in bytes, where each line has as many as it may
 abbrev pub progress : {W : Type 0} → Standing W → ℕ
-progress at = 1025 * at.number + length at.line
+progress at = (most_bytes + 1) * at.number + length at.line

@@ -11,16 +11,18 @@ ghost use Rattle.script_drive.specs.Halts.{HaltsInto, RefusesInto, HasWriteCause
 
 use crate::status::Status;
 use rep_io::{Sink, offer};
-use report_text::{Lines, malformed_line};
+use report_text::{Lines, MOST_LINE, malformed_line};
 use script_lex::LineStop;
 use std::alloc::{AllocError, Global};
 use std::marker::Model;
 
+/// The most lines of a script.
 const MOST_LINES: u32 = 200_000;
 
+/// The most bytes of a line before its end.
 const MOST_BYTES: usize = 1_024;
 
-/// No run goes on that is further.
+/// No run goes on that is further: 1,025 bytes for each line up to the one that is too many, and 1,024 of that.
 pub(crate) const MOST_PROGRESS: u32 = 205_002_049;
 
 /// What runs the lines of a script.
@@ -176,7 +178,7 @@ fn refuse<K: Sink>(alloc: Global, number: u32, rule: u8, sink: &mut K) -> Halt
     ensures cause { result ≡ Halt.WriteFault → Rose (K.faults sink.old) (K.faults sink.new) }
 {
     let mut told = Lines::make(alloc);
-    let Ok(()) = told.reserve(256) else {
+    let Ok(()) = told.reserve(MOST_LINE) else {
         return Halt::Memory;
     };
     malformed_line(&mut told, number, rule);
