@@ -1,12 +1,11 @@
 //! Changes of rows, and taking them back.
-ghost use Rattle.std.specs.Prelude.{◌≡◌, ◌≢◌, ◌↔◌, ℕ, ◌+◌, ◌<◌, ◌≤◌, List, [], ◌∷◌, length, slice_index, IsTrue, IfOk};
+ghost use Rattle.std.specs.Prelude.{◌≡◌, ◌≢◌, ◌↔◌, ℕ, ◌+◌, ◌<◌, ◌≤◌, List, [], ◌∷◌, length, slice_index, IsTrue};
 ghost use Rattle.rep_schema.specs.Tables.{Rows, key_of, RowFits, IsKeyed, AreTables};
 ghost use Rattle.rep_schema.specs.Changes.{ChangeFits, HaveLed, LeadsTo, unmade, room_for};
 
 use crate::{Column, RowStore, Schema, columns_of, has_key, is_keyed, key_of, row_fits};
-use rep_lists::{Copies, Items, NoMemory};
+use rep_lists::Items;
 use rep_values::{Row, same_values};
-use std::alloc::Global;
 
 /// A row that was added, replaced or taken, as it was before and as it is after. None stands for no row.
 #[derive(Drop)]
@@ -20,33 +19,6 @@ pub struct Change {
 #[derive(Drop)]
 pub struct Changes {
     pub rows: Items<Change>,
-}
-
-fn copy_row(alloc: Global, row: &Option<Row>) -> Result<Option<Row>, NoMemory>
-    ensures { IfOk result (λ copied. copied ≡ row.now) }
-{
-    match row {
-        Some(row) => Ok(Some(row.copy(alloc)?)),
-        None => Ok(None),
-    }
-}
-
-impl Copies for Change {
-    fn copy(&self, alloc: Global) -> Result<Change, NoMemory> {
-        Ok(Change {
-            table: self.table,
-            before: copy_row(alloc, &self.before)?,
-            after: copy_row(alloc, &self.after)?,
-        })
-    }
-}
-
-impl Copies for Changes {
-    fn copy(&self, alloc: Global) -> Result<Changes, NoMemory> {
-        Ok(Changes {
-            rows: self.rows.copy(alloc)?,
-        })
-    }
 }
 
 /// Whether two rows fit, differ, and have one key.

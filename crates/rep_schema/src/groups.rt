@@ -15,7 +15,7 @@ use std::marker::Model;
 /// The number of the shadow group. A named group's number is its place.
 pub const SHADOW: u8 = 255;
 
-/// The columns of a shadow group, in rising order. They are kept in place.
+/// The columns of a shadow group. They are kept in place.
 #[derive(Drop)]
 struct ShadowColumns {
     cells: [u32; 32],
@@ -57,8 +57,8 @@ impl ShadowColumns {
     }
 }
 
-/// The columns of one group of a table, in rising order: those of a named group where they stand in the schema, those
-/// of the shadow group computed. They take no memory.
+/// The columns of one group of a table: those of a named group where they stand in the schema, those of the shadow
+/// group computed. They take no memory.
 #[derive(Drop)]
 pub struct GroupColumns<'a> {
     named: &'a [u32],

@@ -22,7 +22,7 @@ pub struct SiteEntry {
     pub name: SiteName,
     /// None for a master site.
     pub master: Option<SiteName>,
-    /// The level that site-priority compares, within ±10^15.
+    /// The level that site-priority compares. A declaration gives none outside ±10^15.
     pub level: Option<i64>,
 }
 
@@ -83,7 +83,7 @@ pub struct PriorityGroup {
     pub levels: Items<PriorityLevel>,
 }
 
-/// The level of one value, within ±10^15.
+/// The level of one value. A declaration gives none outside ±10^15.
 #[derive(Clone, Copy)]
 pub struct PriorityLevel {
     pub value: Value,
