@@ -4,6 +4,3 @@
 mod table;
 
 pub use table::CaseTable;
-
-#[cfg(test)]
-mod tests;

@@ -9,8 +9,6 @@ mod schedule;
 mod sink;
 mod source;
 mod standard;
-#[cfg(test)]
-mod tests;
 
 pub use bytes_sink::BytesSink;
 pub use bytes_source::BytesSource;

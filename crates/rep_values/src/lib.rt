@@ -24,6 +24,3 @@ pub use rep_lists::NoMemory;
 pub use row::Row;
 pub use text::Text;
 pub use value::Value;
-
-#[cfg(test)]
-mod tests;

@@ -1,6 +1,6 @@
 //! Calls of the objects in memory, with ample memory.
 
-use crate::{BytesSink, BytesSource, Failed, FailingSink, FailingSource, Sink, Source, offer};
+use rep_io::{BytesSink, BytesSource, Failed, FailingSink, FailingSource, Sink, Source, offer};
 use std::test::Fail;
 
 #[test]

@@ -1,0 +1,73 @@
+//! Cases of values, names, keys, rows, refusals, lists and calls: each line of the input is one, and its outcome is
+//! printed behind it.
+#![tactic(auto)]
+
+mod calls;
+mod cells;
+mod lists;
+mod order;
+mod statements;
+mod values;
+
+use anyhow::Result;
+use calls::{call_case, txn_case};
+use case_lines::{CaseStop, Words};
+use cells::cell_case;
+use lists::{items_case, roomy_case, shared_case};
+use order::{key_order_case, name_order_case, value_order_case};
+use script_lex::lex;
+use statements::statement_case;
+use std::alloc::Global;
+use values::{
+    byte_case, key_case, literal_case, name_case, refusals_case, row_case, set_case, text_case,
+};
+
+/// A kind of case by its first word.
+fn run_case(out: &mut String, alloc: Global, words: &mut Words) -> Result<(), CaseStop> {
+    match words.word()?.bytes() {
+        b"cell" => cell_case(out, alloc, words),
+        b"text" => text_case(out, alloc, words),
+        b"name" => name_case(out, alloc, words),
+        b"byte" => byte_case(out, words),
+        b"literal" => literal_case(out, alloc, words),
+        b"key" => key_case(out, alloc, words),
+        b"row" => row_case(out, alloc, words),
+        b"set" => set_case(out, alloc, words),
+        b"refusals" => refusals_case(out, alloc, words),
+        b"values" => value_order_case(out, words),
+        b"keys" => key_order_case(out, alloc, words),
+        b"names" => name_order_case(out, words),
+        b"items" => items_case(out, alloc, words),
+        b"roomy" => roomy_case(out, alloc, words),
+        b"shared" => shared_case(out, alloc, words),
+        b"call" => call_case(out, alloc, words),
+        b"txn" => txn_case(out, alloc, words),
+        b"statement" => statement_case(out, alloc, words),
+        _ => Err(CaseStop::NoCase),
+    }
+}
+
+fn outcome(alloc: Global, line: &[u8]) -> Result<String, CaseStop> {
+    let tokens = lex(alloc, line)?;
+    let mut words = Words::of(&tokens);
+    let mut out = String::new(alloc);
+    run_case(&mut out, alloc, &mut words)?;
+    words.end()?;
+    Ok(out)
+}
+
+fn main(rt: HostRuntime) -> Result<()> {
+    for line in rt.lines(rt.alloc()) {
+        let line = line?;
+        if line.is_empty() || line.starts_with('#') {
+            println!(rt; "{line}")?;
+            continue;
+        }
+        match outcome(rt.alloc(), line.as_bytes()) {
+            Ok(out) => println!(rt; "{line} =>{out}")?,
+            Err(CaseStop::NoCase) => println!(rt; "{line} => no case")?,
+            Err(CaseStop::Memory) => println!(rt; "{line} => no memory")?,
+        }
+    }
+    Ok(())
+}
