@@ -4,7 +4,6 @@ pub mod Positions
 pub mod Numbers
 mod Places
 pub mod KeptStreams
-mod InPlace
 mod Found
 mod Room
 mod Extending

@@ -3,3 +3,4 @@ pub mod Rising
 pub mod Places
 pub mod Each
 pub mod FoundByKey
+pub mod InPlace

@@ -1,7 +1,7 @@
 use Rattle.std.proofs.Common.{◌-◌}
 use Rattle.rep_lists.proofs.Each.{each_at}
 use Rattle.deferred_queue.specs.Kept.{FallsFrom, Held, held_extended}
-use Rattle.deferred_queue.proofs.InPlace.{unchanged_yet, changed_more}
+use Rattle.rep_lists.proofs.InPlace.{unchanged_yet, changed_more}
 use Rattle.deferred_queue.proofs.Room.{room_at}
 use Rattle.deferred_queue.proofs.streams.extend_each.Goals as goal
 

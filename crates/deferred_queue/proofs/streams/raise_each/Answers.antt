@@ -1,5 +1,5 @@
 use Rattle.deferred_queue.specs.Kept.{held_raised}
-use Rattle.deferred_queue.proofs.InPlace.{changed_more}
+use Rattle.rep_lists.proofs.InPlace.{changed_more}
 use Rattle.deferred_queue.proofs.streams.raise_each.Goals as goal
 
 pub loop-stream-preserved : goal.loop-stream-preserved

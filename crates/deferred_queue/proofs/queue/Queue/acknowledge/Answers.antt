@@ -1,7 +1,7 @@
 use Rattle.std.proofs.Common.{◌≡◌, ◌++◌, length, reverse, map, take, drop, sym, ap, ◌∙◌, refl}
 use Rattle.std.proofs.lemmas.List.{length-map}
 use Rattle.deferred_queue.specs.Kept.{kept_of, txns_to, raised, held_raised}
-use Rattle.deferred_queue.proofs.InPlace.{written_back}
+use Rattle.rep_lists.proofs.InPlace.{written_back}
 use Rattle.deferred_queue.proofs.KeptTxns.{stream_to-kept}
 use Rattle.deferred_queue.proofs.Raising.{kept_of-held_raised, rooms_of-held_raised, queued-raised, marks_of-raised, AreStreams-raised}
 use Rattle.deferred_queue.proofs.queue.Queue.acknowledge.Goals as goal

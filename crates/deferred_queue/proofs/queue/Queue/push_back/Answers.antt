@@ -5,7 +5,7 @@ use Rattle.std.proofs.lemmas.List.{length-map, reverse-append}
 use Rattle.rep_lists.proofs.Each.{each_then}
 use Rattle.deferred_queue.specs.declared.destination.Destination.{Destination}
 use Rattle.deferred_queue.specs.Kept.{kept_of, rooms_of, txns_to, entries_to, extended, held_extended}
-use Rattle.deferred_queue.proofs.InPlace.{written_back}
+use Rattle.rep_lists.proofs.InPlace.{written_back}
 use Rattle.deferred_queue.proofs.KeptStreams.{length-queued}
 use Rattle.deferred_queue.proofs.KeptTxns.{length-txns_to, txns_to-pushed, stream_to-kept}
 use Rattle.deferred_queue.proofs.Numbers.{FallsFrom-higher}

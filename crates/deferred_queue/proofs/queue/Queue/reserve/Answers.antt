@@ -2,7 +2,7 @@ use Rattle.std.proofs.Common.{◌≡◌, ℕ, ◌-◌, ◌^◌, ◌≤◌, min, 
 use Rattle.std.specs.Prelude.{vec_len, vec_capacity}
 use Rattle.std.proofs.lemmas.List.{length-map}
 use Rattle.deferred_queue.specs.Kept.{Held, kept_of, rooms_of, least}
-use Rattle.deferred_queue.proofs.InPlace.{written_back}
+use Rattle.rep_lists.proofs.InPlace.{written_back}
 use Rattle.deferred_queue.proofs.Room.{least-all, least-more}
 use Rattle.deferred_queue.proofs.queue.Queue.reserve.Goals as goal
 
