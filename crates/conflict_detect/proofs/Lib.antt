@@ -5,6 +5,7 @@ mod Gathered
 pub mod FewParts
 pub mod RowAfter
 pub mod CallFit
+pub mod LedCalls
 pub mod OwnCall
 pub mod FoundGroups
 mod OneMore

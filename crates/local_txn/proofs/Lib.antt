@@ -5,7 +5,4 @@ mod FreeRows
 mod StatementSteps
 mod StatementEffects
 mod BlockSteps
-mod BlockCalls
-mod PartsApart
-mod Applying
 mod WorkedStatements

@@ -1,8 +1,7 @@
 -- Rows beside columns: as many values, of their kinds, and in range.
-use Rattle.std.proofs.Common.{◌≡◌, ℕ, ◌+◌, ◌<◌, Bool, true, false, List, [], ◌∷◌, length, drop, get_or, map, refl, sym, ◌∙◌, arith}
+use Rattle.std.proofs.Common.{◌≡◌, ℕ, ◌+◌, Bool, true, false, List, [], ◌∷◌, length, drop, map, refl, sym, ◌∙◌, arith}
 use Rattle.std.specs.Prelude.{Option, Some, None, ◌&&◌, cond, not, slice_get}
 use Rattle.std.specs.List.{find, list_all}
-use Rattle.std.proofs.lemmas.Option.{slice_get-get_or}
 use Rattle.rep_lists.proofs.Places.{drop_from_found}
 use Rattle.rep_values.specs.declared.refusal.Refusal.{Refusal}
 use Rattle.rep_values.specs.declared.refusal.Refusal.TheVariants.{UniqueTaken}
@@ -161,11 +160,6 @@ module _ (schema : Schema) (tables : List Rows) (table : ℕ) (row : Cells) (pla
   taken_step-free there free =
       let here : is_held (columns_of schema table) constraint.columns (rows_of tables table) row ≡ false = rw there at free in
       rw here refl
-
--- a list has something at each place
-pub found_at : {X : Type 0} (xs : List X) (i : ℕ) → i < length xs → (x : X) × (slice_get xs i ≡ Some x)
-found_at [] i below = absurd (omega (arith, below))
-found_at (x ∷ xs) i below = (get_or (x ∷ xs) i x, slice_get-get_or (x ∷ xs) i x below)
 
 pub length-values_of : (literals : List Literal) → length (values_of literals) ≡ length literals
 length-values_of [] = refl

@@ -15,7 +15,8 @@ use Rattle.txn_effects.specs.Calls.{KeysStandAlone, key_named, row_named, RowEff
 use Rattle.dependency_index.specs.declared.token.Token.{Token}
 use Rattle.dependency_index.specs.declared.token.Token.TheVariants as token
 use Rattle.dependency_index.specs.Tokens.{touches_constraints, has_token}
-use Rattle.rep_laws.specs.Commuting.{Content, IsContent, row_at, constrained_at, counters_at, AgreeOn, AgreeOff}
+use Rattle.txn_effects.specs.Contents.{Content, IsContent}
+use Rattle.rep_laws.specs.Commuting.{row_at, constrained_at, counters_at, AgreeOn, AgreeOff}
 use Rattle.rep_laws.proofs.TokenTests.{Covers, AreElsewhere, place_cases, elsewhere_off}
 use Rattle.rep_laws.proofs.ChangedRows.{find_row-changed, find_row-changed_other}
 use Rattle.rep_laws.proofs.RowEffects.{constrained_in, counters-row_effect_other, key_of-row_effect, plain-row_effect}

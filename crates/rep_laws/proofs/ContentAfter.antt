@@ -10,7 +10,8 @@ use Rattle.txn_effects.specs.Transactions.{Failure, tables_by, numbers_by}
 use Rattle.txn_effects.specs.Laws.{CanApply}
 use Rattle.txn_effects.proofs.TransactionEffects.{IsApplied-txn_effect}
 use Rattle.rep_laws.proofs.SoundSchemas.{HasKeys-sound, KeysStandAlone-sound}
-use Rattle.rep_laws.specs.Commuting.{Content, IsContent, IsSound, effect_on, content_after}
+use Rattle.txn_effects.specs.Contents.{Content, IsContent, effect_on, content_after}
+use Rattle.rep_laws.specs.Commuting.{IsSound}
 
 module _ (schema : Schema) (sound : IsSound schema) (origin : SiteName) (txn : Txn) (fits : TxnFits schema txn) where
   -- a transaction that fits can be applied to tables and counters of a sound schema

@@ -8,7 +8,8 @@ use Rattle.conflict_detect.specs.Fits.{TxnFits}
 use Rattle.dependency_index.specs.declared.token.Token.{Token}
 use Rattle.dependency_index.specs.declared.token.Token.TheVariants.{Key, Unique}
 use Rattle.dependency_index.specs.Tokens.{txn_tokens, has_token}
-use Rattle.rep_laws.specs.Commuting.{Content, content_after, IsContent, IsSound, row_at, counters_at, AgreeOn, AgreeOff, TouchesItsTokens, TransactionsTouchTheirTokens, IndependentTransactionsCommute}
+use Rattle.txn_effects.specs.Contents.{Content, content_after, IsContent}
+use Rattle.rep_laws.specs.Commuting.{IsSound, row_at, counters_at, AgreeOn, AgreeOff, TouchesItsTokens, TransactionsTouchTheirTokens, IndependentTransactionsCommute}
 use Rattle.rep_laws.proofs.SharedTokens.{has_token-share_token, has_token-share_token_back}
 use Rattle.rep_laws.proofs.ContentAfter.{IsContent-content_after}
 use Rattle.rep_laws.proofs.SameContent.{same_content}

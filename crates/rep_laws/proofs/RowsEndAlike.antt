@@ -23,7 +23,8 @@ use Rattle.txn_effects.specs.Calls.{KeysStandAlone, row_named, RowEffect, effect
 use Rattle.dependency_index.specs.declared.token.Token.{Token}
 use Rattle.dependency_index.specs.declared.token.Token.TheVariants as token
 use Rattle.dependency_index.specs.Tokens.{has_constraints, constrained_columns, touches_constraints, has_token}
-use Rattle.rep_laws.specs.Commuting.{Content, IsContent, AgreeOn, counters_at}
+use Rattle.txn_effects.specs.Contents.{Content, IsContent}
+use Rattle.rep_laws.specs.Commuting.{AgreeOn, counters_at}
 use Rattle.rep_laws.proofs.TokenTests.{Covers}
 use Rattle.rep_laws.proofs.RowsAlike.{alike_from_finds}
 use Rattle.rep_laws.proofs.SettledAlike.{TestsAlike, tests_alike, settled-alike, counters-alike}

@@ -7,7 +7,8 @@ use Rattle.rep_values.specs.OrderLaws.{key_cmp_total}
 use Rattle.rep_schema.specs.declared.schema.Schema.{Schema}
 use Rattle.rep_schema.specs.Tables.{Cells, Rows, columns_of, key_of, find_row, rows_of, AreTables}
 use Rattle.unique_resolve.specs.Numbers.{Numbers, AreCounters}
-use Rattle.rep_laws.specs.Commuting.{Content, IsContent, row_at, counters_at}
+use Rattle.txn_effects.specs.Contents.{Content, IsContent}
+use Rattle.rep_laws.specs.Commuting.{row_at, counters_at}
 
 module _ (schema : Schema) where
   -- two lists of tables in which the same row is found in each table under each key

@@ -19,7 +19,8 @@ use Rattle.txn_effects.proofs.TransactionEffects.{IsApplied-call_effect}
 use Rattle.rep_laws.proofs.SoundSchemas.{HasKeys-sound, KeysStandAlone-sound}
 use Rattle.dependency_index.specs.declared.token.Token.{Token}
 use Rattle.dependency_index.specs.Tokens.{txn_tokens}
-use Rattle.rep_laws.specs.Commuting.{Content, effect_on, IsContent, AgreeOn, AgreeOff, EndAlike, TouchesItsTokens, TransactionsTouchTheirTokens}
+use Rattle.txn_effects.specs.Contents.{Content, effect_on, IsContent}
+use Rattle.rep_laws.specs.Commuting.{AgreeOn, AgreeOff, EndAlike, TouchesItsTokens, TransactionsTouchTheirTokens}
 use Rattle.rep_laws.proofs.TokenTests.{Covers, each_covered}
 use Rattle.rep_laws.proofs.CallTouches.{content_by, AgreeAfter, EndsAlikeOn, call_touches}
 

@@ -4,37 +4,16 @@ use Rattle.rep_values.specs.declared.name.SiteName.{SiteName}
 use Rattle.rep_values.specs.declared.value.Value.{Value}
 use Rattle.rep_schema.specs.declared.schema.Schema.{Schema}
 use Rattle.rep_schema.specs.Shape.{HasShape}
-use Rattle.rep_schema.specs.Tables.{Cells, Rows, columns_of, find_row, rows_of, picked, AreTables}
+use Rattle.rep_schema.specs.Tables.{Cells, columns_of, find_row, rows_of, picked}
 use Rattle.schema_rules.specs.Rules.{broken_rule}
 use Rattle.rep_calls.specs.declared.call.Txn.{Txn}
 use Rattle.conflict_detect.specs.Fits.{TxnFits}
-use Rattle.unique_resolve.specs.Numbers.{Numbers, AreCounters}
+use Rattle.txn_effects.specs.Contents.{Content, effect_on, content_after, IsContent}
 use Rattle.txn_effects.specs.Calls.{Effect}
-use Rattle.txn_effects.specs.Transactions.{Failure, txn_effect, tables_by, numbers_by}
+use Rattle.txn_effects.specs.Transactions.{Failure}
 use Rattle.dependency_index.specs.declared.token.Token.{Token}
 use Rattle.dependency_index.specs.declared.token.Token.TheVariants as token
 use Rattle.dependency_index.specs.Tokens.{has_constraints, constrained_columns, txn_tokens, has_token, AreIndependent}
-
--- the tables and the counters of a site
-pub record Content : Type 0 where
-  pub tables : List Rows
-  pub numbers : Numbers
-
--- what a transaction from an origin does
-abbrev pub effect_on : Schema → SiteName → Txn → Content → Result Effect Failure
-effect_on schema origin txn content = txn_effect schema origin txn content.tables content.numbers
-
--- tables and counters after a transaction from an origin; as before where it fails
-abbrev pub content_after : Schema → SiteName → Txn → Content → Content
-content_after schema origin txn content = record {
-  tables = tables_by schema (effect_on schema origin txn content) content.tables;
-  numbers = numbers_by (effect_on schema origin txn content) content.numbers;
-}
-
--- tables and counters of a schema
-pub record IsContent (schema : Schema) (content : Content) : Type 0 where
-  pub tables : AreTables schema content.tables
-  pub counters : AreCounters schema content.numbers
 
 -- a schema that breaks no rule
 pub record IsSound (schema : Schema) : Type 0 where

@@ -1,13 +1,14 @@
 -- What becomes of a row whose uniqueness is settled, in a store.
-use Rattle.std.specs.Prelude.{◌≡◌, ℕ, List, [], Some}
+use Rattle.std.specs.Prelude.{◌≡◌, ℕ, Bool, false, List, [], Some}
 use Rattle.rep_values.specs.declared.refusal.ApplyError.TheVariants.{UniqueConflict}
 use Rattle.rep_schema.specs.declared.schema.Schema.{Schema}
 use Rattle.rep_schema.specs.declared.change.Change.{Change}
-use Rattle.rep_schema.specs.Tables.{Rows, columns_of, rows_of, RowFits, IsUniqueRow}
+use Rattle.rep_schema.specs.Tables.{Cells, Rows, columns_of, rows_of, RowFits, IsUniqueRow}
 use Rattle.rep_schema.specs.Changes.{row_like}
+use Rattle.rep_schema.specs.Groups.{are_same}
 use Rattle.unique_resolve.specs.declared.settled.Settled.{Settled}
 use Rattle.unique_resolve.specs.declared.settled.Settled.TheVariants.{Fits, Dropped, Conflict}
-use Rattle.rep_schema.specs.Putting.{changes_between}
+use Rattle.rep_schema.specs.Putting.{is_unchanged, changes_between}
 use Rattle.txn_apply.specs.declared.stop.CallStop.{CallStop}
 use Rattle.txn_apply.specs.declared.stop.CallStop.TheVariants.{Failed, Memory}
 
@@ -29,3 +30,15 @@ ConflictsAs settled Memory = Unit {0}
 ConflictsAs (Fits row) (Failed error) = ⊥
 ConflictsAs Dropped (Failed error) = ⊥
 ConflictsAs (Conflict name) (Failed error) = error ≡ UniqueConflict name
+
+-- a row that fits isn't the very row that is there
+abbrev pub IsOther : Schema → List Rows → ℕ → Settled → Type 0
+IsOther schema tables table (Fits row) = is_unchanged (row_like (columns_of schema table) row (rows_of tables table)) (Some row) ≡ false
+IsOther schema tables table Dropped = Unit {0}
+IsOther schema tables table (Conflict name) = Unit {0}
+
+-- the row that fits is the one that was found
+abbrev pub is_kept : Settled → Cells → Bool
+is_kept (Fits row) found = are_same found row
+is_kept Dropped found = false
+is_kept (Conflict name) found = false

@@ -1,5 +1,6 @@
 //! A transaction on a store, all of it or nothing.
 ghost use Rattle.std.specs.Prelude.{◌≡◌, ◌≢◌, ℕ, ◌+◌, ◌<◌, ◌≤◌, ◌^◌, ◌++◌, length, slice_index, vec_len, vec_capacity, Ok, IfOk, IfErr, OnOk, OnErr};
+ghost use Rattle.std.specs.List.{AllByRecursion};
 ghost use Rattle.rep_schema.specs.Shape.{HasShape};
 ghost use Rattle.rep_schema.specs.Tables.{AreTables};
 ghost use Rattle.rep_schema.specs.Changes.{LeadsTo, room_for};
@@ -23,8 +24,8 @@ use unique_resolve::Counters;
 
 /// Applies one call, after it took room for so many further rows of its table.
 fn apply_in_room<R: RowStore>(
-    store: &mut R,
     alloc: Global,
+    store: &mut R,
     origin: &SiteName,
     call: &Call,
     counters: &mut Counters,
@@ -42,7 +43,7 @@ fn apply_in_room<R: RowStore>(
     ensures kept { OnErr result (slice_index (R.spare store.old) (table_of call.now) ≤ slice_index (R.spare store.new) (table_of call.now)) }
 {
     store.reserve(table_of(call), rows as u64 + 1)?;
-    let change = apply_call(store, alloc, origin, call, counters)?;
+    let change = apply_call(alloc, store, origin, call, counters)?;
     Ok(change)
 }
 
@@ -51,8 +52,8 @@ fn apply_in_room<R: RowStore>(
 /// answer names the first one, from 1, with its error; then, and where there is no memory, the store's rows and the
 /// counters are as before.
 pub fn apply_txn<R: RowStore>(
-    store: &mut R,
     alloc: Global,
+    store: &mut R,
     counters: &mut Counters,
     origin: &SiteName,
     txn: &Txn,
@@ -67,6 +68,9 @@ pub fn apply_txn<R: RowStore>(
         ≡ Ok (record { changes = changes.rows; numbers = counters.new })) }
     ensures tables { IfOk result (λ changes. R.tables store.new ≡ made_all (R.schema store.old) changes.rows (R.tables store.old)) }
     ensures leads { IfOk result (λ changes. LeadsTo (R.schema store.old) changes.rows (R.tables store.old) (R.tables store.new)) }
+    ensures were { AreTables (R.schema store.old) (R.tables store.old) }
+    ensures differ { IfOk result (λ changes. AllByRecursion (λ change. change.before ≢ change.after) changes.rows) }
+    ensures few { IfOk result (λ changes. length changes.rows ≤ length txn.now.calls) }
     ensures room { IfOk result (λ changes. (t : ℕ) → room_for t changes.rows ≤ slice_index (R.spare store.new) t) }
     ensures err { IfErr result (StopsAs (txn_effect (R.schema store.old) origin.now txn.now (R.tables store.old) counters.old)) }
     ensures kept { OnErr result (R.tables store.new ≡ R.tables store.old) }
@@ -81,7 +85,7 @@ pub fn apply_txn<R: RowStore>(
         return Err(ApplyStop::Memory);
     };
     for i in 0..calls.len() {
-        match apply_in_room(store, alloc, origin, &calls[i], counters, calls.len()) {
+        match apply_in_room(alloc, store, origin, &calls[i], counters, calls.len()) {
             Ok(change) => push_change(&mut done, change),
             Err(stop) => {
                 let rows = Items::from_vec(done);

@@ -4,4 +4,6 @@ pub mod PartEffects
 pub mod CallEffects
 pub mod TransactionEffects
 pub mod RoomForChanges
+pub mod OwnParts
+pub mod OwnCalls
 mod WorkedTransactions

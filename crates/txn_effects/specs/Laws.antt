@@ -1,5 +1,7 @@
 -- Laws of transactions.
-use Rattle.std.specs.Prelude.{◌≡◌, ◌≢◌, List, Ok}
+use Rattle.rep_schema.specs.declared.change.Change.{Change}
+use Rattle.conflict_detect.specs.ChangeCalls.{call_of}
+use Rattle.std.specs.Prelude.{map, ◌≡◌, ◌≢◌, List, Ok}
 use Rattle.std.specs.List.{AllByRecursion}
 use Rattle.rep_values.specs.declared.name.SiteName.{SiteName}
 use Rattle.rep_schema.specs.declared.schema.Schema.{Schema}
@@ -33,3 +35,15 @@ pub record IsApplied (schema : Schema) (tables : List Rows) (effect : Effect) : 
 abbrev pub TransactionsLeadToTheirTables : Type 0
 TransactionsLeadToTheirTables = (schema : Schema) (origin : SiteName) (txn : Txn) (tables : List Rows) (numbers : Numbers) (effect : Effect)
     → CanApply schema tables numbers txn → txn_effect schema origin txn tables numbers ≡ Ok effect → IsApplied schema tables effect
+
+-- changes that lead from tables of a schema to others, each of which changed a row
+pub record HaveChanged (schema : Schema) (changes : List Change) (tables later : List Rows) : Type 0 where
+  pub are : AreTables schema tables
+  pub lead : LeadsTo schema changes tables later
+  pub differ : AllByRecursion (λ change. change.before ≢ change.after) changes
+
+-- the calls of such changes, applied to the tables before as a transaction from anywhere, make these changes and move no counter
+abbrev pub CallsOfChangesMakeThem : Type 0
+CallsOfChangesMakeThem = (schema : Schema) (changes : List Change) (tables later : List Rows) → HasShape schema → HaveChanged schema changes tables later
+    → (origin : SiteName) (numbers : Numbers)
+    → txn_effect schema origin (record { calls = map (call_of schema) changes }) tables numbers ≡ Ok (record { changes = changes; numbers = numbers })

@@ -2,4 +2,5 @@
 pub mod Parts
 pub mod Calls
 pub mod Transactions
+pub mod Contents
 pub mod Laws

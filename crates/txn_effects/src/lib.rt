@@ -3,4 +3,4 @@
 
 mod laws;
 
-pub use laws::transactions_lead_to_their_tables;
+pub use laws::{calls_of_changes_make_them, transactions_lead_to_their_tables};

@@ -2,6 +2,7 @@
 pub mod HeldValues
 pub mod AppendedTexts
 pub mod Settlements
+pub mod FreeSettlements
 mod TextBytes
 mod Tries
 mod EachConstraint

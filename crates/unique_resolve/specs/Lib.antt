@@ -3,3 +3,4 @@ pub mod Numbers
 pub mod Appending
 pub mod Settling
 pub mod Trying
+pub mod Laws

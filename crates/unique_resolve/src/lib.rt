@@ -3,8 +3,10 @@
 
 mod appending;
 mod counters;
+mod laws;
 mod settled;
 mod trying;
 
 pub use counters::Counters;
+pub use laws::{counters_stay_counters, free_rows_stay_themselves, settled_rows_can_be_put};
 pub use settled::{Settled, settle_unique};

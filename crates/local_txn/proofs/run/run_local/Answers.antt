@@ -5,8 +5,8 @@ use Rattle.conflict_detect.specs.ChangeCalls.{call_of}
 use Rattle.std.specs.List.{AllByRecursion}
 use Rattle.rep_schema.specs.Changes.{ChangeFits}
 use Rattle.conflict_detect.specs.Fits.{CallFits}
-use Rattle.local_txn.proofs.BlockCalls.{ChangeFits-led, CallFits-led}
-use Rattle.local_txn.proofs.Applying.{calls_effect-own}
+use Rattle.conflict_detect.proofs.LedCalls.{ChangeFits-led, CallFits-led}
+use Rattle.txn_effects.proofs.OwnCalls.{calls_effect-own}
 use Rattle.local_txn.proofs.run.run_local.Goals as goal
 
 pub txn_of-requires-clause-fits : goal.txn_of-requires-clause-fits

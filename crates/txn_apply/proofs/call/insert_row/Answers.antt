@@ -8,7 +8,7 @@ use Rattle.txn_effects.specs.Calls.{call_effect}
 use Rattle.rep_schema.specs.Putting.{changes_of}
 use Rattle.txn_apply.specs.Stops.{CallsAs}
 use Rattle.txn_apply.specs.Putting.{PutsAs}
-use Rattle.txn_apply.proofs.CallOutcomes.{IsPuttable-settled, call_effect-Insert}
+use Rattle.txn_apply.proofs.CallOutcomes.{IsPuttable-settled, IsOther-new, call_effect-Insert}
 use Rattle.txn_apply.proofs.call.insert_row.Goals as goal
 
 pub put_settled-requires-clause-fits : goal.put_settled-requires-clause-fits
@@ -16,6 +16,12 @@ put_settled-requires-clause-fits g c κs within =
     let able = c.requires.able in
     IsPuttable-settled (g.R.RowStore.schema c.args.store.now) (g.R.RowStore.tables c.args.store.now) c.args.counters.now c.args.origin.now c.args.table able.shape able.are able.counters able.fits.table
     true c.in_ok-candidate.candidate c.settle_unique-settled.result (rw c.in_ok-candidate.ensures able.fits.content) c.settle_unique-settled.ensures.settled
+
+pub put_settled-requires-clause-differs : goal.put_settled-requires-clause-differs
+put_settled-requires-clause-differs g c κs within =
+    let able = c.requires.able in
+    IsOther-new (g.R.RowStore.schema c.args.store.now) (g.R.RowStore.tables c.args.store.now) c.args.counters.now c.args.origin.now c.args.table able.shape able.are able.counters able.fits.table
+    c.in_ok-candidate.candidate c.settle_unique-settled.result (rw c.in_ok-candidate.ensures able.fits.content) c.settle_unique-settled.ensures.settled
 
 pub returns-clause-ok : goal.returns-clause-ok
 returns-clause-ok g c =

@@ -1,17 +1,13 @@
--- A block's calls, applied as a transaction, make the block's changes.
-use Rattle.std.proofs.Common.{◌≡◌, ◌≢◌, ℕ, suc, ◌+◌, ◌<◌, Bool, true, false, List, [], ◌∷◌, length, map, Ok, refl, ap, ◌∙◌}
-use Rattle.std.specs.Prelude.{Option, Some, None, Result, IfSome, ◌&&◌, is_some, slice_get, slice_index_or}
+-- The calls of changes that lead from tables to others, applied, make these changes.
+use Rattle.std.proofs.Common.{◌≡◌, ◌≢◌, ℕ, ◌+◌, ◌<◌, true, false, List, [], ◌∷◌, length, map, Ok, refl, ap, ◌∙◌}
+use Rattle.std.specs.Prelude.{Option, Some, None, Result, IfSome}
 use Rattle.std.specs.List.{AllByRecursion}
-use Rattle.std.proofs.lemmas.List.{set-get_or}
-use Rattle.std.proofs.lemmas.Option.{slice_get_within}
 use Rattle.rep_values.specs.declared.name.SiteName.{SiteName}
 use Rattle.rep_values.specs.declared.refusal.ApplyError.{ApplyError}
 use Rattle.rep_schema.specs.declared.schema.Schema.{Schema}
-use Rattle.rep_schema.specs.declared.schema.Column.{Column}
-use Rattle.rep_schema.specs.declared.schema.Constraint.{Constraint}
 use Rattle.rep_schema.specs.declared.change.Change.{Change}
 use Rattle.rep_schema.specs.Shape.{HasShape}
-use Rattle.rep_schema.specs.Tables.{Cells, Rows, columns_of, constraints_of, constraint_columns_of, key_of, rows_of, RowFits, IsUniqueRow, AreTables}
+use Rattle.rep_schema.specs.Tables.{Cells, Rows, columns_of, key_of, rows_of, RowFits, IsUniqueRow, AreTables}
 use Rattle.rep_schema.specs.Groups.{are_same}
 use Rattle.rep_schema.specs.Changes.{made, row_like, IsChange, LeadsTo}
 use Rattle.rep_schema.proofs.TakingBack.{AreTables-made}
@@ -23,52 +19,17 @@ use Rattle.conflict_detect.specs.Fits.{CallFits}
 use Rattle.conflict_detect.proofs.CallFit.{CallFits-call_of}
 use Rattle.conflict_detect.specs.ChangeCalls.{call_between, call_of, parts_between}
 use Rattle.conflict_detect.specs.Laws.{AreOneRow}
-use Rattle.unique_resolve.specs.declared.settled.Settled.TheVariants.{Fits}
 use Rattle.unique_resolve.specs.Numbers.{Numbers}
-use Rattle.unique_resolve.specs.Settling.{is_held, settled_each, Settlement, settlement_of}
-use Rattle.unique_resolve.proofs.HeldValues.{held_test}
+use Rattle.unique_resolve.specs.Settling.{Settlement, settlement_of}
+use Rattle.unique_resolve.proofs.FreeSettlements.{not_true, settlement_of-free}
 use Rattle.txn_effects.specs.Parts.{result_then, settled_parts}
 use Rattle.rep_schema.specs.Putting.{changes_between}
 use Rattle.txn_effects.specs.Calls.{RowEffect, settled_effect, Effect, call_effect}
 use Rattle.txn_effects.specs.Transactions.{behind, calls_effect}
 use Rattle.txn_effects.proofs.TransactionEffects.{calls_effect-Ok}
-use Rattle.local_txn.proofs.PartsApart.{settled_parts-own}
-
--- a row that holds nothing that another has fits as it is, and no counter moves
-settled_each-free : (columns : List Column) (rows : Rows) (origin : SiteName) (constraints : List Constraint) (numbers : List ℕ) (row : Cells)
-    → AllByRecursion (λ constraint. is_held columns constraint.columns rows row ≡ false) constraints
-    → settled_each columns rows origin constraints numbers row ≡ record { settled = Fits row; numbers = numbers }
-settled_each-free columns rows origin [] numbers row free = refl
-settled_each-free columns rows origin (c ∷ cs) [] row free = refl
-settled_each-free columns rows origin (c ∷ cs) (n ∷ ns) row free = rw (free.0, settled_each-free columns rows origin cs ns row free.1) refl
-
-each_by_place : {X : Type 0} (P : X → Type 0) (xs : List X) → ((i : ℕ) (x : X) → slice_get xs i ≡ Some x → P x) → AllByRecursion P xs
-each_by_place P [] each = tt
-each_by_place P (x ∷ xs) each = (each 0 x refl, each_by_place P xs (λ i y there. each (suc i) y there))
-
--- what never passes fails
-not_true : (b : Bool) → (b ≡ true → ⊥) → b ≡ false
-not_true true never = absurd (never refl)
-not_true false never = refl
+use Rattle.txn_effects.proofs.OwnParts.{settled_parts-own}
 
 module _ (schema : Schema) (tables : List Rows) (origin : SiteName) (numbers : Numbers) where
-  module _ (table : ℕ) (row : Cells) (below : table < length schema.tables) (are : AreTables schema tables) (fits : RowFits (columns_of schema table) row) (unique : IsUniqueRow schema table row (rows_of tables table)) where
-    free_at : (i : ℕ) (c : Constraint) → slice_get (constraints_of schema table) i ≡ Some c → is_held (columns_of schema table) c.columns (rows_of tables table) row ≡ false
-    free_at i c there =
-        let within : i < length (constraints_of schema table) = slice_get_within (constraints_of schema table) i c there in
-        let none = not_true (is_held (columns_of schema table) (constraint_columns_of schema table i) (rows_of tables table) row)
-        (λ held. unique.unheld i within ((held_test (columns_of schema table) (constraint_columns_of schema table i) row fits (rows_of tables table) (are.each table below).fit).0 held)) in
-        rw there at none
-
-    free : AllByRecursion (λ constraint. is_held (columns_of schema table) constraint.columns (rows_of tables table) row ≡ false) (constraints_of schema table)
-    free = each_by_place (λ (constraint : Constraint). is_held (columns_of schema table) constraint.columns (rows_of tables table) row ≡ false) (constraints_of schema table) free_at
-
-    -- a row that violates nothing is settled as itself
-    settlement_of-free : (inserting : Bool) → (inserting && is_some (row_like (columns_of schema table) row (rows_of tables table))) ≡ false
-        → settlement_of schema tables numbers origin table inserting row ≡ record { settled = Fits row; numbers = numbers }
-    settlement_of-free inserting new =
-        rw (new, settled_each-free (columns_of schema table) (rows_of tables table) origin (constraints_of schema table) (slice_index_or numbers table []) row free, set-get_or numbers table []) refl
-
   module _ (table : ℕ) (below : table < length schema.tables) (are : AreTables schema tables) (shape : HasShape schema) where
     abbrev change_of : Option Cells → Option Cells → Change
     change_of before after = record { table = table; before = before; after = after }
@@ -78,7 +39,7 @@ module _ (schema : Schema) (tables : List Rows) (origin : SiteName) (numbers : N
 
     own_Insert : (row : Cells) → row_like (columns_of schema table) row (rows_of tables table) ≡ None → RowFits (columns_of schema table) row → IsUniqueRow schema table row (rows_of tables table)
         → call_effect schema tables numbers origin (Insert table row) ≡ changed None (Some row)
-    own_Insert row gone fits unique = rw (settlement_of-free table row below are fits unique true (rw gone refl), gone) refl
+    own_Insert row gone fits unique = rw (settlement_of-free schema tables origin numbers table row below are fits unique true (rw gone refl), gone) refl
 
     own_Delete : (row : Cells) → row_like (columns_of schema table) row (rows_of tables table) ≡ Some row → call_effect schema tables numbers origin (Delete table row) ≡ changed (Some row) None
     own_Delete row there =
@@ -100,7 +61,7 @@ module _ (schema : Schema) (tables : List Rows) (origin : SiteName) (numbers : N
         let put : result_then {B = Effect} (settled_effect (settlement_of schema tables numbers origin table false b) (Some a))
         (λ (effect : RowEffect). Ok (record { changes = changes_between table (Some a) effect.after; numbers = effect.numbers })) ≡ changed (Some a) (Some b) =
         ap (λ (x : Settlement). result_then {B = Effect} (settled_effect x (Some a)) (λ (effect : RowEffect). Ok (record { changes = changes_between table (Some a) effect.after; numbers = effect.numbers })))
-        (settlement_of-free table b below are fits unique false refl) ∙ rw other refl in
+        (settlement_of-free schema tables origin numbers table b below are fits unique false refl) ∙ rw other refl in
         rw (there, gives) put
 
   -- the call of a change makes the change

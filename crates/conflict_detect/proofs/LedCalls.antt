@@ -1,4 +1,4 @@
--- The calls of a block's changes.
+-- The calls of changes that lead from tables to others.
 use Rattle.std.proofs.Common.{◌≢◌, List, [], ◌∷◌, map}
 use Rattle.std.specs.List.{AllByRecursion}
 use Rattle.rep_schema.specs.declared.schema.Schema.{Schema}

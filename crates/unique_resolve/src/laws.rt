@@ -1,0 +1,17 @@
+//! Laws over the settling of uniqueness. The functions are empty: their contracts are the laws.
+ghost use Rattle.unique_resolve.specs.Laws.{SettledRowsCanBePut, FreeRowsStayThemselves, CountersStayCounters};
+
+/// A row that comes out of a settlement fits its table, keeps its key and is unique.
+pub fn settled_rows_can_be_put()
+    ensures { SettledRowsCanBePut }
+{}
+
+/// A row that violates nothing is settled as itself, and no counter moves.
+pub fn free_rows_stay_themselves()
+    ensures { FreeRowsStayThemselves }
+{}
+
+/// After a settlement there is still a counter for each constraint.
+pub fn counters_stay_counters()
+    ensures { CountersStayCounters }
+{}
