@@ -25,7 +25,8 @@ use Rattle.dependency_index.specs.declared.token.Token.{Token}
 use Rattle.dependency_index.specs.declared.token.Token.TheVariants.{Key, Unique}
 use Rattle.dependency_index.specs.Tokens.{txn_tokens, share_token, AreIndependent}
 use Rattle.dependency_index.specs.Dependencies.{dependency_number}
-use Rattle.rep_laws.specs.Commuting.{Content, IsContent, IsSound, Commute, IndependentTransactionsCommute}
+use Rattle.txn_effects.specs.Contents.{Content, IsContent}
+use Rattle.rep_laws.specs.Commuting.{IsSound, Commute, IndependentTransactionsCommute}
 
 -- the group g of the column CODE, and the constraint u on it
 abbrev code_group : Group
