@@ -1,0 +1,68 @@
+//! Marks, queues and dependency indexes as cases: each line is one call, and its outcome is printed.
+//!
+//! A position is a number, or `last` and how far it is below 2^64 - 1.
+//!
+//! Marks of one sender: `marks` begins anew; `finish POSITION`; `finished POSITION`; `ready POSITION DEP`; `orders` finishes
+//! each sequence of five positions from 1 to 5 and compares the mark after each with one that is counted.
+//!
+//! The queue of a site: `queue SITE..` begins anew with these destinations; `push TABLE [, SITE DEP]..` queues a transaction
+//! of one call on a table, which tells it apart; `entry SITE POSITION`; `place SITE NUMBER`; `order PLACE`; `acknowledge
+//! SITE MARK`; `purge`.
+//!
+//! The index of a site: `index SITE..` begins anew; `note SITE TOKEN..`, a token being `row TABLE VALUE..` or `unique TABLE`;
+//! `compare COUNT KEYS` notes so many transactions over so many keys, for two destinations each or one, and compares each
+//! number with a scan of all earlier positions.
+#![tactic(auto)]
+
+mod indexes;
+mod marks;
+mod queues;
+mod scan;
+mod state;
+
+use anyhow::Result;
+use case_lines::{CaseStop, Words};
+use script_lex::lex;
+use state::State;
+use std::alloc::Global;
+
+/// The outcome of a line; None where it tells nothing.
+fn outcome(alloc: Global, state: &mut State, line: &str) -> Result<Option<String>, CaseStop> {
+    let tokens = lex(alloc, line.as_bytes())?;
+    let mut words = Words::of(tokens.as_slice());
+    let kind = words.word()?;
+    match kind.bytes() {
+        b"marks" | b"finish" | b"finished" | b"ready" | b"orders" => {
+            marks::outcome(alloc, &mut state.finished, kind.bytes(), &mut words)
+        }
+        b"queue" | b"push" | b"entry" | b"place" | b"order" | b"acknowledge" | b"purge" => {
+            queues::outcome(alloc, &mut state.queue, kind.bytes(), &mut words)
+        }
+        b"index" | b"note" | b"compare" => {
+            indexes::outcome(alloc, &mut state.index, kind.bytes(), &mut words)
+        }
+        _ => Err(CaseStop::NoCase),
+    }
+}
+
+fn main(rt: HostRuntime) -> Result<()> {
+    let alloc = rt.alloc();
+    let Ok(mut state) = State::new(alloc) else {
+        println!(rt; "no memory")?;
+        return Ok(());
+    };
+    for line in rt.lines(alloc) {
+        let line = line?;
+        if line.is_empty() || line.starts_with('#') {
+            println!(rt; "{line}")?;
+            continue;
+        }
+        match outcome(alloc, &mut state, &line) {
+            Ok(Some(outcome)) => println!(rt; "{outcome}")?,
+            Ok(None) => {}
+            Err(CaseStop::NoCase) => println!(rt; "no case")?,
+            Err(CaseStop::Memory) => println!(rt; "no memory")?,
+        }
+    }
+    Ok(())
+}
