@@ -1,0 +1,35 @@
+//! Schemas and stores as cases: each line is one, and its outcome is printed.
+//!
+//! `declare DECLARATION` adds a declaration, `levels GROUP FROM TO` one for each number below TO, `empty` forgets
+//! all. `check` says which rule is broken first; `form T G`, `group T G` and `constraint T C` show what a schema has.
+//! `make` makes a store of the schema; `reserve T N`, `put T VALUES`, `get T VALUES`, `take T VALUES`, `holds T C VALUES`
+//! and `rows T` are its calls. `undo VALUES, VALUES, KEY, KEY` puts two rows in the first table, takes two away and takes it
+//! all back. An empty line and one that begins with `#` is printed as it is.
+#![tactic(auto)]
+
+mod cases;
+mod shown;
+mod stored;
+mod undone;
+
+use anyhow::Result;
+use case_lines::CaseStop;
+use cases::Cases;
+
+fn main(rt: HostRuntime) -> Result<()> {
+    let alloc = rt.alloc();
+    let mut cases = Cases::new(alloc);
+    for line in rt.lines(alloc) {
+        let line = line?;
+        if line.is_empty() || line.starts_with('#') {
+            println!(rt; "{line}")?;
+            continue;
+        }
+        match cases.outcome(alloc, &line) {
+            Ok(outcome) => println!(rt; "{outcome}")?,
+            Err(CaseStop::NoCase) => println!(rt; "no case")?,
+            Err(CaseStop::Memory) => println!(rt; "no memory")?,
+        }
+    }
+    Ok(())
+}
