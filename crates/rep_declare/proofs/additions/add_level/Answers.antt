@@ -15,10 +15,10 @@ returns-then-has_priority-clause-ok c =
     let groups = c.args.schema.now.priorities in
     let there : with_priority name groups ≡ groups = subst (λ gs. with_priority name gs ≡ gs) c.as_slice.ensures (c.has_priority.ensures.there c.if-has_priority.true) in
     ap (λ gs. with_priorities gs c.args.schema.now)
-        (c.in_ok-change_one.ensures.ok
-        ∙ ap (λ z. with_changed (is_priority name) (with_level c.value.result z) groups) (to_z-of_z {w = w64} c.ranges.level)
-        ∙ ap (λ v. with_changed (is_priority name) (with_level v c.args.level) groups) c.value.ensures
-        ∙ ap (λ gs. with_changed (is_priority name) (with_level (value_of_literal c.args.value.now) c.args.level) gs) (sym there))
+    (c.in_ok-change_one.ensures.ok
+    ∙ ap (λ z. with_changed (is_priority name) (with_level c.value.result z) groups) (to_z-of_z {w = w64} c.ranges.level)
+    ∙ ap (λ v. with_changed (is_priority name) (with_level v c.args.level) groups) c.value.ensures
+    ∙ ap (λ gs. with_changed (is_priority name) (with_level (value_of_literal c.args.value.now) c.args.level) gs) (sym there))
 
 pub returns-clause-ok : goal.returns-clause-ok
 returns-clause-ok c =
@@ -26,7 +26,7 @@ returns-clause-ok c =
     let groups = c.args.schema.now.priorities in
     let absent : find (is_priority name) groups ≡ None = subst (λ gs. find (is_priority name) gs ≡ None) c.as_slice.ensures (c.has_priority.ensures.new c.if-has_priority.false) in
     ap (λ gs. with_priorities gs c.args.schema.now)
-        (c.in_ok-push.ensures.ok
-        ∙ ap (λ g. groups ++ g ∷ []) c.in_ok-one.ensures
-        ∙ ap (λ z. groups ++ with_level (value_of_literal c.args.value.now) z (record { name = name; levels = [] }) ∷ []) (to_z-of_z {w = w64} c.ranges.level)
-        ∙ sym (with_changed-new name (with_level (value_of_literal c.args.value.now) c.args.level) (same_bytes-same name) groups absent))
+    (c.in_ok-push.ensures.ok
+    ∙ ap (λ g. groups ++ g ∷ []) c.in_ok-one.ensures
+    ∙ ap (λ z. groups ++ with_level (value_of_literal c.args.value.now) z (record { name = name; levels = [] }) ∷ []) (to_z-of_z {w = w64} c.ranges.level)
+    ∙ sym (with_changed-new name (with_level (value_of_literal c.args.value.now) c.args.level) (same_bytes-same name) groups absent))

@@ -19,12 +19,12 @@ pub returns-in-Less : goal.returns-in-Less
 returns-in-Less c =
     let within : c.loop-i.i < length c.args.columns.now = c.loop-i-test.true in
     sym (c.loop-i.invariant
-        ∙ row_cmp_from-key c.args.columns.now c.args.a.now c.args.b.now c.loop-i.i c.index-columns-i.result within c.if-columns-i.true
-        ∙ rw (← c.compare_at.ensures, c.in-Less.is))
+    ∙ row_cmp_from-key c.args.columns.now c.args.a.now c.args.b.now c.loop-i.i c.index-columns-i.result within c.if-columns-i.true
+    ∙ rw (← c.compare_at.ensures, c.in-Less.is))
 
 pub returns-in-Greater : goal.returns-in-Greater
 returns-in-Greater c =
     let within : c.loop-i.i < length c.args.columns.now = c.loop-i-test.true in
     sym (c.loop-i.invariant
-        ∙ row_cmp_from-key c.args.columns.now c.args.a.now c.args.b.now c.loop-i.i c.index-columns-i.result within c.if-columns-i.true
-        ∙ rw (← c.compare_at.ensures, c.in-Greater.is))
+    ∙ row_cmp_from-key c.args.columns.now c.args.a.now c.args.b.now c.loop-i.i c.index-columns-i.result within c.if-columns-i.true
+    ∙ rw (← c.compare_at.ensures, c.in-Greater.is))

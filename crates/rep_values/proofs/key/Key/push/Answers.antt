@@ -11,8 +11,7 @@ invariant_of-self c =
     let padded = c.self.invariant.1 in
     let len = len-of_front 4 (Num (pos 0)) c.self.inside.len c.self.inside.cells padded in
     let room : c.self.inside.len < 4 = omega (arith, len, rw (sym c.self.view_is) at c.requires) in
-    let front = take_more_set c.self.inside.cells c.self.inside.len c.args.value (omega (arith, room, padded.whole)) in
-    (
+    let front = take_more_set c.self.inside.cells c.self.inside.len c.args.value (omega (arith, room, padded.whole)) in (
       rw (front, length-append) (omega (arith, len, room)),
       one_more 4 (Num (pos 0)) c.self.inside.len c.self.inside.cells c.args.value padded room,
     )
