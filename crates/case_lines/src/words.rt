@@ -13,10 +13,12 @@ pub struct Words<'a> {
 }
 
 impl<'a> Words<'a> {
+    /// All tokens of a line.
     pub fn of(tokens: &'a [Token]) -> Words<'a> {
         Words { left: tokens }
     }
 
+    /// Whether nothing is left.
     pub fn is_done(&self) -> bool {
         self.left.is_empty()
     }
@@ -35,6 +37,7 @@ impl<'a> Words<'a> {
         self.left.first().copied()
     }
 
+    /// The next token. This and each reading below is `NoCase` where nothing is left, or something else comes next.
     pub fn token(&mut self) -> Result<Token, CaseStop> {
         match self.left.split_first() {
             Some((first, rest)) => {
@@ -53,19 +56,23 @@ impl<'a> Words<'a> {
         }
     }
 
+    /// A word that is a name.
     pub fn name(&mut self) -> Result<Name, CaseStop> {
         let word = self.word()?;
         Name::of(word.bytes()).ok_or(CaseStop::NoCase)
     }
 
+    /// The name of a site.
     pub fn site(&mut self) -> Result<SiteName, CaseStop> {
         Ok(SiteName(self.name()?))
     }
 
+    /// The name of a table.
     pub fn table(&mut self) -> Result<TableName, CaseStop> {
         Ok(TableName(self.name()?))
     }
 
+    /// A number without a sign.
     pub fn whole(&mut self) -> Result<u64, CaseStop> {
         match self.token()? {
             Token::Number { minus: false, size } => Ok(size),
@@ -76,6 +83,7 @@ impl<'a> Words<'a> {
         }
     }
 
+    /// A number with or without a sign.
     pub fn number(&mut self) -> Result<i64, CaseStop> {
         match self.literal()? {
             Literal::Num(number) => Ok(number),
@@ -83,6 +91,7 @@ impl<'a> Words<'a> {
         }
     }
 
+    /// A number or a text.
     pub fn literal(&mut self) -> Result<Literal, CaseStop> {
         match self.token()? {
             Token::Number { minus, size } => match i64::try_from(size) {
@@ -94,11 +103,13 @@ impl<'a> Words<'a> {
         }
     }
 
+    /// A number or a text as a value, its range untested.
     pub fn value(&mut self) -> Result<Value, CaseStop> {
         let literal = self.literal()?;
         Ok(literal.value())
     }
 
+    /// This symbol.
     pub fn symbol(&mut self, wanted: Symbol) -> Result<(), CaseStop> {
         match self.token()? {
             Token::Symbol(found) if found == wanted => Ok(()),

@@ -36,6 +36,7 @@ pub fn push_value(out: &mut String, alloc: Global, value: &Value) -> Result<(), 
     }
 }
 
+/// Each value behind a space.
 pub fn push_values(out: &mut String, alloc: Global, values: &[Value]) -> Result<(), NoMemory> {
     for value in values {
         push_value(out, alloc, value)?;
@@ -43,6 +44,7 @@ pub fn push_values(out: &mut String, alloc: Global, values: &[Value]) -> Result<
     Ok(())
 }
 
+/// Each value of a row behind a space.
 pub fn push_row(out: &mut String, alloc: Global, row: &Row) -> Result<(), NoMemory> {
     push_values(out, alloc, row.values())
 }
