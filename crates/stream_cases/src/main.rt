@@ -12,6 +12,9 @@
 //! The index of a site: `index SITE..` begins anew; `note SITE TOKEN..`, a token being `row TABLE VALUE..` or `unique TABLE`;
 //! `compare COUNT KEYS` notes so many transactions over so many keys, for two destinations each or one, and compares each
 //! number with a scan of all earlier positions.
+//!
+//! Tokens: `schema` begins anew; `declare DECLARATION`; `call CALL` keeps a call; `tokens` are those of a transaction of
+//! the calls that are kept, which are then forgotten.
 #![tactic(auto)]
 
 mod indexes;
@@ -19,6 +22,7 @@ mod marks;
 mod queues;
 mod scan;
 mod state;
+mod tokens;
 
 use anyhow::Result;
 use case_lines::{CaseStop, Words};
@@ -40,6 +44,9 @@ fn outcome(alloc: Global, state: &mut State, line: &str) -> Result<Option<String
         }
         b"index" | b"note" | b"compare" => {
             indexes::outcome(alloc, &mut state.index, kind.bytes(), &mut words)
+        }
+        b"schema" | b"declare" | b"call" | b"tokens" => {
+            tokens::outcome(alloc, &mut state.declared, kind.bytes(), &mut words)
         }
         _ => Err(CaseStop::NoCase),
     }
