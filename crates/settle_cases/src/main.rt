@@ -1,0 +1,36 @@
+//! Blocks and transactions at sites as cases: each line is one, and its outcome is printed.
+//!
+//! `new` forgets all. `declare DECLARATION` declares, and a refusal is printed. `open NAME..` makes sites with empty
+//! tables, or tells the broken rule. `statement STATEMENT` keeps a statement, `again N` the last one so many times more,
+//! and `run SITE [snapshot]` runs those that are kept; `deliver SITE ORIGIN` applies the last committed transaction.
+//! `call CALL` keeps a call, and `apply SITE ORIGIN` applies those that are kept. `rows SITE` are the rows of its first two
+//! tables. `beside [VALUE..]` is the row, or none, with which `detect CALL` compares. An empty line and one that begins
+//! with `#` is printed as it is.
+#![tactic(auto)]
+
+mod cases;
+mod shown;
+mod site;
+
+use anyhow::Result;
+use case_lines::CaseStop;
+use cases::Cases;
+
+fn main(rt: HostRuntime) -> Result<()> {
+    let alloc = rt.alloc();
+    let mut cases = Cases::new(alloc);
+    for line in rt.lines(alloc) {
+        let line = line?;
+        if line.is_empty() || line.starts_with('#') {
+            println!(rt; "{line}")?;
+            continue;
+        }
+        match cases.outcome(alloc, &line) {
+            Ok(Some(outcome)) => println!(rt; "{outcome}")?,
+            Ok(None) => {}
+            Err(CaseStop::NoCase) => println!(rt; "no case")?,
+            Err(CaseStop::Memory) => println!(rt; "no memory")?,
+        }
+    }
+    Ok(())
+}

@@ -1,0 +1,129 @@
+//! A site of the cases: a store with its counters.
+ghost use Rattle.rep_schema.specs.Shape.{HasShape};
+ghost use Rattle.settle_cases.specs.Served.{IsServed};
+ghost use Rattle.settle_cases.specs.Single.{IsServed-prop};
+
+use crate::shown::{push_error, push_name_of};
+use case_lines::{CaseStop, push_row};
+use conflict_detect::fits;
+use local_txn::{Here, Stamps, run_local};
+use rep_calls::{Statement, Txn};
+use rep_laws::sound_schemas_have_keys;
+use rep_lists::{Copies, NoMemory};
+use rep_schema::{RowStore, Schema, TableSet};
+use rep_values::SiteName;
+use row_tables::ListTables;
+use schema_rules::check;
+use std::alloc::Global;
+use txn_apply::{ApplyStop, apply_txn};
+use unique_resolve::Counters;
+
+/// A site with the tables of a sound schema.
+#[derive(Drop)]
+pub struct Site {
+    pub name: SiteName,
+    store: ListTables,
+    counters: Counters,
+    ghost served: { IsServed store.schema counters } by { IsServed-prop store.schema counters },
+}
+
+impl Site {
+    /// A site with empty tables, or the rule that the schema breaks.
+    pub fn make(
+        alloc: Global,
+        name: SiteName,
+        schema: &Schema,
+    ) -> Result<Result<Site, u8>, NoMemory>
+        requires { HasShape schema.now }
+    {
+        if let Err(rule) = check(schema) {
+            return Ok(Err(rule));
+        }
+        sound_schemas_have_keys();
+        let counters = Counters::make(alloc, schema)?;
+        let store = ListTables::make(alloc, schema.copy(alloc)?)?;
+        Ok(Ok(Site {
+            name,
+            store,
+            counters,
+        }))
+    }
+
+    /// Applies a transaction from an origin, and tells what came of it.
+    pub fn apply(
+        &mut self,
+        alloc: Global,
+        origin: &SiteName,
+        txn: &Txn,
+    ) -> Result<String, CaseStop> {
+        let mut out = String::new(alloc);
+        if txn.calls.len() > 1_000 || !fits(self.store.schema(), txn) {
+            out.push_str("no fit")?;
+            return Ok(out);
+        }
+        match apply_txn(alloc, &mut self.store, &mut self.counters, origin, txn) {
+            Ok(changes) => {
+                out.push_str(&format!(in alloc; "applied, {} changed", changes.rows.len())?)?;
+            }
+            Err(ApplyStop::Failed { call, error }) => {
+                out.push_str(&format!(in alloc; "call {call}:")?)?;
+                push_error(&mut out, &error)?;
+            }
+            Err(ApplyStop::Memory) => return Err(CaseStop::Memory),
+        }
+        Ok(out)
+    }
+
+    /// Runs a block of statements as a master that holds the tables 0 and 1, and tells what came of it.
+    pub fn run(
+        &mut self,
+        alloc: Global,
+        is_master: bool,
+        statements: &[Statement],
+    ) -> Result<(String, Option<Txn>), CaseStop> {
+        let mut out = String::new(alloc);
+        let mut stamps = Stamps { clock: 0, last: 0 };
+        let here = Here {
+            site: self.name,
+            is_master,
+            tables: TableSet::of(&[0, 1]),
+        };
+        match run_local(&mut self.store, alloc, &mut stamps, &here, statements) {
+            Ok(local) => {
+                out.push_str(&format!(in alloc; "committed, {} calls", local.txn.calls.len())?)?;
+                Ok((out, Some(local.txn)))
+            }
+            Err(stop) => {
+                let (statement, number) = (stop.statement, stop.refusal.number());
+                out.push_str(&format!(in alloc; "statement {statement} refused: {number}")?)?;
+                push_name_of(&mut out, &stop.refusal)?;
+                Ok((out, None))
+            }
+        }
+    }
+
+    /// The rows of a table in order, one behind the other.
+    fn push_rows(&self, alloc: Global, out: &mut String, table: u32) -> Result<(), CaseStop> {
+        if table as usize >= self.store.schema().tables.len() {
+            return Ok(());
+        }
+        for place in 0..self.store.count(table) {
+            if let Some(row) = self.store.row_in_order(table, place) {
+                out.push_str(" (")?;
+                push_row(out, alloc, row)?;
+                out.push_str(" )")?;
+            }
+        }
+        Ok(())
+    }
+
+    /// The rows of the first two tables.
+    pub fn rows(&self, alloc: Global) -> Result<String, CaseStop> {
+        let mut out = String::new(alloc);
+        out.push_str("0:")?;
+        self.push_rows(alloc, &mut out, 0)?;
+        out.push_str("; 1:")?;
+        self.push_rows(alloc, &mut out, 1)?;
+        Ok(out)
+    }
+}
