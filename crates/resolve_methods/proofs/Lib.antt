@@ -4,4 +4,5 @@ mod Over
 mod InRange
 pub mod TakenNumber
 mod Orders
+mod Sequences
 mod WorkedDecisions

@@ -79,15 +79,15 @@ taken_is x n takes = go (is_in_range x) takes
     go false takes = cc
 
 -- how much an amount adds, and how much it takes away
-gain : ℤ → ℕ
+pub gain : ℤ → ℕ
 gain (pos n) = n
 gain (negsuc n) = 0
 
-loss : ℤ → ℕ
+pub loss : ℤ → ℕ
 loss (pos n) = 0
 loss (negsuc n) = n + 1
 
-balance : (z : ℤ) → z ≡ pos (gain z) -ℤ pos (loss z)
+pub balance : (z : ℤ) → z ≡ pos (gain z) -ℤ pos (loss z)
 unfolding gain loss
 balance (pos n) = omega (arith, ints)
 balance (negsuc n) = omega (arith, ints)

@@ -19,7 +19,7 @@ written-apart : (before : Option Value) (v : Value) → written false before v �
 written-apart None v = refl
 written-apart (Some x) v = refl
 
-slice_get-set_same : (row : Cells) (k : ℕ) (v : Value) → slice_get (set row k v) k ≡ written true (slice_get row k) v
+pub slice_get-set_same : (row : Cells) (k : ℕ) (v : Value) → slice_get (set row k v) k ≡ written true (slice_get row k) v
 slice_get-set_same [] k v = refl
 slice_get-set_same (x ∷ xs) zero v = refl
 slice_get-set_same (x ∷ xs) (suc k) v = slice_get-set_same xs k v

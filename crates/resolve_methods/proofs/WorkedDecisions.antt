@@ -16,6 +16,7 @@ use Rattle.rep_calls.specs.declared.call.Part.{Part}
 use Rattle.resolve_methods.specs.declared.decision.Decision.{Decision}
 use Rattle.resolve_methods.specs.declared.decision.Decision.TheVariants.{TakeNew, TakeNumber, Keep, Undecided, Range}
 use Rattle.resolve_methods.specs.Decide.{decided_by, decision_of}
+use Rattle.resolve_methods.specs.SequenceLaws.{sum_methods, IsOfOneNumber}
 
 -- the columns ID (the key), A, RANK, SITE and Q
 abbrev columns : List Column
@@ -128,6 +129,11 @@ no_site_level_is_undecided = refl
 -- what a method decides of Q, of its old, new and current number
 abbrev of_q : Method → ℤ → ℤ → ℤ → Decision
 of_q m old new current = decided_by (schema [] []) 0 (part_q old new) (row (pos 5) (codes "low") (codes "L") current) m
+
+-- Q's group has one column of numbers
+q_is_of_one_number : IsOfOneNumber (schema [] sum_methods) 0 1 4 sum_methods
+unfolding group_columns_of
+q_is_of_one_number = record { columns = refl; numbers = refl; methods = refl }
 
 amounts_are_added : of_q method.Additive (pos 10) (pos 7) (pos 20) ≡ TakeNumber (pos 17)
 unfolding group_columns_of

@@ -5,3 +5,4 @@ pub mod Decide
 pub mod OrderCases
 pub mod Written
 pub mod Laws
+pub mod SequenceLaws

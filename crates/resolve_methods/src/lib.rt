@@ -8,6 +8,7 @@ mod new_values;
 mod numbers;
 mod order_cases;
 mod ranks;
+mod sequence_laws;
 
 pub use decision::Decision;
 pub use laws::{
@@ -15,3 +16,7 @@ pub use laws::{
     mean_is_the_same_from_either_side, order_is_ignored,
 };
 pub use methods::decide;
+pub use sequence_laws::{
+    greater_rank_stays, greatest_stays, least_stays, move_is_added, moves_add_in_any_order,
+    moves_add_up, moves_are_taken,
+};
