@@ -1,8 +1,9 @@
 -- What an append leaves of a row: its shape, its key, and its values in the columns of other constraints.
-use Rattle.std.proofs.Common.{◌≡◌, ◌≢◌, ℕ, zero, suc, ◌+◌, Bool, true, false, cond, List, [], ◌∷◌, ◌++◌, length, get_or, set, Some, None, refl, ap, subst, arith}
+use Rattle.std.proofs.Common.{◌≡◌, ◌≢◌, ℕ, zero, suc, ◌+◌, Bool, true, false, cond, List, [], ◌∷◌, ◌++◌, length, get_or, set, Some, None, refl, sym, ap, ◌∙◌, subst, inl, inr, arith}
 use Rattle.std.specs.Prelude.{Option, IfSome, not, ◌&&◌, ◌==◌, nat_le, slice_get}
 use Rattle.std.specs.List.{Contains, list_any, cons_option}
 use Rattle.std.proofs.lemmas.Bool.{eqb-true}
+use Rattle.std.proofs.lemmas.Bool.Decides.{eqb_tells}
 use Rattle.std.proofs.lemmas.List.Folds.{Any-from_list_any}
 use Rattle.rep_values.specs.declared.value.Value.{Value}
 use Rattle.rep_values.specs.declared.value.Value.TheVariants.{Num, Words}
@@ -14,6 +15,7 @@ use Rattle.rep_schema.specs.Groups.{values_at}
 use Rattle.rep_schema.specs.Shape.{ShareNone}
 use Rattle.rep_schema.proofs.PartFit.{key_of-with_values}
 use Rattle.unique_resolve.specs.Appending.{is_key, may_change, most_bytes, text_appended, appended}
+use Rattle.unique_resolve.specs.Laws.{IsLengthened}
 
 -- a column of a kind that holds one text holds every text
 other_text : (k : Kind) (old new : List ℕ) → FitsKind k (Words old) → FitsKind k (Words new)
@@ -39,6 +41,11 @@ slice_get-set_other (x ∷ xs) zero (suc q) y other = refl
 slice_get-set_other (x ∷ xs) (suc p) zero y other = refl
 slice_get-set_other (x ∷ xs) (suc p) (suc q) y other = slice_get-set_other xs p q y (λ same. other (ap suc same))
 
+slice_get-set_there : {X : Type 0} (xs : List X) (p : ℕ) (x y : X) → slice_get xs p ≡ Some x → slice_get (set xs p y) p ≡ Some y
+slice_get-set_there [] p x y there = cc
+slice_get-set_there (z ∷ zs) zero x y there = refl
+slice_get-set_there (z ∷ zs) (suc p) x y there = slice_get-set_there zs p x y there
+
 -- a list's values at places that aren't the written one
 values_at-set_other : {X : Type 0} (places : List ℕ) (xs : List X) (p : ℕ) (y : X) → (Contains places p → ⊥) → values_at places (set xs p y) ≡ values_at places xs
 values_at-set_other [] xs p y none = refl
@@ -62,6 +69,9 @@ pub record IsAppend (columns : List Column) (places : List ℕ) (column : ℕ) (
   pub is : after ≡ set row column (Words new)
   pub listed : Contains places column
   pub plain : is_key (slice_get columns column) ≡ false
+  pub may : may_change columns places column ≡ true
+  pub bytes : List ℕ
+  pub suffix : new ≡ old ++ bytes
 
 module _ (columns : List Column) (places : List ℕ) (column : ℕ) (row : Cells) where
   both_allow : (listed key : Bool) → (listed && not key) ≡ true → (listed ≡ true) × (key ≡ false)
@@ -77,7 +87,7 @@ module _ (columns : List Column) (places : List ℕ) (column : ℕ) (row : Cells
           → cond b (Some (set row column (Words (old ++ bytes)))) None ≡ Some after → IsAppend columns places column row after
       short old there may true e =
           let both = both_allow (list_any (λ place. place == column) places) (is_key (slice_get columns column)) may in
-          record { old = old; new = old ++ bytes; there = there; is = cc; listed = Contains-listed places column both.0; plain = both.1 }
+          record { old = old; new = old ++ bytes; there = there; is = cc; listed = Contains-listed places column both.0; plain = both.1; may = may; bytes = bytes; suffix = refl }
       short old there may false e = cc
 
       stands : may_change columns places column ≡ true → (v : Option Value) → slice_get row column ≡ v → text_appended column bytes row v ≡ Some after → IsAppend columns places column row after
@@ -105,3 +115,15 @@ module _ (columns : List Column) (places : List ℕ) (column : ℕ) (row : Cells
     -- and its values in the columns of a constraint that shares none with this one
     pub values_at-append : (others : List ℕ) → ShareNone places others → values_at others after ≡ values_at others row
     values_at-append others apart = rw append.is (values_at-set_other others row column (Words append.new) (apart column append.listed))
+
+    -- at each place its value is the same, or a text with bytes behind it
+    pub IsLengthened-append : (place : ℕ) → IsLengthened (may_change columns places place) (slice_get row place) (slice_get after place)
+    IsLengthened-append place = elim (eqb_tells column place) [
+      | inl same ↦
+          let may : may_change columns places place ≡ true = subst (λ p. may_change columns places p ≡ true) same.1 append.may in
+          let was : slice_get row place ≡ Some (Words append.old) = subst (λ p. slice_get row p ≡ Some (Words append.old)) same.1 append.there in
+          let put : slice_get after place ≡ Some (Words append.new) = subst (λ p. slice_get after p ≡ Some (Words append.new)) same.1
+          (ap (λ r. slice_get r column) append.is ∙ slice_get-set_there row column (Words append.old) (Words append.new) append.there) in
+          inr (may, record { text = append.old; bytes = append.bytes; was = was; is = put ∙ ap (λ t. Some (Words t)) append.suffix })
+      | inr apart ↦ inl (ap (λ r. slice_get r place) append.is ∙ slice_get-set_other row column place (Words append.new) (λ e. apart.1 (sym e)))
+    ]

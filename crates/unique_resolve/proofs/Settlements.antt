@@ -1,6 +1,6 @@
 -- What holds of a row that fits after its settlement, and of the counters after it.
-use Rattle.std.proofs.Common.{◌≡◌, ℕ, zero, suc, ◌<◌, Bool, true, false, cond, List, [], ◌∷◌, length, map, get_or, Some, None, refl, sym, ap, ◌∙◌, subst, arith, replicate}
-use Rattle.std.specs.Prelude.{Option, IfSome, ◌&&◌, is_some, slice_get, decimal}
+use Rattle.std.proofs.Common.{◌≡◌, ℕ, zero, suc, ◌<◌, Bool, true, false, cond, List, [], ◌∷◌, length, map, ◌++◌, append_assoc, get_or, Some, None, refl, sym, ap, ◌∙◌, subst, inl, inr, arith, replicate}
+use Rattle.std.specs.Prelude.{Option, IfSome, ◌&&◌, ◌||◌, is_some, slice_get, decimal}
 use Rattle.std.specs.List.{AllByRecursion, AllPairs, list_any}
 use Rattle.std.proofs.lemmas.Bool.Decides.{not_from_Decides}
 use Rattle.std.proofs.lemmas.List.{length-replicate}
@@ -8,6 +8,8 @@ use Rattle.std.proofs.Math.Seq.{map-set_same}
 use Rattle.std.proofs.lemmas.List.Elements.{recursion_from_All}
 use Rattle.rep_lists.proofs.Each.{each_then, each_found}
 use Rattle.rep_values.specs.declared.name.SiteName.{SiteName}
+use Rattle.rep_values.specs.declared.value.Value.{Value}
+use Rattle.rep_values.specs.declared.value.Value.TheVariants.{Words}
 use Rattle.rep_schema.specs.declared.schema.Schema.{Schema}
 use Rattle.rep_schema.specs.declared.schema.TableEntry.{TableEntry}
 use Rattle.rep_schema.specs.declared.schema.Column.{Column}
@@ -21,14 +23,45 @@ use Rattle.rep_schema.proofs.Shapes.{table_shape}
 use Rattle.unique_resolve.specs.declared.settled.Settled.{Settled}
 use Rattle.unique_resolve.specs.declared.settled.Settled.TheVariants.{Fits, Dropped, Conflict}
 use Rattle.unique_resolve.specs.Numbers.{Numbers, AreCounters, first_numbers, raised}
-use Rattle.unique_resolve.specs.Appending.{appended}
+use Rattle.unique_resolve.specs.Appending.{may_change, appended}
+use Rattle.unique_resolve.specs.Laws.{IsLengthened, may_grow}
 use Rattle.unique_resolve.specs.Settling.{is_held, helping, or_following, settled_by, settled_one, TableOutcome, go_on, settled_each, is_discard, key_methods_in, key_taken, Settlement, with_numbers, settlement_of}
 use Rattle.unique_resolve.proofs.HeldValues.{held_test}
-use Rattle.unique_resolve.proofs.AppendedTexts.{RowFits-append, key_of-append, values_at-append, IsAppend-appended}
+use Rattle.unique_resolve.proofs.AppendedTexts.{RowFits-append, key_of-append, values_at-append, IsLengthened-append, IsAppend-appended}
 
 -- of two rows with one key and the same values at some places, both have them held or none
 is_held-same : (columns : List Column) (places : List ℕ) (a b : Cells) (rows : Rows) → key_of columns a ≡ key_of columns b → values_at places a ≡ values_at places b → is_held columns places rows a ≡ is_held columns places rows b
 is_held-same columns places a b rows key values = rw (key, values) refl
+
+or_left : (a b : Bool) → a ≡ true → (a || b) ≡ true
+or_left true b is = refl
+or_left false b is = cc
+
+or_right : (a b : Bool) → b ≡ true → (a || b) ≡ true
+or_right true b is = refl
+or_right false b is = is
+
+-- a value that is lengthened twice is lengthened
+IsLengthened-trans : (a b : Bool) (x y z : Option Value) → IsLengthened a x y → IsLengthened b y z → IsLengthened (a || b) x z
+IsLengthened-trans a b x y z (inl same) (inl again) = inl (again ∙ same)
+IsLengthened-trans a b x y z (inl same) (inr more) =
+    inr (or_right a b more.0, record { text = more.1.text; bytes = more.1.bytes; was = sym same ∙ more.1.was; is = more.1.is })
+IsLengthened-trans a b x y z (inr first) (inl again) =
+    inr (or_left a b first.0, record { text = first.1.text; bytes = first.1.bytes; was = first.1.was; is = again ∙ first.1.is })
+IsLengthened-trans a b x y z (inr first) (inr more) =
+    let same : more.1.text ≡ first.1.text ++ first.1.bytes = words_same (sym more.1.was ∙ first.1.is) in
+    inr (
+      or_left a b first.0,
+      record {
+        text = first.1.text;
+        bytes = first.1.bytes ++ more.1.bytes;
+        was = first.1.was;
+        is = more.1.is ∙ ap (λ t. Some (Words (t ++ more.1.bytes))) same ∙ ap (λ t. Some (Words t)) (append_assoc first.1.text first.1.bytes more.1.bytes);
+      },
+    )
+  where
+    words_same : {s t : List ℕ} → Some (Words s) ≡ Some (Words t) → s ≡ t
+    words_same e = cc
 
 -- a row that fits for one constraint
 record IsFree (columns : List Column) (places : List ℕ) (rows : Rows) (row after : Cells) : Type 0 where
@@ -36,6 +69,7 @@ record IsFree (columns : List Column) (places : List ℕ) (rows : Rows) (row aft
   key : key_of columns after ≡ key_of columns row
   free : is_held columns places rows after ≡ false
   others : (shared : List ℕ) → ShareNone places shared → values_at shared after ≡ values_at shared row
+  lengthened : (place : ℕ) → IsLengthened (may_change columns places place) (slice_get row place) (slice_get after place)
 
 module _ (columns : List Column) (constraint : Constraint) (rows : Rows) (origin : SiteName) (row : Cells) (fits : RowFits columns row) where
   -- an append that helps
@@ -54,6 +88,7 @@ module _ (columns : List Column) (constraint : Constraint) (rows : Rows) (origin
             key = key_of-append columns constraint.columns column row after append;
             free = subst (λ r. is_held columns constraint.columns rows r ≡ false) same held;
             others = values_at-append columns constraint.columns column row after append;
+            lengthened = IsLengthened-append columns constraint.columns column row after append;
           }
 
       tried : (given : Option Cells) → appended columns constraint.columns column bytes row ≡ given → helping columns constraint.columns rows given ≡ Some after → IsFree columns constraint.columns rows row after
@@ -92,7 +127,7 @@ module _ (columns : List Column) (constraint : Constraint) (rows : Rows) (origin
       go true held e = IsFree-settled_by constraint.methods number after e
       go false held e =
           let same : row ≡ after = cc in
-          subst (IsFree columns constraint.columns rows row) same (record { fits = fits; key = refl; free = held; others = λ shared apart. refl })
+          subst (IsFree columns constraint.columns rows row) same (record { fits = fits; key = refl; free = held; others = λ shared apart. refl; lengthened = λ place. inl refl })
 
 -- no two of a table's constraints share a column
 abbrev AreApart : List Constraint → Type 0
@@ -105,6 +140,7 @@ record AreFree (columns : List Column) (constraints : List Constraint) (rows : R
   key : key_of columns after ≡ key_of columns row
   free : AllByRecursion (λ (c : Constraint). is_held columns c.columns rows after ≡ false) constraints
   others : (places : List ℕ) → AllByRecursion (λ (c : Constraint). ShareNone c.columns places) constraints → values_at places after ≡ values_at places row
+  lengthened : (place : ℕ) → IsLengthened (list_any (λ (c : Constraint). may_change columns c.columns place) constraints) (slice_get row place) (slice_get after place)
 
 AreApart-pairs : (constraints : List Constraint) → AllPairs (λ c d. ShareNone c.columns d.columns) constraints → AreApart constraints
 AreApart-pairs [] pairs = tt
@@ -125,6 +161,7 @@ module _ (columns : List Column) (rows : Rows) (origin : SiteName) where
         key = rest.key ∙ first.key;
         free = (is_held-same columns c.columns after one rows rest.key (rest.others c.columns back) ∙ first.free, rest.free);
         others = λ places shared. rest.others places shared.1 ∙ first.others places shared.0;
+        lengthened = λ place. IsLengthened-trans (may_change columns c.columns place) (list_any (λ (d : Constraint). may_change columns d.columns place) cs) (slice_get row place) (slice_get one place) (slice_get after place) (first.lengthened place) (rest.lengthened place);
       }
 
   -- a row that fits for one constraint after another fits for all
@@ -132,7 +169,7 @@ module _ (columns : List Column) (rows : Rows) (origin : SiteName) where
       → (settled_each columns rows origin constraints numbers row).settled ≡ Fits after → AreFree columns constraints rows row after
   AreFree-settled_each [] numbers row after fits long apart fit =
       let same : row ≡ after = cc in
-      subst (AreFree columns [] rows row) same (record { fits = fits; key = refl; free = tt; others = λ places shared. refl })
+      subst (AreFree columns [] rows row) same (record { fits = fits; key = refl; free = tt; others = λ places shared. refl; lengthened = λ place. inl refl })
   AreFree-settled_each (c ∷ cs) [] row after fits long apart fit = absurd (omega (arith, long))
   AreFree-settled_each (c ∷ cs) (n ∷ ns) row after fits long apart fit =
       go (settled_one columns rows origin c row n).settled refl fit (λ one one_fits later. AreFree-settled_each cs ns one after one_fits (omega (arith, long)) apart.1 later)
@@ -250,6 +287,10 @@ module _ (schema : Schema) (tables : List Rows) (numbers : Numbers) (origin : Si
       -- it has the key of the row that was to be put
       pub key_of-settled : key_of (columns_of schema table) after ≡ key_of (columns_of schema table) row
       key_of-settled = settled_free.key
+
+      -- only constrained texts are others, each with bytes behind it
+      pub IsLengthened-settled : (place : ℕ) → IsLengthened (may_grow schema table place) (slice_get row place) (slice_get after place)
+      IsLengthened-settled = settled_free.lengthened
 
       -- and it is unique among the table's rows
       pub IsUniqueRow-settled : AreTables schema tables → table < length schema.tables → IsUniqueRow schema table after (rows_of tables table)

@@ -8,5 +8,8 @@ mod settled;
 mod trying;
 
 pub use counters::Counters;
-pub use laws::{counters_stay_counters, free_rows_stay_themselves, settled_rows_can_be_put};
+pub use laws::{
+    counters_never_fall, counters_stay_counters, free_rows_stay_themselves,
+    other_counters_stand_still, settled_rows_can_be_put, settled_texts_grow,
+};
 pub use settled::{Settled, settle_unique};
