@@ -5,4 +5,5 @@ mod InRange
 pub mod TakenNumber
 mod Orders
 mod Sequences
+mod NewRanks
 mod WorkedDecisions

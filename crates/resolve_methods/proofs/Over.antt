@@ -15,7 +15,7 @@ written_over k (p ∷ ps) [] before = before
 written_over k (p ∷ ps) (v ∷ vs) before = written_over k ps vs (written (p == k) before v)
 
 -- a write elsewhere changes nothing
-written-apart : (before : Option Value) (v : Value) → written false before v ≡ before
+pub written-apart : (before : Option Value) (v : Value) → written false before v ≡ before
 written-apart None v = refl
 written-apart (Some x) v = refl
 

@@ -9,7 +9,7 @@ use Rattle.rep_schema.specs.declared.schema.Method.TheVariants as method
 use Rattle.rep_schema.specs.Tables.{Cells, columns_of, RowFits}
 use Rattle.rep_schema.specs.Fitting.{is_in_range}
 use Rattle.rep_schema.specs.Groups.{group_columns_of, group_values, with_group_values}
-use Rattle.rep_schema.specs.Kinds.{takes_numbers, has_kind}
+use Rattle.rep_schema.specs.Kinds.{takes_numbers, has_kind, has_place}
 use Rattle.rep_schema.specs.Shape.{HasShape}
 use Rattle.rep_calls.specs.declared.call.Part.{Part}
 use Rattle.resolve_methods.specs.PartValues.{HasGroupValues}
@@ -163,3 +163,11 @@ GreaterRankStays = (schema : Schema) (table stamp site : ℕ) (part : Part) (row
     → methods_of schema table part.group ≡ newest_methods stamp site
     → HasGroupValues schema table part → RowFits (columns_of schema table) row
     → GoesByRank (decision_of schema table part row) (new_rank schema table stamp site part row) (rank_in schema stamp site row)
+
+-- a part that brings a stamp and a site of its own has the same rank over every row
+abbrev pub NewRankIsThePartsOwn : Type 0
+NewRankIsThePartsOwn = (schema : Schema) (table stamp site : ℕ) (part : Part) (row other : Cells) → HasShape schema
+    → has_place (group_columns_of schema table part.group) stamp ≡ true
+    → has_place (group_columns_of schema table part.group) site ≡ true
+    → HasGroupValues schema table part → RowFits (columns_of schema table) row → RowFits (columns_of schema table) other
+    → new_rank schema table stamp site part row ≡ new_rank schema table stamp site part other

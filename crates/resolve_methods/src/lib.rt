@@ -18,5 +18,5 @@ pub use laws::{
 pub use methods::decide;
 pub use sequence_laws::{
     greater_rank_stays, greatest_stays, least_stays, move_is_added, moves_add_in_any_order,
-    moves_add_up, moves_are_taken,
+    moves_add_up, moves_are_taken, new_rank_is_the_parts_own,
 };

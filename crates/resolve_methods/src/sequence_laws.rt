@@ -1,5 +1,5 @@
 //! Laws over the definitions of what the method sequences of convergent groups decide.
-ghost use Rattle.resolve_methods.specs.SequenceLaws.{MoveIsAdded, MovesAreTaken, MovesAddUp, MovesAddInAnyOrder, GreatestStays, LeastStays, GreaterRankStays};
+ghost use Rattle.resolve_methods.specs.SequenceLaws.{MoveIsAdded, MovesAreTaken, MovesAddUp, MovesAddInAnyOrder, GreatestStays, LeastStays, GreaterRankStays, NewRankIsThePartsOwn};
 
 /// Additive adds what a part moves to the row's number, where the sum stays in range; else it decides Range.
 pub fn move_is_added()
@@ -34,4 +34,9 @@ pub fn least_stays()
 /// By latest and site-priority the values stay that have the greater stamp, and of the same stamp the higher level.
 pub fn greater_rank_stays()
     ensures { GreaterRankStays }
+{}
+
+/// A part of a group that has the stamp and the site is ranked by its own new values, whatever the row has.
+pub fn new_rank_is_the_parts_own()
+    ensures { NewRankIsThePartsOwn }
 {}
