@@ -9,6 +9,16 @@ macro_rules! cell {
     };
 }
 
+/// A table written row by row: a name that says what the row is for, and its cells.
+#[macro_export]
+macro_rules! cases {
+    ($($name:ident: $($cell:ident)+;)*) => {
+        $crate::CaseTable {
+            cells: [$([$($cell),+]),*],
+        }
+    };
+}
+
 /// A table with R rows and C columns. It takes no memory.
 #[derive(Clone, Copy)]
 pub struct CaseTable<const R: usize, const C: usize> {

@@ -31,7 +31,7 @@ abbrev groups : List Group
 groups = record { name = codes "n"; columns = 3 ∷ 4 ∷ []; methods = [] } ∷ record { name = codes "q"; columns = 1 ∷ []; methods = [] } ∷ []
 
 abbrev table_t : TableEntry
-table_t = record { name = record { 0 = codes "T" }; columns = columns; groups = groups; key_methods = []; constraints = []; convergent = false }
+table_t = record { name = record { 0 = codes "T" }; columns = columns; groups = groups; key_methods = []; constraints = []; checks = []; convergent = false }
 
 abbrev schema : Schema
 schema = record { sites = []; tables = table_t ∷ []; priorities = [] }

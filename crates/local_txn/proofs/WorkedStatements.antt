@@ -46,15 +46,16 @@ table_h = record {
   groups = [];
   key_methods = [];
   constraints = [];
+  checks = [];
   convergent = false;
 }
 
 -- the table M, which is not held here
 abbrev table_m : TableEntry
-table_m = record { name = record { 0 = codes "M" }; columns = column (codes "ID") kind.Number true ∷ []; groups = []; key_methods = []; constraints = []; convergent = false }
+table_m = record { name = record { 0 = codes "M" }; columns = column (codes "ID") kind.Number true ∷ []; groups = []; key_methods = []; constraints = []; checks = []; convergent = false }
 
 abbrev site_a : SiteEntry
-site_a = record { name = record { 0 = codes "A" }; master = None; level = None }
+site_a = record { name = record { 0 = codes "A" }; master = None; level = None; late = false }
 
 abbrev schema : Schema
 schema = record { sites = site_a ∷ []; tables = table_t ∷ table_h ∷ table_m ∷ []; priorities = [] }

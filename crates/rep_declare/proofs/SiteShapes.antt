@@ -62,7 +62,7 @@ one_more_site schema site shape new masters snapshots has = record {
 -- with a master site that isn't refused
 pub HasShape-Site : (schema : Schema) (name : SiteName) → HasShape schema → refusal_of schema (declare.Site name) ≡ None → HasShape (declared (declare.Site name) schema)
 HasShape-Site schema name shape passed =
-    let site : SiteEntry = record { name = name; master = None; level = None } in
+    let site : SiteEntry = record { name = name; master = None; level = None; late = false } in
     let steps = or_then-None _ _ passed in
     let room : count_by is_master schema.sites < most_masters = full-None _ _ limit.Masters (or_then-None _ _ steps.1).0 in
     let masters : count_by is_master (schema.sites ++ site ∷ []) ≡ count_by is_master schema.sites + 1 = sum_by_push _ schema.sites site in
@@ -73,7 +73,7 @@ HasShape-Site schema name shape passed =
 pub HasShape-SnapSite : (schema : Schema) (name master : SiteName) → HasShape schema → refusal_of schema (declare.SnapSite name master) ≡ None
     → HasShape (declared (declare.SnapSite name master) schema)
 HasShape-SnapSite schema name master shape passed =
-    let site : SiteEntry = record { name = name; master = Some master; level = None } in
+    let site : SiteEntry = record { name = name; master = Some master; level = None; late = false } in
     let steps = or_then-None _ _ passed in
     let later = or_then-None _ _ steps.1 in
     let there : has_master schema master ≡ true = not-false _ (refused-None _ refusal.UnknownName later.0) in

@@ -81,19 +81,19 @@ unique_method_of columns unique_words.Discard = unique.Discard
 
 -- a table with no groups and constraints yet
 abbrev pub new_table : TableName → List Column → TableEntry
-new_table name columns = record { name = name; columns = columns; groups = []; key_methods = []; constraints = []; convergent = false }
+new_table name columns = record { name = name; columns = columns; groups = []; key_methods = []; constraints = []; checks = []; convergent = false }
 
 abbrev pub with_groups : List Group → TableEntry → TableEntry
-with_groups groups entry = record { name = entry.name; columns = entry.columns; groups = groups; key_methods = entry.key_methods; constraints = entry.constraints; convergent = entry.convergent }
+with_groups groups entry = record { name = entry.name; columns = entry.columns; groups = groups; key_methods = entry.key_methods; constraints = entry.constraints; checks = []; convergent = entry.convergent }
 
 abbrev pub with_constraints : List Constraint → TableEntry → TableEntry
-with_constraints constraints entry = record { name = entry.name; columns = entry.columns; groups = entry.groups; key_methods = entry.key_methods; constraints = constraints; convergent = entry.convergent }
+with_constraints constraints entry = record { name = entry.name; columns = entry.columns; groups = entry.groups; key_methods = entry.key_methods; constraints = constraints; checks = []; convergent = entry.convergent }
 
 abbrev pub with_key_methods : List UniqueMethod → TableEntry → TableEntry
-with_key_methods methods entry = record { name = entry.name; columns = entry.columns; groups = entry.groups; key_methods = methods; constraints = entry.constraints; convergent = entry.convergent }
+with_key_methods methods entry = record { name = entry.name; columns = entry.columns; groups = entry.groups; key_methods = methods; constraints = entry.constraints; checks = []; convergent = entry.convergent }
 
 abbrev pub made_convergent : TableEntry → TableEntry
-made_convergent entry = record { name = entry.name; columns = entry.columns; groups = entry.groups; key_methods = entry.key_methods; constraints = entry.constraints; convergent = true }
+made_convergent entry = record { name = entry.name; columns = entry.columns; groups = entry.groups; key_methods = entry.key_methods; constraints = entry.constraints; checks = []; convergent = true }
 
 -- a group with one more method
 abbrev pub with_method : Method → Group → Group
@@ -132,8 +132,8 @@ with_table_changed name change schema = with_tables (with_changed (is_table name
 
 -- the schema with a declaration that isn't refused
 abbrev pub declared : Declare → Schema → Schema
-declared (declare.Site name) schema = with_sites (schema.sites ++ record { name = name; master = None; level = None } ∷ []) schema
-declared (declare.SnapSite name master) schema = with_sites (schema.sites ++ record { name = name; master = Some master; level = None } ∷ []) schema
+declared (declare.Site name) schema = with_sites (schema.sites ++ record { name = name; master = None; level = None; late = false } ∷ []) schema
+declared (declare.SnapSite name master) schema = with_sites (schema.sites ++ record { name = name; master = Some master; level = None; late = false } ∷ []) schema
 declared (declare.Table name columns) schema = with_tables (schema.tables ++ new_table name columns ∷ []) schema
 declared (declare.Group table group columns) schema = with_table_changed table
     (λ entry. with_groups (entry.groups ++ record { name = group; columns = places_named entry.columns columns; methods = [] } ∷ []) entry) schema

@@ -43,12 +43,13 @@ table_of name constraints = record {
   groups = code_group ∷ [];
   key_methods = [];
   constraints = constraints;
+  checks = [];
   convergent = false;
 }
 
 -- the master site A
 abbrev site_a : SiteEntry
-site_a = record { name = record { 0 = codes "A" }; master = None; level = None }
+site_a = record { name = record { 0 = codes "A" }; master = None; level = None; late = false }
 
 -- table 0 has the constraint u on CODE, and table 1 has none
 abbrev schema : Schema

@@ -15,7 +15,7 @@ abbrev columns : List Column
 columns = record { name = codes "ID"; kind = kind.Number; key = true } ∷ record { name = codes "Q"; kind = kind.Number; key = false } ∷ []
 
 abbrev table_of : List ℕ → TableEntry
-table_of name = record { name = record { 0 = name }; columns = columns; groups = []; key_methods = []; constraints = []; convergent = false }
+table_of name = record { name = record { 0 = name }; columns = columns; groups = []; key_methods = []; constraints = []; checks = []; convergent = false }
 
 abbrev schema : Schema
 schema = record { sites = []; tables = table_of (codes "T") ∷ table_of (codes "U") ∷ []; priorities = [] }

@@ -28,7 +28,7 @@ abbrev group_q : Group
 group_q = record { name = codes "q"; columns = 1 ∷ []; methods = [] }
 
 abbrev table_of : List Group → TableEntry
-table_of groups = record { name = record { 0 = codes "T" }; columns = columns; groups = groups; key_methods = []; constraints = []; convergent = false }
+table_of groups = record { name = record { 0 = codes "T" }; columns = columns; groups = groups; key_methods = []; constraints = []; checks = []; convergent = false }
 
 abbrev schema : Schema
 schema = record { sites = []; tables = table_of [] ∷ table_of (group_n ∷ group_q ∷ []) ∷ []; priorities = [] }

@@ -17,6 +17,7 @@ mod FewNumbers
 pub mod GroupShapes
 pub mod Coverage
 mod TableMarks
+mod CheckExamples
 mod ShapeExamples
 mod GroupExamples
 mod ChangeExamples

@@ -1,5 +1,5 @@
 -- Schemas that have their shape, and schemas that haven't.
-use Rattle.std.proofs.Common.{◌≡◌, ℕ, ◌<◌, List, [], ◌∷◌, get_or, Some, None, true, false, zero, suc, refl, ap, arith}
+use Rattle.std.proofs.Common.{◌≡◌, ℕ, ◌<◌, List, [], ◌∷◌, get_or, pos, Some, None, true, false, zero, suc, refl, ap, arith}
 use Rattle.std.specs.Prelude.{codes, ◌≢◌}
 use Rattle.std.specs.List.{AllByRecursion, AllPairs}
 use Rattle.std.proofs.lemmas.List.Elements.{All-from_recursion}
@@ -9,10 +9,13 @@ use Rattle.rep_schema.specs.declared.schema.SiteEntry.{SiteEntry}
 use Rattle.rep_schema.specs.declared.schema.TableEntry.{TableEntry}
 use Rattle.rep_schema.specs.declared.schema.Column.{Column}
 use Rattle.rep_schema.specs.declared.schema.Group.{Group}
+use Rattle.rep_values.specs.declared.value.Value.TheVariants.{Num}
+use Rattle.rep_schema.specs.declared.check.Check.{Check}
+use Rattle.rep_schema.specs.declared.check.Rel.TheVariants.{Ge}
 use Rattle.rep_schema.specs.declared.schema.Kind.TheVariants as kind
 use Rattle.rep_schema.specs.declared.schema.Method.TheVariants as method
 use Rattle.rep_schema.proofs.KeptTables.{any_from_none}
-use Rattle.rep_schema.specs.Shape.{AreDistinct, ShareNone, IsPlaceIn, shadow_name, method_column, method_priority, AreColumns, HasGroupShape, HasTableShape, HasMaster, HasShape}
+use Rattle.rep_schema.specs.Shape.{AreDistinct, ShareNone, IsPlaceIn, shadow_name, method_column, method_priority, AreColumns, HasGroupShape, HasTableShape, is_early_master, HasMaster, HasShape}
 
 -- pairs by recursion on the list
 pairs_nil : {X : Type 0} (R : X → X → Type 0) → AllPairs R []
@@ -43,15 +46,19 @@ q_column = record { name = codes "Q"; kind = kind.Number; key = false }
 abbrev q_group : Group
 q_group = record { name = codes "q"; columns = 1 ∷ []; methods = method.Maximum 1 ∷ method.Discard ∷ [] }
 
+-- Q is 0 or more
+abbrev low : Check
+low = record { name = codes "low"; column = 1; rel = Ge; value = Num (pos 0) }
+
 abbrev table_t : TableEntry
-table_t = record { name = record { 0 = codes "T" }; columns = id_column ∷ q_column ∷ []; groups = q_group ∷ []; key_methods = []; constraints = []; convergent = false }
+table_t = record { name = record { 0 = codes "T" }; columns = id_column ∷ q_column ∷ []; groups = q_group ∷ []; key_methods = []; constraints = []; checks = low ∷ []; convergent = false }
 
 -- a master site A, and a snapshot site S of A
 abbrev site_a : SiteEntry
-site_a = record { name = record { 0 = codes "A" }; master = None; level = None }
+site_a = record { name = record { 0 = codes "A" }; master = None; level = None; late = false }
 
 abbrev site_s : SiteEntry
-site_s = record { name = record { 0 = codes "S" }; master = Some (record { 0 = codes "A" }); level = None }
+site_s = record { name = record { 0 = codes "S" }; master = Some (record { 0 = codes "A" }); level = None; late = false }
 
 abbrev small : Schema
 small = record { sites = site_a ∷ site_s ∷ []; tables = table_t ∷ []; priorities = [] }
@@ -87,6 +94,9 @@ table_t_has_shape = record {
   constraint_names = pairs_nil (λ a b. a ≢ b);
   key_free = All-from_recursion _ [] tt;
   constraints_apart = pairs_nil (λ c d. ShareNone c.columns d.columns);
+  checks = All-from_recursion (λ (c : Check). c.column < 2) (low ∷ []) (omega arith, tt);
+  check_number = omega arith;
+  check_names = distinct_one (codes "low");
 }
 
 -- it has its shape
@@ -117,9 +127,18 @@ chained = record small { sites = site_a ∷ site_s ∷ record site_s { name = re
 
 chained_lacks_shape : ¬ HasShape chained
 chained_lacks_shape shape =
-    any_from_none (λ s. (s.name ≡ site_s.name) × (s.master ≡ None)) chained.sites
+    any_from_none (λ s. (s.name ≡ site_s.name) × (is_early_master s ≡ true)) chained.sites
     ((λ is. let first : 65 ≡ 83 = ap (λ (n : SiteName). get_or n.0 0 0) is.0 in omega arith), ((λ is. cc), ((λ is. let first : 85 ≡ 83 = ap (λ (n : SiteName). get_or n.0 0 0) is.0 in omega arith), tt)))
     (shape.site_masters 2 site_a (omega arith))
+
+-- a snapshot site of a master that joins later
+abbrev of_late : Schema
+of_late = record small { sites = record site_a { late = true } ∷ site_s ∷ [] }
+
+of_late_lacks_shape : ¬ HasShape of_late
+of_late_lacks_shape shape =
+    any_from_none (λ s. (s.name ≡ site_a.name) × (is_early_master s ≡ true)) of_late.sites ((λ is. cc), ((λ is. cc), tt))
+    (shape.site_masters 1 site_a (omega arith))
 
 -- a group of a column that the table hasn't
 abbrev beyond : Schema

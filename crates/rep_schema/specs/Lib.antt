@@ -3,6 +3,8 @@ pub mod Limits
 pub mod Tables
 pub mod Fitting
 pub mod Kinds
+pub mod Checks
+pub mod Entries
 pub mod Shape
 pub mod Groups
 pub mod Named

@@ -32,3 +32,7 @@ most_constraints = 8
 -- levels of a priority group
 abbrev pub most_levels : ℕ
 most_levels = 1000
+
+-- checks of a table
+abbrev pub most_checks : ℕ
+most_checks = 8

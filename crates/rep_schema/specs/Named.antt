@@ -11,8 +11,9 @@ use Rattle.rep_schema.specs.declared.schema.Column.{Column}
 use Rattle.rep_schema.specs.declared.schema.Group.{Group}
 use Rattle.rep_schema.specs.declared.schema.Constraint.{Constraint}
 use Rattle.rep_schema.specs.declared.schema.PriorityGroup.{PriorityGroup}
+use Rattle.rep_schema.specs.declared.check.Check.{Check}
 use Rattle.rep_schema.specs.declared.schema.UniqueMethod.{UniqueMethod}
-use Rattle.rep_schema.specs.Shape.{is_master, shadow_name, key_name}
+use Rattle.rep_schema.specs.Shape.{is_early_master, shadow_name, key_name}
 use Rattle.rep_schema.specs.Groups.{shadow_group, groups_of}
 
 abbrev pub is_site : SiteName → SiteEntry → Bool
@@ -37,9 +38,9 @@ is_priority name group = same_bytes group.name name
 abbrev pub site_named : Schema → SiteName → Option SiteEntry
 site_named schema name = find (is_site name) schema.sites
 
--- a master site has this name
+-- a master site that is there from the start has this name
 abbrev pub has_master : Schema → SiteName → Bool
-has_master schema name = list_any (λ site. is_site name site && is_master site) schema.sites
+has_master schema name = list_any (λ site. is_site name site && is_early_master site) schema.sites
 
 -- the table of this name
 abbrev pub table_named : Schema → TableName → Option TableEntry
@@ -57,6 +58,13 @@ group_named table name = find (is_group name) table.groups
 abbrev pub constraint_named : TableEntry → List ℕ → Option Constraint
 constraint_named table name = find (is_constraint name) table.constraints
 
+abbrev pub is_check : List ℕ → Check → Bool
+is_check name check = same_bytes check.name name
+
+-- the check of this name of a table
+abbrev pub check_named : TableEntry → List ℕ → Option Check
+check_named table name = find (is_check name) table.checks
+
 abbrev pub constraint_methods : Option Constraint → Option (List UniqueMethod)
 constraint_methods None = None
 constraint_methods (Some constraint) = Some constraint.methods
@@ -68,6 +76,10 @@ methods_named table name = cond (same_bytes name key_name) (Some table.key_metho
 -- the priority group of this name
 abbrev pub priority_named : Schema → List ℕ → Option PriorityGroup
 priority_named schema name = find (is_priority name) schema.priorities
+
+-- the column of this name
+abbrev pub column_named : List Column → List ℕ → Option Column
+column_named columns name = find (is_column name) columns
 
 -- the place of the column of this name
 abbrev pub column_place : List Column → List ℕ → Option ℕ

@@ -1,5 +1,5 @@
 -- The shape of a schema: its counts are within the limits, its names are distinct, and each place in it is the place of something.
-use Rattle.std.specs.Prelude.{◌≡◌, ◌≢◌, ℕ, ◌<◌, ◌≤◌, Bool, List, [], length, map, codes, Option, Some, None, is_some, is_none, IfSome, Any}
+use Rattle.std.specs.Prelude.{◌≡◌, ◌≢◌, ℕ, ◌<◌, ◌≤◌, Bool, true, not, ◌&&◌, List, [], length, map, codes, Option, Some, None, is_some, is_none, IfSome, Any}
 use Rattle.std.specs.List.{All, AllPairs, Contains, count_by}
 use Rattle.std.specs.List.Sorted.{IsStrictlyIncreasing}
 use Rattle.rep_schema.specs.declared.schema.Schema.{Schema}
@@ -12,7 +12,7 @@ use Rattle.rep_schema.specs.declared.schema.Method.{Method}
 use Rattle.rep_schema.specs.declared.schema.Method.TheVariants as method
 use Rattle.rep_schema.specs.declared.schema.UniqueMethod.{UniqueMethod}
 use Rattle.rep_schema.specs.declared.schema.UniqueMethod.TheVariants as unique
-use Rattle.rep_schema.specs.Limits.{most_masters, most_snapshots, most_tables, most_columns, most_keys, most_methods, most_constraints, most_levels}
+use Rattle.rep_schema.specs.Limits.{most_masters, most_snapshots, most_tables, most_columns, most_keys, most_methods, most_constraints, most_levels, most_checks}
 use Rattle.rep_schema.specs.Tables.{key_count}
 
 -- the name of the columns in no named group
@@ -105,23 +105,30 @@ pub record HasTableShape (priorities : ℕ) (entry : TableEntry) : Type 0 where
   pub constraint_names : AreDistinct (map (λ c. c.name) entry.constraints)
   pub key_free : All (λ c. c.name ≢ key_name) entry.constraints
   pub constraints_apart : AllPairs (λ c d. ShareNone c.columns d.columns) entry.constraints
+  pub checks : All (λ c. c.column < length entry.columns) entry.checks
+  pub check_number : length entry.checks ≤ most_checks
+  pub check_names : AreDistinct (map (λ c. c.name) entry.checks)
 
 -- the levels of a priority group
 pub record HasLevelShape (group : PriorityGroup) : Type 0 where
   pub number : length group.levels ≤ most_levels
   pub values : AreDistinct (map (λ l. l.value) group.levels)
 
--- a site without a master is a master site
+-- a site without a master is a master site, there from the start or late
 abbrev pub is_master : SiteEntry → Bool
 is_master site = is_none site.master
+
+-- a master site that is there from the start
+abbrev pub is_early_master : SiteEntry → Bool
+is_early_master site = is_master site && not site.late
 
 -- a site with a master is a snapshot site
 abbrev pub is_snapshot : SiteEntry → Bool
 is_snapshot site = is_some site.master
 
--- the master of a site, if it has one, is a master site among these
+-- the master of a site, if it has one, is a master site among these that is there from the start
 abbrev pub HasMaster : List SiteEntry → SiteEntry → Type 0
-HasMaster sites site = IfSome site.master (λ master. Any (λ s. (s.name ≡ master) × (s.master ≡ None)) sites)
+HasMaster sites site = IfSome site.master (λ master. Any (λ s. (s.name ≡ master) × (is_early_master s ≡ true)) sites)
 
 -- counts within the limits, distinct names, and places of what is there
 pub record HasShape (schema : Schema) : Type 0 where

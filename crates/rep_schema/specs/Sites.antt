@@ -4,14 +4,14 @@ use Rattle.std.specs.List.{find}
 use Rattle.rep_values.specs.declared.name.SiteName.{SiteName}
 use Rattle.rep_schema.specs.declared.schema.Schema.{Schema}
 use Rattle.rep_schema.specs.declared.schema.SiteEntry.{SiteEntry}
-use Rattle.rep_schema.specs.Shape.{is_master}
+use Rattle.rep_schema.specs.Shape.{is_master, is_early_master}
 use Rattle.rep_schema.specs.Named.{is_site, site_named}
 
--- the first master site that was declared
+-- the first declared of the master sites that are there from the start
 abbrev pub first_master : Schema → Option SiteEntry
-first_master schema = find is_master schema.sites
+first_master schema = find is_early_master schema.sites
 
--- a master sends to the other sites, a snapshot site to its master
+-- a master sends to the other sites, late ones among them, a snapshot site to its master
 abbrev pub addresses : SiteEntry → Option SiteName → SiteEntry → Bool
 addresses from None to = not (is_site from.name to)
 addresses from (Some master) to = is_site master to

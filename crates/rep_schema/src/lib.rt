@@ -2,8 +2,10 @@
 #![tactic(auto)]
 
 mod change;
+mod check;
 mod compare;
 mod conditions;
+mod entries;
 mod groups;
 mod kinds;
 mod named;
@@ -13,6 +15,7 @@ mod store;
 mod table_set;
 
 pub use change::{Change, Changes, change_fits, undo};
+pub use check::{Check, Rel, checks_of, failed_check};
 pub use compare::{
     columns_of, compare_row, compare_rows, constraint_columns, constraint_count, constraints_of,
     has_key, have_one_key, key_in, key_of, same_picked,
@@ -24,9 +27,9 @@ pub use groups::{
 };
 pub use kinds::{is_key_at, is_of_kind, kind_at, row_in_range, value_in_range};
 pub use named::{
-    OnColumns, column_place, find_constraint, find_group, find_priority, find_site, find_table,
-    group_name, has_column, has_master, is_key_name, is_shadow_name, is_taken, key_name,
-    priority_place, shadow_name, table_place,
+    OnColumns, column_place, find_check, find_column, find_constraint, find_group, find_priority,
+    find_site, find_table, group_name, has_column, has_master, is_key_name, is_shadow_name,
+    is_taken, key_name, priority_place, shadow_name, table_place,
 };
 pub use putting::{copy_of_row, holds_tables, push_change, put_if_changed, put_with_change};
 pub use schema::{

@@ -2,12 +2,12 @@
 ghost use Rattle.std.specs.Prelude.{◌≡◌, ◌&&◌, ◌<◌, ◌==◌, List, ℕ, length, option_copied};
 ghost use Rattle.std.specs.List.{find, list_any, position};
 ghost use Rattle.rep_values.specs.Name.{same_bytes};
-ghost use Rattle.rep_schema.specs.Shape.{is_master, shadow_name, key_name};
-ghost use Rattle.rep_schema.specs.Named.{is_site, is_table, is_column, is_group, is_constraint, is_priority, has_column, group_name};
+ghost use Rattle.rep_schema.specs.Shape.{is_early_master, shadow_name, key_name};
+ghost use Rattle.rep_schema.specs.Named.{is_site, is_table, is_column, is_group, is_constraint, is_check, is_priority, has_column, group_name};
 
 use crate::{
-    Column, Constraint, Group, PriorityGroup, SHADOW, Schema, SiteEntry, TableEntry, groups_of,
-    has_place,
+    Check, Column, Constraint, Group, PriorityGroup, SHADOW, Schema, SiteEntry, TableEntry,
+    groups_of, has_place,
 };
 use rep_values::{Name, SiteName, TableName};
 
@@ -75,6 +75,13 @@ pub fn find_constraint<'a>(constraints: &'a [Constraint], name: &Name) -> Option
     find_named(constraints, name)
 }
 
+/// The check of a name.
+pub fn find_check<'a>(checks: &'a [Check], name: &Name) -> Option<&'a Check>
+    ensures { option_copied result ≡ find (is_check name.now) checks.now }
+{
+    checks.iter().find(|check| check.name.is_same(name))
+}
+
 /// Whether a column stands in one of these groups or constraints.
 pub fn is_taken<X: OnColumns>(all: &[X], place: usize) -> bool
     ensures { result ≡ list_any (λ x. list_any (λ c. c == place) (X.columns x)) all.now }
@@ -89,11 +96,11 @@ pub fn find_site<'a>(sites: &'a [SiteEntry], name: &SiteName) -> Option<&'a Site
     sites.iter().find(|site| site.name.0.is_same(&name.0))
 }
 
-/// Whether a master site has the name.
+/// Whether a master site that is there from the start has the name.
 pub fn has_master(sites: &[SiteEntry], name: &SiteName) -> bool
-    ensures { result ≡ list_any (λ site. is_site name.now site && is_master site) sites.now }
+    ensures { result ≡ list_any (λ site. is_site name.now site && is_early_master site) sites.now }
 {
-    sites.iter().any(|site| site.name.0.is_same(&name.0) && site.master.is_none())
+    sites.iter().any(|site| site.name.0.is_same(&name.0) && site.is_early_master())
 }
 
 /// The table of a name.
@@ -117,6 +124,13 @@ pub fn find_priority<'a>(groups: &'a [PriorityGroup], name: &Name) -> Option<&'a
     ensures { option_copied result ≡ find (is_priority name.now) groups.now }
 {
     groups.iter().find(|group| group.name.is_same(name))
+}
+
+/// The column of a name.
+pub fn find_column<'a>(columns: &'a [Column], name: &Name) -> Option<&'a Column>
+    ensures { option_copied result ≡ find (is_column name.now) columns.now }
+{
+    columns.iter().find(|column| column.name.is_same(name))
 }
 
 /// The place of the column of a name.

@@ -4,6 +4,7 @@
 ghost use Rattle.std.specs.Prelude.{◌≡◌};
 ghost use Rattle.rep_schema.specs.Shape.{HasShape, no_schema};
 
+use crate::Check;
 use rep_lists::{Copies, Items, NoMemory};
 use rep_values::{Name, SiteName, TableName, Value};
 use std::alloc::Global;
@@ -24,9 +25,11 @@ pub struct SiteEntry {
     pub master: Option<SiteName>,
     /// The level that site-priority compares. A declaration gives none outside ±10^15.
     pub level: Option<i64>,
+    /// A master site that isn't there from the start: it joins later.
+    pub late: bool,
 }
 
-/// A table with its columns, its column groups and its uniqueness constraints.
+/// A table with its columns, its column groups, its uniqueness constraints and its checks.
 #[derive(Drop)]
 pub struct TableEntry {
     pub name: TableName,
@@ -37,6 +40,8 @@ pub struct TableEntry {
     pub key_methods: Items<UniqueMethod>,
     /// The secondary constraints.
     pub constraints: Items<Constraint>,
+    /// What each row has to meet.
+    pub checks: Items<Check>,
     pub convergent: bool,
 }
 
@@ -151,6 +156,7 @@ impl Copies for TableEntry {
             groups: self.groups.copy(alloc)?,
             key_methods: self.key_methods.copy(alloc)?,
             constraints: self.constraints.copy(alloc)?,
+            checks: self.checks.copy(alloc)?,
             convergent: self.convergent,
         })
     }

@@ -25,4 +25,6 @@ refusal_number (refusal.LogTooYoung purged mark) = 17
 refusal_number refusal.Suspended = 18
 refusal_number (refusal.LimitReached limit) = 19
 refusal_number (refusal.SchemaRule rule) = 20
+refusal_number (refusal.CheckFailed check) = 21
+refusal_number (refusal.NotQuiet site count) = 22
 refusal_number refusal.Memory = 23

@@ -3,7 +3,7 @@ ghost use Rattle.std.specs.Prelude.{◌≡◌};
 ghost use Rattle.rep_values.specs.Refusal.{refusal_number};
 ghost use Rattle.rep_values.specs.declared.refusal.Refusal.TheVariants.{Memory};
 
-use crate::{Name, NoMemory};
+use crate::{Name, NoMemory, SiteName};
 
 /// Why a transaction that came from another site is not applied. A column group in no named group is called
 /// `shadow`, and the primary key's constraint is called `key`.
@@ -19,6 +19,8 @@ pub enum ApplyError {
     UniqueConflict(Name),
     /// A number leaves ±10^15.
     ValueRange,
+    /// The row doesn't meet this check.
+    CheckFailed(Name),
 }
 
 /// What is limited in number.
@@ -42,6 +44,8 @@ pub enum Limit {
     Levels,
     /// 1,000 statements of a block.
     Statements,
+    /// 8 checks of a table.
+    Checks,
 }
 
 /// Why a command is refused. The numbers are those of `number`.
@@ -67,6 +71,9 @@ pub enum Refusal {
     Suspended,
     LimitReached(Limit),
     SchemaRule(u8),
+    CheckFailed(Name),
+    /// A master at which so many positions are unfinished and errors stand.
+    NotQuiet(SiteName, u64),
     Memory,
 }
 
@@ -79,7 +86,7 @@ impl From<NoMemory> for Refusal {
 }
 
 impl Refusal {
-    /// The refusal's number, 1 to 23. 21 and 22 are kept for refusals to come.
+    /// The refusal's number, 1 to 23.
     pub fn number(&self) -> u8
         ensures { result ≡ refusal_number self.now }
     {
@@ -104,6 +111,8 @@ impl Refusal {
             Refusal::Suspended => 18,
             Refusal::LimitReached(_) => 19,
             Refusal::SchemaRule(_) => 20,
+            Refusal::CheckFailed(_) => 21,
+            Refusal::NotQuiet(_, _) => 22,
             Refusal::Memory => 23,
         }
     }

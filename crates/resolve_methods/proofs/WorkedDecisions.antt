@@ -36,6 +36,7 @@ table_t of_g of_q = record {
   groups = record { name = codes "g"; columns = 1 ∷ 2 ∷ 3 ∷ []; methods = of_g } ∷ record { name = codes "q"; columns = 4 ∷ []; methods = of_q } ∷ [];
   key_methods = [];
   constraints = [];
+  checks = [];
   convergent = false;
 }
 
@@ -49,10 +50,10 @@ ranks = record {
 -- so do the sites L, M and H; N has none
 abbrev sites : List SiteEntry
 sites =
-    record { name = record { 0 = codes "L" }; master = None; level = Some (pos 1) }
-    ∷ record { name = record { 0 = codes "M" }; master = None; level = Some (pos 2) }
-    ∷ record { name = record { 0 = codes "H" }; master = None; level = Some (pos 3) }
-    ∷ record { name = record { 0 = codes "N" }; master = None; level = None }
+    record { name = record { 0 = codes "L" }; master = None; level = Some (pos 1); late = false }
+    ∷ record { name = record { 0 = codes "M" }; master = None; level = Some (pos 2); late = false }
+    ∷ record { name = record { 0 = codes "H" }; master = None; level = Some (pos 3); late = false }
+    ∷ record { name = record { 0 = codes "N" }; master = None; level = None; late = false }
     ∷ []
 
 abbrev schema : List Method → List Method → Schema

@@ -30,12 +30,6 @@ row_of SitePriority = 5
 row_of Overwrite = 6
 row_of Discard = 7
 
--- an order's column there
-abbrev pub column_of : Ordering → ℕ
-column_of Less = 0
-column_of Equal = 1
-column_of Greater = 2
-
 -- what a cell stands for
 abbrev pub decision_in : ℕ → Decision
 decision_in cell = cond (cell == 0) Keep (cond (cell == 2) TakeNew Undecided)

@@ -1,10 +1,10 @@
 //! What the methods decide that go by an order, or by nothing at all.
 ghost use Rattle.std.specs.Prelude.{◌≡◌};
 ghost use Rattle.resolve_methods.specs.Decide.{by_order};
-ghost use Rattle.resolve_methods.specs.OrderCases.{row_of, column_of, decision_in, decided_at};
+ghost use Rattle.resolve_methods.specs.OrderCases.{row_of, decision_in, decided_at};
 
 use crate::Decision;
-use case_table::CaseTable;
+use case_table::{CaseTable, cases, order_column};
 use std::cmp::Ordering;
 
 const KEEP: u8 = 0;
@@ -12,15 +12,6 @@ const KEEP: u8 = 0;
 const UNDECIDED: u8 = 1;
 
 const TAKE_NEW: u8 = 2;
-
-/// Rows of a table of cases: a name, and its cells where the new number is below, at and above the current one.
-macro_rules! cases {
-    ($($name:ident: $below:ident $equal:ident $above:ident;)*) => {
-        CaseTable {
-            cells: [$([$below, $equal, $above]),*],
-        }
-    };
-}
 
 const CASES: CaseTable<8, 3> = cases! {
     latest: KEEP UNDECIDED TAKE_NEW;
@@ -61,16 +52,6 @@ fn row_of(method: OrderMethod) -> usize
     }
 }
 
-fn column_of(order: Ordering) -> usize
-    ensures { result ≡ column_of order }
-{
-    match order {
-        Ordering::Less => 0,
-        Ordering::Equal => 1,
-        Ordering::Greater => 2,
-    }
-}
-
 fn decision_in(cell: u8) -> Decision
     ensures { result ≡ decision_in cell }
 {
@@ -85,7 +66,7 @@ fn decision_in(cell: u8) -> Decision
 pub(crate) fn decided_at(method: OrderMethod, order: Ordering) -> Decision
     ensures { result ≡ decided_at method order }
 {
-    decision_in(CASES.at(row_of(method), column_of(order)))
+    decision_in(CASES.at(row_of(method), order_column(order)))
 }
 
 /// What a method decides of a new and a current number or level; undecided where one of them isn't there.

@@ -30,17 +30,17 @@ abbrev constraint : List ℕ → List UniqueMethod → Constraint
 constraint columns methods = record { name = codes "u"; columns = columns; methods = methods }
 
 abbrev site : Option ℤ → SiteEntry
-site level = record { name = record { 0 = codes "A" }; master = None; level = level }
+site level = record { name = record { 0 = codes "A" }; master = None; level = level; late = false }
 
 abbrev snapshot_site : SiteEntry
-snapshot_site = record { name = record { 0 = codes "S" }; master = Some (record { 0 = codes "A" }); level = None }
+snapshot_site = record { name = record { 0 = codes "S" }; master = Some (record { 0 = codes "A" }); level = None; late = false }
 
 -- columns 1 to 5 behind a key column, one of each kind
 abbrev columns_behind : Column → List Column
 columns_behind k = k ∷ column kind.Number ∷ column kind.Words ∷ column kind.Stamp ∷ column kind.Site ∷ column kind.Date ∷ []
 
 abbrev table : List Column → List Group → TableEntry
-table columns groups = record { name = record { 0 = codes "T" }; columns = columns; groups = groups; key_methods = []; constraints = []; convergent = false }
+table columns groups = record { name = record { 0 = codes "T" }; columns = columns; groups = groups; key_methods = []; constraints = []; checks = []; convergent = false }
 
 -- the priority group 0 has a level, and 1 has none
 abbrev with_level : PriorityGroup

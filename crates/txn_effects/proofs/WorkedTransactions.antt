@@ -31,6 +31,7 @@ table_t key_methods grouped = record {
   groups = record { name = codes "g"; columns = grouped; methods = [] } ∷ [];
   key_methods = key_methods;
   constraints = [];
+  checks = [];
   convergent = false;
 }
 

@@ -50,7 +50,7 @@ abbrev pub may_add_site : List SiteEntry → SiteName → Bool
 may_add_site sites name = nat_lt (length sites) 2 && not (list_any (λ site. same_bytes site.name.0 name.0) sites)
 
 abbrev pub master_entry : SiteName → SiteEntry
-master_entry name = record { name = name; master = None; level = None }
+master_entry name = record { name = name; master = None; level = None; late = false }
 
 unfoldable pub site_step : SiteName → WorldState → Outcome
 site_step name w = in_setup w.phase
@@ -68,7 +68,7 @@ abbrev pub may_add_table : List TableEntry → List Column → Bool
 may_add_table tables columns = (length tables == 0) && nat_le (length columns) 32 && nat_le (key_count columns) 4 && are_apart columns
 
 abbrev pub plain_table : TableName → List Column → TableEntry
-plain_table name columns = record { name = name; columns = columns; groups = []; key_methods = []; constraints = []; convergent = false }
+plain_table name columns = record { name = name; columns = columns; groups = []; key_methods = []; constraints = []; checks = []; convergent = false }
 
 unfoldable pub table_step : TableName → List Column → WorldState → Outcome
 table_step name columns w = in_setup w.phase

@@ -1,4 +1,4 @@
-use Rattle.std.proofs.Common.{◌≡◌, ◌<◌, length, sym, ◌∙◌, arith}
+use Rattle.std.proofs.Common.{◌<◌, length, sym, ◌∙◌}
 use Rattle.rep_schema.proofs.RowWalk.{row_cmp_from-key, row_cmp_from-other}
 use Rattle.rep_schema.proofs.compare.compare_rows.Goals as goal
 use Rattle.rep_schema.proofs.compare.compare_rows.Goals.{then-columns-i+in-Equal, else-columns-i}
