@@ -17,7 +17,7 @@ use crate::table_changes::{
 use crate::{Declare, MethodWords, UniqueWords, refusal_of};
 use rep_lists::{Copies, Items, NoMemory};
 use rep_schema::{
-    Column, PriorityGroup, PriorityLevel, Schema, SiteEntry, TableEntry, find_priority,
+    Column, PriorityGroup, PriorityLevel, Rel, Schema, SiteEntry, TableEntry, find_priority,
 };
 use rep_values::{Literal, Name, Refusal, SiteName, TableName};
 use std::alloc::Global;
@@ -29,6 +29,13 @@ fn add_site(schema: &mut Schema, site: SiteEntry) -> Result<(), NoMemory>
     // Made anew here, so that the check knows the types of its fields.
     schema.sites.push(SiteEntry { ..site })?;
     Ok(())
+}
+
+fn add_snapshot_site(schema: &mut Schema, name: SiteName, master: SiteName) -> Result<(), NoMemory>
+    ensures ok { OnOk result (schema.new ≡ declared (Declare.SnapSite name master) schema.old) }
+    ensures err { OnErr result (schema.new ≡ schema.old) }
+{
+    add_site(schema, SiteEntry::snapshot(name, master))
 }
 
 fn add_table(
@@ -265,11 +272,26 @@ fn add_unique_method(
     Ok(())
 }
 
-fn add_check(alloc: Global, schema: &mut Schema, more: &OneMoreCheck) -> Result<(), NoMemory>
-    ensures ok { OnOk result (schema.new ≡ declared (Declare.Check more.now.table more.now.check more.now.column more.now.rel more.now.value) schema.old) }
+fn add_check(
+    alloc: Global,
+    schema: &mut Schema,
+    table: TableName,
+    check: Name,
+    column: Name,
+    rel: Rel,
+    value: &Literal,
+) -> Result<(), NoMemory>
+    ensures ok { OnOk result (schema.new ≡ declared (Declare.Check table check column rel value.now) schema.old) }
     ensures err { OnErr result (schema.new ≡ schema.old) }
 {
-    change_one(alloc, more, &mut schema.tables)?;
+    let more = OneMoreCheck {
+        table,
+        check,
+        column,
+        rel,
+        value: value.value(),
+    };
+    change_one(alloc, &more, &mut schema.tables)?;
     Ok(())
 }
 
@@ -304,9 +326,7 @@ fn add(schema: &mut Schema, alloc: Global, declaration: &Declare) -> Result<(), 
     match declaration {
         Declare::Site { name } => add_site(schema, SiteEntry::master(*name)),
         Declare::LateSite { name } => add_site(schema, SiteEntry::late(*name)),
-        Declare::SnapSite { name, master } => {
-            add_site(schema, SiteEntry::snapshot(*name, *master))
-        }
+        Declare::SnapSite { name, master } => add_snapshot_site(schema, *name, *master),
         Declare::Table { name, columns } => add_table(alloc, schema, *name, columns),
         Declare::Group {
             table,
@@ -340,11 +360,7 @@ fn add(schema: &mut Schema, alloc: Global, declaration: &Declare) -> Result<(), 
             column,
             rel,
             value,
-        } => add_check(
-            alloc,
-            schema,
-            &OneMoreCheck::of(*table, *check, *column, *rel, *value),
-        ),
+        } => add_check(alloc, schema, *table, *check, *column, *rel, value),
         Declare::Convergent { table } => make_convergent(alloc, schema, *table),
     }
 }

@@ -1,6 +1,5 @@
 //! Changes of a table of a schema.
 ghost use Rattle.std.specs.Prelude.{◌≡◌, ◌++◌, [], ◌∷◌, OnOk, OnErr};
-ghost use Rattle.rep_values.specs.Literal.{value_of_literal};
 ghost use Rattle.rep_schema.specs.Named.{is_table, is_group, places_named};
 ghost use Rattle.rep_declare.specs.Additions.{with_groups, with_constraints, with_checks, with_changed, with_method, with_method_on, column_number, method_of, unique_method_of, made_convergent};
 
@@ -12,7 +11,7 @@ use rep_lists::{Items, NoMemory};
 use rep_schema::{
     Check, Constraint, Group, PriorityGroup, Rel, TableEntry, UniqueMethod, is_key_name,
 };
-use rep_values::{Literal, Name, TableName};
+use rep_values::{Name, TableName, Value};
 use std::alloc::Global;
 
 /// The table of this name gets one more group.
@@ -153,28 +152,13 @@ pub struct OneMoreCheck {
     pub check: Name,
     pub column: Name,
     pub rel: Rel,
-    pub value: Literal,
-}
-
-impl OneMoreCheck {
-    /// A check as it is declared.
-    pub fn of(table: TableName, check: Name, column: Name, rel: Rel, value: Literal) -> OneMoreCheck
-        ensures { result ≡ record { table = table; check = check; column = column; rel = rel; value = value } }
-    {
-        OneMoreCheck {
-            table,
-            check,
-            column,
-            rel,
-            value,
-        }
-    }
+    pub value: Value,
 }
 
 impl ChangesOne<TableEntry> for OneMoreCheck {
     ghost is_it = { λ c table. is_table c.table table };
 
-    ghost changed = { λ c table. with_checks (table.checks ++ record { name = c.check; column = column_number table.columns c.column; rel = c.rel; value = value_of_literal c.value } ∷ []) table };
+    ghost changed = { λ c table. with_checks (table.checks ++ record { name = c.check; column = column_number table.columns c.column; rel = c.rel; value = c.value } ∷ []) table };
 
     fn is_it(&self, one: &TableEntry) -> bool {
         one.name.0.is_same(&self.table.0)
@@ -186,7 +170,7 @@ impl ChangesOne<TableEntry> for OneMoreCheck {
             name: self.check,
             column,
             rel: self.rel,
-            value: self.value.value(),
+            value: self.value,
         })?;
         Ok(())
     }
