@@ -9,6 +9,7 @@ use Rattle.rep_schema.specs.declared.schema.Schema.{Schema}
 use Rattle.rep_schema.specs.Tables.{Cells, Rows, columns_of, constraints_of, key_of, find_row, rows_of, picked, RowFits, IsUniqueRow, AreTables}
 use Rattle.rep_schema.specs.Shape.{HasShape}
 use Rattle.rep_schema.specs.Groups.{are_same}
+use Rattle.rep_schema.specs.Checks.{failed_check}
 use Rattle.rep_schema.proofs.FoundRows.{found_row, key_of-found}
 use Rattle.rep_calls.specs.declared.call.Call.{Call}
 use Rattle.rep_calls.specs.declared.call.Call.TheVariants.{Insert, Update, Delete}
@@ -22,17 +23,19 @@ use Rattle.unique_resolve.proofs.Settlements.{key_of-settled}
 use Rattle.txn_effects.specs.Parts.{settled_parts}
 use Rattle.txn_effects.specs.Calls.{KeysStandAlone, key_named, row_named, RowEffect, effect_by, settled_effect, row_effect}
 use Rattle.txn_effects.proofs.Results.{result_then-Ok}
+use Rattle.txn_effects.proofs.CallEffects.{checked_effect-Ok}
 use Rattle.txn_effects.proofs.PartEffects.{RowFits-settled_parts, key_of-settled_parts}
 use Rattle.dependency_index.specs.Tokens.{has_constraints, constrained_columns, has_constrained_column, touches_constraints}
 use Rattle.rep_laws.proofs.ConstrainedValues.{picked-settled_parts}
 use Rattle.rep_laws.proofs.SettledFree.{IsFree, settlement_of-free, counters-other, free-none, free-like}
 
 -- the counters after a settlement that succeeds are the settlement's
-numbers-settled_effect : (settlement : Settlement) (before : Option Cells) (effect : RowEffect) → settled_effect settlement before ≡ Ok effect → effect.numbers ≡ settlement.numbers
-numbers-settled_effect settlement before effect gives = go settlement.settled gives
+numbers-settled_effect : (schema : Schema) (table : ℕ) (settlement : Settlement) (before : Option Cells) (effect : RowEffect) → settled_effect schema table settlement before ≡ Ok effect
+    → effect.numbers ≡ settlement.numbers
+numbers-settled_effect schema table settlement before effect gives = go settlement.settled gives
   where
-    go : (settled : Settled) → effect_by settled before settlement.numbers ≡ Ok effect → effect.numbers ≡ settlement.numbers
-    go (Fits one) e = let is : record { after = Some one; numbers = settlement.numbers } ≡ effect = cc in ap (λ (x : RowEffect). x.numbers) (sym is)
+    go : (settled : Settled) → effect_by schema table settled before settlement.numbers ≡ Ok effect → effect.numbers ≡ settlement.numbers
+    go (Fits one) e = ap (λ (x : RowEffect). x.numbers) (sym (checked_effect-Ok (failed_check schema table one) one settlement.numbers effect e).1)
     go Dropped e = let is : record { after = before; numbers = settlement.numbers } ≡ effect = cc in ap (λ (x : RowEffect). x.numbers) (sym is)
     go (Conflict name) e = cc
 
@@ -45,12 +48,12 @@ module _ (schema : Schema) (tables : List Rows) (numbers : Numbers) (origin : Si
   pub counters-row_effect_other : (call : Call) (before : Option Cells) (effect : RowEffect) (other : ℕ) → other ≢ table_of call → row_effect schema tables numbers origin call before ≡ Ok effect
       → get_or effect.numbers other [] ≡ get_or numbers other []
   counters-row_effect_other (Insert table row) before effect other apart gives =
-      ap (λ ns. get_or ns other []) (numbers-settled_effect (settlement_of schema tables numbers origin table true row) before effect gives)
+      ap (λ ns. get_or ns other []) (numbers-settled_effect schema table (settlement_of schema tables numbers origin table true row) before effect gives)
       ∙ counters-other schema tables numbers origin table true row other apart
   counters-row_effect_other (Update table key parts) None effect other apart gives = cc
   counters-row_effect_other (Update table key parts) (Some found) effect other apart gives =
-      let settled = result_then-Ok (settled_parts schema table parts found) (λ row. settled_effect (settlement_of schema tables numbers origin table false row) (Some found)) effect gives in
-      ap (λ ns. get_or ns other []) (numbers-settled_effect (settlement_of schema tables numbers origin table false settled.0) (Some found) effect settled.2)
+      let settled = result_then-Ok (settled_parts schema table parts found) (λ row. settled_effect schema table (settlement_of schema tables numbers origin table false row) (Some found)) effect gives in
+      ap (λ ns. get_or ns other []) (numbers-settled_effect schema table (settlement_of schema tables numbers origin table false settled.0) (Some found) effect settled.2)
       ∙ counters-other schema tables numbers origin table false settled.0 other apart
   counters-row_effect_other (Delete table row) None effect other apart gives = cc
   counters-row_effect_other (Delete table row) (Some found) effect other apart gives = go (are_same found row) gives
@@ -62,7 +65,7 @@ module _ (schema : Schema) (tables : List Rows) (numbers : Numbers) (origin : Si
   module _ (shape : HasShape schema) (counters : AreCounters schema numbers) where
     -- a settlement leaves a row with the key
     key_of-settled_effect : (table : ℕ) (inserting : Bool) (row key : Cells) (before : Option Cells) (effect : RowEffect) → RowFits (columns_of schema table) row → key_of (columns_of schema table) row ≡ key
-        → before ≡ find_row (columns_of schema table) key (rows_of tables table) → settled_effect (settlement_of schema tables numbers origin table inserting row) before ≡ Ok effect
+        → before ≡ find_row (columns_of schema table) key (rows_of tables table) → settled_effect schema table (settlement_of schema tables numbers origin table inserting row) before ≡ Ok effect
         → IfSome effect.after (λ after. key_of (columns_of schema table) after ≡ key)
     key_of-settled_effect table inserting row key before effect fits own was gives = go (settlement_of schema tables numbers origin table inserting row).settled refl gives
       where
@@ -71,9 +74,9 @@ module _ (schema : Schema) (tables : List Rows) (numbers : Numbers) (origin : Si
         stays (Some found) there = key_of-found (columns_of schema table) key found (rows_of tables table) (sym there)
 
         go : (settled : Settled) → (settlement_of schema tables numbers origin table inserting row).settled ≡ settled
-            → effect_by settled before (settlement_of schema tables numbers origin table inserting row).numbers ≡ Ok effect → IfSome effect.after (λ after. key_of (columns_of schema table) after ≡ key)
+            → effect_by schema table settled before (settlement_of schema tables numbers origin table inserting row).numbers ≡ Ok effect → IfSome effect.after (λ after. key_of (columns_of schema table) after ≡ key)
         go (Fits one) fit e =
-            let is : record { after = Some one; numbers = (settlement_of schema tables numbers origin table inserting row).numbers } ≡ effect = cc in
+            let is = (checked_effect-Ok (failed_check schema table one) one (settlement_of schema tables numbers origin table inserting row).numbers effect e).1 in
             subst (λ (x : RowEffect). IfSome x.after (λ after. key_of (columns_of schema table) after ≡ key)) is (key_of-settled schema tables numbers origin table inserting row one fit shape fits counters ∙ own)
         go Dropped fit e =
             let is : record { after = before; numbers = (settlement_of schema tables numbers origin table inserting row).numbers } ≡ effect = cc in
@@ -97,7 +100,7 @@ module _ (schema : Schema) (tables : List Rows) (numbers : Numbers) (origin : Si
       key_of-row_effect (Insert table row) before effect fits was gives = key_of-settled_effect table true row (key_of (columns_of schema table) row) before effect fits.content refl was gives
       key_of-row_effect (Update table key parts) None effect fits was gives = cc
       key_of-row_effect (Update table key parts) (Some found) effect fits was gives =
-          let settled = result_then-Ok (settled_parts schema table parts found) (λ row. settled_effect (settlement_of schema tables numbers origin table false row) (Some found)) effect gives in
+          let settled = result_then-Ok (settled_parts schema table parts found) (λ row. settled_effect schema table (settlement_of schema tables numbers origin table false row) (Some found)) effect gives in
           let both = fits_and_key-settled_parts table key parts found settled.0 fits was settled.1 in
           key_of-settled_effect table false settled.0 key (Some found) effect both.0 both.1 was settled.2
       key_of-row_effect (Delete table row) None effect fits was gives = cc
@@ -126,16 +129,16 @@ module _ (schema : Schema) (tables : List Rows) (numbers : Numbers) (origin : Si
           → row_effect schema tables numbers origin call before ≡ Ok effect
           → (effect.numbers ≡ numbers) × (constrained_in schema (table_of call) effect.after ≡ constrained_in schema (table_of call) before)
       plain-row_effect (Insert table row) before effect fits was plain gives = (
-        numbers-settled_effect (settlement_of schema tables numbers origin table true row) before effect gives
+        numbers-settled_effect schema table (settlement_of schema tables numbers origin table true row) before effect gives
             ∙ ap (λ (x : Settlement). x.numbers) (settlement_of-free schema tables numbers origin table true row (free-none schema table (rows_of tables table) row plain)),
         rw plain refl,
       )
       plain-row_effect (Update table key parts) None effect fits was plain gives = cc
       plain-row_effect (Update table key parts) (Some found) effect fits was plain gives =
-          let settled = result_then-Ok (settled_parts schema table parts found) (λ row. settled_effect (settlement_of schema tables numbers origin table false row) (Some found)) effect gives in
+          let settled = result_then-Ok (settled_parts schema table parts found) (λ row. settled_effect schema table (settlement_of schema tables numbers origin table false row) (Some found)) effect gives in
           let free = settlement_of-free schema tables numbers origin table false settled.0 (free-settled_parts table key parts found settled.0 fits was plain settled.1) in
-          let one : settled_effect (record { settled = Fits settled.0; numbers = numbers }) (Some found) ≡ Ok effect = subst (λ s. settled_effect s (Some found) ≡ Ok effect) free settled.2 in
-          let is : record { after = Some settled.0; numbers = numbers } ≡ effect = cc (one) in (
+          let one : settled_effect schema table (record { settled = Fits settled.0; numbers = numbers }) (Some found) ≡ Ok effect = subst (λ s. settled_effect schema table s (Some found) ≡ Ok effect) free settled.2 in
+          let is = (checked_effect-Ok (failed_check schema table settled.0) settled.0 numbers effect one).1 in (
             ap (λ (x : RowEffect). x.numbers) (sym is),
             ap (λ (x : RowEffect). constrained_in schema table x.after) (sym is)
                 ∙ ap (λ values. cond (has_constraints schema table) (Some values) None) (picked-settled_parts schema table parts found settled.0 plain settled.1),

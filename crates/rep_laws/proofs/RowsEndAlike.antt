@@ -8,9 +8,11 @@ use Rattle.rep_values.specs.declared.refusal.ApplyError.{ApplyError}
 use Rattle.rep_values.specs.declared.refusal.ApplyError.TheVariants.{DeleteConflict}
 use Rattle.rep_schema.specs.declared.schema.Schema.{Schema}
 use Rattle.rep_schema.specs.declared.schema.TableEntry.{TableEntry}
+use Rattle.rep_schema.specs.declared.check.Check.{Check}
 use Rattle.rep_schema.specs.Tables.{Cells, columns_of, constraints_of, key_of, find_row, rows_of}
 use Rattle.rep_schema.specs.Shape.{HasShape}
 use Rattle.rep_schema.specs.Groups.{are_same}
+use Rattle.rep_schema.specs.Checks.{failed_check}
 use Rattle.rep_calls.specs.declared.call.Call.{Call}
 use Rattle.rep_calls.specs.declared.call.Call.TheVariants.{Insert, Update, Delete}
 use Rattle.conflict_detect.specs.Fits.{table_of, CallFits}
@@ -19,7 +21,7 @@ use Rattle.unique_resolve.specs.declared.settled.Settled.TheVariants.{Fits, Drop
 use Rattle.unique_resolve.specs.Numbers.{Numbers, AreCounters}
 use Rattle.unique_resolve.specs.Settling.{key_methods_in, key_taken, Settlement, settlement_of}
 use Rattle.txn_effects.specs.Parts.{settled_parts, result_then}
-use Rattle.txn_effects.specs.Calls.{KeysStandAlone, row_named, RowEffect, effect_by, settled_effect, row_effect}
+use Rattle.txn_effects.specs.Calls.{KeysStandAlone, row_named, RowEffect, checked_effect, effect_by, settled_effect, row_effect}
 use Rattle.dependency_index.specs.declared.token.Token.{Token}
 use Rattle.dependency_index.specs.declared.token.Token.TheVariants as token
 use Rattle.dependency_index.specs.Tokens.{has_constraints, constrained_columns, touches_constraints, has_token}
@@ -43,13 +45,17 @@ record SettlesAlike (table : ℕ) (one other : Content) (settlement last : Settl
   settled : settlement.settled ≡ last.settled
   counters : counters_at one table ≡ counters_at other table → get_or settlement.numbers table [] ≡ get_or last.numbers table []
 
--- so the effect of settling is alike
-settled_effect-alike : (table : ℕ) (one other : Content) (settlement last : Settlement) (before : Option Cells) → SettlesAlike table one other settlement last
-    → RowEndsAlike table one other (settled_effect settlement before) (settled_effect last before)
-settled_effect-alike table one other settlement last before alike = rw alike.settled (go last.settled)
+-- so the effect of settling is alike: the checks look at the settled row alone
+settled_effect-alike : (schema : Schema) (table : ℕ) (one other : Content) (settlement last : Settlement) (before : Option Cells) → SettlesAlike table one other settlement last
+    → RowEndsAlike table one other (settled_effect schema table settlement before) (settled_effect schema table last before)
+settled_effect-alike schema table one other settlement last before alike = rw alike.settled (go last.settled)
   where
-    go : (settled : Settled) → RowEndsAlike table one other (effect_by settled before settlement.numbers) (effect_by settled before last.numbers)
-    go (Fits row) = (refl, alike.counters)
+    tested : (check : Option Check) (row : Cells) → RowEndsAlike table one other (checked_effect check row settlement.numbers) (checked_effect check row last.numbers)
+    tested None row = (refl, alike.counters)
+    tested (Some check) row = refl
+
+    go : (settled : Settled) → RowEndsAlike table one other (effect_by schema table settled before settlement.numbers) (effect_by schema table settled before last.numbers)
+    go (Fits row) = tested (failed_check schema table row) row
     go Dropped = (refl, alike.counters)
     go (Conflict name) = refl
 
@@ -111,7 +117,7 @@ module _ (schema : Schema) (origin : SiteName) (tokens : List Token) (one other 
     -- a call that the tokens cover ends alike at the row that it names
     pub row_effect-alike : (call : Call) (before : Option Cells) → CallFits schema call → Covers schema tokens call → before ≡ row_named schema one.tables call → before ≡ row_named schema other.tables call
         → RowEndsAlike (table_of call) one other (row_effect schema one.tables one.numbers origin call before) (row_effect schema other.tables other.numbers origin call before)
-    row_effect-alike (Insert table row) before fits covers was last_was = settled_effect-alike table one other _ _ before (go (has_constraints schema table) refl)
+    row_effect-alike (Insert table row) before fits covers was last_was = settled_effect-alike schema table one other _ _ before (go (has_constraints schema table) refl)
       where
         found : (true && is_some (find_row (columns_of schema table) (key_of (columns_of schema table) row) (rows_of one.tables table)))
             ≡ (true && is_some (find_row (columns_of schema table) (key_of (columns_of schema table) row) (rows_of other.tables table)))
@@ -134,9 +140,9 @@ module _ (schema : Schema) (origin : SiteName) (tokens : List Token) (one other 
 
         parted : (settled : Result Cells ApplyError) → settled_parts schema table parts found ≡ settled
             → RowEndsAlike table one other
-            (result_then settled (λ row. settled_effect (settlement_of schema one.tables one.numbers origin table false row) (Some found)))
-            (result_then settled (λ row. settled_effect (settlement_of schema other.tables other.numbers origin table false row) (Some found)))
-        parted (Ok row) gives = settled_effect-alike table one other _ _ (Some found) (settles row gives (touches_constraints schema (Update table key parts)) refl)
+            (result_then settled (λ row. settled_effect schema table (settlement_of schema one.tables one.numbers origin table false row) (Some found)))
+            (result_then settled (λ row. settled_effect schema table (settlement_of schema other.tables other.numbers origin table false row) (Some found)))
+        parted (Ok row) gives = settled_effect-alike schema table one other _ _ (Some found) (settles row gives (touches_constraints schema (Update table key parts)) refl)
         parted (Err error) gives = refl
     row_effect-alike (Delete table row) None fits covers was last_was = refl
     row_effect-alike (Delete table row) (Some found) fits covers was last_was = go (are_same found row)

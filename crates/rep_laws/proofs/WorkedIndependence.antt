@@ -13,6 +13,8 @@ use Rattle.rep_schema.specs.declared.schema.TableEntry.{TableEntry}
 use Rattle.rep_schema.specs.declared.schema.Group.{Group}
 use Rattle.rep_schema.specs.declared.schema.Constraint.{Constraint}
 use Rattle.rep_schema.specs.declared.schema.Kind.TheVariants as kind
+use Rattle.rep_schema.specs.declared.check.Check.{Check}
+use Rattle.rep_schema.specs.declared.check.Rel.TheVariants as rel
 use Rattle.rep_schema.specs.Shape.{key_name, shadow_name, ShareNone, AreColumns, HasGroupShape, HasConstraintShape, HasTableShape, HasMaster, HasShape}
 use Rattle.rep_schema.specs.Tables.{rows_of, IsTable}
 use Rattle.rep_schema.specs.Groups.{group_columns_of}
@@ -35,7 +37,11 @@ code_group = record { name = codes "g"; columns = 1 ∷ []; methods = [] }
 abbrev code_constraint : Constraint
 code_constraint = record { name = codes "u"; columns = 1 ∷ []; methods = [] }
 
--- a table of the columns ID (the key) and CODE, in the group g
+-- the check that CODE is at most 9
+abbrev code_check : Check
+code_check = record { name = codes "small"; column = 1; rel = rel.Le; value = Num (pos 9) }
+
+-- a table of the columns ID (the key) and CODE, in the group g and with its check
 abbrev table_of : List ℕ → List Constraint → TableEntry
 table_of name constraints = record {
   name = record { 0 = name };
@@ -43,7 +49,7 @@ table_of name constraints = record {
   groups = code_group ∷ [];
   key_methods = [];
   constraints = constraints;
-  checks = [];
+  checks = code_check ∷ [];
   convergent = false;
 }
 
@@ -164,6 +170,9 @@ table_has_shape name constraints few shapes named = record {
   constraint_names = few_pairs (λ a b. a ≢ b) (map (λ c. c.name) constraints) (omega (arith, few, length-map constraints (λ (c : Constraint). c.name)));
   key_free = named;
   constraints_apart = few_pairs (λ c d. ShareNone c.columns d.columns) constraints few;
+  checks = All-from_recursion (λ (c : Check). c.column < 2) (code_check ∷ []) (omega arith, tt);
+  check_number = omega arith;
+  check_names = one_pair (λ a b. a ≢ b) (codes "small");
 }
 
 schema_has_shape : HasShape schema

@@ -1,7 +1,6 @@
 -- The methods that go by an order or by none, as cases.
 use Rattle.std.specs.Prelude.{ℕ, ◌==◌, cond}
 use Rattle.std.specs.declared.cmp.Ordering.{Ordering}
-use Rattle.std.specs.declared.cmp.Ordering.TheVariants.{Less, Equal, Greater}
 use Rattle.resolve_methods.specs.declared.decision.Decision.{Decision}
 use Rattle.resolve_methods.specs.declared.decision.Decision.TheVariants.{TakeNew, Keep, Undecided}
 use Rattle.resolve_methods.specs.declared.order_cases.OrderMethod.{OrderMethod}

@@ -8,6 +8,7 @@ use Rattle.std.proofs.lemmas.List.Kept.{AllPairs-from_increasing}
 use Rattle.std.proofs.lemmas.List.Elements.{recursion_from_All}
 use Rattle.std.proofs.lemmas.List.Folds.{list_any-from_Any}
 use Rattle.std.proofs.lemmas.Option.{get_or_from_slice_get, slice_get-get_or}
+pub use Rattle.rep_lists.proofs.Places.{found_at}
 use Rattle.rep_values.specs.declared.value.Value.{Value}
 use Rattle.rep_schema.specs.declared.schema.Schema.{Schema}
 use Rattle.rep_schema.specs.declared.schema.TableEntry.{TableEntry}
@@ -26,11 +27,6 @@ use Rattle.conflict_detect.specs.ChangeCalls.{part_between, parts_between, with_
 use Rattle.conflict_detect.specs.Laws.{AreOneRow}
 use Rattle.conflict_detect.proofs.RowAfter.{with_parts-parts_between}
 use Rattle.txn_effects.specs.Parts.{settled_parts}
-
--- a list has something at each place
-pub found_at : {X : Type 0} (xs : List X) (i : ℕ) → i < length xs → (x : X) × (slice_get xs i ≡ Some x)
-found_at [] i below = absurd (omega (arith, below))
-found_at (x ∷ xs) i below = (get_or (x ∷ xs) i x, slice_get-get_or (x ∷ xs) i x below)
 
 -- what is listed by the test is there, and the other way round
 Contains-listed : (xs : List ℕ) (x : ℕ) → Contains xs x → list_any (λ y. y == x) xs ≡ true

@@ -20,10 +20,10 @@ use Rattle.unique_resolve.specs.Numbers.{Numbers, AreCounters}
 use Rattle.rep_schema.specs.Putting.{is_unchanged, changes_between, made_all}
 use Rattle.txn_effects.specs.Calls.{HasKeys, KeysStandAlone, row_named, RowEffect, row_effect, Effect, call_effect}
 use Rattle.txn_effects.specs.Transactions.{Failure, failing_at, behind, calls_effect, txn_effect}
-use Rattle.txn_effects.specs.Laws.{CanApply, IsApplied}
+use Rattle.txn_effects.specs.Laws.{CanApply, IsChecked, IsApplied}
 use Rattle.txn_effects.proofs.Results.{result_then-Ok}
 use Rattle.rep_schema.proofs.Making.{is_unchanged-Decides, made_all-append}
-use Rattle.txn_effects.proofs.CallEffects.{AreCounters-row_effect, IsChange-row_effect}
+use Rattle.txn_effects.proofs.CallEffects.{AreCounters-row_effect, IsChange-row_effect, IsChecked-row_effect}
 
 -- each of some values and of others behind them
 each_append : {X : Type 0} (P : X → Type 0) (xs ys : List X) → AllByRecursion P xs → AllByRecursion P ys → AllByRecursion P (xs ++ ys)
@@ -84,7 +84,7 @@ module _ (schema : Schema) (origin : SiteName) where
 
 -- no changes lead to the same tables
 pub IsApplied-none : (schema : Schema) (tables : List Rows) (numbers : Numbers) → AreTables schema tables → AreCounters schema numbers → IsApplied schema tables (record { changes = []; numbers = numbers })
-IsApplied-none schema tables numbers are counters = record { leads = refl; differ = tt; are = are; counters = counters }
+IsApplied-none schema tables numbers are counters = record { leads = refl; differ = tt; checked = tt; are = are; counters = counters }
 
 -- what leads to tables, and then on to others
 pub IsApplied-then : (schema : Schema) (tables : List Rows) (one later : Effect) → IsApplied schema tables one → IsApplied schema (made_all schema one.changes tables) later
@@ -94,6 +94,7 @@ IsApplied-then schema tables one later first rest =
     record {
       leads = rw whole (LeadsTo-append schema one.changes later.changes tables (made_all schema one.changes tables) (made_all schema later.changes (made_all schema one.changes tables)) first.leads rest.leads);
       differ = each_append (λ (change : Change). change.before ≢ change.after) one.changes later.changes first.differ rest.differ;
+      checked = each_append (IsChecked schema) one.changes later.changes first.checked rest.checked;
       are = rw whole rest.are;
       counters = rest.counters;
     }
@@ -102,17 +103,19 @@ module _ (schema : Schema) (origin : SiteName) (shape : HasShape schema) (keys :
   -- a change, where the row changed, leads to the tables with it made
   IsApplied-changes_between : (table : ℕ) (before after : Option Cells) (tables : List Rows) (numbers : Numbers) → AreTables schema tables → AreCounters schema numbers
       → IsChange schema (record { table = table; before = before; after = after }) tables
+      → (before ≢ after → IsChecked schema (record { table = table; before = before; after = after }))
       → IsApplied schema tables (record { changes = changes_between table before after; numbers = numbers })
-  IsApplied-changes_between table before after tables numbers are counters allowed = go (is_unchanged before after) refl
+  IsApplied-changes_between table before after tables numbers are counters allowed checked = go (is_unchanged before after) refl
     where
       change : Change
       change = record { table = table; before = before; after = after }
 
       go : (b : Bool) → is_unchanged before after ≡ b → IsApplied schema tables (record { changes = cond b [] (change ∷ []); numbers = numbers })
       go true same = IsApplied-none schema tables numbers are counters
-      go false other = record {
+      go false other = let differ = not_from_Decides (is_unchanged before after) (is_unchanged-Decides before after) other in record {
         leads = (allowed, refl);
-        differ = (not_from_Decides (is_unchanged before after) (is_unchanged-Decides before after) other, tt);
+        differ = (differ, tt);
+        checked = (checked differ, tt);
         are = AreTables-made schema change tables are allowed;
         counters = counters;
       }
@@ -127,7 +130,8 @@ module _ (schema : Schema) (origin : SiteName) (shape : HasShape schema) (keys :
       subst (IsApplied schema tables) is
       (IsApplied-changes_between (table_of call) (row_named schema tables call) some.0.after tables some.0.numbers are
       (AreCounters-row_effect schema tables numbers origin counters call (row_named schema tables call) some.0 some.1)
-      (IsChange-row_effect schema tables numbers origin counters shape keys are apart call (row_named schema tables call) some.0 fits refl some.1))
+      (IsChange-row_effect schema tables numbers origin counters shape keys are apart call (row_named schema tables call) some.0 fits refl some.1)
+      (IsChecked-row_effect schema tables numbers origin counters call (row_named schema tables call) some.0 some.1))
 
   -- calls that succeed lead by their changes from the tables before them to those after them
   pub IsApplied-calls_effect : (number : ℕ) (calls : List Call) (tables : List Rows) (numbers : Numbers) (effect : Effect) → AreTables schema tables → AreCounters schema numbers

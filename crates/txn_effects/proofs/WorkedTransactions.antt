@@ -4,13 +4,16 @@ use Rattle.std.specs.Prelude.{codes, Option, Some, None, Result}
 use Rattle.rep_values.specs.declared.name.SiteName.{SiteName}
 use Rattle.rep_values.specs.declared.value.Value.TheVariants.{Num}
 use Rattle.rep_values.specs.declared.refusal.ApplyError.{ApplyError}
-use Rattle.rep_values.specs.declared.refusal.ApplyError.TheVariants.{NoRow, UpdateConflict, DeleteConflict, UniqueConflict}
+use Rattle.rep_values.specs.declared.refusal.ApplyError.TheVariants.{NoRow, UpdateConflict, DeleteConflict, UniqueConflict, CheckFailed}
 use Rattle.rep_schema.specs.declared.schema.Schema.{Schema}
 use Rattle.rep_schema.specs.declared.schema.TableEntry.{TableEntry}
 use Rattle.rep_schema.specs.declared.schema.Column.{Column}
 use Rattle.rep_schema.specs.declared.schema.Kind.TheVariants as kind
+use Rattle.rep_schema.specs.declared.schema.Method.{Method}
+use Rattle.rep_schema.specs.declared.schema.Method.TheVariants as method
 use Rattle.rep_schema.specs.declared.schema.UniqueMethod.{UniqueMethod}
 use Rattle.rep_schema.specs.declared.schema.UniqueMethod.TheVariants as unique
+use Rattle.rep_schema.specs.declared.check.Rel.TheVariants as rel
 use Rattle.rep_schema.specs.declared.change.Change.{Change}
 use Rattle.rep_schema.specs.Tables.{Cells, Rows}
 use Rattle.rep_schema.specs.Groups.{group_columns_of}
@@ -141,3 +144,92 @@ second_call_fails = refl
 nothing_is_changed : tables_by schema (txn_of failing) tables ≡ tables
 unfolding group_columns_of
 nothing_is_changed = refl
+
+-- a table with checks: the columns ID (the key), Q, which has to be unique, and R, which has to be at most 9. Q and R are
+-- the group g, whose methods are these, and so are those of the constraint u
+abbrev checked_table : List Method → List UniqueMethod → TableEntry
+checked_table methods unique_methods = record {
+  name = record { 0 = codes "C" };
+  columns = record { name = codes "ID"; kind = kind.Number; key = true }
+      ∷ record { name = codes "Q"; kind = kind.Number; key = false }
+      ∷ record { name = codes "R"; kind = kind.Number; key = false } ∷ [];
+  groups = record { name = codes "g"; columns = 1 ∷ 2 ∷ []; methods = methods } ∷ [];
+  key_methods = unique.Discard ∷ [];
+  constraints = record { name = codes "u"; columns = 1 ∷ []; methods = unique_methods } ∷ [];
+  checks = record { name = codes "low"; column = 2; rel = rel.Le; value = Num (pos 9) } ∷ [];
+  convergent = false;
+}
+
+abbrev three : ℕ → ℕ → ℕ → Cells
+three id q r = Num (pos id) ∷ Num (pos q) ∷ Num (pos r) ∷ []
+
+-- of these rows the second one doesn't meet the check, since the definitions take any tables
+abbrev checked_rows : List Rows
+checked_rows = (three 1 5 0 ∷ three 2 6 10 ∷ []) ∷ []
+
+-- one constraint, and so one counter
+abbrev one_number : Numbers
+one_number = (0 ∷ []) ∷ []
+
+-- Q and R of a row from two numbers to others
+abbrev update_both : ℕ → ℕ → ℕ → ℕ → ℕ → Call
+update_both id q r q' r' = Update 0 (Num (pos id) ∷ []) (record { group = 0; old = Num (pos q) ∷ Num (pos r) ∷ []; new = Num (pos q') ∷ Num (pos r') ∷ [] } ∷ [])
+
+abbrev checked_schema : List Method → List UniqueMethod → Schema
+checked_schema methods unique_methods = record { sites = []; tables = checked_table methods unique_methods ∷ []; priorities = [] }
+
+abbrev checked : List Method → List UniqueMethod → Call → Result Effect ApplyError
+checked methods unique_methods call = call_effect (checked_schema methods unique_methods) checked_rows one_number origin call
+
+abbrev fine : {E : Type 0} → List Change → Result Effect E
+fine changes = Ok (record { changes = changes; numbers = one_number })
+
+-- checks
+row_at_the_limit_is_inserted : checked [] [] (Insert 0 (three 3 7 9)) ≡ fine (change None (Some (three 3 7 9)) ∷ [])
+row_at_the_limit_is_inserted = refl
+
+check_fails_at_an_insert : checked [] [] (Insert 0 (three 3 7 10)) ≡ Err (CheckFailed (codes "low"))
+check_fails_at_an_insert = refl
+
+check_fails_at_an_update : checked [] [] (update_both 1 5 0 5 10) ≡ Err (CheckFailed (codes "low"))
+unfolding group_columns_of
+check_fails_at_an_update = refl
+
+-- the constraint comes first
+constraint_fails_before_the_check_at_an_insert : checked [] [] (Insert 0 (three 3 5 10)) ≡ Err (UniqueConflict (codes "u"))
+constraint_fails_before_the_check_at_an_insert = refl
+
+constraint_fails_before_the_check_at_an_update : checked [] [] (update_both 1 5 0 6 10) ≡ Err (UniqueConflict (codes "u"))
+unfolding group_columns_of
+constraint_fails_before_the_check_at_an_update = refl
+
+-- a row that is given up isn't tested
+dropped_insert_isnt_tested : checked [] [] (Insert 0 (three 1 7 10)) ≡ fine []
+dropped_insert_isnt_tested = refl
+
+insert_dropped_for_its_constraint_isnt_tested : checked [] (unique.Discard ∷ []) (Insert 0 (three 3 5 10)) ≡ fine []
+insert_dropped_for_its_constraint_isnt_tested = refl
+
+dropped_update_isnt_tested : checked [] (unique.Discard ∷ []) (update_both 1 5 0 6 10) ≡ fine []
+unfolding group_columns_of
+dropped_update_isnt_tested = refl
+
+-- a row that stays as it was is, and one that is taken away isn't
+row_that_stays_is_tested : checked (method.Discard ∷ []) [] (update_both 2 6 1 6 2) ≡ Err (CheckFailed (codes "low"))
+unfolding group_columns_of
+row_that_stays_is_tested = refl
+
+deleted_row_isnt_tested : checked [] [] (Delete 0 (three 2 6 10)) ≡ fine (change (Some (three 2 6 10)) None ∷ [])
+deleted_row_isnt_tested = refl
+
+-- the second call fails a check, and the tables are as before
+abbrev failing_check : Result Effect Failure
+failing_check = txn_effect (checked_schema [] []) origin (record { calls = Insert 0 (three 3 7 1) ∷ update_both 3 7 1 8 10 ∷ [] }) checked_rows one_number
+
+second_call_fails_a_check : failing_check ≡ Err (record { call = 2; error = CheckFailed (codes "low") })
+unfolding group_columns_of
+second_call_fails_a_check = refl
+
+nothing_is_kept : tables_by (checked_schema [] []) failing_check checked_rows ≡ checked_rows
+unfolding group_columns_of
+nothing_is_kept = refl

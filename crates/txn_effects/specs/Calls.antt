@@ -3,12 +3,14 @@ use Rattle.std.specs.Prelude.{◌≡◌, ℕ, ◌<◌, true, false, cond, List, 
 use Rattle.std.specs.List.{AllByRecursion}
 use Rattle.rep_values.specs.declared.name.SiteName.{SiteName}
 use Rattle.rep_values.specs.declared.refusal.ApplyError.{ApplyError}
-use Rattle.rep_values.specs.declared.refusal.ApplyError.TheVariants.{NoRow, DeleteConflict, UniqueConflict}
+use Rattle.rep_values.specs.declared.refusal.ApplyError.TheVariants.{NoRow, DeleteConflict, UniqueConflict, CheckFailed}
 use Rattle.rep_schema.specs.declared.schema.Schema.{Schema}
 use Rattle.rep_schema.specs.declared.schema.Column.{Column}
 use Rattle.rep_schema.specs.declared.change.Change.{Change}
+use Rattle.rep_schema.specs.declared.check.Check.{Check}
 use Rattle.rep_schema.specs.Tables.{Cells, Rows, columns_of, find_row, rows_of}
 use Rattle.rep_schema.specs.Groups.{groups_of, named_columns, are_same}
+use Rattle.rep_schema.specs.Checks.{failed_check}
 use Rattle.rep_calls.specs.declared.call.Call.{Call}
 use Rattle.rep_calls.specs.declared.call.Call.TheVariants.{Insert, Update, Delete}
 use Rattle.rep_schema.specs.Putting.{changes_between}
@@ -38,22 +40,29 @@ pub record RowEffect : Type 0 where
   pub after : Option Cells
   pub numbers : Numbers
 
--- the row as its uniqueness was settled, or as it was where it is given up
-abbrev pub effect_by : Settled → Option Cells → Numbers → Result RowEffect ApplyError
-effect_by (Fits row) before numbers = Ok (record { after = Some row; numbers = numbers })
-effect_by Dropped before numbers = Ok (record { after = before; numbers = numbers })
-effect_by (Conflict name) before numbers = Err (UniqueConflict name)
+-- a row that fits is tested by the checks of its table: the first that it doesn't meet is the error
+abbrev pub checked_effect : Option Check → Cells → Numbers → Result RowEffect ApplyError
+checked_effect None row numbers = Ok (record { after = Some row; numbers = numbers })
+checked_effect (Some check) row numbers = Err (CheckFailed check.name)
 
-abbrev pub settled_effect : Settlement → Option Cells → Result RowEffect ApplyError
-settled_effect settlement before = effect_by settlement.settled before settlement.numbers
+-- the row as its uniqueness was settled, where it meets the checks; the row as it was where it is given up, and then
+-- nothing is tested
+abbrev pub effect_by : Schema → ℕ → Settled → Option Cells → Numbers → Result RowEffect ApplyError
+effect_by schema table (Fits row) before numbers = checked_effect (failed_check schema table row) row numbers
+effect_by schema table Dropped before numbers = Ok (record { after = before; numbers = numbers })
+effect_by schema table (Conflict name) before numbers = Err (UniqueConflict name)
 
--- what becomes of the row that a call from an origin names: an insert's row is settled as a new one; an update's parts
--- are settled against the row, and then the row that they give; a delete takes the row that was sent
+abbrev pub settled_effect : Schema → ℕ → Settlement → Option Cells → Result RowEffect ApplyError
+settled_effect schema table settlement before = effect_by schema table settlement.settled before settlement.numbers
+
+-- what becomes of the row that a call from an origin names: an insert's row is settled as a new one and checked; an
+-- update's parts are settled against the row, and then the row that they give is settled and checked, also where it is
+-- the same; a delete takes the row that was sent
 abbrev pub row_effect : Schema → List Rows → Numbers → SiteName → Call → Option Cells → Result RowEffect ApplyError
-row_effect schema tables numbers origin (Insert table row) before = settled_effect (settlement_of schema tables numbers origin table true row) before
+row_effect schema tables numbers origin (Insert table row) before = settled_effect schema table (settlement_of schema tables numbers origin table true row) before
 row_effect schema tables numbers origin (Update table key parts) None = Err NoRow
 row_effect schema tables numbers origin (Update table key parts) (Some found) = result_then (settled_parts schema table parts found)
-    (λ row. settled_effect (settlement_of schema tables numbers origin table false row) (Some found))
+    (λ row. settled_effect schema table (settlement_of schema tables numbers origin table false row) (Some found))
 row_effect schema tables numbers origin (Delete table row) None = Err NoRow
 row_effect schema tables numbers origin (Delete table row) (Some found) = cond (are_same found row) (Ok (record { after = None; numbers = numbers })) (Err DeleteConflict)
 

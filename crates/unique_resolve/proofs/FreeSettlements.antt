@@ -13,7 +13,6 @@ use Rattle.rep_schema.specs.Changes.{row_like}
 use Rattle.unique_resolve.specs.declared.settled.Settled.TheVariants.{Fits}
 use Rattle.unique_resolve.specs.Numbers.{Numbers}
 use Rattle.unique_resolve.specs.Settling.{is_held, settled_each, settlement_of}
-use Rattle.rep_lists.proofs.Each.{each_found}
 use Rattle.rep_schema.proofs.FoundRows.{found_row, key_of-found}
 use Rattle.unique_resolve.proofs.HeldValues.{held_test}
 
@@ -52,25 +51,17 @@ module _ (schema : Schema) (tables : List Rows) (origin : SiteName) (numbers : N
     settlement_of-free inserting new =
         rw (new, settled_each-free (columns_of schema table) (rows_of tables table) origin (constraints_of schema table) (slice_index_or numbers table []) row free, set-get_or numbers table []) refl
 
--- a row that keeps what a unique row with its key has in each constraint is unique
-pub IsUniqueRow-kept : (schema : Schema) (table : ℕ) (before row : Cells) (rows : Rows) → key_of (columns_of schema table) before ≡ key_of (columns_of schema table) row
-    → AllByRecursion (λ constraint. picked constraint.columns before ≡ picked constraint.columns row) (constraints_of schema table)
-    → IsUniqueRow schema table before rows → IsUniqueRow schema table row rows
-IsUniqueRow-kept schema table before row rows key kept unique = record {
-  unheld = λ c below held.
-      let found = each_found (λ (constraint : Constraint). picked constraint.columns before ≡ picked constraint.columns row) (constraints_of schema table) c below kept in
-      let here = rw found.1 at held in
-      unique.unheld c below (rw found.1 (here.0, here.1, here.2, here.3, ((λ e. here.4.0 (e ∙ key)), here.4.1 ∙ sym found.2)));
-}
-
--- so such a row is settled as itself
-pub settlement_of-kept : (schema : Schema) (tables : List Rows) (origin : SiteName) (numbers : Numbers) (table : ℕ) (before row : Cells) → table < length schema.tables → AreTables schema tables
-    → RowFits (columns_of schema table) row → row_like (columns_of schema table) row (rows_of tables table) ≡ Some before
-    → AllByRecursion (λ constraint. picked constraint.columns before ≡ picked constraint.columns row) (constraints_of schema table)
-    → settlement_of schema tables numbers origin table false row ≡ record { settled = Fits row; numbers = numbers }
-settlement_of-kept schema tables origin numbers table before row below are fits there kept =
+-- a row that has what the row with its key has in a constraint doesn't violate it, since that row is unique
+pub is_held-kept : (schema : Schema) (tables : List Rows) (table place : ℕ) (before row : Cells) → AreTables schema tables → table < length schema.tables
+    → RowFits (columns_of schema table) row → place < length (constraints_of schema table) → row_like (columns_of schema table) row (rows_of tables table) ≡ Some before
+    → picked (constraint_columns_of schema table place) before ≡ picked (constraint_columns_of schema table place) row
+    → is_held (columns_of schema table) (constraint_columns_of schema table place) (rows_of tables table) row ≡ false
+is_held-kept schema tables table place before row are below fits within there kept =
     let columns = columns_of schema table in
+    let places = constraint_columns_of schema table place in
     let own : key_of columns before ≡ key_of columns row = key_of-found columns (key_of columns row) before (rows_of tables table) there in
     let unique : IsUniqueRow schema table before (rows_of tables table) =
     found_row columns (key_of columns row) before (rows_of tables table) there (λ x. IsUniqueRow schema table x (rows_of tables table)) (are.each table below).apart in
-    settlement_of-free schema tables origin numbers table row below are fits (IsUniqueRow-kept schema table before row (rows_of tables table) own kept unique) false refl
+    not_true (is_held columns places (rows_of tables table) row) (λ held.
+    let here = (held_test columns places row fits (rows_of tables table) (are.each table below).fit).0 held in
+    unique.unheld place within (here.0, here.1, here.2, here.3, ((λ e. here.4.0 (e ∙ own)), here.4.1 ∙ sym kept)))

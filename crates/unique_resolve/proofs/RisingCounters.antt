@@ -1,19 +1,22 @@
--- Counters never fall where a row is settled, and those of other tables stand still.
-use Rattle.std.proofs.Common.{◌≡◌, ◌≢◌, ℕ, zero, suc, ◌<◌, ◌^◌, Bool, true, false, cond, List, [], ◌∷◌, get_or, set, Some, None, refl, ap, arith}
-use Rattle.std.specs.Prelude.{Option, ◌&&◌, is_some, slice_get, decimal}
+-- Counters never fall where a row is settled; those of other tables stand still, and all do where nothing raises one.
+use Rattle.std.proofs.Common.{◌≡◌, ◌≢◌, ℕ, zero, suc, ◌<◌, ◌^◌, Bool, true, false, cond, List, [], ◌∷◌, get_or, set, Some, None, refl, ap, ◌∙◌, arith}
+use Rattle.std.specs.Prelude.{Option, ◌&&◌, ◌||◌, is_some, slice_get, decimal}
+use Rattle.std.specs.List.{list_any}
+use Rattle.std.proofs.lemmas.List.{set-get_or}
 use Rattle.rep_values.specs.declared.name.SiteName.{SiteName}
 use Rattle.rep_schema.specs.declared.schema.Schema.{Schema}
+use Rattle.rep_schema.specs.declared.schema.TableEntry.{TableEntry}
 use Rattle.rep_schema.specs.declared.schema.Column.{Column}
 use Rattle.rep_schema.specs.declared.schema.Constraint.{Constraint}
 use Rattle.rep_schema.specs.declared.schema.UniqueMethod.{UniqueMethod}
 use Rattle.rep_schema.specs.declared.schema.UniqueMethod.TheVariants as method
-use Rattle.rep_schema.specs.Tables.{Cells, Rows, columns_of, constraints_of, key_of, find_row, rows_of}
+use Rattle.rep_schema.specs.Tables.{Cells, Rows, columns_of, constraints_in, constraints_of, key_of, find_row, rows_of}
 use Rattle.unique_resolve.specs.declared.settled.Settled.{Settled}
 use Rattle.unique_resolve.specs.declared.settled.Settled.TheVariants.{Fits, Dropped, Conflict}
-use Rattle.unique_resolve.specs.Numbers.{Numbers, raised}
+use Rattle.unique_resolve.specs.Numbers.{Numbers, raised, is_sequence, has_sequence, has_sequence_in}
 use Rattle.unique_resolve.specs.Appending.{appended}
 use Rattle.unique_resolve.specs.Settling.{is_held, helping, Outcome, or_following, settled_by, settled_one, go_on, settled_each, key_methods_in, key_taken, with_numbers, settlement_of}
-use Rattle.unique_resolve.specs.Laws.{IsNoLower, CountersNeverFall, OtherCountersStandStill}
+use Rattle.unique_resolve.specs.Laws.{IsNoLower, CountersNeverFall, OtherCountersStandStill, CountersStandStillWithoutSequences}
 
 -- a number of 64 bits doesn't fall, and stays one
 abbrev Rises : ℕ → ℕ → Type 0
@@ -107,3 +110,56 @@ pub other_counters_stand_still : OtherCountersStandStill
 other_counters_stand_still schema tables numbers origin table inserting row other apart =
     after_settlement schema tables numbers origin table inserting row (λ ns. get_or ns other [] ≡ get_or numbers other []) refl
     (set_elsewhere numbers table other (settled_each (columns_of schema table) (rows_of tables table) origin (constraints_of schema table) (get_or numbers table []) row).numbers apart)
+
+-- without append-sequence a constraint's methods leave its counter
+number-settled_by : (columns : List Column) (rows : Rows) (origin : SiteName) (constraint : Constraint) (row : Cells) (methods : List UniqueMethod) (number : ℕ) → list_any is_sequence methods ≡ false
+    → (settled_by columns constraint rows origin methods row number).number ≡ number
+number-settled_by columns rows origin constraint row [] number none = refl
+number-settled_by columns rows origin constraint row (method.Discard ∷ methods) number none = refl
+number-settled_by columns rows origin constraint row (method.AppendSite column ∷ methods) number none =
+    go (helping columns constraint.columns rows (appended columns constraint.columns column origin.0 row)) (number-settled_by columns rows origin constraint row methods number none)
+  where
+    go : (helped : Option Cells) → (settled_by columns constraint rows origin methods row number).number ≡ number
+        → (or_following helped number (settled_by columns constraint rows origin methods row number)).number ≡ number
+    go None later = later
+    go (Some one) later = refl
+number-settled_by columns rows origin constraint row (method.AppendSequence column ∷ methods) number none = cc
+
+number-settled_one : (columns : List Column) (rows : Rows) (origin : SiteName) (constraint : Constraint) (row : Cells) (number : ℕ) → has_sequence constraint ≡ false
+    → (settled_one columns rows origin constraint row number).number ≡ number
+number-settled_one columns rows origin constraint row number none = go (is_held columns constraint.columns rows row)
+  where
+    go : (b : Bool) → (cond b (settled_by columns constraint rows origin constraint.methods row number) (record { settled = Fits row; number = number })).number ≡ number
+    go true = number-settled_by columns rows origin constraint row constraint.methods number none
+    go false = refl
+
+-- where a test fails for all, it fails for the first and for the others
+none_of : (a b : Bool) → (a || b) ≡ false → (a ≡ false) × (b ≡ false)
+none_of true b none = cc
+none_of false b none = (refl, none)
+
+numbers-settled_each : (columns : List Column) (rows : Rows) (origin : SiteName) (constraints : List Constraint) (numbers : List ℕ) (row : Cells) → list_any has_sequence constraints ≡ false
+    → (settled_each columns rows origin constraints numbers row).numbers ≡ numbers
+numbers-settled_each columns rows origin [] numbers row none = refl
+numbers-settled_each columns rows origin (c ∷ cs) [] row none = refl
+numbers-settled_each columns rows origin (c ∷ cs) (n ∷ ns) row none =
+    let both = none_of (has_sequence c) (list_any has_sequence cs) none in
+    go (settled_one columns rows origin c row n).settled (number-settled_one columns rows origin c row n both.0) (λ one. numbers-settled_each columns rows origin cs ns one both.1)
+  where
+    go : (settled : Settled) → (settled_one columns rows origin c row n).number ≡ n → ((one : Cells) → (settled_each columns rows origin cs ns one).numbers ≡ ns)
+        → (go_on settled (settled_one columns rows origin c row n).number ns (settled_each columns rows origin cs ns)).numbers ≡ n ∷ ns
+    go (Fits one) first rest = rw (first, rest one) refl
+    go Dropped first rest = rw first refl
+    go (Conflict name) first rest = rw first refl
+
+-- a schema without append-sequence has none at a table
+none_at : (entries : List TableEntry) (table : ℕ) → list_any has_sequence_in entries ≡ false → list_any has_sequence (constraints_in (slice_get entries table)) ≡ false
+none_at [] table none = refl
+none_at (e ∷ es) zero none = (none_of (has_sequence_in e) (list_any has_sequence_in es) none).0
+none_at (e ∷ es) (suc table) none = none_at es table (none_of (has_sequence_in e) (list_any has_sequence_in es) none).1
+
+pub counters_stand_still_without_sequences : CountersStandStillWithoutSequences
+counters_stand_still_without_sequences schema tables numbers origin table inserting row none =
+    after_settlement schema tables numbers origin table inserting row (λ ns. ns ≡ numbers) refl
+    (ap (set numbers table) (numbers-settled_each (columns_of schema table) (rows_of tables table) origin (constraints_of schema table) (get_or numbers table []) row (none_at schema.tables table none))
+    ∙ set-get_or numbers table [])

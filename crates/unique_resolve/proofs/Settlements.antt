@@ -129,6 +129,14 @@ module _ (columns : List Column) (constraint : Constraint) (rows : Rows) (origin
           let same : row ≡ after = cc in
           subst (IsFree columns constraint.columns rows row) same (record { fits = fits; key = refl; free = held; others = λ shared apart. refl; lengthened = λ place. inl refl })
 
+  -- it has the row's key
+  pub key_of-settled_one : (number : ℕ) (after : Cells) → (settled_one columns rows origin constraint row number).settled ≡ Fits after → key_of columns after ≡ key_of columns row
+  key_of-settled_one number after fit = (IsFree-settled_one number after fit).key
+
+  -- and fits as well
+  pub RowFits-settled_one : (number : ℕ) (after : Cells) → (settled_one columns rows origin constraint row number).settled ≡ Fits after → RowFits columns after
+  RowFits-settled_one number after fit = (IsFree-settled_one number after fit).fits
+
 -- no two of a table's constraints share a column
 abbrev AreApart : List Constraint → Type 0
 AreApart [] = Unit {0}

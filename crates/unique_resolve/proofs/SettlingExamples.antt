@@ -29,6 +29,7 @@ table_of key_methods methods = record {
   groups = [];
   key_methods = key_methods;
   constraints = record { name = codes "u"; columns = 1 ∷ []; methods = methods } ∷ [];
+  checks = [];
   convergent = false;
 }
 

@@ -9,7 +9,7 @@ use Rattle.rep_schema.specs.Shape.{HasShape}
 use Rattle.rep_schema.specs.Tables.{Cells, Rows, columns_of, constraints_of, key_of, rows_of, RowFits, IsUniqueRow, AreTables}
 use Rattle.rep_schema.specs.Changes.{row_like}
 use Rattle.unique_resolve.specs.declared.settled.Settled.TheVariants.{Fits}
-use Rattle.unique_resolve.specs.Numbers.{Numbers, AreCounters}
+use Rattle.unique_resolve.specs.Numbers.{Numbers, AreCounters, has_sequences}
 use Rattle.unique_resolve.specs.Appending.{may_change}
 use Rattle.unique_resolve.specs.Settling.{settlement_of}
 
@@ -88,3 +88,9 @@ abbrev pub OtherCountersStandStill : Type 0
 OtherCountersStandStill = (schema : Schema) (tables : List Rows) (numbers : Numbers) (origin : SiteName) (table : ℕ) (inserting : Bool)
     (row : Cells) (other : ℕ) → other ≢ table
     → slice_index_or (settlement_of schema tables numbers origin table inserting row).numbers other [] ≡ slice_index_or numbers other []
+
+-- where no constraint of the schema has append-sequence, all counters stand still
+abbrev pub CountersStandStillWithoutSequences : Type 0
+CountersStandStillWithoutSequences = (schema : Schema) (tables : List Rows) (numbers : Numbers) (origin : SiteName) (table : ℕ)
+    (inserting : Bool) (row : Cells) → has_sequences schema ≡ false
+    → (settlement_of schema tables numbers origin table inserting row).numbers ≡ numbers

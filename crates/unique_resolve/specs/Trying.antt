@@ -1,8 +1,9 @@
 -- What the steps of settling tell.
-use Rattle.std.specs.Prelude.{ℕ, ◌<◌, Bool, true, false, List, length}
+use Rattle.std.specs.Prelude.{◌≡◌, ℕ, ◌<◌, Bool, true, false, List, length, Option, Some, IfSome}
 use Rattle.rep_schema.specs.declared.schema.Schema.{Schema}
 use Rattle.rep_schema.specs.Shape.{HasShape}
-use Rattle.rep_schema.specs.Tables.{Cells, Rows, columns_of, constraints_of, IsKeyed, RowFits, AreTables}
+use Rattle.rep_schema.specs.Tables.{Cells, Rows, columns_of, constraints_of, rows_of, IsKeyed, RowFits, AreTables}
+use Rattle.rep_schema.specs.Changes.{row_like}
 use Rattle.unique_resolve.specs.declared.settled.Settled.{Settled}
 use Rattle.unique_resolve.specs.declared.settled.Settled.TheVariants.{Fits, Dropped, Conflict}
 use Rattle.unique_resolve.specs.declared.trying.Tried.{Tried}
@@ -25,6 +26,10 @@ pub record IsTestable (schema : Schema) (tables : List Rows) (table place : ℕ)
   pub keyed : IsKeyed (columns_of schema table)
   pub of_constraint : place < length (constraints_of schema table)
   pub fits : RowFits (columns_of schema table) row
+
+-- the row before, if one is given, is the one that stands in the table with the row's key
+abbrev pub HasBefore : Schema → List Rows → ℕ → Option Cells → Cells → Type 0
+HasBefore schema tables table before row = IfSome before (λ found. row_like (columns_of schema table) row (rows_of tables table) ≡ Some found)
 
 -- what came of an append
 abbrev pub tried_by : Bool → Tried

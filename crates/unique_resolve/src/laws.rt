@@ -1,5 +1,5 @@
 //! Laws over the settling of uniqueness. The functions are empty: their contracts are the laws.
-ghost use Rattle.unique_resolve.specs.Laws.{SettledRowsCanBePut, FreeRowsStayThemselves, CountersStayCounters, SettledTextsGrow, CountersNeverFall, OtherCountersStandStill};
+ghost use Rattle.unique_resolve.specs.Laws.{SettledRowsCanBePut, FreeRowsStayThemselves, CountersStayCounters, SettledTextsGrow, CountersNeverFall, OtherCountersStandStill, CountersStandStillWithoutSequences};
 
 /// A row that comes out of a settlement fits its table, keeps its key and is unique.
 pub fn settled_rows_can_be_put()
@@ -29,4 +29,9 @@ pub fn counters_never_fall()
 /// The counters of other tables stand still.
 pub fn other_counters_stand_still()
     ensures { OtherCountersStandStill }
+{}
+
+/// Where no constraint of the schema has append-sequence, all counters stand still.
+pub fn counters_stand_still_without_sequences()
+    ensures { CountersStandStillWithoutSequences }
 {}

@@ -9,7 +9,8 @@ mod trying;
 
 pub use counters::Counters;
 pub use laws::{
-    counters_never_fall, counters_stay_counters, free_rows_stay_themselves,
-    other_counters_stand_still, settled_rows_can_be_put, settled_texts_grow,
+    counters_never_fall, counters_stand_still_without_sequences, counters_stay_counters,
+    free_rows_stay_themselves, other_counters_stand_still, settled_rows_can_be_put,
+    settled_texts_grow,
 };
 pub use settled::{Settled, settle_unique};

@@ -1,19 +1,16 @@
 //! How uniqueness is settled.
-ghost use Rattle.std.specs.Prelude.{◌≡◌, ◌<◌, List, length, true, Some, IfSome, is_some, is_none, option_copied, slice_get};
-ghost use Rattle.std.specs.List.{AllByRecursion, list_any};
+ghost use Rattle.std.specs.Prelude.{◌≡◌, ◌<◌, List, length, Some, IfSome, is_some, is_none, option_copied, slice_get};
+ghost use Rattle.std.specs.List.{list_any};
 ghost use Rattle.rep_schema.specs.Changes.{row_like};
 ghost use Rattle.rep_schema.specs.Shape.{HasShape};
-ghost use Rattle.rep_schema.specs.Tables.{columns_of, key_of, find_row, rows_of, picked, IsKeyed, RowFits};
+ghost use Rattle.rep_schema.specs.Tables.{columns_of, key_of, find_row, rows_of, IsKeyed, RowFits};
 ghost use Rattle.unique_resolve.specs.Numbers.{AreCounters};
 ghost use Rattle.unique_resolve.specs.Settling.{is_discard, key_methods_in, key_taken, settlement_of};
 ghost use Rattle.unique_resolve.specs.Trying.{settled_as};
 
 use crate::Counters;
 use crate::trying::Ruling;
-use rep_schema::{
-    Constraint, RowStore, Schema, UniqueMethod, columns_of, constraints_of, holds_tables, key_name,
-    key_of, same_picked,
-};
+use rep_schema::{RowStore, Schema, UniqueMethod, columns_of, key_name, key_of};
 use rep_values::{Name, Row, SiteName};
 
 /// What becomes of a row that is to be put into a table.
@@ -72,18 +69,6 @@ fn has_key_of<R: RowStore>(store: &R, table: u32, row: &Row) -> bool
     store.get(table, &key).is_some()
 }
 
-/// Whether two rows have the same values in the columns of each of these constraints.
-fn keeps_constrained(constraints: &[Constraint], before: &Row, row: &Row) -> bool
-    ensures { result ≡ true → AllByRecursion (λ constraint. picked constraint.columns before.now ≡ picked constraint.columns row.now) constraints.now }
-{
-    for constraint in constraints {
-        if !same_picked(constraint.columns.as_slice(), before.values(), row.values()) {
-            return false;
-        }
-    }
-    true
-}
-
 /// The ruling with the row.
 fn ruled(ruling: Ruling, row: Row) -> Settled
     ensures { result ≡ settled_as ruling row }
@@ -98,7 +83,8 @@ fn ruled(ruling: Ruling, row: Row) -> Settled
 /// What becomes of a row that is to be put into a table from an origin, as a new one or in the place of the row
 /// before. For a new one the primary key comes first, then the secondary constraints in declared order, each against
 /// rows with another key. The methods of a violated constraint are tried in sequence, and append-sequence raises the
-/// constraint's counter at each try. It takes no memory.
+/// constraint's counter at each try. A constraint in which the row before has the same values isn't looked at, since that
+/// row is unique. It takes no memory.
 pub fn settle_unique<R: RowStore>(
     store: &R,
     table: u32,
@@ -116,20 +102,9 @@ pub fn settle_unique<R: RowStore>(
     ensures settled { result ≡ (settlement_of (R.schema store.now) (R.tables store.now) counters.old origin.now table (is_none (option_copied before.entry)) row).settled }
     ensures counters { counters.new ≡ (settlement_of (R.schema store.now) (R.tables store.now) counters.old origin.now table (is_none (option_copied before.entry)) row).numbers }
 {
-    match before {
-        None => {
-            if has_key_of(store, table, &row) {
-                return key_taken(key_methods(store.schema(), table));
-            }
-        }
-        Some(before) => {
-            holds_tables(store);
-            // A row that keeps what the one before has in each constraint is as unique as that one.
-            if keeps_constrained(constraints_of(store.schema(), table), before, &row) {
-                return Settled::Fits(row);
-            }
-        }
+    if before.is_none() && has_key_of(store, table, &row) {
+        return key_taken(key_methods(store.schema(), table));
     }
-    let ruling = counters.settle(store, table, &mut row, origin);
+    let ruling = counters.settle(store, table, before, &mut row, origin);
     ruled(ruling, row)
 }

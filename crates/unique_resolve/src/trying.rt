@@ -1,18 +1,28 @@
 //! The methods of a violated constraint, tried in sequence.
-ghost use Rattle.std.specs.Prelude.{◌≡◌, ℕ, List, ◌∷◌, ◌<◌, length, true, false, Some, None, decimal, slice_get, slice_set, if◌then◌else◌};
+ghost use Rattle.std.specs.Prelude.{◌≡◌, ℕ, List, ◌∷◌, ◌<◌, length, true, false, Some, None, IsSomeAnd, decimal, option_copied, slice_get, slice_set, if◌then◌else◌};
 ghost use Rattle.std.specs.List.{list_all};
 ghost use Rattle.rep_values.specs.Text.{is_text_byte};
 ghost use Rattle.rep_schema.specs.declared.schema.Constraint.{Constraint as ConstraintValue};
 ghost use Rattle.rep_schema.specs.declared.schema.UniqueMethod.{UniqueMethod as MethodValue};
-ghost use Rattle.rep_schema.specs.Tables.{columns_of, constraints_of, constraint_columns_of, rows_of};
+ghost use Rattle.rep_schema.specs.Tables.{columns_of, constraints_of, constraint_columns_of, rows_of, picked};
 ghost use Rattle.unique_resolve.specs.Appending.{appended};
 ghost use Rattle.unique_resolve.specs.Settling.{is_held, helping, settled_by, settled_one, settled_each};
-ghost use Rattle.unique_resolve.specs.Trying.{IsAsked, IsTestable, tried_by, followed, settled_as};
+ghost use Rattle.unique_resolve.specs.Trying.{IsAsked, IsTestable, HasBefore, tried_by, followed, settled_as};
 
 use crate::appending::value_appended;
 use itoa::Buffer;
-use rep_schema::{Constraint, RowStore, Schema, UniqueMethod, columns_of, constraint_columns};
+use rep_schema::{
+    Constraint, RowStore, UniqueMethod, columns_of, constraint_columns, constraint_count,
+    constraints_of, same_picked,
+};
 use rep_values::{Name, Row, SiteName, Value};
+
+/// A secondary constraint of a table, both by their places.
+#[derive(Clone, Copy)]
+pub(crate) struct ConstraintPlace {
+    pub table: u32,
+    pub place: u32,
+}
 
 /// What came of one method.
 #[derive(Clone, Copy)]
@@ -31,11 +41,32 @@ pub(crate) enum Ruling {
 }
 
 /// Whether a row with another key has the row's values in a constraint.
-fn is_held<R: RowStore>(store: &R, table: u32, place: u32, row: &Row) -> bool
-    requires { IsTestable (R.schema store.now) (R.tables store.now) table place row.now }
-    ensures { result ≡ is_held (columns_of (R.schema store.now) table) (constraint_columns_of (R.schema store.now) table place) (rows_of (R.tables store.now) table) row.now }
+fn is_held<R: RowStore>(store: &R, at: ConstraintPlace, row: &Row) -> bool
+    requires { IsTestable (R.schema store.now) (R.tables store.now) at.table at.place row.now }
+    ensures { result ≡ is_held (columns_of (R.schema store.now) at.table) (constraint_columns_of (R.schema store.now) at.table at.place) (rows_of (R.tables store.now) at.table) row.now }
 {
-    store.holds_unique(table, place, row)
+    store.holds_unique(at.table, at.place, row)
+}
+
+/// Whether the row before has a row's values at these places.
+fn is_kept(places: &[u32], before: Option<&Row>, row: &Row) -> bool
+    ensures { result ≡ true → IsSomeAnd (option_copied before.entry) (λ before. picked places.now before ≡ picked places.now row.now) }
+{
+    match before {
+        Some(before) => same_picked(places, before.values(), row.values()),
+        None => false,
+    }
+}
+
+/// Whether a row violates a constraint. Where it has what the row before it has there, which is as unique as that one,
+/// no other row is looked at.
+fn is_violated<R: RowStore>(store: &R, at: ConstraintPlace, before: Option<&Row>, row: &Row) -> bool
+    requires testable { IsTestable (R.schema store.now) (R.tables store.now) at.table at.place row.now }
+    requires before { HasBefore (R.schema store.now) (R.tables store.now) at.table (option_copied before) row.now }
+    ensures { result ≡ is_held (columns_of (R.schema store.now) at.table) (constraint_columns_of (R.schema store.now) at.table at.place) (rows_of (R.tables store.now) at.table) row.now }
+{
+    let places = constraint_columns(store.schema(), at.table, at.place);
+    !is_kept(places, before, row) && is_held(store, at, row)
 }
 
 /// Puts a value into a row, and hands back the one that was there.
@@ -52,27 +83,26 @@ fn replace(row: &mut Row, place: usize, value: Value) -> Value
 /// Puts bytes behind the text in a column where that helps. Else the row stays as it is.
 fn append_helps<R: RowStore>(
     store: &R,
-    table: u32,
-    place: u32,
+    at: ConstraintPlace,
     column: u32,
     bytes: &[u8],
     row: &mut Row,
 ) -> bool
-    requires testable { IsTestable (R.schema store.now) (R.tables store.now) table place row.old }
+    requires testable { IsTestable (R.schema store.now) (R.tables store.now) at.table at.place row.old }
     requires bytes { list_all is_text_byte bytes.now ≡ true }
-    ensures helped { helping (columns_of (R.schema store.now) table) (constraint_columns_of (R.schema store.now) table place) (rows_of (R.tables store.now) table)
-        (appended (columns_of (R.schema store.now) table) (constraint_columns_of (R.schema store.now) table place) column bytes.now row.old)
+    ensures helped { helping (columns_of (R.schema store.now) at.table) (constraint_columns_of (R.schema store.now) at.table at.place) (rows_of (R.tables store.now) at.table)
+        (appended (columns_of (R.schema store.now) at.table) (constraint_columns_of (R.schema store.now) at.table at.place) column bytes.now row.old)
         ≡ (if result then Some row.new else None) }
     ensures kept { result ≡ false → row.new ≡ row.old }
-    ensures testable { IsTestable (R.schema store.now) (R.tables store.now) table place row.new }
+    ensures testable { IsTestable (R.schema store.now) (R.tables store.now) at.table at.place row.new }
 {
-    let columns = columns_of(store.schema(), table);
-    let places = constraint_columns(store.schema(), table, place);
+    let columns = columns_of(store.schema(), at.table);
+    let places = constraint_columns(store.schema(), at.table, at.place);
     let Some(longer) = value_appended(columns, places, column, bytes, row.values()) else {
         return false;
     };
     let before = replace(row, column as usize, longer);
-    if is_held(store, table, place, row) {
+    if is_held(store, at, row) {
         row.set(column as usize, before);
         return false;
     }
@@ -82,47 +112,38 @@ fn append_helps<R: RowStore>(
 /// Puts the origin's name behind the text in a column where that helps.
 fn append_name<R: RowStore>(
     store: &R,
-    table: u32,
-    place: u32,
+    at: ConstraintPlace,
     column: u32,
     origin: &SiteName,
     row: &mut Row,
 ) -> bool
-    requires { IsTestable (R.schema store.now) (R.tables store.now) table place row.old }
-    ensures helped { helping (columns_of (R.schema store.now) table) (constraint_columns_of (R.schema store.now) table place) (rows_of (R.tables store.now) table)
-        (appended (columns_of (R.schema store.now) table) (constraint_columns_of (R.schema store.now) table place) column origin.now.0 row.old)
+    requires { IsTestable (R.schema store.now) (R.tables store.now) at.table at.place row.old }
+    ensures helped { helping (columns_of (R.schema store.now) at.table) (constraint_columns_of (R.schema store.now) at.table at.place) (rows_of (R.tables store.now) at.table)
+        (appended (columns_of (R.schema store.now) at.table) (constraint_columns_of (R.schema store.now) at.table at.place) column origin.now.0 row.old)
         ≡ (if result then Some row.new else None) }
     ensures kept { result ≡ false → row.new ≡ row.old }
-    ensures testable { IsTestable (R.schema store.now) (R.tables store.now) table place row.new }
+    ensures testable { IsTestable (R.schema store.now) (R.tables store.now) at.table at.place row.new }
 {
-    append_helps(store, table, place, column, origin.0.bytes(), row)
+    append_helps(store, at, column, origin.0.bytes(), row)
 }
 
 /// Puts a number in decimal behind the text in a column where that helps.
 fn append_number<R: RowStore>(
     store: &R,
-    table: u32,
-    place: u32,
+    at: ConstraintPlace,
     column: u32,
     number: u64,
     row: &mut Row,
 ) -> bool
-    requires { IsTestable (R.schema store.now) (R.tables store.now) table place row.old }
-    ensures helped { helping (columns_of (R.schema store.now) table) (constraint_columns_of (R.schema store.now) table place) (rows_of (R.tables store.now) table)
-        (appended (columns_of (R.schema store.now) table) (constraint_columns_of (R.schema store.now) table place) column (decimal number) row.old)
+    requires { IsTestable (R.schema store.now) (R.tables store.now) at.table at.place row.old }
+    ensures helped { helping (columns_of (R.schema store.now) at.table) (constraint_columns_of (R.schema store.now) at.table at.place) (rows_of (R.tables store.now) at.table)
+        (appended (columns_of (R.schema store.now) at.table) (constraint_columns_of (R.schema store.now) at.table at.place) column (decimal number) row.old)
         ≡ (if result then Some row.new else None) }
     ensures kept { result ≡ false → row.new ≡ row.old }
-    ensures testable { IsTestable (R.schema store.now) (R.tables store.now) table place row.new }
+    ensures testable { IsTestable (R.schema store.now) (R.tables store.now) at.table at.place row.new }
 {
     let mut buffer = Buffer::new();
-    append_helps(
-        store,
-        table,
-        place,
-        column,
-        buffer.format(number).as_bytes(),
-        row,
-    )
+    append_helps(store, at, column, buffer.format(number).as_bytes(), row)
 }
 
 fn tried_by(helps: bool) -> Tried
@@ -134,26 +155,25 @@ fn tried_by(helps: bool) -> Tried
 /// Tries one method of a violated constraint. Where it fails, the row stays as it is.
 fn try_method<R: RowStore>(
     store: &R,
-    table: u32,
-    place: u32,
+    at: ConstraintPlace,
     method: &UniqueMethod,
     row: &mut Row,
     origin: &SiteName,
     number: &mut u64,
 ) -> Tried
-    requires { IsTestable (R.schema store.now) (R.tables store.now) table place row.old }
-    ensures step { (constraint : ConstraintValue) (methods : List MethodValue) → slice_get (constraints_of (R.schema store.now) table) place ≡ Some constraint
-        → settled_by (columns_of (R.schema store.now) table) constraint (rows_of (R.tables store.now) table) origin.now (method.now ∷ methods) row.old number.old
-        ≡ followed result row.new number.new (settled_by (columns_of (R.schema store.now) table) constraint (rows_of (R.tables store.now) table) origin.now methods row.new number.new) }
-    ensures testable { IsTestable (R.schema store.now) (R.tables store.now) table place row.new }
+    requires { IsTestable (R.schema store.now) (R.tables store.now) at.table at.place row.old }
+    ensures step { (constraint : ConstraintValue) (methods : List MethodValue) → slice_get (constraints_of (R.schema store.now) at.table) at.place ≡ Some constraint
+        → settled_by (columns_of (R.schema store.now) at.table) constraint (rows_of (R.tables store.now) at.table) origin.now (method.now ∷ methods) row.old number.old
+        ≡ followed result row.new number.new (settled_by (columns_of (R.schema store.now) at.table) constraint (rows_of (R.tables store.now) at.table) origin.now methods row.new number.new) }
+    ensures testable { IsTestable (R.schema store.now) (R.tables store.now) at.table at.place row.new }
 {
     match method {
         UniqueMethod::AppendSite(column) => {
-            tried_by(append_name(store, table, place, *column, origin, row))
+            tried_by(append_name(store, at, *column, origin, row))
         }
         UniqueMethod::AppendSequence(column) => {
             *number = number.saturating_add(1);
-            tried_by(append_number(store, table, place, *column, *number, row))
+            tried_by(append_number(store, at, *column, *number, row))
         }
         UniqueMethod::Discard => Tried::GivesUp,
     }
@@ -162,21 +182,20 @@ fn try_method<R: RowStore>(
 /// Tries the methods of a violated constraint in sequence.
 fn settle_by<R: RowStore>(
     store: &R,
-    table: u32,
-    place: u32,
+    at: ConstraintPlace,
     constraint: &Constraint,
     row: &mut Row,
     origin: &SiteName,
     number: &mut u64,
 ) -> Ruling
-    requires testable { IsTestable (R.schema store.now) (R.tables store.now) table place row.old }
-    requires constraint { slice_get (constraints_of (R.schema store.now) table) place ≡ Some constraint.now }
-    ensures ruling { settled_by (columns_of (R.schema store.now) table) constraint.now (rows_of (R.tables store.now) table) origin.now constraint.now.methods row.old number.old
+    requires testable { IsTestable (R.schema store.now) (R.tables store.now) at.table at.place row.old }
+    requires constraint { slice_get (constraints_of (R.schema store.now) at.table) at.place ≡ Some constraint.now }
+    ensures ruling { settled_by (columns_of (R.schema store.now) at.table) constraint.now (rows_of (R.tables store.now) at.table) origin.now constraint.now.methods row.old number.old
         ≡ record { settled = settled_as result row.new; number = number.new } }
-    ensures testable { IsTestable (R.schema store.now) (R.tables store.now) table place row.new }
+    ensures testable { IsTestable (R.schema store.now) (R.tables store.now) at.table at.place row.new }
 {
     for method in constraint.methods.as_slice() {
-        match try_method(store, table, place, method, row, origin, number) {
+        match try_method(store, at, method, row, origin, number) {
             Tried::Helps => return Ruling::Fits,
             Tried::GivesUp => return Ruling::Dropped,
             Tried::Fails => {}
@@ -188,51 +207,47 @@ fn settle_by<R: RowStore>(
 /// Settles one constraint. A row that doesn't violate it fits.
 fn settle_one<R: RowStore>(
     store: &R,
-    table: u32,
-    place: u32,
-    constraint: &Constraint,
+    at: ConstraintPlace,
+    before: Option<&Row>,
     row: &mut Row,
     origin: &SiteName,
     number: &mut u64,
 ) -> Ruling
-    requires testable { IsTestable (R.schema store.now) (R.tables store.now) table place row.old }
-    requires constraint { slice_get (constraints_of (R.schema store.now) table) place ≡ Some constraint.now }
-    ensures ruling { settled_one (columns_of (R.schema store.now) table) (rows_of (R.tables store.now) table) origin.now constraint.now row.old number.old
+    requires testable { IsTestable (R.schema store.now) (R.tables store.now) at.table at.place row.old }
+    requires before { HasBefore (R.schema store.now) (R.tables store.now) at.table (option_copied before) row.old }
+    ensures ruling { (constraint : ConstraintValue) → slice_get (constraints_of (R.schema store.now) at.table) at.place ≡ Some constraint
+        → settled_one (columns_of (R.schema store.now) at.table) (rows_of (R.tables store.now) at.table) origin.now constraint row.old number.old
         ≡ record { settled = settled_as result row.new; number = number.new } }
-    ensures testable { IsTestable (R.schema store.now) (R.tables store.now) table place row.new }
+    ensures testable { IsTestable (R.schema store.now) (R.tables store.now) at.table at.place row.new }
 {
-    if !is_held(store, table, place, row) {
+    if !is_violated(store, at, before, row) {
         return Ruling::Fits;
     }
-    settle_by(store, table, place, constraint, row, origin, number)
-}
-
-/// The secondary constraints of a table.
-fn constraints_of(schema: &Schema, table: u32) -> &[Constraint]
-    requires { table < length schema.now.tables }
-    ensures { result.now ≡ constraints_of schema.now table }
-{
-    schema.tables.at(table as usize).constraints.as_slice()
+    let constraint = &constraints_of(store.schema(), at.table)[at.place as usize];
+    settle_by(store, at, constraint, row, origin, number)
 }
 
 /// Settles one constraint after another, each with its number. The first one that isn't settled ends it.
 pub(crate) fn settle_each<R: RowStore>(
     store: &R,
     table: u32,
+    before: Option<&Row>,
     row: &mut Row,
     origin: &SiteName,
     numbers: &mut [u64],
 ) -> Ruling
     requires asked { IsAsked (R.schema store.now) table row.old }
+    requires before { HasBefore (R.schema store.now) (R.tables store.now) table (option_copied before) row.old }
     requires numbers { length numbers.old ≡ length (constraints_of (R.schema store.now) table) }
     ensures { settled_each (columns_of (R.schema store.now) table) (rows_of (R.tables store.now) table) origin.now (constraints_of (R.schema store.now) table) numbers.old row.old
         ≡ record { settled = settled_as result row.new; numbers = numbers.new } }
 {
-    let constraints = constraints_of(store.schema(), table);
-    for place in 0..constraints.len() {
-        let constraint = &constraints[place];
-        let number = &mut numbers[place];
-        match settle_one(store, table, place as u32, constraint, row, origin, number) {
+    for place in 0..constraint_count(store.schema(), table) {
+        let at = ConstraintPlace {
+            table,
+            place: place as u32,
+        };
+        match settle_one(store, at, before, row, origin, &mut numbers[place]) {
             Ruling::Fits => {}
             Ruling::Dropped => return Ruling::Dropped,
             Ruling::Conflict(name) => return Ruling::Conflict(name),

@@ -11,7 +11,7 @@ invariant-loop-method g l =
     let schema = g.R.RowStore.schema l.store in
     let tables = g.R.RowStore.tables l.store in
     record {
-      testable : IsTestable schema tables l.table l.place l.row;
-      rest : settled_by (columns_of schema l.table) l.constraint (rows_of tables l.table) l.origin l.constraint.methods l.initial.row l.initial.number
-          ≡ settled_by (columns_of schema l.table) l.constraint (rows_of tables l.table) l.origin (drop l.method-index l.constraint.methods) l.row l.number;
+      testable : IsTestable schema tables l.at.table l.at.place l.row;
+      rest : settled_by (columns_of schema l.at.table) l.constraint (rows_of tables l.at.table) l.origin l.constraint.methods l.initial.row l.initial.number
+          ≡ settled_by (columns_of schema l.at.table) l.constraint (rows_of tables l.at.table) l.origin (drop l.method-index l.constraint.methods) l.row l.number;
     }

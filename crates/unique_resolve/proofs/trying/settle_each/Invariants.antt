@@ -1,7 +1,9 @@
 -- Settling constraint by constraint.
 use Rattle.std.proofs.Common.{◌≡◌, take, drop}
-use Rattle.rep_schema.specs.Tables.{columns_of, rows_of, RowFits}
+use Rattle.std.specs.Prelude.{option_copied}
+use Rattle.rep_schema.specs.Tables.{columns_of, constraints_of, rows_of, RowFits}
 use Rattle.unique_resolve.specs.Settling.{settled_each}
+use Rattle.unique_resolve.specs.Trying.{HasBefore}
 use Rattle.unique_resolve.proofs.EachConstraint.{behind}
 use Rattle.unique_resolve.proofs.trying.settle_each.Given as goal
 
@@ -12,6 +14,7 @@ invariant-loop-place g l =
     let tables = g.R.RowStore.tables l.store in
     record {
       fits : RowFits (columns_of schema l.table) l.row;
-      rest : settled_each (columns_of schema l.table) (rows_of tables l.table) l.origin l.constraints l.initial.numbers l.initial.row
-          ≡ behind (take l.place l.numbers) (settled_each (columns_of schema l.table) (rows_of tables l.table) l.origin (drop l.place l.constraints) (drop l.place l.numbers) l.row);
+      before : HasBefore schema tables l.table (option_copied l.before) l.row;
+      rest : settled_each (columns_of schema l.table) (rows_of tables l.table) l.origin (constraints_of schema l.table) l.initial.numbers l.initial.row
+          ≡ behind (take l.place l.numbers) (settled_each (columns_of schema l.table) (rows_of tables l.table) l.origin (drop l.place (constraints_of schema l.table)) (drop l.place l.numbers) l.row);
     }
