@@ -6,9 +6,9 @@ ghost use Rattle.rep_declare.specs.Additions.{ColumnNamed};
 use crate::{CaseStop, Words};
 use rep_declare::{Declare, MethodWords, UniqueWords, add_declaration};
 use rep_lists::Items;
-use rep_schema::{Column, Kind, Schema};
+use rep_schema::{Column, Kind, Rel, Schema};
 use rep_values::{Name, Refusal};
-use script_lex::Symbol;
+use script_lex::{Symbol, Token};
 use std::alloc::Global;
 
 fn read_kind(words: &mut Words) -> Result<Kind, CaseStop> {
@@ -84,6 +84,26 @@ fn read_unique_method(words: &mut Words) -> Result<UniqueWords, CaseStop> {
     }
 }
 
+fn rel_of(symbol: Symbol) -> Option<Rel> {
+    match symbol {
+        Symbol::Eq => Some(Rel::Eq),
+        Symbol::Ne => Some(Rel::Ne),
+        Symbol::Lt => Some(Rel::Lt),
+        Symbol::Le => Some(Rel::Le),
+        Symbol::Gt => Some(Rel::Gt),
+        Symbol::Ge => Some(Rel::Ge),
+        Symbol::Colon | Symbol::Comma | Symbol::Plus => None,
+    }
+}
+
+/// `=`, `!=`, `<`, `<=`, `>` or `>=`.
+fn read_rel(words: &mut Words) -> Result<Rel, CaseStop> {
+    match words.token()? {
+        Token::Symbol(symbol) => rel_of(symbol).ok_or(CaseStop::NoCase),
+        Token::Word(_) | Token::Number { .. } | Token::Words(_) => Err(CaseStop::NoCase),
+    }
+}
+
 fn read_group(alloc: Global, words: &mut Words) -> Result<Declare, CaseStop>
     ensures { IfOk result ColumnNamed }
 {
@@ -108,6 +128,14 @@ fn read_site(words: &mut Words) -> Result<Declare, CaseStop>
     ensures { IfOk result ColumnNamed }
 {
     Ok(Declare::Site {
+        name: words.site()?,
+    })
+}
+
+fn read_late_site(words: &mut Words) -> Result<Declare, CaseStop>
+    ensures { IfOk result ColumnNamed }
+{
+    Ok(Declare::LateSite {
         name: words.site()?,
     })
 }
@@ -169,6 +197,18 @@ fn read_constraint_method(words: &mut Words) -> Result<Declare, CaseStop>
     })
 }
 
+fn read_check(words: &mut Words) -> Result<Declare, CaseStop>
+    ensures { IfOk result ColumnNamed }
+{
+    Ok(Declare::Check {
+        table: words.table()?,
+        check: words.name()?,
+        column: words.name()?,
+        rel: read_rel(words)?,
+        value: words.literal()?,
+    })
+}
+
 fn read_convergent(words: &mut Words) -> Result<Declare, CaseStop>
     ensures { IfOk result ColumnNamed }
 {
@@ -183,6 +223,7 @@ pub fn read_declaration(alloc: Global, words: &mut Words) -> Result<Declare, Cas
 {
     let declaration = match words.word()?.bytes() {
         b"site" => read_site(words)?,
+        b"latesite" => read_late_site(words)?,
         b"snapsite" => read_snapshot_site(words)?,
         b"table" => read_table(alloc, words)?,
         b"group" => read_group(alloc, words)?,
@@ -191,6 +232,7 @@ pub fn read_declaration(alloc: Global, words: &mut Words) -> Result<Declare, Cas
         b"site-level" => read_site_level(words)?,
         b"unique" => read_unique(alloc, words)?,
         b"unique-method" => read_constraint_method(words)?,
+        b"check" => read_check(words)?,
         b"convergent" => read_convergent(words)?,
         _ => return Err(CaseStop::NoCase),
     };

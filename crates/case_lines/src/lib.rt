@@ -3,6 +3,7 @@
 
 mod calls;
 mod declarations;
+mod pasts;
 mod statements;
 mod stop;
 mod words;
@@ -10,6 +11,7 @@ mod written;
 
 pub use calls::read_call;
 pub use declarations::{declare, read_declaration};
+pub use pasts::{push_past, read_past};
 pub use statements::read_statement;
 pub use stop::CaseStop;
 pub use words::Words;

@@ -2,7 +2,7 @@
 ghost use Rattle.std.specs.Prelude.{◌≡◌, ◌<◌, ◌≤◌, length, option_copied, IfSome};
 ghost use Rattle.rep_schema.specs.Tables.{columns_of, RowFits};
 ghost use Rattle.rep_schema.specs.Shape.{HasShape};
-ghost use Rattle.rep_schema.specs.Groups.{differ_in, differing_groups};
+ghost use Rattle.rep_schema.specs.Groups.{values_at, are_same, differ_in, differing_groups};
 ghost use Rattle.conflict_detect.specs.Fits.{table_of, CallFits};
 ghost use Rattle.conflict_detect.specs.Differing.{is_matched, unmatched_groups, groups_unlike, found_in, found_of};
 
@@ -52,15 +52,23 @@ pub(crate) fn differing_groups(schema: &Schema, table: u32, a: &[Value], b: &[Va
     groups
 }
 
+/// Whether a row has a part's old values, at the places of the part's group. A caller that has the places at hand saves
+/// looking them up.
+pub fn has_old_values(places: &[u32], part: &Part, row: &[Value]) -> bool
+    ensures { result ≡ are_same (values_at places.now row.now) part.now.old }
+{
+    has_values(places, part.old.as_slice(), row)
+}
+
 /// Whether a row has a part's old values.
-pub fn is_matched(schema: &Schema, table: u32, row: &[Value], part: &Part) -> bool
+fn is_matched(schema: &Schema, table: u32, row: &[Value], part: &Part) -> bool
     requires table { table < length schema.now.tables }
     requires shape { HasShape schema.now }
     ensures { result ≡ is_matched schema.now table row.now part.now }
 {
-    has_values(
+    has_old_values(
         group_columns(schema, table, part.group).as_slice(),
-        part.old.as_slice(),
+        part,
         row,
     )
 }

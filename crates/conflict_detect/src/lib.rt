@@ -9,7 +9,7 @@ mod group_set;
 mod laws;
 
 pub use change_call::call_of;
-pub use detection::{Found, detect, is_matched};
+pub use detection::{Found, detect, has_old_values};
 pub use fitting::{call_fits, fits, table_of};
 pub use group_set::GroupSet;
 pub use laws::{

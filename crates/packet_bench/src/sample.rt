@@ -34,7 +34,7 @@ fn site(bytes: &[u8]) -> Option<SiteName> {
     Some(SiteName(Name::of(bytes)?))
 }
 
-/// The call, on its way between sites of these names.
+/// The call, on its way between sites of these names, with an empty past.
 fn carried(alloc: Global, from: &[u8], to: &[u8], call: Call) -> Result<Option<Packet>, NoMemory> {
     let (Some(from), Some(to)) = (site(from), site(to)) else {
         return Ok(None);
@@ -45,6 +45,7 @@ fn carried(alloc: Global, from: &[u8], to: &[u8], call: Call) -> Result<Option<P
         number: 1_000,
         position: 900,
         dep: 899,
+        past: Items::new(alloc),
         txn: Txn::of(alloc, one(alloc, call)?)?,
     }))
 }

@@ -1,10 +1,11 @@
 //! Packets and their bytes as cases: each line is one, and its outcome is printed.
 //!
 //! `call CALL` puts a call behind those that are kept, and `again N` the last one so many times more. `carry FROM TO
-//! NUMBER POSITION DEP` is the packet of the calls that are kept, which are then forgotten, and `mark FROM TO MARK` a
-//! mark: its bytes are printed. `bytes PIECE..` are bytes, a piece being hexadecimal digits or `DIGITS*COUNT`: the
-//! packet that they are is printed. `near PIECE..` counts the packets among all bytes that differ from these at one
-//! place, end early or have one byte more. An empty line and one that begins with `#` is printed as it is.
+//! NUMBER POSITION DEP [past ORIGIN NUMBER ..]` is the packet of the calls that are kept, which are then forgotten, and
+//! `mark FROM TO MARK` a mark: its bytes are printed. `bytes PIECE..` are bytes, a piece being hexadecimal digits or
+//! `DIGITS*COUNT`: the packet that they are is printed. `near PIECE..` counts the packets among all bytes that differ
+//! from these at one place, end early or have one byte more. Where a packet doesn't have its bytes again, or those of
+//! version 2 that tell the same, `and others` is printed. An empty line and one that begins with `#` is printed as it is.
 #![tactic(auto)]
 
 mod near;
@@ -12,6 +13,7 @@ mod packed;
 mod pieces;
 mod shown;
 mod unpacked;
+mod written;
 
 use anyhow::Result;
 use case_lines::{CaseStop, Words, read_call};

@@ -2,8 +2,8 @@
 ghost use Rattle.packet_code.specs.Limits.{IsPacket};
 
 use crate::unpacked::is_kept;
-use case_lines::{CaseStop, Words};
-use packet_code::{Packet, Sealed, encode, is_packet};
+use case_lines::{CaseStop, Words, read_past};
+use packet_code::{Packet, Route, Sealed, encode, is_packet};
 use rep_calls::{Call, Txn};
 use rep_lists::{Items, NoMemory};
 use std::alloc::Global;
@@ -20,8 +20,18 @@ fn sealed(alloc: Global, packet: &Packet) -> Result<Sealed, NoMemory>
             number,
             position,
             dep,
+            past,
             txn,
-        } => Sealed::seal_carry(alloc, from, to, *number, *position, *dep, txn),
+        } => {
+            let route = Route {
+                from: *from,
+                to: *to,
+                number: *number,
+                position: *position,
+                dep: *dep,
+            };
+            Sealed::seal_carry(alloc, &route, past.as_slice(), txn)
+        }
         Packet::Mark { from, to, mark } => Sealed::seal_mark(alloc, from, to, *mark),
     }
 }
@@ -53,7 +63,7 @@ pub fn carried(
     let number = words.whole()?;
     let position = words.whole()?;
     let dep = words.whole()?;
-    words.end()?;
+    let past = read_past(alloc, words)?;
     let txn = Txn::of(alloc, Items::from_vec(calls))?;
     packed(
         alloc,
@@ -63,6 +73,7 @@ pub fn carried(
             number,
             position,
             dep,
+            past,
             txn,
         },
     )

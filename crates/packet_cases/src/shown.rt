@@ -1,6 +1,6 @@
 //! Packets as words.
 
-use case_lines::{push_name, push_values};
+use case_lines::{push_name, push_past, push_values};
 use packet_code::Packet;
 use rep_calls::{Call, Part, Txn};
 use rep_lists::NoMemory;
@@ -67,7 +67,7 @@ fn push_sites(out: &mut String, from: &SiteName, to: &SiteName) -> Result<(), No
     push_name(out, &to.0)
 }
 
-/// The packet with its calls.
+/// The packet with its past and its calls.
 pub fn shown(alloc: Global, packet: &Packet) -> Result<String, NoMemory> {
     let mut out = String::new(alloc);
     match packet {
@@ -77,6 +77,7 @@ pub fn shown(alloc: Global, packet: &Packet) -> Result<String, NoMemory> {
             number,
             position,
             dep,
+            past,
             txn,
         } => {
             out.push_str("carry")?;
@@ -84,6 +85,7 @@ pub fn shown(alloc: Global, packet: &Packet) -> Result<String, NoMemory> {
             push_count(&mut out, alloc, *number)?;
             push_count(&mut out, alloc, *position)?;
             push_count(&mut out, alloc, *dep)?;
+            push_past(&mut out, alloc, past.as_slice())?;
             push_txn(&mut out, alloc, txn)?;
         }
         Packet::Mark { from, to, mark } => {

@@ -3,13 +3,17 @@ ghost use Rattle.packet_code.specs.Limits.{IsPacket};
 
 use crate::pieces::bytes_of_pieces;
 use crate::shown::shown;
+use crate::written::written;
 use case_lines::CaseStop;
 use packet_code::{Packet, Sealed, decode, encode, is_packet};
 use rep_lists::{Copies, NoMemory};
 use std::alloc::Global;
 
-/// Whether the packet and its copy have these bytes, and the packet that comes back from a seal's copy too.
+/// Whether the packet and its copy have these bytes, or those of version 2 that tell the same, and the packet that comes
+/// back from a seal's copy too.
 pub fn is_kept(alloc: Global, packet: &Packet, bytes: &[u8]) -> Result<bool, NoMemory> {
+    let written = written(alloc, packet, bytes)?;
+    let bytes = written.as_slice();
     let copy = packet.copy(alloc)?;
     if !is_packet(packet) || !is_packet(&copy) {
         return Ok(false);
@@ -24,7 +28,7 @@ pub fn is_kept(alloc: Global, packet: &Packet, bytes: &[u8]) -> Result<bool, NoM
     )
 }
 
-/// The packet that the bytes of the pieces are, in words, and that it has these bytes again.
+/// The packet that the bytes of the pieces are, in words, and whether it has these bytes again.
 pub fn unpacked(alloc: Global, pieces: &str) -> Result<String, CaseStop> {
     let bytes = bytes_of_pieces(alloc, pieces)?;
     let Some(packet) = decode(alloc, &bytes)? else {

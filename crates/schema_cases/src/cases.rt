@@ -1,6 +1,7 @@
 //! What is declared so far, and the outcomes of lines.
 ghost use Rattle.rep_schema.specs.Shape.{HasShape};
 
+use crate::checks::{failed_shown, met_shown};
 use crate::shown::{constraint_shown, form_shown, group_shown, refusal_name};
 use crate::stored::{count_after_reserve, found, held, put, rows_shown, taken};
 use crate::undone::undone;
@@ -140,6 +141,8 @@ impl Cases {
             b"form" => form_shown(alloc, &self.schema, &mut words),
             b"group" => group_shown(alloc, &self.schema, &mut words),
             b"constraint" => constraint_shown(alloc, &self.schema, &mut words),
+            b"meets" => met_shown(alloc, &self.schema, &mut words),
+            b"fails" => failed_shown(alloc, &self.schema, &mut words),
             b"make" => {
                 self.store = Some(ListTables::make(alloc, self.schema.copy(alloc)?)?);
                 text(alloc, "made")

@@ -2,12 +2,14 @@
 //!
 //! `declare DECLARATION` adds a declaration, `levels GROUP FROM TO` one for each number below TO, `empty` forgets
 //! all. `check` says which rule is broken first; `form T G`, `group T G` and `constraint T C` show what a schema has.
+//! `meets T C VALUES, VALUES..` says of each row whether it meets a check, and `fails T VALUES` which check it fails first.
 //! `make` makes a store of the schema; `reserve T N`, `put T VALUES`, `get T VALUES`, `take T VALUES`, `holds T C VALUES`
 //! and `rows T` are its calls. `undo VALUES, VALUES, KEY, KEY` puts two rows in the first table, takes two away and takes it
 //! all back. An empty line and one that begins with `#` is printed as it is.
 #![tactic(auto)]
 
 mod cases;
+mod checks;
 mod shown;
 mod stored;
 mod undone;

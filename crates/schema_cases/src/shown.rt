@@ -22,6 +22,7 @@ fn limit_name(limit: Limit) -> &'static str {
         Limit::Constraints => "limit of constraints",
         Limit::Levels => "limit of levels",
         Limit::Statements => "limit of statements",
+        Limit::Checks => "limit of checks",
     }
 }
 
@@ -30,10 +31,27 @@ pub fn refusal_name(why: &Refusal) -> &'static str {
     match why {
         Refusal::UnknownName => "unknown name",
         Refusal::NameTaken => "name taken",
+        Refusal::RowShape => "wrong kind",
         Refusal::ValueRange => "value out of range",
         Refusal::LimitReached(limit) => limit_name(*limit),
         Refusal::Memory => "no memory",
-        _ => "another refusal",
+        Refusal::WrongPhase
+        | Refusal::KeyTaken
+        | Refusal::NoRow
+        | Refusal::UniqueTaken(_)
+        | Refusal::KeyNotOwn
+        | Refusal::RuleBroken(_)
+        | Refusal::Barred
+        | Refusal::FilledBySite
+        | Refusal::LinkDown
+        | Refusal::NoSuchError
+        | Refusal::StillFails(_)
+        | Refusal::QueueNotEmpty(_)
+        | Refusal::LogTooYoung(_, _)
+        | Refusal::Suspended
+        | Refusal::SchemaRule(_)
+        | Refusal::CheckFailed(_)
+        | Refusal::NotQuiet(_, _) => "another refusal",
     }
 }
 
@@ -81,7 +99,8 @@ fn push_unique_method(
     }
 }
 
-fn table_of<'a>(schema: &'a Schema, words: &mut Words) -> Result<&'a TableEntry, CaseStop> {
+/// The table of the name that comes next.
+pub fn table_of<'a>(schema: &'a Schema, words: &mut Words) -> Result<&'a TableEntry, CaseStop> {
     find_table(schema.tables.as_slice(), &words.table()?).ok_or(CaseStop::NoCase)
 }
 

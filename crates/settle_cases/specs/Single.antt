@@ -1,5 +1,5 @@
 -- That a schema has a shape, and that a site is served, hold in one way at most: ghost fields carry them.
-use Rattle.std.specs.Prelude.{◌≡◌, ℕ, ◌<◌, List, length, map, Option, Some, None, Any, IfSome}
+use Rattle.std.specs.Prelude.{◌≡◌, ℕ, ◌<◌, true, List, length, map, Option, Some, None, Any, IfSome}
 use Rattle.std.proofs.Common.{get_or, inl, inr, sym, ap, subst, ◌∙◌}
 use Rattle.std.proofs.Props.{props}
 use Rattle.std.proofs.lemmas.Bool.{cases_order}
@@ -8,7 +8,7 @@ use mathlib.Core.HLevel.{is_prop→PathP}
 use Rattle.rep_values.specs.declared.name.SiteName.{SiteName}
 use Rattle.rep_schema.specs.declared.schema.Schema.{Schema}
 use Rattle.rep_schema.specs.declared.schema.SiteEntry.{SiteEntry}
-use Rattle.rep_schema.specs.Shape.{AreDistinct, HasMaster, HasShape}
+use Rattle.rep_schema.specs.Shape.{is_early_master, AreDistinct, HasMaster, HasShape}
 use Rattle.unique_resolve.specs.Numbers.{Numbers}
 use Rattle.settle_cases.specs.Served.{IsServed}
 
@@ -33,13 +33,13 @@ one_place sites i j d distinct in_i in_j same = elim (cases_order i j) [
 
 -- so one master of a name stands at one place
 one_master : (sites : List SiteEntry) → AreDistinct (map (λ s. s.name) sites) → (master : SiteName)
-    → IsProp (Any (λ s. (s.name ≡ master) × (s.master ≡ None)) sites)
+    → IsProp (Any (λ s. (s.name ≡ master) × (is_early_master s ≡ true)) sites)
 one_master sites distinct master a b = λ i. (
   place i,
   entry i,
   is_prop→PathP (λ j. place j < length sites) (λ j. hlevel props) a.2 b.2 i,
   is_prop→PathP (λ j. get_or sites (place j) (entry j) ≡ entry j) (λ j. site_set _ _) a.3 b.3 i,
-  is_prop→PathP (λ j. ((entry j).name ≡ master) × ((entry j).master ≡ None)) (λ j. hlevel props) a.4 b.4 i,
+  is_prop→PathP (λ j. ((entry j).name ≡ master) × (is_early_master (entry j) ≡ true)) (λ j. hlevel props) a.4 b.4 i,
 )
   where
     there : get_or sites b.0 a.1 ≡ b.1
@@ -57,7 +57,7 @@ HasMaster-prop : (sites : List SiteEntry) → AreDistinct (map (λ s. s.name) si
     → IsProp (HasMaster sites site)
 HasMaster-prop sites distinct site = go site.master
   where
-    go : (master : Option SiteName) → IsProp (IfSome master (λ m. Any (λ s. (s.name ≡ m) × (s.master ≡ None)) sites))
+    go : (master : Option SiteName) → IsProp (IfSome master (λ m. Any (λ s. (s.name ≡ m) × (is_early_master s ≡ true)) sites))
     go None = hlevel props
     go (Some m) = one_master sites distinct m
 

@@ -24,13 +24,17 @@ pub fn push_error(out: &mut String, error: &ApplyError) -> Result<(), NoMemory> 
             out.push_str(" unique")?;
             push_name(out, name)?;
         }
+        ApplyError::CheckFailed(name) => {
+            out.push_str(" check")?;
+            push_name(out, name)?;
+        }
     }
     Ok(())
 }
 
-/// The constraint that a refusal names.
+/// The constraint or the check that a refusal names.
 pub fn push_name_of(out: &mut String, refusal: &Refusal) -> Result<(), NoMemory> {
-    if let Refusal::UniqueTaken(name) = refusal {
+    if let Refusal::UniqueTaken(name) | Refusal::CheckFailed(name) = refusal {
         push_name(out, name)?;
     }
     Ok(())

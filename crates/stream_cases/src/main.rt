@@ -5,9 +5,9 @@
 //! Marks of one sender: `marks` begins anew; `finish POSITION`; `finished POSITION`; `ready POSITION DEP`; `orders` finishes
 //! each sequence of five positions from 1 to 5 and compares the mark after each with one that is counted.
 //!
-//! The queue of a site: `queue SITE..` begins anew with these destinations; `push TABLE [, SITE DEP]..` queues a transaction
-//! of one call on a table, which tells it apart; `entry SITE POSITION`; `place SITE NUMBER`; `order PLACE`; `acknowledge
-//! SITE MARK`; `purge`.
+//! The queue of a site: `queue SITE..` begins anew with these destinations; `push TABLE [, SITE DEP].. [past ORIGIN
+//! NUMBER ..]` queues a transaction of one call on a table, which tells it apart, with what was seen before it; `entry
+//! SITE POSITION`; `place SITE NUMBER`; `order PLACE`; `acknowledge SITE MARK`; `purge`.
 //!
 //! The index of a site: `index SITE..` begins anew; `note SITE TOKEN..`, a token being `row TABLE VALUE..` or `unique TABLE`;
 //! `compare COUNT KEYS` notes so many transactions over so many keys, for two destinations each or one, and compares each

@@ -1,9 +1,9 @@
 //! Cases of the queue of a site.
 
 use crate::marks::read_position;
-use case_lines::{CaseStop, Words};
+use case_lines::{CaseStop, Words, push_past, read_past};
 use deferred_queue::{Destination, Queue, are_apart};
-use rep_calls::{Call, Txn};
+use rep_calls::{Call, Past, Txn};
 use rep_lists::{Items, NoMemory};
 use rep_values::{Key, SiteName, Value};
 use script_lex::Symbol;
@@ -53,10 +53,15 @@ fn read_destinations(alloc: Global, words: &mut Words) -> Result<Vec<Destination
 }
 
 /// The number of a transaction that is queued, where it can be sent.
-fn queued(queue: &mut Queue, txn: Txn, to: &[Destination]) -> Result<Option<u64>, NoMemory> {
+fn queued(
+    queue: &mut Queue,
+    txn: Txn,
+    past: Items<Past>,
+    to: &[Destination],
+) -> Result<Option<u64>, NoMemory> {
     queue.reserve()?;
     if queue.can_send(to) && are_apart(to) {
-        return Ok(Some(queue.push_back(txn, to)));
+        return Ok(Some(queue.push_back(txn, past, to)));
     }
     Ok(None)
 }
@@ -64,8 +69,9 @@ fn queued(queue: &mut Queue, txn: Txn, to: &[Destination]) -> Result<Option<u64>
 fn push(alloc: Global, queue: &mut Queue, words: &mut Words) -> Result<String, CaseStop> {
     let table = u32::try_from(words.whole()?).map_err(|_| CaseStop::NoCase)?;
     let to = read_destinations(alloc, words)?;
+    let past = read_past(alloc, words)?;
     let txn = txn_on(alloc, table)?;
-    match queued(queue, txn, to.as_slice())? {
+    match queued(queue, txn, past, to.as_slice())? {
         Some(number) => Ok(format!(in alloc; "number {number}")?),
         None => Ok(format!(in alloc; "refused")?),
     }
@@ -75,12 +81,16 @@ fn entry(alloc: Global, queue: &Queue, words: &mut Words) -> Result<String, Case
     let site = words.site()?;
     let position = words.whole()?;
     match queue.entry(&site, position) {
-        Some(sent) => Ok(format!(in alloc;
-            "number {} dep {} table {}",
-            sent.number,
-            sent.dep,
-            table_of(sent.txn)
-        )?),
+        Some(sent) => {
+            let mut out = format!(in alloc;
+                "number {} dep {} table {}",
+                sent.number,
+                sent.dep,
+                table_of(sent.txn)
+            )?;
+            push_past(&mut out, alloc, sent.past)?;
+            Ok(out)
+        }
         None => Ok(format!(in alloc; "none")?),
     }
 }
@@ -96,11 +106,15 @@ fn place(alloc: Global, queue: &Queue, words: &mut Words) -> Result<String, Case
 
 fn order(alloc: Global, queue: &Queue, words: &mut Words) -> Result<String, CaseStop> {
     match queue.entry_in_order(read_position(words)?) {
-        Some(queued) => Ok(format!(in alloc;
-            "number {} table {}",
-            queued.number,
-            table_of(queued.txn)
-        )?),
+        Some(queued) => {
+            let mut out = format!(in alloc;
+                "number {} table {}",
+                queued.number,
+                table_of(queued.txn)
+            )?;
+            push_past(&mut out, alloc, queued.past)?;
+            Ok(out)
+        }
         None => Ok(format!(in alloc; "none")?),
     }
 }

@@ -3,7 +3,7 @@ pub mod HeldValues
 pub mod AppendedTexts
 pub mod Settlements
 pub mod FreeSettlements
-mod RisingCounters
+pub mod RisingCounters
 mod TextBytes
 mod Tries
 mod EachConstraint

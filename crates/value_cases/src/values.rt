@@ -2,7 +2,9 @@
 
 use case_lines::{CaseStop, Words, push_name, push_number, push_row, push_value, push_values};
 use rep_lists::{Copies, NoMemory};
-use rep_values::{ApplyError, Key, Limit, Name, Refusal, Row, Text, Value, is_digit, is_letter};
+use rep_values::{
+    ApplyError, Key, Limit, Name, Refusal, Row, SiteName, Text, Value, is_digit, is_letter,
+};
 use script_lex::Symbol;
 use std::alloc::Global;
 
@@ -151,6 +153,8 @@ pub fn refusals_case(out: &mut String, alloc: Global, words: &mut Words) -> Resu
         Refusal::UniqueTaken(name),
         Refusal::RuleBroken(name),
         Refusal::QueueNotEmpty(2),
+        Refusal::CheckFailed(name),
+        Refusal::NotQuiet(SiteName(name), 3),
         Refusal::from(NoMemory),
     ] {
         push_number(out, alloc, i64::from(refusal.number()))?;

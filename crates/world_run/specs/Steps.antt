@@ -10,6 +10,7 @@ use Rattle.rep_schema.specs.declared.schema.Schema.{Schema}
 use Rattle.rep_schema.specs.declared.schema.SiteEntry.{SiteEntry}
 use Rattle.rep_schema.specs.declared.schema.TableEntry.{TableEntry}
 use Rattle.rep_schema.specs.declared.schema.Column.{Column}
+use Rattle.rep_schema.specs.Entries.{master_site, plain_table}
 use Rattle.rep_schema.specs.Tables.{Rows, columns_of, key_count, put_row, rows_of}
 use Rattle.rep_schema.specs.Fitting.{row_fits, is_keyed}
 use Rattle.rep_calls.specs.declared.statement.Statement.{Statement}
@@ -49,13 +50,10 @@ in_running phase.Running outcome = outcome
 abbrev pub may_add_site : List SiteEntry → SiteName → Bool
 may_add_site sites name = nat_lt (length sites) 2 && not (list_any (λ site. same_bytes site.name.0 name.0) sites)
 
-abbrev pub master_entry : SiteName → SiteEntry
-master_entry name = record { name = name; master = None; level = None; late = false }
-
 unfoldable pub site_step : SiteName → WorldState → Outcome
 site_step name w = in_setup w.phase
     (if may_add_site w.schema.sites name
-    then Some (record w { schema = record w.schema { sites = w.schema.sites ++ master_entry name ∷ [] } }, [])
+    then Some (record w { schema = record w.schema { sites = w.schema.sites ++ master_site name ∷ [] } }, [])
     else None)
 
 -- no two columns have one name
@@ -66,9 +64,6 @@ are_apart (c ∷ cs) = not (list_any (λ d. same_bytes d.name c.name) cs) && are
 -- one table at most, of 32 columns and 4 key columns at most
 abbrev pub may_add_table : List TableEntry → List Column → Bool
 may_add_table tables columns = (length tables == 0) && nat_le (length columns) 32 && nat_le (key_count columns) 4 && are_apart columns
-
-abbrev pub plain_table : TableName → List Column → TableEntry
-plain_table name columns = record { name = name; columns = columns; groups = []; key_methods = []; constraints = []; checks = []; convergent = false }
 
 unfoldable pub table_step : TableName → List Column → WorldState → Outcome
 table_step name columns w = in_setup w.phase

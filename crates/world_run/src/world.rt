@@ -88,12 +88,7 @@ impl World {
         if !may_add_site(self.schema.sites.as_slice(), &name) {
             return Err(Stop::Refused);
         }
-        let entry = SiteEntry {
-            name,
-            master: None,
-            level: None,
-        };
-        self.schema.sites.push(entry)?;
+        self.schema.sites.push(SiteEntry::master(name))?;
         Ok(Lines::make(alloc))
     }
 
@@ -114,14 +109,9 @@ impl World {
             return Err(Stop::Refused);
         }
         let columns = columns.copy(alloc)?;
-        self.schema.tables.push(TableEntry {
-            name,
-            columns,
-            groups: Items::new(alloc),
-            key_methods: Items::new(alloc),
-            constraints: Items::new(alloc),
-            convergent: false,
-        })?;
+        self.schema
+            .tables
+            .push(TableEntry::plain(alloc, name, columns))?;
         Ok(Lines::make(alloc))
     }
 
