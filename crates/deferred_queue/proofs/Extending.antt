@@ -3,7 +3,7 @@ use Rattle.std.proofs.Common.{◌≡◌, ℕ, ◌+◌, ◌-◌, ◌<◌, ◌≤�
 use Rattle.std.specs.Option.{option_map}
 use Rattle.std.specs.List.{AllByRecursion, cons_option}
 use Rattle.rep_values.specs.declared.name.SiteName.{SiteName}
-use Rattle.rep_calls.specs.declared.call.Txn.{Txn}
+use Rattle.deferred_queue.specs.declared.cargo.Cargo.{Cargo}
 use Rattle.deferred_queue.specs.declared.destination.Destination.{Destination}
 use Rattle.deferred_queue.specs.declared.entries.Entry.{Entry}
 use Rattle.deferred_queue.specs.Streams.{Mark, is_same_site, destination_to, acked_by, in_order}
@@ -33,9 +33,9 @@ destinations_of-extended to earlier number (k ∷ ks) less =
     rw (entry_of-with_entry (destination_to k.site to) earlier number k.entries less, destinations_of-extended to earlier number ks less) refl
 
 -- so they are queued as they were
-pub queued-extended : (to : List Destination) (number : ℕ) (ks : List Kept) (txns : List (Option Txn)) → length txns < number → queued (map (extended to number) ks) txns ≡ queued ks txns
+pub queued-extended : (to : List Destination) (number : ℕ) (ks : List Kept) (cargoes : List (Option Cargo)) → length cargoes < number → queued (map (extended to number) ks) cargoes ≡ queued ks cargoes
 queued-extended to number ks [] less = refl
-queued-extended to number ks (txn ∷ older) less =
+queued-extended to number ks (cargo ∷ older) less =
     rw (destinations_of-extended to (length older + 1) number ks (omega (arith, less)), queued-extended to number ks older (omega (arith, less))) refl
 
 -- the new one has its own, in the order of the streams
@@ -49,10 +49,10 @@ destinations_of-new to count number (k ∷ ks) each less =
     sent (Some d) = rw (eq_true number number refl) refl
 
 -- so it is queued before the others, and they are as they were
-pub queued-pushed : (to : List Destination) (count number : ℕ) (ks : List Kept) (txn : Txn) (txns : List (Option Txn)) → length txns ≡ count → number ≡ count + 1 → AllByRecursion (IsStream count) ks
-    → queued (map (extended to number) ks) (Some txn ∷ txns) ≡ record { txn = Some txn; to = in_order (marks_of ks) to } ∷ queued ks txns
-queued-pushed to count number ks txn txns long is each =
-    rw (long, ← is, destinations_of-new to count number ks each (omega (arith, is)), queued-extended to number ks txns (omega (arith, is, long))) refl
+pub queued-pushed : (to : List Destination) (count number : ℕ) (ks : List Kept) (cargo : Cargo) (cargoes : List (Option Cargo)) → length cargoes ≡ count → number ≡ count + 1 → AllByRecursion (IsStream count) ks
+    → queued (map (extended to number) ks) (Some cargo ∷ cargoes) ≡ record { cargo = Some cargo; to = in_order (marks_of ks) to } ∷ queued ks cargoes
+queued-pushed to count number ks cargo cargoes long is each =
+    rw (long, ← is, destinations_of-new to count number ks each (omega (arith, is)), queued-extended to number ks cargoes (omega (arith, is, long))) refl
 
 -- a number above the count is above the numbers in each stream
 pub each_falls : (count number : ℕ) (hs : List Held) → number ≡ count + 1 → AllByRecursion (IsStream count) (kept_of hs) → AllByRecursion (λ (h : Held). FallsFrom (number - 1) h.kept.entries) hs

@@ -1,21 +1,20 @@
 -- The stream that is computed from the queued transactions is the one that is kept.
-use Rattle.std.proofs.Common.{◌≡◌, ℕ, suc, ◌+◌, ◌-◌, ◌<◌, ◌≤◌, ◌==◌, Bool, true, false, cond, List, [], ◌∷◌, length, reverse, Option, Some, None, refl, sym, ap, subst, ◌∙◌, arith, add-one}
+use Rattle.std.proofs.Common.{◌≡◌, ℕ, suc, ◌+◌, ◌-◌, ◌<◌, ◌≤◌, ◌==◌, Bool, true, false, cond, List, [], ◌∷◌, length, Option, Some, None, refl, sym, ap, subst, ◌∙◌, arith}
 use Rattle.std.specs.Option.{option_map}
 use Rattle.std.specs.List.{AllByRecursion, cons_option}
 use Rattle.std.proofs.lemmas.Bool.Decides.{nat_tests}
 use Rattle.rep_values.specs.declared.name.SiteName.{SiteName}
-use Rattle.rep_calls.specs.declared.call.Txn.{Txn}
+use Rattle.deferred_queue.specs.declared.cargo.Cargo.{Cargo}
 use Rattle.deferred_queue.specs.declared.entries.Entry.{Entry}
-use Rattle.deferred_queue.specs.declared.destination.Place.{Place}
 use Rattle.deferred_queue.specs.Streams.{InStream, is_same_site, destination_to, stream_to, at_position, place_of}
 use Rattle.deferred_queue.specs.Kept.{Kept, entry_of, sent_to, destinations_of, queued, entries_to, place_in, FallsFrom, DependBack, AreAlike, IsStream, AreStreams}
 use Rattle.deferred_queue.proofs.Sites.{is_same_site-true, eq_true, eq_false, eq_false_above}
 use Rattle.deferred_queue.proofs.Numbers.{entry_of-above, number_within}
 
 -- as many are queued as there are transactions
-pub length-queued : (streams : List Kept) (txns : List (Option Txn)) → length (queued streams txns) ≡ length txns
+pub length-queued : (streams : List Kept) (cargoes : List (Option Cargo)) → length (queued streams cargoes) ≡ length cargoes
 length-queued streams [] = refl
-length-queued streams (txn ∷ older) = ap suc (length-queued streams older)
+length-queued streams (cargo ∷ older) = ap suc (length-queued streams older)
 
 -- where streams to one site are alike, and the first has no entry of a number, a later one has none
 none_alike : (site : SiteName) (number : ℕ) (k : Kept) (ks : List Kept) → AllByRecursion (λ (other : Kept). other.site ≡ k.site → other ≡ k) ks → site ≡ k.site
@@ -41,22 +40,22 @@ destination_to-destinations_of site number (k ∷ ks) alike = go (is_same_site k
     go false is None there later = later
 
 -- the entry of a transaction with its calls
-abbrev pub in_stream : Entry ℕ → Option (Option Txn) → Option InStream
-in_stream e txn = option_map (λ (t : Option Txn). record { number = e.number; dep = e.value; txn = t }) txn
+abbrev pub in_stream : Entry ℕ → Option (Option Cargo) → Option InStream
+in_stream e cargo = option_map (λ (t : Option Cargo). record { number = e.number; dep = e.value; cargo = t }) cargo
 
 -- the same of an entry that was looked up, by its number
-abbrev pub entry_in_stream : List (Option Txn) → Option (Entry ℕ) → Option InStream
-entry_in_stream txns None = None
-entry_in_stream txns (Some e) = in_stream e (at_position e.number txns)
+abbrev pub entry_in_stream : List (Option Cargo) → Option (Entry ℕ) → Option InStream
+entry_in_stream cargoes None = None
+entry_in_stream cargoes (Some e) = in_stream e (at_position e.number cargoes)
 
 -- a stream's positions have these entries, with the transactions of their numbers
-pub record IsKeptAs (entries : List (Entry ℕ)) (txns : List (Option Txn)) (stream : List InStream) : Type 0 where
+pub record IsKeptAs (entries : List (Entry ℕ)) (cargoes : List (Option Cargo)) (stream : List InStream) : Type 0 where
   pub same_length : length stream ≡ length entries
   pub places : (number : ℕ) → place_of number stream ≡ place_in number entries
-  pub same : (position : ℕ) → at_position position stream ≡ entry_in_stream txns (at_position position entries)
+  pub same : (position : ℕ) → at_position position stream ≡ entry_in_stream cargoes (at_position position entries)
 
 -- a transaction without an entry leaves them
-kept_later : (t : Option Txn) (older : List (Option Txn)) (entries : List (Entry ℕ)) (stream : List InStream) → FallsFrom (length older) entries → IsKeptAs entries older stream → IsKeptAs entries (t ∷ older) stream
+kept_later : (t : Option Cargo) (older : List (Option Cargo)) (entries : List (Entry ℕ)) (stream : List InStream) → FallsFrom (length older) entries → IsKeptAs entries older stream → IsKeptAs entries (t ∷ older) stream
 kept_later t older entries stream falls kept = record {
   same_length = kept.same_length;
   places = kept.places;
@@ -68,22 +67,22 @@ kept_later t older entries stream falls kept = record {
     go position (Some e) is = rw (eq_false e.number (length older + 1) (omega (arith, (number_within (length older) position entries e falls is).1))) refl
 
 -- one with an entry is added
-kept_more : (t : Option Txn) (older : List (Option Txn)) (e : Entry ℕ) (es : List (Entry ℕ)) (stream : List InStream) → e.number ≡ length older + 1 → FallsFrom (length older) es → IsKeptAs es older stream
-    → IsKeptAs (e ∷ es) (t ∷ older) (record { number = length older + 1; dep = e.value; txn = t } ∷ stream)
+kept_more : (t : Option Cargo) (older : List (Option Cargo)) (e : Entry ℕ) (es : List (Entry ℕ)) (stream : List InStream) → e.number ≡ length older + 1 → FallsFrom (length older) es → IsKeptAs es older stream
+    → IsKeptAs (e ∷ es) (t ∷ older) (record { number = length older + 1; dep = e.value; cargo = t } ∷ stream)
 kept_more t older e es stream is falls kept = record {
   same_length = ap suc kept.same_length;
   places = λ number. rw (kept.same_length, kept.places number, is) refl;
   same = λ position. rw kept.same_length (go position (position == length es + 1));
 }
   where
-    go : (position : ℕ) (b : Bool) → cond b (Some (record { number = length older + 1; dep = e.value; txn = t })) (at_position position stream) ≡ entry_in_stream (t ∷ older) (cond b (Some e) (at_position position es))
+    go : (position : ℕ) (b : Bool) → cond b (Some (record { number = length older + 1; dep = e.value; cargo = t })) (at_position position stream) ≡ entry_in_stream (t ∷ older) (cond b (Some e) (at_position position es))
     go position true = rw (eq_true e.number (length older + 1) is, is) refl
     go position false = (kept_later t older es stream falls kept).same position
 
 -- where the entries of a stream are known by the transactions' destinations, they are its positions
-pub stream_kept : (site : SiteName) (streams : List Kept) (txns : List (Option Txn)) (entries : List (Entry ℕ)) → FallsFrom (length txns) entries
-    → ((number : ℕ) → number ≤ length txns → destination_to site (destinations_of number streams) ≡ sent_to site (entry_of number entries))
-    → IsKeptAs entries txns (stream_to site (queued streams txns))
+pub stream_kept : (site : SiteName) (streams : List Kept) (cargoes : List (Option Cargo)) (entries : List (Entry ℕ)) → FallsFrom (length cargoes) entries
+    → ((number : ℕ) → number ≤ length cargoes → destination_to site (destinations_of number streams) ≡ sent_to site (entry_of number entries))
+    → IsKeptAs entries cargoes (stream_to site (queued streams cargoes))
 stream_kept site streams [] [] falls known = record { same_length = refl; places = λ number. refl; same = λ position. refl }
 stream_kept site streams [] (e ∷ es) falls known = absurd (omega (arith, falls.0, falls.1))
 stream_kept site streams (t ∷ older) [] falls known =
@@ -117,19 +116,19 @@ entries_to-falls site count (k ∷ ks) each = go (is_same_site k.site site) (ent
     go false later = later
 
 -- so the stream to a site is what its stream in the queue holds
-pub stream_to-queued : (site : SiteName) (streams : List Kept) (txns : List (Option Txn)) → AreStreams (length txns) streams → IsKeptAs (entries_to site streams) txns (stream_to site (queued streams txns))
-stream_to-queued site streams txns are = stream_kept site streams txns (entries_to site streams) (entries_to-falls site (length txns) streams are.each) (λ number le. destination_to-destinations_of site number streams are.alike)
+pub stream_to-queued : (site : SiteName) (streams : List Kept) (cargoes : List (Option Cargo)) → AreStreams (length cargoes) streams → IsKeptAs (entries_to site streams) cargoes (stream_to site (queued streams cargoes))
+stream_to-queued site streams cargoes are = stream_kept site streams cargoes (entries_to site streams) (entries_to-falls site (length cargoes) streams are.each) (λ number le. destination_to-destinations_of site number streams are.alike)
 
 -- so a position without an entry has no transaction
-pub at_position-none : (site : SiteName) (streams : List Kept) (txns : List (Option Txn)) (position : ℕ) → AreStreams (length txns) streams
-    → at_position position (entries_to site streams) ≡ None → at_position position (stream_to site (queued streams txns)) ≡ None
-at_position-none site streams txns position are none = (stream_to-queued site streams txns are).same position ∙ rw none refl
+pub at_position-none : (site : SiteName) (streams : List Kept) (cargoes : List (Option Cargo)) (position : ℕ) → AreStreams (length cargoes) streams
+    → at_position position (entries_to site streams) ≡ None → at_position position (stream_to site (queued streams cargoes)) ≡ None
+at_position-none site streams cargoes position are none = (stream_to-queued site streams cargoes are).same position ∙ rw none refl
 
 -- and one with an entry has the transaction of that number
-pub at_position-some : (site : SiteName) (streams : List Kept) (txns : List (Option Txn)) (position : ℕ) (e : Entry ℕ) (t : Option Txn) → AreStreams (length txns) streams
-    → at_position position (entries_to site streams) ≡ Some e → at_position e.number txns ≡ Some t
-    → at_position position (stream_to site (queued streams txns)) ≡ Some (record { number = e.number; dep = e.value; txn = t })
-at_position-some site streams txns position e t are found there = (stream_to-queued site streams txns are).same position ∙ rw (found, there) refl
+pub at_position-some : (site : SiteName) (streams : List Kept) (cargoes : List (Option Cargo)) (position : ℕ) (e : Entry ℕ) (t : Option Cargo) → AreStreams (length cargoes) streams
+    → at_position position (entries_to site streams) ≡ Some e → at_position e.number cargoes ≡ Some t
+    → at_position position (stream_to site (queued streams cargoes)) ≡ Some (record { number = e.number; dep = e.value; cargo = t })
+at_position-some site streams cargoes position e t are found there = (stream_to-queued site streams cargoes are).same position ∙ rw (found, there) refl
 
 -- an entry of a stream of the queue depends on an earlier position
 pub earlier_at : (site : SiteName) (count position : ℕ) (ks : List Kept) (e : Entry ℕ) → AllByRecursion (IsStream count) ks → at_position position (entries_to site ks) ≡ Some e → e.value < position

@@ -8,6 +8,6 @@ mod Found
 mod Room
 mod Extending
 mod Raising
-pub mod KeptTxns
+pub mod KeptCargoes
 mod Purging
 mod StreamLaws

@@ -4,38 +4,38 @@ use Rattle.std.specs.Option.{option_map}
 use Rattle.std.specs.Prelude.{nat_le}
 use Rattle.std.specs.List.{AllByRecursion, filter, cons_option, list_all}
 use Rattle.rep_values.specs.declared.name.SiteName.{SiteName}
-use Rattle.rep_calls.specs.declared.call.Txn.{Txn}
+use Rattle.deferred_queue.specs.declared.cargo.Cargo.{Cargo}
 use Rattle.deferred_queue.specs.declared.destination.Destination.{Destination}
 use Rattle.deferred_queue.specs.declared.entries.Entry.{Entry}
 use Rattle.deferred_queue.specs.Streams.{destination_to, last_position, acked_by, is_acknowledged, purged}
-use Rattle.deferred_queue.specs.Kept.{Kept, FallsFrom, entry_of, txn_of, txns_to, sent_to, destinations_of, queued, marks_of, entries_to, has_passed, IsStream, AreStreams}
+use Rattle.deferred_queue.specs.Kept.{Kept, FallsFrom, entry_of, cargo_of, cargoes_to, sent_to, destinations_of, queued, marks_of, entries_to, has_passed, IsStream, AreStreams}
 use Rattle.deferred_queue.proofs.Numbers.{entry_of-filter, up_to, FallsFrom-up_to, entry_of-up_to, position_of-up_to}
 use Rattle.deferred_queue.proofs.KeptStreams.{stream_kept, entries_to-falls, destination_to-destinations_of}
 use Rattle.deferred_queue.proofs.Extending.{IsOwn, each_own}
-use Rattle.deferred_queue.proofs.KeptTxns.{length-txns_to}
+use Rattle.deferred_queue.proofs.KeptCargoes.{length-cargoes_to}
 
 -- how many of the first transactions go to a site
-last_position-first : (site : SiteName) (count first : ℕ) (streams : List Kept) (kept : List (Entry Txn)) → AreStreams count streams
-    → last_position site (queued streams (txns_to first kept)) ≡ length (up_to first (entries_to site streams))
-last_position-first site count first streams kept are = (stream_kept site streams (txns_to first kept) (up_to first entries) fall known).same_length
+last_position-first : (site : SiteName) (count first : ℕ) (streams : List Kept) (kept : List (Entry Cargo)) → AreStreams count streams
+    → last_position site (queued streams (cargoes_to first kept)) ≡ length (up_to first (entries_to site streams))
+last_position-first site count first streams kept are = (stream_kept site streams (cargoes_to first kept) (up_to first entries) fall known).same_length
   where
     entries : List (Entry ℕ)
     entries = entries_to site streams
 
-    fall : FallsFrom (length (txns_to first kept)) (up_to first entries)
-    fall = rw (length-txns_to first kept) (FallsFrom-up_to count first entries (entries_to-falls site count streams are.each))
+    fall : FallsFrom (length (cargoes_to first kept)) (up_to first entries)
+    fall = rw (length-cargoes_to first kept) (FallsFrom-up_to count first entries (entries_to-falls site count streams are.each))
 
-    known : (number : ℕ) → number ≤ length (txns_to first kept) → destination_to site (destinations_of number streams) ≡ sent_to site (entry_of number (up_to first entries))
+    known : (number : ℕ) → number ≤ length (cargoes_to first kept) → destination_to site (destinations_of number streams) ≡ sent_to site (entry_of number (up_to first entries))
     known number le =
-        destination_to-destinations_of site number streams are.alike ∙ ap (sent_to site) (sym (entry_of-up_to number first entries (rw (length-txns_to first kept) at le)))
+        destination_to-destinations_of site number streams are.alike ∙ ap (sent_to site) (sym (entry_of-up_to number first entries (rw (length-cargoes_to first kept) at le)))
 
 -- a transaction's destinations have acknowledged it where each stream has passed its number
-acknowledged-passed : (count first : ℕ) (streams : List Kept) (kept : List (Entry Txn)) → AreStreams count streams
-    → is_acknowledged (marks_of streams) (queued streams (txns_to first kept)) (destinations_of (suc first) streams) ≡ list_all (has_passed (suc first)) streams
+acknowledged-passed : (count first : ℕ) (streams : List Kept) (kept : List (Entry Cargo)) → AreStreams count streams
+    → is_acknowledged (marks_of streams) (queued streams (cargoes_to first kept)) (destinations_of (suc first) streams) ≡ list_all (has_passed (suc first)) streams
 acknowledged-passed count first streams kept are = each streams are.each (each_own streams are.alike)
   where
     test : Destination → Bool
-    test d = nat_le (last_position d.site (queued streams (txns_to first kept)) + 1) (acked_by d.site (marks_of streams))
+    test d = nat_le (last_position d.site (queued streams (cargoes_to first kept)) + 1) (acked_by d.site (marks_of streams))
 
     one : (k : Kept) → IsStream count k → IsOwn streams k → (found : Option (Entry ℕ)) → entry_of (suc first) k.entries ≡ found → (rest : List Destination)
         → list_all test (cons_option (sent_to k.site found) rest) ≡ (has_passed (suc first) k && list_all test rest)
@@ -53,16 +53,16 @@ abbrev pub is_waiting : List Kept → ℕ → Bool
 is_waiting streams number = not (list_all (has_passed number) streams)
 
 -- without what each stream has passed, the queue is purged
-pub queued-purged : (count first : ℕ) (streams : List Kept) (kept : List (Entry Txn)) → AreStreams count streams
-    → queued streams (txns_to first (filter (λ e. is_waiting streams e.number) kept)) ≡ purged (marks_of streams) (queued streams (txns_to first kept))
+pub queued-purged : (count first : ℕ) (streams : List Kept) (kept : List (Entry Cargo)) → AreStreams count streams
+    → queued streams (cargoes_to first (filter (λ e. is_waiting streams e.number) kept)) ≡ purged (marks_of streams) (queued streams (cargoes_to first kept))
 queued-purged count zero streams kept are = refl
 queued-purged count (suc first) streams kept are =
     let next : first + 1 ≡ suc first = omega arith in
-    rw (length-txns_to first (filter (λ e. is_waiting streams e.number) kept), length-txns_to first kept, queued-purged count first streams kept are, txn, next, acknowledged-passed count first streams kept are) refl
+    rw (length-cargoes_to first (filter (λ e. is_waiting streams e.number) kept), length-cargoes_to first kept, queued-purged count first streams kept are, cargo, next, acknowledged-passed count first streams kept are) refl
   where
-    txn : txn_of (suc first) (filter (λ e. is_waiting streams e.number) kept) ≡ cond (list_all (has_passed (suc first)) streams) None (txn_of (suc first) kept)
-    txn = rw (entry_of-filter (is_waiting streams) (suc first) kept) (go (list_all (has_passed (suc first)) streams))
+    cargo : cargo_of (suc first) (filter (λ e. is_waiting streams e.number) kept) ≡ cond (list_all (has_passed (suc first)) streams) None (cargo_of (suc first) kept)
+    cargo = rw (entry_of-filter (is_waiting streams) (suc first) kept) (go (list_all (has_passed (suc first)) streams))
       where
-        go : (b : Bool) → option_map (λ (e : Entry Txn). e.value) (cond (not b) (entry_of (suc first) kept) None) ≡ cond b None (option_map (λ (e : Entry Txn). e.value) (entry_of (suc first) kept))
+        go : (b : Bool) → option_map (λ (e : Entry Cargo). e.value) (cond (not b) (entry_of (suc first) kept) None) ≡ cond b None (option_map (λ (e : Entry Cargo). e.value) (entry_of (suc first) kept))
         go true = refl
         go false = refl

@@ -2,7 +2,7 @@
 use Rattle.std.proofs.Common.{◌≡◌, ℕ, ◌+◌, ◌≤◌, Bool, true, false, cond, max, List, [], ◌∷◌, length, map, Option, refl, sym, ap, ◌∙◌, arith}
 use Rattle.std.specs.List.{AllByRecursion}
 use Rattle.rep_values.specs.declared.name.SiteName.{SiteName}
-use Rattle.rep_calls.specs.declared.call.Txn.{Txn}
+use Rattle.deferred_queue.specs.declared.cargo.Cargo.{Cargo}
 use Rattle.deferred_queue.specs.Streams.{Mark, is_same_site, raised_mark}
 use Rattle.deferred_queue.specs.Kept.{Kept, Held, kept_of, rooms_of, destinations_of, queued, marks_of, mark_of, entries_to, raised, held_raised, AreAlike, IsStream, AreStreams}
 use Rattle.deferred_queue.proofs.Sites.{is_same_site-true}
@@ -22,9 +22,9 @@ destinations_of-raised site mark number [] = refl
 destinations_of-raised site mark number (k ∷ ks) = rw (destinations_of-raised site mark number ks) refl
 
 -- the transactions keep their destinations
-pub queued-raised : (site : SiteName) (mark : ℕ) (ks : List Kept) (txns : List (Option Txn)) → queued (map (raised site mark) ks) txns ≡ queued ks txns
+pub queued-raised : (site : SiteName) (mark : ℕ) (ks : List Kept) (cargoes : List (Option Cargo)) → queued (map (raised site mark) ks) cargoes ≡ queued ks cargoes
 queued-raised site mark ks [] = refl
-queued-raised site mark ks (txn ∷ older) = rw (destinations_of-raised site mark (length older + 1) ks, queued-raised site mark ks older) refl
+queued-raised site mark ks (cargo ∷ older) = rw (destinations_of-raised site mark (length older + 1) ks, queued-raised site mark ks older) refl
 
 -- the marks are raised
 pub marks_of-raised : (site : SiteName) (mark : ℕ) (ks : List Kept) → marks_of (map (raised site mark) ks) ≡ map (raised_mark site mark) (marks_of ks)

@@ -1,10 +1,10 @@
 -- What holds of the stream to a site, whatever was queued.
 use Rattle.std.proofs.Common.{◌≡◌, ℕ, suc, ◌+◌, ◌<◌, ◌≤◌, ◌==◌, Bool, true, false, cond, List, [], ◌∷◌, length, Option, Some, None, refl, subst, arith}
 use Rattle.std.specs.Option.{option_map}
-use Rattle.std.specs.List.{AllByRecursion, cons_option}
+use Rattle.std.specs.List.{cons_option}
 use Rattle.std.proofs.lemmas.Bool.Decides.{nat_tests}
 use Rattle.rep_values.specs.declared.name.SiteName.{SiteName}
-use Rattle.rep_calls.specs.declared.call.Txn.{Txn}
+use Rattle.deferred_queue.specs.declared.cargo.Cargo.{Cargo}
 use Rattle.deferred_queue.specs.declared.destination.Destination.{Destination}
 use Rattle.deferred_queue.specs.Streams.{Deferred, InStream, destination_to, with_one, stream_to, at_position, place_of, last_position, numbered}
 use Rattle.deferred_queue.specs.Laws.{PositionsAreFull, NumbersRise, DependOnEarlier, DepsAreEarlier, NumbersAreQueued, SentAreInOrder, PlacesAreFound}
@@ -22,12 +22,12 @@ number_counted site [] position a found = absurd (cc found)
 number_counted site (last ∷ older) position a found = go (destination_to site last.to) (number_counted site older position a) found
   where
     top : (d : Destination) (b : Bool) → (at_position position (stream_to site older) ≡ Some a → a.number ≤ length older)
-        → cond b (Some (record { number = length older + 1; dep = d.dep; txn = last.txn })) (at_position position (stream_to site older)) ≡ Some a → a.number ≤ suc (length older)
-    top d true later there = let same : record { number = length older + 1; dep = d.dep; txn = last.txn } ≡ a = cc there in rw (← same) (omega arith)
+        → cond b (Some (record { number = length older + 1; dep = d.dep; cargo = last.cargo })) (at_position position (stream_to site older)) ≡ Some a → a.number ≤ suc (length older)
+    top d true later there = let same : record { number = length older + 1; dep = d.dep; cargo = last.cargo } ≡ a = cc there in rw (← same) (omega arith)
     top d false later there = omega (arith, later there)
 
     go : (d : Option Destination) → (at_position position (stream_to site older) ≡ Some a → a.number ≤ length older)
-        → at_position position (with_one d (length older + 1) last.txn (stream_to site older)) ≡ Some a → a.number ≤ suc (length older)
+        → at_position position (with_one d (length older + 1) last.cargo (stream_to site older)) ≡ Some a → a.number ≤ suc (length older)
     go None later there = omega (arith, later there)
     go (Some d) later there = top d (position == length (stream_to site older) + 1) later there
 
@@ -40,17 +40,17 @@ numbers_rise_in site (last ∷ older) early late a b before at_early at_late = g
     Rest = at_position early (stream_to site older) ≡ Some a → at_position late (stream_to site older) ≡ Some b → a.number < b.number
 
     top : (d : Destination) (first second : Bool) → (early == length (stream_to site older) + 1) ≡ first → (late == length (stream_to site older) + 1) ≡ second → Rest
-        → cond first (Some (record { number = length older + 1; dep = d.dep; txn = last.txn })) (at_position early (stream_to site older)) ≡ Some a
-        → cond second (Some (record { number = length older + 1; dep = d.dep; txn = last.txn })) (at_position late (stream_to site older)) ≡ Some b → a.number < b.number
+        → cond first (Some (record { number = length older + 1; dep = d.dep; cargo = last.cargo })) (at_position early (stream_to site older)) ≡ Some a
+        → cond second (Some (record { number = length older + 1; dep = d.dep; cargo = last.cargo })) (at_position late (stream_to site older)) ≡ Some b → a.number < b.number
     top d true true is_first is_second rest there_early there_late = absurd (grind (arith, nat_tests, before))
     top d true false is_first is_second rest there_early there_late = absurd (grind (arith, nat_tests, before, (found_position late (stream_to site older) b there_late).1))
     top d false true is_first is_second rest there_early there_late =
-        let same : record { number = length older + 1; dep = d.dep; txn = last.txn } ≡ b = cc there_late in
+        let same : record { number = length older + 1; dep = d.dep; cargo = last.cargo } ≡ b = cc there_late in
         rw (← same) (omega (arith, number_counted site older early a there_early))
     top d false false is_first is_second rest there_early there_late = rest there_early there_late
 
-    go : (d : Option Destination) → Rest → at_position early (with_one d (length older + 1) last.txn (stream_to site older)) ≡ Some a
-        → at_position late (with_one d (length older + 1) last.txn (stream_to site older)) ≡ Some b → a.number < b.number
+    go : (d : Option Destination) → Rest → at_position early (with_one d (length older + 1) last.cargo (stream_to site older)) ≡ Some a
+        → at_position late (with_one d (length older + 1) last.cargo (stream_to site older)) ≡ Some b → a.number < b.number
     go None rest there_early there_late = rest there_early there_late
     go (Some d) rest there_early there_late = top d (early == length (stream_to site older) + 1) (late == length (stream_to site older) + 1) refl refl rest there_early there_late
 
@@ -63,15 +63,15 @@ deps_are_earlier_in site [] position a each found = absurd (cc found)
 deps_are_earlier_in site (last ∷ older) position a each found = go (destination_to site last.to) refl (deps_are_earlier_in site older position a each.1) found
   where
     top : (d : Destination) (b : Bool) → (position == length (stream_to site older) + 1) ≡ b → d.dep ≤ length (stream_to site older) → (at_position position (stream_to site older) ≡ Some a → a.dep < position)
-        → cond b (Some (record { number = length older + 1; dep = d.dep; txn = last.txn })) (at_position position (stream_to site older)) ≡ Some a → a.dep < position
+        → cond b (Some (record { number = length older + 1; dep = d.dep; cargo = last.cargo })) (at_position position (stream_to site older)) ≡ Some a → a.dep < position
     top d true is earlier later there =
-        let same : record { number = length older + 1; dep = d.dep; txn = last.txn } ≡ a = cc there in
+        let same : record { number = length older + 1; dep = d.dep; cargo = last.cargo } ≡ a = cc there in
         let here : position ≡ length (stream_to site older) + 1 = grind (arith, nat_tests) in
         rw (← same) (omega (arith, here, earlier))
     top d false is earlier later there = later there
 
     go : (d : Option Destination) → destination_to site last.to ≡ d → (at_position position (stream_to site older) ≡ Some a → a.dep < position)
-        → at_position position (with_one d (length older + 1) last.txn (stream_to site older)) ≡ Some a → a.dep < position
+        → at_position position (with_one d (length older + 1) last.cargo (stream_to site older)) ≡ Some a → a.dep < position
     go None is later there = later there
     go (Some d) is later there =
         let known = found_destination (λ (d : Destination). d.dep ≤ last_position d.site older) site last.to d each.0 is in
@@ -84,24 +84,24 @@ deps_are_earlier = λ site deferred position a. deps_are_earlier_in site deferre
 
 -- a number up to the count stands in the queue at itself
 queued_at : (site : SiteName) (deferred : List Deferred) (position : ℕ) (a : InStream) → at_position position (stream_to site deferred) ≡ Some a
-    → option_map (λ (d : Deferred). d.txn) (at_position a.number deferred) ≡ Some a.txn
+    → option_map (λ (d : Deferred). d.cargo) (at_position a.number deferred) ≡ Some a.cargo
 queued_at site [] position a found = absurd (cc found)
 queued_at site (last ∷ older) position a found = go (destination_to site last.to) (queued_at site older position a) found
   where
-    earlier : at_position position (stream_to site older) ≡ Some a → option_map (λ (d : Deferred). d.txn) (at_position a.number older) ≡ Some a.txn
-        → option_map (λ (d : Deferred). d.txn) (at_position a.number (last ∷ older)) ≡ Some a.txn
+    earlier : at_position position (stream_to site older) ≡ Some a → option_map (λ (d : Deferred). d.cargo) (at_position a.number older) ≡ Some a.cargo
+        → option_map (λ (d : Deferred). d.cargo) (at_position a.number (last ∷ older)) ≡ Some a.cargo
     earlier there is = rw (eq_false a.number (length older + 1) (omega (arith, number_counted site older position a there))) is
 
-    top : (d : Destination) (b : Bool) → (at_position position (stream_to site older) ≡ Some a → option_map (λ (d : Deferred). d.txn) (at_position a.number older) ≡ Some a.txn)
-        → cond b (Some (record { number = length older + 1; dep = d.dep; txn = last.txn })) (at_position position (stream_to site older)) ≡ Some a
-        → option_map (λ (d : Deferred). d.txn) (at_position a.number (last ∷ older)) ≡ Some a.txn
+    top : (d : Destination) (b : Bool) → (at_position position (stream_to site older) ≡ Some a → option_map (λ (d : Deferred). d.cargo) (at_position a.number older) ≡ Some a.cargo)
+        → cond b (Some (record { number = length older + 1; dep = d.dep; cargo = last.cargo })) (at_position position (stream_to site older)) ≡ Some a
+        → option_map (λ (d : Deferred). d.cargo) (at_position a.number (last ∷ older)) ≡ Some a.cargo
     top d true later there =
-        let same : record { number = length older + 1; dep = d.dep; txn = last.txn } ≡ a = cc there in
+        let same : record { number = length older + 1; dep = d.dep; cargo = last.cargo } ≡ a = cc there in
         rw (← same, eq_true (length older + 1) (length older + 1) refl) refl
     top d false later there = earlier there (later there)
 
-    go : (d : Option Destination) → (at_position position (stream_to site older) ≡ Some a → option_map (λ (d : Deferred). d.txn) (at_position a.number older) ≡ Some a.txn)
-        → at_position position (with_one d (length older + 1) last.txn (stream_to site older)) ≡ Some a → option_map (λ (d : Deferred). d.txn) (at_position a.number (last ∷ older)) ≡ Some a.txn
+    go : (d : Option Destination) → (at_position position (stream_to site older) ≡ Some a → option_map (λ (d : Deferred). d.cargo) (at_position a.number older) ≡ Some a.cargo)
+        → at_position position (with_one d (length older + 1) last.cargo (stream_to site older)) ≡ Some a → option_map (λ (d : Deferred). d.cargo) (at_position a.number (last ∷ older)) ≡ Some a.cargo
     go None later there = earlier there (later there)
     go (Some d) later there = top d (position == length (stream_to site older) + 1) later there
 
@@ -110,32 +110,32 @@ pub numbers_are_queued : NumbersAreQueued
 numbers_are_queued = λ site deferred position a. queued_at site deferred position a
 
 -- a queued transaction that isn't purged stands among those in order
-in_order_at : (number : ℕ) (deferred : List Deferred) (txn : Txn) → option_map (λ (d : Deferred). d.txn) (at_position number deferred) ≡ Some (Some txn)
-    → (place : ℕ) × (at_position (place + 1) (numbered deferred) ≡ Some (record { number = number; txn = txn }))
-in_order_at number [] txn found = absurd (cc found)
-in_order_at number (last ∷ older) txn found = go (number == length older + 1) refl (in_order_at number older txn) found
+in_order_at : (number : ℕ) (deferred : List Deferred) (cargo : Cargo) → option_map (λ (d : Deferred). d.cargo) (at_position number deferred) ≡ Some (Some cargo)
+    → (place : ℕ) × (at_position (place + 1) (numbered deferred) ≡ Some (record { number = number; cargo = cargo }))
+in_order_at number [] cargo found = absurd (cc found)
+in_order_at number (last ∷ older) cargo found = go (number == length older + 1) refl (in_order_at number older cargo) found
   where
     Placed : List Deferred → Type 0
-    Placed deferred = (place : ℕ) × (at_position (place + 1) (numbered deferred) ≡ Some (record { number = number; txn = txn }))
+    Placed deferred = (place : ℕ) × (at_position (place + 1) (numbered deferred) ≡ Some (record { number = number; cargo = cargo }))
 
-    at_end : (t : Option Txn) → t ≡ Some txn → number ≡ length older + 1
-        → (place : ℕ) × (at_position (place + 1) (cons_option (option_map (λ (x : Txn). record { number = length older + 1; txn = x }) t) (numbered older)) ≡ Some (record { number = number; txn = txn }))
+    at_end : (t : Option Cargo) → t ≡ Some cargo → number ≡ length older + 1
+        → (place : ℕ) × (at_position (place + 1) (cons_option (option_map (λ (x : Cargo). record { number = length older + 1; cargo = x }) t) (numbered older)) ≡ Some (record { number = number; cargo = cargo }))
     at_end None is here = absurd (cc is)
-    at_end (Some t) is here = let same : t ≡ txn = cc is in (length (numbered older), rw (eq_true (length (numbered older) + 1) (length (numbered older) + 1) refl, here, same) refl)
+    at_end (Some t) is here = let same : t ≡ cargo = cc is in (length (numbered older), rw (eq_true (length (numbered older) + 1) (length (numbered older) + 1) refl, here, same) refl)
 
-    before : (t : Option Txn) → Placed older
-        → (place : ℕ) × (at_position (place + 1) (cons_option (option_map (λ (x : Txn). record { number = length older + 1; txn = x }) t) (numbered older)) ≡ Some (record { number = number; txn = txn }))
+    before : (t : Option Cargo) → Placed older
+        → (place : ℕ) × (at_position (place + 1) (cons_option (option_map (λ (x : Cargo). record { number = length older + 1; cargo = x }) t) (numbered older)) ≡ Some (record { number = number; cargo = cargo }))
     before None placed = placed
     before (Some t) placed = (placed.0, rw (eq_false (placed.0 + 1) (length (numbered older) + 1) (omega (arith, (found_position (placed.0 + 1) (numbered older) _ placed.1).1))) placed.1)
 
-    go : (b : Bool) → (number == length older + 1) ≡ b → (option_map (λ (d : Deferred). d.txn) (at_position number older) ≡ Some (Some txn) → Placed older)
-        → option_map (λ (d : Deferred). d.txn) (cond b (Some last) (at_position number older)) ≡ Some (Some txn) → Placed (last ∷ older)
-    go true is later there = let txn_is : last.txn ≡ Some txn = cc there in let here : number ≡ length older + 1 = grind (arith, nat_tests) in at_end last.txn txn_is here
-    go false is later there = before last.txn (later there)
+    go : (b : Bool) → (number == length older + 1) ≡ b → (option_map (λ (d : Deferred). d.cargo) (at_position number older) ≡ Some (Some cargo) → Placed older)
+        → option_map (λ (d : Deferred). d.cargo) (cond b (Some last) (at_position number older)) ≡ Some (Some cargo) → Placed (last ∷ older)
+    go true is later there = let cargo_is : last.cargo ≡ Some cargo = cc there in let here : number ≡ length older + 1 = grind (arith, nat_tests) in at_end last.cargo cargo_is here
+    go false is later there = before last.cargo (later there)
 
 -- so does what stands in a stream and isn't purged
 pub sent_are_in_order : SentAreInOrder
-sent_are_in_order = λ site deferred position a txn found is. in_order_at a.number deferred txn (rw is at (queued_at site deferred position a found))
+sent_are_in_order = λ site deferred position a cargo found is. in_order_at a.number deferred cargo (rw is at (queued_at site deferred position a found))
 
 -- a number is found in a stream where it stands
 found_in : (site : SiteName) (deferred : List Deferred) (position : ℕ) (a : InStream) → at_position position (stream_to site deferred) ≡ Some a
@@ -145,17 +145,17 @@ found_in site (last ∷ older) position a found = go (destination_to site last.t
   where
     top : (d : Destination) (b : Bool) → (position == length (stream_to site older) + 1) ≡ b
         → (at_position position (stream_to site older) ≡ Some a → place_of a.number (stream_to site older) ≡ Some (record { position = position; dep = a.dep }))
-        → cond b (Some (record { number = length older + 1; dep = d.dep; txn = last.txn })) (at_position position (stream_to site older)) ≡ Some a
+        → cond b (Some (record { number = length older + 1; dep = d.dep; cargo = last.cargo })) (at_position position (stream_to site older)) ≡ Some a
         → cond (length older + 1 == a.number) (Some (record { position = length (stream_to site older) + 1; dep = d.dep })) (place_of a.number (stream_to site older)) ≡ Some (record { position = position; dep = a.dep })
     top d true is later there =
-        let same : record { number = length older + 1; dep = d.dep; txn = last.txn } ≡ a = cc there in
+        let same : record { number = length older + 1; dep = d.dep; cargo = last.cargo } ≡ a = cc there in
         let here : position ≡ length (stream_to site older) + 1 = grind (arith, nat_tests) in
         rw (← same, eq_true (length older + 1) (length older + 1) refl, here) refl
     top d false is later there = rw (eq_false_above (length older + 1) a.number (omega (arith, number_counted site older position a there))) (later there)
 
     go : (d : Option Destination) → (at_position position (stream_to site older) ≡ Some a → place_of a.number (stream_to site older) ≡ Some (record { position = position; dep = a.dep }))
-        → at_position position (with_one d (length older + 1) last.txn (stream_to site older)) ≡ Some a
-        → place_of a.number (with_one d (length older + 1) last.txn (stream_to site older)) ≡ Some (record { position = position; dep = a.dep })
+        → at_position position (with_one d (length older + 1) last.cargo (stream_to site older)) ≡ Some a
+        → place_of a.number (with_one d (length older + 1) last.cargo (stream_to site older)) ≡ Some (record { position = position; dep = a.dep })
     go None later there = later there
     go (Some d) later there = top d (position == length (stream_to site older) + 1) refl later there
 

@@ -2,7 +2,7 @@
 use Rattle.std.specs.Prelude.{◌≡◌, ℕ, zero, suc, ◌+◌, ◌-◌, ◌≤◌, ◌==◌, Bool, true, cond, max, min, nat_le, List, [], ◌∷◌, length, map, filter_map, Option, Some, None, option_map}
 use Rattle.std.specs.List.{AllByRecursion}
 use Rattle.rep_values.specs.declared.name.SiteName.{SiteName}
-use Rattle.rep_calls.specs.declared.call.Txn.{Txn}
+use Rattle.deferred_queue.specs.declared.cargo.Cargo.{Cargo}
 use Rattle.deferred_queue.specs.declared.destination.Destination.{Destination}
 use Rattle.deferred_queue.specs.declared.destination.Place.{Place}
 use Rattle.deferred_queue.specs.declared.entries.Entry.{Entry}
@@ -57,14 +57,14 @@ abbrev pub least : ℕ → List ℕ → ℕ
 least number [] = number
 least number (n ∷ ns) = min n (least number ns)
 
--- a transaction by its number, None where it isn't kept
-abbrev pub txn_of : ℕ → List (Entry Txn) → Option Txn
-txn_of number kept = option_map (λ (e : Entry Txn). e.value) (entry_of number kept)
+-- the transaction under a number, with what the site had seen before it, None where it isn't kept
+abbrev pub cargo_of : ℕ → List (Entry Cargo) → Option Cargo
+cargo_of number kept = option_map (λ (e : Entry Cargo). e.value) (entry_of number kept)
 
--- the transactions with the numbers up to a count, the newest first
-abbrev pub txns_to : ℕ → List (Entry Txn) → List (Option Txn)
-txns_to zero kept = []
-txns_to (suc count) kept = txn_of (suc count) kept ∷ txns_to count kept
+-- those under the numbers up to a count, the newest first
+abbrev pub cargoes_to : ℕ → List (Entry Cargo) → List (Option Cargo)
+cargoes_to zero kept = []
+cargoes_to (suc count) kept = cargo_of (suc count) kept ∷ cargoes_to count kept
 
 -- a destination whose stream has an entry
 abbrev pub sent_to : SiteName → Option (Entry ℕ) → Option Destination
@@ -89,9 +89,9 @@ abbrev pub destinations_of : ℕ → List Kept → List Destination
 destinations_of number streams = filter_map (λ (k : Kept). sent_to k.site (entry_of number k.entries)) streams
 
 -- the transactions, the newest first, with their destinations
-abbrev pub queued : List Kept → List (Option Txn) → List Deferred
+abbrev pub queued : List Kept → List (Option Cargo) → List Deferred
 queued streams [] = []
-queued streams (txn ∷ older) = record { txn = txn; to = destinations_of (length older + 1) streams } ∷ queued streams older
+queued streams (cargo ∷ older) = record { cargo = cargo; to = destinations_of (length older + 1) streams } ∷ queued streams older
 
 -- how far a stream is acknowledged, with its site
 abbrev pub mark_of : Kept → Mark
@@ -143,7 +143,7 @@ pub record AreStreams (count : ℕ) (streams : List Kept) : Type 0 where
   pub alike : AreAlike streams
 
 -- the streams and the kept transactions of a queue of so many transactions
-pub record IsQueue (count : ℕ) (streams : List Kept) (kept : List (Entry Txn)) : Type 0 where
+pub record IsQueue (count : ℕ) (streams : List Kept) (kept : List (Entry Cargo)) : Type 0 where
   pub streams_are : AreStreams count streams
   pub falling : FallsFrom count kept
 

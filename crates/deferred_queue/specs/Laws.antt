@@ -3,7 +3,7 @@ use Rattle.std.specs.Prelude.{◌≡◌, ◌≢◌, ℕ, ◌+◌, ◌<◌, ◌�
 use Rattle.std.specs.List.{AllByRecursion}
 use Rattle.rep_values.specs.declared.name.SiteName.{SiteName}
 use Rattle.deferred_queue.specs.declared.destination.Destination.{Destination}
-use Rattle.rep_calls.specs.declared.call.Txn.{Txn}
+use Rattle.deferred_queue.specs.declared.cargo.Cargo.{Cargo}
 use Rattle.deferred_queue.specs.Streams.{Deferred, InStream, stream_to, at_position, place_of, last_position, numbered}
 
 -- a transaction stands at each position from 1 to the last
@@ -26,15 +26,16 @@ abbrev pub DepsAreEarlier : Type 0
 DepsAreEarlier = (site : SiteName) (deferred : List Deferred) (position : ℕ) (a : InStream) → DependOnEarlier deferred
     → at_position position (stream_to site deferred) ≡ Some a → a.dep < position
 
--- the number of what stands in a stream is within the queue, and the queue has the same transaction at it
+-- the number of what stands in a stream is within the queue, and the queue has the same transaction at it, with what the
+-- site had seen before it
 abbrev pub NumbersAreQueued : Type 0
 NumbersAreQueued = (site : SiteName) (deferred : List Deferred) (position : ℕ) (a : InStream) → at_position position (stream_to site deferred) ≡ Some a
-    → option_map (λ (d : Deferred). d.txn) (at_position a.number deferred) ≡ Some a.txn
+    → option_map (λ (d : Deferred). d.cargo) (at_position a.number deferred) ≡ Some a.cargo
 
 -- where it isn't purged, it stands among the transactions in order
 abbrev pub SentAreInOrder : Type 0
-SentAreInOrder = (site : SiteName) (deferred : List Deferred) (position : ℕ) (a : InStream) (txn : Txn) → at_position position (stream_to site deferred) ≡ Some a → a.txn ≡ Some txn
-    → (place : ℕ) × (at_position (place + 1) (numbered deferred) ≡ Some (record { number = a.number; txn = txn }))
+SentAreInOrder = (site : SiteName) (deferred : List Deferred) (position : ℕ) (a : InStream) (cargo : Cargo) → at_position position (stream_to site deferred) ≡ Some a → a.cargo ≡ Some cargo
+    → (place : ℕ) × (at_position (place + 1) (numbered deferred) ≡ Some (record { number = a.number; cargo = cargo }))
 
 -- by its number it is found at its position
 abbrev pub PlacesAreFound : Type 0

@@ -3,13 +3,14 @@ use Rattle.std.specs.Prelude.{◌≡◌, ◌≢◌, ℕ, ◌+◌, ◌≤◌, ◌
 use Rattle.std.specs.List.{cons_option, list_all}
 use Rattle.rep_values.specs.declared.name.SiteName.{SiteName}
 use Rattle.rep_values.specs.Name.{same_bytes}
-use Rattle.rep_calls.specs.declared.call.Txn.{Txn}
+use Rattle.deferred_queue.specs.declared.cargo.Cargo.{Cargo}
 use Rattle.deferred_queue.specs.declared.destination.Destination.{Destination}
 use Rattle.deferred_queue.specs.declared.destination.Place.{Place}
 
--- a transaction, None once it was purged, and its destinations, in the order in which the queue has them
+-- a transaction and what the site had seen before it, None of both once it was purged, and its destinations, in the order in
+-- which the queue has them
 pub record Deferred : Type 0 where
-  pub txn : Option Txn
+  pub cargo : Option Cargo
   pub to : List Destination
 
 -- how far a destination has acknowledged its stream
@@ -32,22 +33,22 @@ abbrev pub destination_to : SiteName → List Destination → Option Destination
 destination_to site [] = None
 destination_to site (d ∷ ds) = cond (is_same_site d.site site) (Some d) (destination_to site ds)
 
--- a transaction in a stream: its number in the queue, the position that it depends on, and its calls, None once it was
--- purged
+-- a transaction in a stream: its number in the queue, the position that it depends on, and the transaction with what the
+-- site had seen before it, None of both once it was purged
 pub record InStream : Type 0 where
   pub number : ℕ
   pub dep : ℕ
-  pub txn : Option Txn
+  pub cargo : Option Cargo
 
-abbrev pub with_one : Option Destination → ℕ → Option Txn → List InStream → List InStream
-with_one None number txn stream = stream
-with_one (Some d) number txn stream = record { number = number; dep = d.dep; txn = txn } ∷ stream
+abbrev pub with_one : Option Destination → ℕ → Option Cargo → List InStream → List InStream
+with_one None number cargo stream = stream
+with_one (Some d) number cargo stream = record { number = number; dep = d.dep; cargo = cargo } ∷ stream
 
 -- the stream to a destination, the newest first: the transactions that have it among theirs; a transaction's number is
 -- its place in the queue, from 1
 abbrev pub stream_to : SiteName → List Deferred → List InStream
 stream_to site [] = []
-stream_to site (deferred ∷ older) = with_one (destination_to site deferred.to) (length older + 1) deferred.txn (stream_to site older)
+stream_to site (deferred ∷ older) = with_one (destination_to site deferred.to) (length older + 1) deferred.cargo (stream_to site older)
 
 -- what stands at a position, the oldest at 1, of a list with the newest first
 abbrev pub at_position : {X : Type 0} → ℕ → List X → Option X
@@ -57,7 +58,7 @@ at_position position (x ∷ xs) = cond (position == length xs + 1) (Some x) (at_
 -- what was found in a stream, where it isn't purged
 abbrev pub unpurged : Option InStream → Option InStream
 unpurged None = None
-unpurged (Some a) = option_map (λ (txn : Txn). a) a.txn
+unpurged (Some a) = option_map (λ (cargo : Cargo). a) a.cargo
 
 -- where the transaction with a number stands in a stream
 abbrev pub place_of : ℕ → List InStream → Option Place
@@ -103,14 +104,14 @@ is_acknowledged marks older to = list_all (λ (d : Destination). nat_le (last_po
 -- the queue without the transactions that each of their destinations has acknowledged
 abbrev pub purged : List Mark → List Deferred → List Deferred
 purged marks [] = []
-purged marks (deferred ∷ older) = record { txn = cond (is_acknowledged marks older deferred.to) None deferred.txn; to = deferred.to } ∷ purged marks older
+purged marks (deferred ∷ older) = record { cargo = cond (is_acknowledged marks older deferred.to) None deferred.cargo; to = deferred.to } ∷ purged marks older
 
--- a transaction at its number
+-- a transaction and what the site had seen before it, at its number
 pub record Numbered : Type 0 where
   pub number : ℕ
-  pub txn : Txn
+  pub cargo : Cargo
 
 -- the transactions that aren't purged with their numbers, the newest first
 abbrev pub numbered : List Deferred → List Numbered
 numbered [] = []
-numbered (deferred ∷ older) = cons_option (option_map (λ (txn : Txn). record { number = length older + 1; txn = txn }) deferred.txn) (numbered older)
+numbered (deferred ∷ older) = cons_option (option_map (λ (cargo : Cargo). record { number = length older + 1; cargo = cargo }) deferred.cargo) (numbered older)

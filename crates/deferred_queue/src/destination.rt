@@ -3,7 +3,7 @@ ghost use Rattle.std.specs.Prelude.{◌≡◌, ◌↔◌, IsTrue};
 ghost use Rattle.std.specs.Option.{option_map};
 ghost use Rattle.deferred_queue.specs.Streams.{destination_to, AreApart};
 
-use rep_calls::Txn;
+use rep_calls::{Past, Txn};
 use rep_values::SiteName;
 
 /// A destination of a transaction, and the earlier position of its stream that the transaction depends on, 0 for none.
@@ -13,11 +13,13 @@ pub struct Destination {
     pub dep: u64,
 }
 
-/// The transaction at a position of a stream: its number in the queue, the position that it depends on, and its calls.
+/// The transaction at a position of a stream: its number in the queue, the position that it depends on, what the site had
+/// seen of the other masters before it, and its calls.
 #[derive(Clone, Copy)]
 pub struct Sent<'a> {
     pub number: u64,
     pub dep: u64,
+    pub past: &'a [Past],
     pub txn: &'a Txn,
 }
 
@@ -28,10 +30,11 @@ pub struct Place {
     pub dep: u64,
 }
 
-/// A queued transaction and its number, from 1.
+/// A queued transaction, what the site had seen of the other masters before it, and its number, from 1.
 #[derive(Clone, Copy)]
 pub struct Queued<'a> {
     pub number: u64,
+    pub past: &'a [Past],
     pub txn: &'a Txn,
 }
 

@@ -1,6 +1,8 @@
-//! The queue of a site: its transactions, the streams to its destinations, and how far these have acknowledged them.
+//! The queue of a site: its transactions, what it had seen before each, the streams to its destinations, and how far these
+//! have acknowledged them.
 #![tactic(auto)]
 
+mod cargo;
 mod destination;
 mod entries;
 mod laws;

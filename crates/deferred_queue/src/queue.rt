@@ -5,6 +5,7 @@ ghost use Rattle.std.specs.List.{AllByRecursion};
 ghost use Rattle.deferred_queue.specs.Streams.{CanBeSent, AreApart, in_order, at_position, stream_to, place_of, unpurged, purged, numbered, last_position, acked_by, raised_mark};
 ghost use Rattle.deferred_queue.specs.Kept.{Falls, entry_of};
 
+use crate::cargo::Cargo;
 use crate::entries::{Entry, place_with};
 use crate::stream::Stream;
 use crate::streams::{
@@ -12,8 +13,8 @@ use crate::streams::{
     raise_each, reserve_each,
 };
 use crate::{Destination, Place, Queued, Sent};
-use rep_calls::Txn;
-use rep_lists::NoMemory;
+use rep_calls::{Past, Txn};
+use rep_lists::{Items, NoMemory};
 use rep_values::SiteName;
 use std::alloc::Global;
 use std::marker::Model;
@@ -23,39 +24,39 @@ use std::marker::Model;
 #[derive(Drop)]
 pub struct Queue {
     count: u64,
-    txns: Vec<Entry<Txn>>,
+    cargoes: Vec<Entry<Cargo>>,
     streams: Vec<Stream>,
 }
 
 impl Model for Queue {
     ghost use Rattle.std.specs.Prelude.{◌-◌, ◌^◌, min, reverse, vec_len, vec_capacity};
     ghost use Rattle.deferred_queue.specs.Streams.{Deferrals};
-    ghost use Rattle.deferred_queue.specs.Kept.{IsQueue, kept_of, rooms_of, marks_of, least, queued, txns_to};
+    ghost use Rattle.deferred_queue.specs.Kept.{IsQueue, kept_of, rooms_of, marks_of, least, queued, cargoes_to};
 
     ghost Value = { Deferrals };
 
     ghost view = { λ q. record {
-      deferred = queued (kept_of q.streams.items) (txns_to q.count (reverse q.txns.items));
+      deferred = queued (kept_of q.streams.items) (cargoes_to q.count (reverse q.cargoes.items));
       marks = marks_of (kept_of q.streams.items);
-      spare = least (min (vec_capacity q.txns - vec_len q.txns) (2 ^ 64 - 1 - q.count)) (rooms_of q.streams.items);
+      spare = least (min (vec_capacity q.cargoes - vec_len q.cargoes) (2 ^ 64 - 1 - q.count)) (rooms_of q.streams.items);
     } };
 
-    ghost invariant = { λ q. IsQueue q.count (kept_of q.streams.items) (reverse q.txns.items) };
+    ghost invariant = { λ q. IsQueue q.count (kept_of q.streams.items) (reverse q.cargoes.items) };
 }
 
 /// The entry of the transaction with a number.
-fn entry_with(txns: &[Entry<Txn>], number: u64) -> Option<&Entry<Txn>>
-    requires { Falls (reverse txns.now) }
-    ensures { option_copied result ≡ entry_of number (reverse txns.now) }
+fn entry_with(cargoes: &[Entry<Cargo>], number: u64) -> Option<&Entry<Cargo>>
+    requires { Falls (reverse cargoes.now) }
+    ensures { option_copied result ≡ entry_of number (reverse cargoes.now) }
 {
-    let place = place_with(txns, number)?;
-    Some(&txns[place])
+    let place = place_with(cargoes, number)?;
+    Some(&cargoes[place])
 }
 
-fn entry_at(txns: &[Entry<Txn>], place: u64) -> Option<&Entry<Txn>>
-    ensures { option_copied result ≡ slice_get txns.now place }
+fn entry_at(cargoes: &[Entry<Cargo>], place: u64) -> Option<&Entry<Cargo>>
+    ensures { option_copied result ≡ slice_get cargoes.now place }
 {
-    txns.get(place as usize)
+    cargoes.get(place as usize)
 }
 
 impl Queue {
@@ -67,7 +68,7 @@ impl Queue {
         let streams = new_each(alloc, destinations)?;
         Ok(Queue {
             count: 0,
-            txns: Vec::new(alloc),
+            cargoes: Vec::new(alloc),
             streams,
         })
     }
@@ -83,7 +84,7 @@ impl Queue {
         if self.count == u64::MAX {
             return Err(NoMemory);
         }
-        self.txns.reserve(1)?;
+        self.cargoes.reserve(1)?;
         reserve_each(&mut self.streams)?;
         Ok(())
     }
@@ -95,20 +96,23 @@ impl Queue {
         can_go_to_each(&self.streams, to)
     }
 
-    /// Queues a transaction for its destinations, and answers its number: the count of transactions, purged ones
-    /// included. It takes no memory.
-    pub fn push_back(&mut self, txn: Txn, to: &[Destination]) -> u64
+    /// Queues a transaction, with what the site had seen before it, for its destinations, and answers its number: the
+    /// count of transactions, purged ones included. It takes no memory.
+    pub fn push_back(&mut self, txn: Txn, past: Items<Past>, to: &[Destination]) -> u64
         requires room { 1 ≤ self.old.spare }
         requires destinations { AllByRecursion (CanBeSent self.old) to.now }
         requires apart { AreApart to.now }
         ensures number { result ≡ length self.old.deferred + 1 }
-        ensures deferred { self.new.deferred
-            ≡ record { txn = Some txn; to = in_order self.old.marks to.now } ∷ self.old.deferred }
+        ensures deferred { self.new.deferred ≡ record {
+          cargo = Some (record { txn = txn; past = past });
+          to = in_order self.old.marks to.now;
+        } ∷ self.old.deferred }
         ensures marks { self.new.marks ≡ self.old.marks }
         ensures spare { self.old.spare ≤ self.new.spare + 1 }
     {
         let number = self.count + 1;
-        self.txns.push_reserved(Entry { number, value: txn });
+        let value = Cargo { txn, past };
+        self.cargoes.push_reserved(Entry { number, value });
         extend_each(&mut self.streams, to, number);
         self.count = number;
         number
@@ -116,16 +120,21 @@ impl Queue {
 
     /// The transaction at a position of a stream; None exactly where no such position was given or it was purged.
     pub fn entry(&self, to: &SiteName, position: u64) -> Option<Sent<'_>>
-        ensures sent { option_map (λ sent. record { number = sent.number; dep = sent.dep; txn = Some sent.txn.now }) result
+        ensures sent { option_map (λ sent. record {
+          number = sent.number;
+          dep = sent.dep;
+          cargo = Some (record { txn = sent.txn.now; past = sent.past.now });
+        }) result
             ≡ unpurged (at_position position (stream_to to.now self.now.deferred)) }
         ensures earlier { IfSome result (λ sent. sent.dep < position) }
     {
         let entry = entry_to(&self.streams, to, position)?;
-        let kept = entry_with(&self.txns, entry.number)?;
+        let kept = entry_with(&self.cargoes, entry.number)?;
         Some(Sent {
             number: entry.number,
             dep: entry.value,
-            txn: &kept.value,
+            past: kept.value.past.as_slice(),
+            txn: &kept.value.txn,
         })
     }
 
@@ -139,13 +148,17 @@ impl Queue {
     /// The transactions that aren't purged in rising number, places from 0; None exactly where the place is at or
     /// behind their end.
     pub fn entry_in_order(&self, place: u64) -> Option<Queued<'_>>
-        ensures { option_map (λ queued. record { number = queued.number; txn = queued.txn.now }) result
+        ensures { option_map (λ queued. record {
+          number = queued.number;
+          cargo = record { txn = queued.txn.now; past = queued.past.now };
+        }) result
             ≡ at_position (place + 1) (numbered self.now.deferred) }
     {
-        let entry = entry_at(&self.txns, place)?;
+        let entry = entry_at(&self.cargoes, place)?;
         Some(Queued {
             number: entry.number,
-            txn: &entry.value,
+            past: entry.value.past.as_slice(),
+            txn: &entry.value.txn,
         })
     }
 
@@ -167,11 +180,11 @@ impl Queue {
         ensures marks { self.new.marks ≡ self.old.marks }
         ensures spare { self.old.spare ≤ self.new.spare }
     {
-        let before = self.txns.len();
+        let before = self.cargoes.len();
         let streams = self.streams.as_slice();
-        self.txns
+        self.cargoes
             .retain(|entry| !have_passed(streams, entry.number));
-        (before - self.txns.len()) as u64
+        (before - self.cargoes.len()) as u64
     }
 
     /// The last position of the stream to a site, 0 where nothing was queued for it.

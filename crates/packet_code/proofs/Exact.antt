@@ -5,7 +5,7 @@ use Rattle.std.specs.List.{AllByRecursion}
 use Rattle.std.proofs.lemmas.Bool.{leb-true, le-leb}
 use Rattle.std.proofs.Math.Seq.{take-append_seam, drop-append_seam}
 use Rattle.std.proofs.lemmas.List.{length-take-le, length-append, take-append-drop}
-use Rattle.packet_code.specs.Reading.{Reading, ◌>>=◌, nothing, byte, front, made, tested, ◌▸◌, behind, either, times, limited}
+use Rattle.packet_code.specs.Reading.{Reading, ◌>>=◌, nothing, given, byte, front, made, tested, ◌▸◌, behind, either, times, limited, up_to}
 
 -- each of them is a byte
 abbrev pub AreBytes : List ℕ → Type 0
@@ -141,6 +141,13 @@ either-exact false first second holds fails = record { sound = (fails refl).soun
 pub nothing-exact : {A : Type 0} {Is : A → Type 0} {spell : A → List ℕ} → ((x : A) → ¬ Is x) → IsExact Is spell nothing
 nothing-exact none = record { sound = λ bytes rest x all read. cc; complete = λ x rest is. absurd (none x is) }
 
+-- a value of which no byte tells
+pub given-exact : {A : Type 0} (x : A) → IsExact (λ y. y ≡ x) (λ y. []) (given x)
+given-exact {A = A} x = record {
+  sound = λ bytes rest y all read. let same = same_read (x, bytes) (y, rest) read in (sym same.0, sym same.1);
+  complete = λ y rest is. rw is refl;
+}
+
 -- a byte
 pub byte-exact : IsExact (λ b. b < 256) (λ b. b ∷ []) byte
 unfolding byte
@@ -224,4 +231,26 @@ counted-exact {A = A} {Is = Is} {spell = spell} {spell_count = spell_count} numb
     behind-exact (λ xs. (1 ≤ length xs) × (length xs ≤ most) × AllByRecursion Is xs) (λ xs. spell_count (length xs) ++ flat_map spell xs) length (flat_map spell) number
     (λ n is. said_so (limited-exact most exact n) (λ xs. (λ p. ((p.1, p.2, p.3), p.0), λ p. (p.1, p.0.0, p.0.1, p.0.2))))
     (λ xs is. fits (length xs) is.1)
+    (λ xs. refl)
+
+-- so many of them, where it is at most the most
+pub up_to-exact : {A : Type 0} {Is : A → Type 0} {spell : A → List ℕ} {reading : Reading A} → (most : ℕ) → IsExact Is spell reading → (count : ℕ)
+    → IsExact (λ xs. (length xs ≡ count) × (length xs ≤ most) × AllByRecursion Is xs) (flat_map spell) (up_to most reading count)
+up_to-exact {A = A} {Is = Is} most exact count =
+    either-exact (nat_le count most) _ _ (λ within. said_so (times-exact exact count) (same within)) (λ outside. nothing-exact (λ xs is. none outside xs is))
+  where
+    same : nat_le count most ≡ true → (xs : List A) → ((length xs ≡ count) × AllByRecursion Is xs) ↔ ((length xs ≡ count) × (length xs ≤ most) × AllByRecursion Is xs)
+    same within xs = (λ is. (is.0, subst (λ n. n ≤ most) (sym is.0) (leb-true count most within), is.1), λ is. (is.0, is.2))
+
+    none : nat_le count most ≡ false → (xs : List A) → (length xs ≡ count) × (length xs ≤ most) × AllByRecursion Is xs → ⊥
+    none outside xs is = let e : nat_le count most ≡ true = rw (← is.0) (le-leb (length xs) most is.1) in cc
+
+-- how many, and then each
+pub counted_up_to-exact : {A : Type 0} {Is : A → Type 0} {spell : A → List ℕ} {reading : Reading A} {IsCount : ℕ → Type 0} {spell_count : ℕ → List ℕ} {count : Reading ℕ}
+    → IsExact IsCount spell_count count → (most : ℕ) → ((n : ℕ) → n ≤ most → IsCount n) → IsExact Is spell reading
+    → IsExact (λ xs. (length xs ≤ most) × AllByRecursion Is xs) (λ xs. spell_count (length xs) ++ flat_map spell xs) (behind count (up_to most reading))
+counted_up_to-exact {A = A} {Is = Is} {spell = spell} {spell_count = spell_count} number most fits exact =
+    behind-exact (λ xs. (length xs ≤ most) × AllByRecursion Is xs) (λ xs. spell_count (length xs) ++ flat_map spell xs) length (flat_map spell) number
+    (λ n is. said_so (up_to-exact most exact n) (λ xs. (λ p. ((p.1, p.2), p.0), λ p. (p.1, p.0.0, p.0.1))))
+    (λ xs is. fits (length xs) is.0)
     (λ xs. refl)

@@ -2,6 +2,8 @@
 mod Exact
 mod Numbers
 mod FormsExact
+mod CallsExact
+mod PastsExact
 mod PacketsExact
 mod Repeats
 mod Behind

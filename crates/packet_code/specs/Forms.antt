@@ -1,10 +1,13 @@
 -- The parts of a packet, each as it is read from the front of bytes.
 use Rattle.std.specs.Prelude.{ℕ, ◌==◌, ◌&&◌, not, Bool, true, nat_le, nat_lt, List, [], ◌∷◌, length, map, Option}
 use Rattle.std.specs.Int.{w64, cast_signed}
+use Rattle.std.specs.List.{list_all}
+use Rattle.std.specs.Ordering.{is_lt}
 use Rattle.rep_values.specs.declared.value.Value.{Value}
 use Rattle.rep_values.specs.declared.value.Value.TheVariants.{Num, Words}
 use Rattle.rep_values.specs.declared.name.SiteName.{SiteName}
-use Rattle.rep_values.specs.Name.{is_name}
+use Rattle.rep_values.specs.Name.{is_name, same_bytes}
+use Rattle.rep_values.specs.Order.{name_cmp}
 use Rattle.rep_values.specs.Text.{is_text}
 use Rattle.rep_schema.specs.Tables.{Cells}
 use Rattle.rep_schema.specs.Groups.{are_same}
@@ -13,10 +16,13 @@ use Rattle.rep_calls.specs.declared.call.Call.{Call}
 use Rattle.rep_calls.specs.declared.call.Call.TheVariants.{Insert, Update, Delete}
 use Rattle.rep_calls.specs.declared.call.Part.{Part}
 use Rattle.rep_calls.specs.declared.call.Txn.{Txn}
+use Rattle.rep_calls.specs.declared.past.Past.{Past}
 use Rattle.packet_code.specs.declared.packet.Packet.{Packet}
 use Rattle.packet_code.specs.declared.packet.Packet.TheVariants.{Carry, Mark}
+use Rattle.packet_code.specs.declared.version.Version.{Version}
+use Rattle.packet_code.specs.declared.version.Version.TheVariants.{First, Second}
 use Rattle.packet_code.specs.Limits.{is_group_number}
-use Rattle.packet_code.specs.Reading.{Reading, ◌>>=◌, nothing, byte, sized, made, tested, ◌▸◌, behind, either, times, limited, u64_number, u32_number, u16_number, whole}
+use Rattle.packet_code.specs.Reading.{Reading, ◌>>=◌, nothing, given, byte, sized, made, tested, ◌▸◌, behind, either, times, limited, up_to, u64_number, u32_number, u16_number, whole}
 
 -- the site's name that bytes are
 abbrev pub site_of : List ℕ → SiteName
@@ -128,13 +134,48 @@ is_place p = nat_le 1 p.0 && nat_lt p.1.1 p.1.0
 unfoldable pub place : Reading (ℕ × (ℕ × ℕ))
 place = tested is_place (u64_number ▸ λ number. u64_number ▸ λ position. u64_number)
 
--- a transaction on its way, of both sites, its place and itself
-abbrev pub carry_of : SiteName × (SiteName × ((ℕ × (ℕ × ℕ)) × Txn)) → Packet
-carry_of p = Carry p.0 p.1.0 p.1.1.0.0 p.1.1.0.1.0 p.1.1.0.1.1 p.1.1.1
+-- a master, and how far it was seen
+abbrev pub seen_of : SiteName × ℕ → Past
+seen_of p = record { origin = p.0; number = p.1 }
 
--- both sites, a place and a transaction
-abbrev pub carry : Reading Packet
-carry = made carry_of (site ▸ λ from. site ▸ λ to. place ▸ λ at. txn)
+-- a number from 1
+abbrev pub is_from_one : Past → Bool
+is_from_one seen = nat_le 1 seen.number
+
+-- a master, and a number from 1
+unfoldable pub seen : Reading Past
+seen = tested is_from_one (made seen_of (site ▸ λ origin. u64_number))
+
+-- none of them is this site
+abbrev pub are_others : SiteName → List Past → Bool
+are_others from past = list_all (λ (seen : Past). not (same_bytes seen.origin.0 from.0)) past
+
+-- the first name is below the next, and so on
+abbrev pub names_rise : List Past → Bool
+names_rise [] = true
+names_rise (first ∷ []) = true
+names_rise (first ∷ next ∷ past) = is_lt (name_cmp first.origin.0 next.origin.0) && names_rise (next ∷ past)
+
+-- the masters of a past aren't the sender, and stand in order
+abbrev pub is_past : SiteName → List Past → Bool
+is_past from past = are_others from past && names_rise past
+
+-- a count up to 7, and so many masters
+unfoldable pub past : SiteName → Reading (List Past)
+past from = tested (is_past from) (behind byte (up_to 7 seen))
+
+-- the past of a packet, where its version tells one
+abbrev pub past_of_version : Version → SiteName → Reading (List Past)
+past_of_version First from = given []
+past_of_version Second from = past from
+
+-- a transaction on its way, of both sites, its place, its past and itself
+abbrev pub carry_of : SiteName × (SiteName × ((ℕ × (ℕ × ℕ)) × (List Past × Txn))) → Packet
+carry_of p = Carry p.0 p.1.0 p.1.1.0.0 p.1.1.0.1.0 p.1.1.0.1.1 p.1.1.1.0 p.1.1.1.1
+
+-- both sites, a place, a past and a transaction
+abbrev pub carry : Version → Reading Packet
+carry version = made carry_of (site ▸ λ from. site ▸ λ to. place ▸ λ at. past_of_version version from ▸ λ seen. txn)
 
 -- a mark of both sites and a position
 abbrev pub mark_of : SiteName × (SiteName × ℕ) → Packet
@@ -145,12 +186,12 @@ abbrev pub mark : Reading Packet
 mark = made mark_of (site ▸ λ from. site ▸ λ to. u64_number)
 
 -- what stands behind the byte that tells the kind of a packet
-abbrev pub packet_of_kind : ℕ → Reading Packet
-packet_of_kind kind = either (kind == 1) carry (either (kind == 2) mark nothing)
+abbrev pub packet_of_kind : Version → ℕ → Reading Packet
+packet_of_kind version kind = either (kind == 1) (carry version) (either (kind == 2) mark nothing)
 
--- what stands behind the version
+-- what stands behind the byte that tells the version
 abbrev pub packet_of_version : ℕ → Reading Packet
-packet_of_version version = either (version == 1) (behind byte packet_of_kind) nothing
+packet_of_version version = either (version == 1) (behind byte (packet_of_kind First)) (either (version == 2) (behind byte (packet_of_kind Second)) nothing)
 
 -- the version, and a packet
 unfoldable pub packet : Reading Packet

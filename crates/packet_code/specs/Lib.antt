@@ -2,6 +2,7 @@
 pub mod Limits
 pub mod Texts
 pub mod Spelling
+pub mod Route
 pub mod Laws
 pub mod Reading
 pub mod Forms

@@ -2,18 +2,21 @@
 use Rattle.std.specs.Prelude.{◌≡◌, ◌≢◌, ℕ, ◌<◌, ◌≤◌, ◌^◌, ◌==◌, ◌||◌, Bool, true, nat_le, List, length, map}
 use Rattle.std.specs.List.{AllByRecursion}
 use Rattle.std.specs.List.Sorted.{IsStrictlyIncreasing}
+use Rattle.rep_lists.specs.RisingLaws.{RisesBy}
 use Rattle.rep_values.specs.declared.value.Value.{Value}
 use Rattle.rep_values.specs.declared.value.Value.TheVariants.{Num, Words}
 use Rattle.rep_values.specs.declared.name.SiteName.{SiteName}
 use Rattle.rep_values.specs.Name.{is_name}
 use Rattle.rep_values.specs.Text.{is_text}
 use Rattle.rep_values.specs.Number.{IsKeyLen, IsRowLen}
+use Rattle.rep_values.specs.Order.{name_cmp}
 use Rattle.rep_schema.specs.Tables.{Cells, IsInRange}
 use Rattle.rep_schema.specs.Groups.{shadow_group}
 use Rattle.rep_calls.specs.declared.call.Call.{Call}
 use Rattle.rep_calls.specs.declared.call.Call.TheVariants.{Insert, Update, Delete}
 use Rattle.rep_calls.specs.declared.call.Part.{Part}
 use Rattle.rep_calls.specs.declared.call.Txn.{Txn}
+use Rattle.rep_calls.specs.declared.past.Past.{Past}
 use Rattle.packet_code.specs.declared.packet.Packet.{Packet}
 use Rattle.packet_code.specs.declared.packet.Packet.TheVariants.{Carry, Mark}
 
@@ -79,11 +82,25 @@ pub record IsPlace (number position dep : ℕ) : Type 0 where
 abbrev pub IsSiteName : SiteName → Type 0
 IsSiteName site = is_name site.0 ≡ true
 
+-- what was seen of a master: another site than the sender, and a number of eight bytes from 1
+pub record IsSeen (from : SiteName) (seen : Past) : Type 0 where
+  pub origin : IsSiteName seen.origin
+  pub another : seen.origin ≢ from
+  pub from_one : 1 ≤ seen.number
+  pub number_fits : seen.number < 2 ^ 64
+
+-- what a sender had seen of at most 7 masters, whose names rise by their bytes
+pub record IsPast (from : SiteName) (past : List Past) : Type 0 where
+  pub most : length past ≤ 7
+  pub each : AllByRecursion (IsSeen from) past
+  pub rise : RisesBy (λ (seen : Past). seen.origin.0) name_cmp past
+
 -- a transaction on its way within all limits
-pub record IsCarry (from to : SiteName) (number position dep : ℕ) (txn : Txn) : Type 0 where
+pub record IsCarry (from to : SiteName) (number position dep : ℕ) (past : List Past) (txn : Txn) : Type 0 where
   pub sender : IsSiteName from
   pub receiver : IsSiteName to
   pub at : IsPlace number position dep
+  pub seen : IsPast from past
   pub sent : IsPlainTxn txn
 
 -- a mark within all limits
@@ -94,5 +111,5 @@ pub record IsMark (from to : SiteName) (mark : ℕ) : Type 0 where
 
 -- a packet within all limits
 abbrev pub IsPacket : Packet → Type 0
-IsPacket (Carry from to number position dep txn) = IsCarry from to number position dep txn
+IsPacket (Carry from to number position dep past txn) = IsCarry from to number position dep past txn
 IsPacket (Mark from to mark) = IsMark from to mark

@@ -16,6 +16,10 @@ None >>= f = None
 abbrev pub nothing : {A : Type 0} → Reading A
 nothing bytes = None
 
+-- a value of which no byte tells
+abbrev pub given : {A : Type 0} → A → Reading A
+given x bytes = Some (x, bytes)
+
 -- the first byte
 unfoldable pub byte : Reading ℕ
 byte [] = None
@@ -54,6 +58,10 @@ times (suc n) reading bytes = reading bytes >>= λ x. times n reading x.1 >>= λ
 -- so many of them, where it is 1 to the most
 abbrev pub limited : {A : Type 0} → ℕ → Reading A → ℕ → Reading (List A)
 limited most reading count = either (nat_le 1 count && nat_le count most) (times count reading) nothing
+
+-- so many of them, where it is at most the most
+abbrev pub up_to : {A : Type 0} → ℕ → Reading A → ℕ → Reading (List A)
+up_to most reading count = either (nat_le count most) (times count reading) nothing
 
 -- a length, and so many bytes
 abbrev pub sized : Reading (List ℕ)

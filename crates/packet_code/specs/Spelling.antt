@@ -1,5 +1,6 @@
--- The bytes of a packet, version 1. Numbers stand with their highest byte first.
-use Rattle.std.specs.Prelude.{◌≡◌, ℕ, List, ◌∷◌, ◌++◌, length, flat_map, Option, Some, None}
+-- The bytes of a packet, in version 2, which is written, and in version 1, which is read too. Numbers stand with their highest
+-- byte first.
+use Rattle.std.specs.Prelude.{◌≡◌, ℕ, ◌⊎◌, List, [], ◌∷◌, ◌++◌, length, flat_map, Option, Some, None}
 use Rattle.std.specs.Int.{w16, w32, w64, to_be_bytes, cast_unsigned}
 use Rattle.rep_values.specs.declared.value.Value.{Value}
 use Rattle.rep_values.specs.declared.value.Value.TheVariants.{Num, Words}
@@ -9,6 +10,7 @@ use Rattle.rep_calls.specs.declared.call.Call.{Call}
 use Rattle.rep_calls.specs.declared.call.Call.TheVariants.{Insert, Update, Delete}
 use Rattle.rep_calls.specs.declared.call.Part.{Part}
 use Rattle.rep_calls.specs.declared.call.Txn.{Txn}
+use Rattle.rep_calls.specs.declared.past.Past.{Past}
 use Rattle.packet_code.specs.declared.packet.Packet.{Packet}
 use Rattle.packet_code.specs.declared.packet.Packet.TheVariants.{Carry, Mark}
 use Rattle.packet_code.specs.Limits.{IsPacket}
@@ -44,20 +46,45 @@ call_bytes (Delete table row) = 3 ∷ to_be_bytes w16 table ++ values_bytes row
 abbrev pub txn_bytes : Txn → List ℕ
 txn_bytes txn = to_be_bytes w32 (length txn.calls) ++ flat_map call_bytes txn.calls
 
+-- a master, and how far it was seen
+abbrev pub seen_bytes : Past → List ℕ
+seen_bytes seen = name_bytes seen.origin ++ to_be_bytes w64 seen.number
+
+-- how many masters, and then each
+abbrev pub past_bytes : List Past → List ℕ
+past_bytes past = length past ∷ flat_map seen_bytes past
+
 -- the version, 1 for a transaction or 2 for a mark, both sites, and then what is sent
 abbrev pub packet_bytes : Packet → List ℕ
-packet_bytes (Carry from to number position dep txn) = 1 ∷ 1 ∷ name_bytes from ++ name_bytes to
+packet_bytes (Carry from to number position dep past txn) = 2 ∷ 1 ∷ name_bytes from ++ name_bytes to
+    ++ to_be_bytes w64 number ++ to_be_bytes w64 position ++ to_be_bytes w64 dep ++ past_bytes past ++ txn_bytes txn
+packet_bytes (Mark from to mark) = 2 ∷ 2 ∷ name_bytes from ++ name_bytes to ++ to_be_bytes w64 mark
+
+-- the same in version 1, which doesn't tell the past
+abbrev pub older_packet_bytes : Packet → List ℕ
+older_packet_bytes (Carry from to number position dep past txn) = 1 ∷ 1 ∷ name_bytes from ++ name_bytes to
     ++ to_be_bytes w64 number ++ to_be_bytes w64 position ++ to_be_bytes w64 dep ++ txn_bytes txn
-packet_bytes (Mark from to mark) = 1 ∷ 2 ∷ name_bytes from ++ name_bytes to ++ to_be_bytes w64 mark
+older_packet_bytes (Mark from to mark) = 1 ∷ 2 ∷ name_bytes from ++ name_bytes to ++ to_be_bytes w64 mark
+
+-- a transaction with an empty past, or a mark
+abbrev pub HasNoPast : Packet → Type 0
+HasNoPast (Carry from to number position dep past txn) = past ≡ []
+HasNoPast (Mark from to mark) = Unit {0}
 
 -- bytes are the encoding of a packet: those that are written
 pub record IsEncoding (bytes : List ℕ) (packet : Packet) : Type 0 where
   pub plain : IsPacket packet
   pub bytes_are : packet_bytes packet ≡ bytes
 
--- bytes that are accepted as a packet: its encoding alone
+-- bytes are the encoding that a packet with no past has in version 1
+pub record IsOlderEncoding (bytes : List ℕ) (packet : Packet) : Type 0 where
+  pub plain : IsPacket packet
+  pub no_past : HasNoPast packet
+  pub bytes_are : older_packet_bytes packet ≡ bytes
+
+-- bytes that are accepted as a packet: its encoding in either version
 abbrev pub IsAccepted : List ℕ → Packet → Type 0
-IsAccepted bytes packet = IsEncoding bytes packet
+IsAccepted bytes packet = IsEncoding bytes packet ⊎ IsOlderEncoding bytes packet
 
 -- what bytes are decoded to: the packet that they are accepted as; nothing where they are accepted as none
 abbrev pub IsDecoded : List ℕ → Option Packet → Type 0

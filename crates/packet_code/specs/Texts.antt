@@ -1,5 +1,6 @@
--- The texts of a transaction. A text has its form whatever it is, but a definition sees its bytes alone.
-use Rattle.std.specs.Prelude.{◌≡◌, true}
+-- The texts of a transaction, and the names and numbers of a past. These have their form whatever they are, but a definition
+-- sees bytes and numbers alone.
+use Rattle.std.specs.Prelude.{◌≡◌, ◌<◌, ◌^◌, true, List}
 use Rattle.std.specs.List.{AllByRecursion}
 use Rattle.rep_values.specs.declared.value.Value.{Value}
 use Rattle.rep_values.specs.declared.value.Value.TheVariants.{Num, Words}
@@ -9,6 +10,8 @@ use Rattle.rep_calls.specs.declared.call.Call.{Call}
 use Rattle.rep_calls.specs.declared.call.Call.TheVariants.{Insert, Update, Delete}
 use Rattle.rep_calls.specs.declared.call.Part.{Part}
 use Rattle.rep_calls.specs.declared.call.Txn.{Txn}
+use Rattle.rep_calls.specs.declared.past.Past.{Past}
+use Rattle.packet_code.specs.Limits.{IsSiteName}
 
 -- a number, or bytes that have the form of a text
 abbrev pub HasTextForm : Value → Type 0
@@ -33,3 +36,12 @@ CallHasTextForm (Delete table row) = HaveTextForm row
 -- the texts of a transaction
 abbrev pub TxnHasTextForm : Txn → Type 0
 TxnHasTextForm txn = AllByRecursion CallHasTextForm txn.calls
+
+-- bytes that have the form of a name, and a number of eight bytes
+pub record SeenHasForm (seen : Past) : Type 0 where
+  pub origin : IsSiteName seen.origin
+  pub number : seen.number < 2 ^ 64
+
+-- each name and number of a past
+abbrev pub PastHasForm : List Past → Type 0
+PastHasForm past = AllByRecursion SeenHasForm past

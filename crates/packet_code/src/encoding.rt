@@ -2,21 +2,22 @@
 ghost use Rattle.std.specs.Prelude.{◌≡◌, ◌≤◌, ◌<◌, ◌∷◌, ◌++◌, length, IfOk, OnOk};
 ghost use Rattle.std.specs.Int.{w16, w32, w64, to_be_bytes};
 ghost use Rattle.std.specs.List.{AllByRecursion, flat_map};
-ghost use Rattle.packet_code.specs.Limits.{IsPlainPart, ArePlainParts, IsPlainTable, IsPlainCall, IsPlainTxn, IsSiteName, IsPacket};
-ghost use Rattle.packet_code.specs.declared.packet.Packet.TheVariants.{Carry, Mark};
-ghost use Rattle.packet_code.specs.Texts.{TxnHasTextForm};
-ghost use Rattle.packet_code.specs.Spelling.{name_bytes, value_bytes, values_bytes, part_bytes, parts_bytes, call_bytes, txn_bytes, packet_bytes, IsEncoding};
+ghost use Rattle.packet_code.specs.Limits.{IsPlainPart, ArePlainParts, IsPlainTable, IsPlainCall, IsPlainTxn, IsSiteName, IsPast, IsPacket};
+ghost use Rattle.packet_code.specs.declared.packet.Packet.TheVariants.{Mark};
+ghost use Rattle.packet_code.specs.Texts.{TxnHasTextForm, PastHasForm};
+ghost use Rattle.packet_code.specs.Spelling.{name_bytes, value_bytes, values_bytes, part_bytes, parts_bytes, call_bytes, txn_bytes, seen_bytes, past_bytes, packet_bytes, IsEncoding};
+ghost use Rattle.packet_code.specs.Route.{carried};
 ghost use Rattle.rep_values.specs.Number.{IsRowLen};
 
-use crate::Packet;
-use crate::room::txn_room;
-use rep_calls::{Call, Part, Txn};
+use crate::room::{past_room, txn_room};
+use crate::{Packet, Route};
+use rep_calls::{Call, Part, Past, Txn};
 use rep_lists::NoMemory;
 use rep_values::{SiteName, Value};
 use std::alloc::Global;
 
-/// The bytes in front of the calls of a transaction between sites whose names have 30 bytes.
-const HEAD_ROOM: usize = 92;
+/// The bytes in front of the calls of a transaction without a past between sites whose names have 30 bytes.
+const HEAD_ROOM: usize = 93;
 
 /// Its eight bytes.
 fn push_number(out: &mut Vec<u8>, number: u64) -> Result<(), NoMemory>
@@ -152,36 +153,61 @@ fn push_txn(out: &mut Vec<u8>, txn: &Txn) -> Result<(), NoMemory>
 
 /// The version, what the packet is, and its sites.
 fn push_head(out: &mut Vec<u8>, kind: u8, from: &SiteName, to: &SiteName) -> Result<(), NoMemory>
-    ensures head { OnOk result (out.new.items ≡ out.old.items ++ 1 ∷ kind ∷ name_bytes from.now ++ name_bytes to.now) }
+    ensures head { OnOk result (out.new.items ≡ out.old.items ++ 2 ∷ kind ∷ name_bytes from.now ++ name_bytes to.now) }
     ensures from { OnOk result (IsSiteName from.now) }
     ensures to { OnOk result (IsSiteName to.now) }
 {
-    out.extend_from_slice(&[1, kind])?;
+    out.extend_from_slice(&[2, kind])?;
     push_name(out, from)?;
     push_name(out, to)
+}
+
+fn push_seen(out: &mut Vec<u8>, seen: &Past) -> Result<(), NoMemory>
+    ensures { OnOk result (out.new.items ≡ out.old.items ++ seen_bytes seen.now) }
+{
+    push_name(out, &seen.origin)?;
+    push_number(out, seen.number)
+}
+
+fn push_each_seen(out: &mut Vec<u8>, past: &[Past]) -> Result<(), NoMemory>
+    ensures { OnOk result (out.new.items ≡ out.old.items ++ flat_map seen_bytes past.now) }
+{
+    for seen in past {
+        push_seen(out, seen)?;
+    }
+    Ok(())
+}
+
+fn push_past(out: &mut Vec<u8>, past: &[Past]) -> Result<(), NoMemory>
+    requires { length past.now ≤ 7 }
+    ensures { OnOk result (out.new.items ≡ out.old.items ++ past_bytes past.now) }
+{
+    out.push(past.len() as u8)?;
+    push_each_seen(out, past)
 }
 
 /// The bytes of a packet that carries a transaction.
 pub(crate) fn carry_bytes(
     alloc: Global,
-    from: &SiteName,
-    to: &SiteName,
-    number: u64,
-    position: u64,
-    dep: u64,
+    route: &Route,
+    past: &[Past],
     txn: &Txn,
 ) -> Result<Vec<u8>, NoMemory>
-    requires from_one { 1 ≤ number }
-    requires earlier { dep < position }
+    requires from_one { 1 ≤ route.now.number }
+    requires earlier { route.now.dep < route.now.position }
+    requires seen { PastHasForm past.now → IsPast route.now.from past.now }
     requires plain { TxnHasTextForm txn.now → IsPlainTxn txn.now }
-    ensures { IfOk result (λ bytes. IsEncoding bytes.items (Carry from.now to.now number position dep txn.now)) }
+    ensures { IfOk result (λ bytes. IsEncoding bytes.items (carried route.now past.now txn.now)) }
 {
-    let room = txn_room(txn).saturating_add(HEAD_ROOM);
+    let room = txn_room(txn)
+        .saturating_add(past_room(past))
+        .saturating_add(HEAD_ROOM);
     let mut out = Vec::with_capacity(alloc, room)?;
-    push_head(&mut out, 1, from, to)?;
-    push_number(&mut out, number)?;
-    push_number(&mut out, position)?;
-    push_number(&mut out, dep)?;
+    push_head(&mut out, 1, &route.from, &route.to)?;
+    push_number(&mut out, route.number)?;
+    push_number(&mut out, route.position)?;
+    push_number(&mut out, route.dep)?;
+    push_past(&mut out, past)?;
     push_txn(&mut out, txn)?;
     Ok(out)
 }
@@ -201,7 +227,7 @@ pub(crate) fn mark_bytes(
     Ok(out)
 }
 
-/// The bytes of a packet.
+/// The bytes of a packet, version 2.
 pub fn encode(alloc: Global, packet: &Packet) -> Result<Vec<u8>, NoMemory>
     requires { IsPacket packet.now }
     ensures { IfOk result (λ bytes. bytes.items ≡ packet_bytes packet.now) }
@@ -213,8 +239,18 @@ pub fn encode(alloc: Global, packet: &Packet) -> Result<Vec<u8>, NoMemory>
             number,
             position,
             dep,
+            past,
             txn,
-        } => carry_bytes(alloc, from, to, *number, *position, *dep, txn),
+        } => {
+            let route = Route {
+                from: *from,
+                to: *to,
+                number: *number,
+                position: *position,
+                dep: *dep,
+            };
+            carry_bytes(alloc, &route, past.as_slice(), txn)
+        }
         Packet::Mark { from, to, mark } => mark_bytes(alloc, from, to, *mark),
     }
 }

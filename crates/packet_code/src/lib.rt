@@ -1,4 +1,4 @@
-//! Packets between sites as bytes, version 1.
+//! Packets between sites as bytes.
 #![tactic(auto)]
 
 mod call_reading;
@@ -7,16 +7,20 @@ mod encoding;
 mod laws;
 mod limits;
 mod packet;
+mod past_reading;
 mod reader;
 mod repeated;
 mod room;
+mod route;
 mod sealed;
 mod stop;
 mod value_reading;
+mod version;
 
 pub use decoding::decode;
 pub use encoding::encode;
 pub use laws::no_encoding_begins_another;
 pub use limits::is_packet;
 pub use packet::Packet;
+pub use route::Route;
 pub use sealed::Sealed;

@@ -1,13 +1,13 @@
 //! The test of the limits on a packet.
 ghost use Rattle.std.specs.Prelude.{◌≡◌, ◌↔◌, true, IsTrue};
 ghost use Rattle.std.specs.List.{AllByRecursion};
-ghost use Rattle.packet_code.specs.Forms.{groups_rise};
-ghost use Rattle.packet_code.specs.Limits.{IsPlainValue, IsPlainRow, IsPlainKey, is_group_number, IsPlainPart, ArePlainParts, IsPlainTable, IsPlainCall, IsPlainTxn, IsPlace, IsSiteName, IsPacket};
+ghost use Rattle.packet_code.specs.Forms.{groups_rise, are_others, names_rise};
+ghost use Rattle.packet_code.specs.Limits.{IsPlainValue, IsPlainRow, IsPlainKey, is_group_number, IsPlainPart, ArePlainParts, IsPlainTable, IsPlainCall, IsPlainTxn, IsPlace, IsSiteName, IsSeen, IsPast, IsPacket};
 
 use crate::Packet;
-use rep_calls::{Call, Part, Txn};
+use rep_calls::{Call, Part, Past, Txn};
 use rep_schema::{SHADOW, is_in_range};
-use rep_values::{SiteName, Value, same_values};
+use rep_values::{SiteName, Value, compare_names, same_values};
 
 /// A text has the form of one, whatever it is.
 fn is_plain_value(value: &Value) -> bool
@@ -89,7 +89,7 @@ pub(crate) fn groups_rise(parts: &[Part]) -> bool
     true
 }
 
-#[tactic(auto, using(crate::proofs::PacketsExact::rise_test))]
+#[tactic(auto, using(crate::proofs::CallsExact::rise_test))]
 fn are_plain_parts(parts: &[Part]) -> bool
     ensures { IsTrue result ↔ ArePlainParts parts.now }
 {
@@ -148,6 +148,55 @@ fn is_site_name(site: &SiteName) -> bool
     !site.0.bytes().is_empty()
 }
 
+/// Another site than the sender, and a number from 1.
+fn is_seen(from: &SiteName, seen: &Past) -> bool
+    ensures { IsTrue result ↔ IsSeen from.now seen.now }
+{
+    is_site_name(&seen.origin) && !seen.origin.is_same(from) && 1 <= seen.number
+}
+
+fn is_each_seen(from: &SiteName, past: &[Past]) -> bool
+    ensures { IsTrue result ↔ AllByRecursion (IsSeen from.now) past.now }
+{
+    for seen in past {
+        if !is_seen(from, seen) {
+            return false;
+        }
+    }
+    true
+}
+
+/// Whether none of them is this site.
+pub(crate) fn are_others(from: &SiteName, past: &[Past]) -> bool
+    ensures { result ≡ are_others from.now past.now }
+{
+    past.iter().all(|seen| !seen.origin.is_same(from))
+}
+
+/// Whether each name is above the one before it.
+pub(crate) fn names_rise(past: &[Past]) -> bool
+    ensures { result ≡ names_rise past.now }
+{
+    let Some((first, rest)) = past.split_first() else {
+        return true;
+    };
+    let mut last = first;
+    for seen in rest {
+        if !compare_names(&last.origin.0, &seen.origin.0).is_lt() {
+            return false;
+        }
+        last = seen;
+    }
+    true
+}
+
+#[tactic(auto, using(crate::proofs::PastsExact::names_rise_test))]
+fn is_past(from: &SiteName, past: &[Past]) -> bool
+    ensures { IsTrue result ↔ IsPast from.now past.now }
+{
+    past.len() <= 7 && is_each_seen(from, past) && names_rise(past)
+}
+
 /// Whether a packet is within all limits, so that it has bytes. It takes no memory.
 pub fn is_packet(packet: &Packet) -> bool
     ensures { IsTrue result ↔ IsPacket packet.now }
@@ -159,11 +208,13 @@ pub fn is_packet(packet: &Packet) -> bool
             number,
             position,
             dep,
+            past,
             txn,
         } => {
             is_site_name(from)
                 && is_site_name(to)
                 && is_place(*number, *position, *dep)
+                && is_past(from, past.as_slice())
                 && is_plain_txn(txn)
         }
         Packet::Mark { from, to, mark } => {

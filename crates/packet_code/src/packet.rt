@@ -1,21 +1,22 @@
 //! What sites send each other.
 
-use rep_calls::Txn;
-use rep_lists::{Copies, NoMemory};
+use rep_calls::{Past, Txn};
+use rep_lists::{Copies, Items, NoMemory};
 use rep_values::SiteName;
 use std::alloc::Global;
 
 /// A packet on its way from one site to another.
 #[derive(Drop)]
 pub enum Packet {
-    /// A transaction: its number in the sender's queue, its position in the stream to the receiver, and the position
-    /// that it depends on, 0 for none.
+    /// A transaction: its number in the sender's queue, its position in the stream to the receiver, the position that it
+    /// depends on, 0 for none, and what the sender had seen of other masters before it.
     Carry {
         from: SiteName,
         to: SiteName,
         number: u64,
         position: u64,
         dep: u64,
+        past: Items<Past>,
         txn: Txn,
     },
     /// The sender has finished all positions of the receiver's stream up to the mark.
@@ -35,6 +36,7 @@ impl Copies for Packet {
                 number,
                 position,
                 dep,
+                past,
                 txn,
             } => Ok(Packet::Carry {
                 from: *from,
@@ -42,6 +44,7 @@ impl Copies for Packet {
                 number: *number,
                 position: *position,
                 dep: *dep,
+                past: past.copy(alloc)?,
                 txn: txn.copy(alloc)?,
             }),
             Packet::Mark { from, to, mark } => Ok(Packet::Mark {

@@ -1,6 +1,6 @@
 //! Parts of a packet that stand several times.
 ghost use Rattle.std.specs.Prelude.{◌≡◌, ℕ, List, Option};
-ghost use Rattle.packet_code.specs.Reading.{times, limited};
+ghost use Rattle.packet_code.specs.Reading.{times, limited, up_to};
 ghost use Rattle.packet_code.specs.Readers.{Reads};
 
 use crate::reader::Reader;
@@ -42,6 +42,21 @@ pub fn limited<P: Piece>(
     ensures { Reads (limited most P.reading count) result bytes.old bytes.new }
 {
     if count < 1 || count > most {
+        return Err(Stop::Form);
+    }
+    times::<P>(alloc, bytes, count)
+}
+
+/// So many of them, where it is at most the most.
+pub fn up_to<P: Piece>(
+    alloc: Global,
+    bytes: &mut Reader<'_>,
+    most: usize,
+    count: usize,
+) -> Result<Items<P>, Stop>
+    ensures { Reads (up_to most P.reading count) result bytes.old bytes.new }
+{
+    if count > most {
         return Err(Stop::Form);
     }
     times::<P>(alloc, bytes, count)

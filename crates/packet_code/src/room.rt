@@ -1,9 +1,9 @@
-//! How many bytes a transaction takes. A wrong number would cost time and nothing else; what is looked through on the
-//! way tells that each text has the form of one.
+//! How many bytes a transaction and a past take. A wrong number would cost time and nothing else; what is looked through
+//! on the way tells that each text and each name has the form of one.
 ghost use Rattle.std.specs.List.{AllByRecursion};
-ghost use Rattle.packet_code.specs.Texts.{HasTextForm, HaveTextForm, PartHasTextForm, CallHasTextForm, TxnHasTextForm};
+ghost use Rattle.packet_code.specs.Texts.{HasTextForm, HaveTextForm, PartHasTextForm, CallHasTextForm, TxnHasTextForm, SeenHasForm, PastHasForm};
 
-use rep_calls::{Call, Part, Txn};
+use rep_calls::{Call, Part, Past, Txn};
 use rep_values::Value;
 
 /// The kind, and the number or the length and the text.
@@ -70,6 +70,26 @@ pub(crate) fn txn_room(txn: &Txn) -> usize
     let mut room: usize = 0;
     for call in txn.calls.as_slice() {
         room = room.saturating_add(call_room(call));
+    }
+    room
+}
+
+/// The length and the name, and a number of eight bytes.
+fn seen_room(seen: &Past) -> usize
+    ensures { SeenHasForm seen.now }
+{
+    // What is read is known to have eight bytes.
+    let _number = seen.number;
+    seen.origin.0.bytes().len() + 9
+}
+
+/// The bytes of all that was seen, without its count.
+pub(crate) fn past_room(past: &[Past]) -> usize
+    ensures { PastHasForm past.now }
+{
+    let mut room: usize = 0;
+    for seen in past {
+        room = room.saturating_add(seen_room(seen));
     }
     room
 }

@@ -1,13 +1,14 @@
 //! Packets kept as their bytes.
 ghost use Rattle.std.specs.Prelude.{◌≡◌, ◌≤◌, ◌<◌, IfOk};
-ghost use Rattle.packet_code.specs.declared.packet.Packet.TheVariants.{Carry, Mark};
-ghost use Rattle.packet_code.specs.Limits.{IsSiteName, IsPlainTxn, IsPacket};
-ghost use Rattle.packet_code.specs.Texts.{TxnHasTextForm};
+ghost use Rattle.packet_code.specs.declared.packet.Packet.TheVariants.{Mark};
+ghost use Rattle.packet_code.specs.Limits.{IsPlainTxn, IsPast, IsPacket};
+ghost use Rattle.packet_code.specs.Texts.{TxnHasTextForm, PastHasForm};
 ghost use Rattle.packet_code.specs.Spelling.{packet_bytes};
+ghost use Rattle.packet_code.specs.Route.{carried};
 
 use crate::encoding::{carry_bytes, mark_bytes};
-use crate::{Packet, decode, encode};
-use rep_calls::Txn;
+use crate::{Packet, Route, decode, encode};
+use rep_calls::{Past, Txn};
 use rep_lists::{Copies, NoMemory};
 use rep_values::SiteName;
 use std::alloc::Global;
@@ -42,24 +43,22 @@ impl Sealed {
         })
     }
 
-    /// The packet that carries a transaction, sealed, without a copy of the transaction. A text has the form of one,
-    /// whatever it is.
+    /// The packet that carries a transaction, sealed, without a copy of the transaction or of the past. A text and a name
+    /// have the form of one, whatever they are.
     pub fn seal_carry(
         alloc: Global,
-        from: &SiteName,
-        to: &SiteName,
-        number: u64,
-        position: u64,
-        dep: u64,
+        route: &Route,
+        past: &[Past],
         txn: &Txn,
     ) -> Result<Sealed, NoMemory>
-        requires from_one { 1 ≤ number }
-        requires earlier { dep < position }
+        requires from_one { 1 ≤ route.now.number }
+        requires earlier { route.now.dep < route.now.position }
+        requires seen { PastHasForm past.now → IsPast route.now.from past.now }
         requires plain { TxnHasTextForm txn.now → IsPlainTxn txn.now }
-        ensures { IfOk result (λ sealed. sealed ≡ Carry from.now to.now number position dep txn.now) }
+        ensures { IfOk result (λ sealed. sealed ≡ carried route.now past.now txn.now) }
     {
         Ok(Sealed {
-            kept: carry_bytes(alloc, from, to, number, position, dep, txn)?,
+            kept: carry_bytes(alloc, route, past, txn)?,
         })
     }
 

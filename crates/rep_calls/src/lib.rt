@@ -1,8 +1,10 @@
-//! Calls, transactions and statements.
+//! Calls, transactions, what was seen before them, and statements.
 #![tactic(auto)]
 
 mod call;
+mod past;
 mod statement;
 
 pub use call::{Call, Part, Txn};
+pub use past::Past;
 pub use statement::{How, Set, Statement};

@@ -1,8 +1,8 @@
 use Rattle.std.proofs.Common.{◌≡◌, ◌++◌, length, reverse, map, take, drop, sym, ap, ◌∙◌, refl}
 use Rattle.std.proofs.lemmas.List.{length-map}
-use Rattle.deferred_queue.specs.Kept.{kept_of, txns_to, raised, held_raised}
+use Rattle.deferred_queue.specs.Kept.{kept_of, cargoes_to, raised, held_raised}
 use Rattle.rep_lists.proofs.InPlace.{written_back}
-use Rattle.deferred_queue.proofs.KeptTxns.{stream_to-kept}
+use Rattle.deferred_queue.proofs.KeptCargoes.{stream_to-kept}
 use Rattle.deferred_queue.proofs.Raising.{kept_of-held_raised, rooms_of-held_raised, queued-raised, marks_of-raised, AreStreams-raised}
 use Rattle.deferred_queue.proofs.queue.Queue.acknowledge.Goals as goal
 
@@ -21,13 +21,13 @@ kept c = ap kept_of (all c) ∙ kept_of-held_raised c.args.to.now c.args.mark c.
 pub invariant_of-self : goal.invariant_of-self
 invariant_of-self c =
     let streams = kept_of c.self.inside.streams.items in
-    let txns = reverse c.self.inside.txns.items in
+    let cargoes = reverse c.self.inside.cargoes.items in
     let asked = rw (← c.self.view_is) at c.requires in
-    let within = rw (stream_to-kept c.args.to.now c.self.inside.count streams txns c.self.invariant.streams_are).same_length at asked in
+    let within = rw (stream_to-kept c.args.to.now c.self.inside.count streams cargoes c.self.invariant.streams_are).same_length at asked in
     record { streams_are = rw (kept c) (AreStreams-raised c.args.to.now c.args.mark c.self.inside.count streams within c.self.invariant.streams_are); falling = c.self.invariant.falling }
 
 pub returns-clause-deferred : goal.returns-clause-deferred
-returns-clause-deferred c = rw (kept c, ← c.self.view_is) (queued-raised c.args.to.now c.args.mark (kept_of c.self.inside.streams.items) (txns_to c.self.inside.count (reverse c.self.inside.txns.items)))
+returns-clause-deferred c = rw (kept c, ← c.self.view_is) (queued-raised c.args.to.now c.args.mark (kept_of c.self.inside.streams.items) (cargoes_to c.self.inside.count (reverse c.self.inside.cargoes.items)))
 
 pub returns-clause-marks : goal.returns-clause-marks
 returns-clause-marks c = rw (kept c, ← c.self.view_is) (marks_of-raised c.args.to.now c.args.mark (kept_of c.self.inside.streams.items))

@@ -1,9 +1,9 @@
 use Rattle.std.proofs.Common.{reverse, sym, ◌∙◌}
 use Rattle.deferred_queue.specs.Kept.{kept_of}
-use Rattle.deferred_queue.proofs.KeptTxns.{stream_to-kept}
+use Rattle.deferred_queue.proofs.KeptCargoes.{stream_to-kept}
 use Rattle.deferred_queue.proofs.queue.Queue.place_of.Goals as goal
 
 pub returns : goal.returns
 returns c =
     let found = rw c.deref.ensures.value at c.place_to.ensures in
-    rw (← c.self.view_is) (found ∙ sym ((stream_to-kept c.args.to.now c.self.inside.count (kept_of c.self.inside.streams.items) (reverse c.self.inside.txns.items) c.self.invariant.streams_are).places c.args.number))
+    rw (← c.self.view_is) (found ∙ sym ((stream_to-kept c.args.to.now c.self.inside.count (kept_of c.self.inside.streams.items) (reverse c.self.inside.cargoes.items) c.self.invariant.streams_are).places c.args.number))

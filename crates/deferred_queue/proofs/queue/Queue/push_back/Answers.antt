@@ -3,11 +3,12 @@ use Rattle.std.specs.Prelude.{vec_len, vec_capacity}
 use Rattle.std.specs.List.{AllByRecursion}
 use Rattle.std.proofs.lemmas.List.{length-map, reverse-append}
 use Rattle.rep_lists.proofs.Each.{each_then}
+use Rattle.deferred_queue.specs.declared.cargo.Cargo.{Cargo}
 use Rattle.deferred_queue.specs.declared.destination.Destination.{Destination}
-use Rattle.deferred_queue.specs.Kept.{kept_of, rooms_of, txns_to, entries_to, extended, held_extended}
+use Rattle.deferred_queue.specs.Kept.{kept_of, rooms_of, cargoes_to, entries_to, extended, held_extended}
 use Rattle.rep_lists.proofs.InPlace.{written_back}
 use Rattle.deferred_queue.proofs.KeptStreams.{length-queued}
-use Rattle.deferred_queue.proofs.KeptTxns.{length-txns_to, txns_to-pushed, stream_to-kept}
+use Rattle.deferred_queue.proofs.KeptCargoes.{length-cargoes_to, cargoes_to-pushed, stream_to-kept}
 use Rattle.deferred_queue.proofs.Numbers.{FallsFrom-higher}
 use Rattle.deferred_queue.proofs.Room.{least-first, least-one, least-held_extended}
 use Rattle.deferred_queue.proofs.Extending.{kept_of-held_extended, marks_of-extended, queued-pushed, AreStreams-extended, each_falls}
@@ -16,27 +17,31 @@ use Rattle.deferred_queue.proofs.queue.Queue.push_back.Goals as goal
 -- a number is left
 pub overflow_add-number : goal.overflow_add-number
 overflow_add-number c =
-    let txns = c.self.inside.txns in
+    let cargoes = c.self.inside.cargoes in
     let room = rw (← c.self.view_is) at c.requires.room in
-    omega (arith, room, least-first (min (vec_capacity txns - vec_len txns) (2 ^ 64 - 1 - c.self.inside.count)) (rooms_of c.self.inside.streams.items))
+    omega (arith, room, least-first (min (vec_capacity cargoes - vec_len cargoes) (2 ^ 64 - 1 - c.self.inside.count)) (rooms_of c.self.inside.streams.items))
 
 pub push_reserved-requires : goal.push_reserved-requires
 push_reserved-requires c =
-    let txns = c.self.inside.txns in
+    let cargoes = c.self.inside.cargoes in
     let room = rw (← c.self.view_is) at c.requires.room in
-    omega (arith, room, least-first (min (vec_capacity txns - vec_len txns) (2 ^ 64 - 1 - c.self.inside.count)) (rooms_of c.self.inside.streams.items))
+    omega (arith, room, least-first (min (vec_capacity cargoes - vec_len cargoes) (2 ^ 64 - 1 - c.self.inside.count)) (rooms_of c.self.inside.streams.items))
 
 pub extend_each-requires-clause-room : goal.extend_each-requires-clause-room
 extend_each-requires-clause-room c =
-    let txns = c.self.inside.txns in
+    let cargoes = c.self.inside.cargoes in
     let room = rw (← c.self.view_is) at c.requires.room in
-    rw c.deref_mut.ensures.value (least-one (min (vec_capacity txns - vec_len txns) (2 ^ 64 - 1 - c.self.inside.count)) (rooms_of c.self.inside.streams.items) room)
+    rw c.deref_mut.ensures.value (least-one (min (vec_capacity cargoes - vec_len cargoes) (2 ^ 64 - 1 - c.self.inside.count)) (rooms_of c.self.inside.streams.items) room)
 
 pub extend_each-requires-clause-later : goal.extend_each-requires-clause-later
 extend_each-requires-clause-later c = rw c.deref_mut.ensures.value (each_falls c.self.inside.count (c.self.inside.count + 1) c.self.inside.streams.items refl c.self.invariant.streams_are.each)
 
-newest_first : (c : goal.After-self-2-1) → reverse c.push_reserved.new.self.items ≡ record { number = c.self.inside.count + 1; value = c.args.txn } ∷ reverse c.self.inside.txns.items
-newest_first c = ap reverse c.push_reserved.ensures.items ∙ reverse-append c.self.inside.txns.items (record { number = c.self.inside.count + 1; value = c.args.txn } ∷ [])
+-- what is queued
+abbrev cargo : goal.After-self-2-1 → Cargo
+cargo c = record { txn = c.args.txn; past = c.args.past }
+
+newest_first : (c : goal.After-self-2-1) → reverse c.push_reserved.new.self.items ≡ record { number = c.self.inside.count + 1; value = cargo c } ∷ reverse c.self.inside.cargoes.items
+newest_first c = ap reverse c.push_reserved.ensures.items ∙ reverse-append c.self.inside.cargoes.items (record { number = c.self.inside.count + 1; value = cargo c } ∷ [])
 
 -- the streams of the queue are the extended ones
 all : (c : goal.After-self-2-1) → take c.self.inside.streams.len (c.extend_each.new.streams ++ drop (length c.extend_each.new.streams) c.self.inside.streams.items)
@@ -55,31 +60,31 @@ back : (c : goal.After-self-2-1) → AllByRecursion (λ (d : Destination). d.dep
 back c =
     let streams = kept_of c.self.inside.streams.items in
     let asked = rw (← c.self.view_is) at c.requires.destinations in
-    each_then _ _ (λ d is. rw (stream_to-kept d.site c.self.inside.count streams (reverse c.self.inside.txns.items) c.self.invariant.streams_are).same_length at is.earlier) c.args.to.now asked
+    each_then _ _ (λ d is. rw (stream_to-kept d.site c.self.inside.count streams (reverse c.self.inside.cargoes.items) c.self.invariant.streams_are).same_length at is.earlier) c.args.to.now asked
 
 pub invariant_of-self : goal.invariant_of-self
 invariant_of-self c = record {
   streams_are = rw (kept c) (AreStreams-extended c.args.to.now c.self.inside.count (c.self.inside.count + 1) (kept_of c.self.inside.streams.items) refl (back c) c.self.invariant.streams_are);
-  falling = rw (newest_first c) (omega arith, omega arith, FallsFrom-higher c.self.inside.count (c.self.inside.count + 1 - 1) (reverse c.self.inside.txns.items) (omega arith) c.self.invariant.falling);
+  falling = rw (newest_first c) (omega arith, omega arith, FallsFrom-higher c.self.inside.count (c.self.inside.count + 1 - 1) (reverse c.self.inside.cargoes.items) (omega arith) c.self.invariant.falling);
 }
 
 pub returns-clause-number : goal.returns-clause-number
 returns-clause-number c =
-    rw (← c.self.view_is, length-queued (kept_of c.self.inside.streams.items) (txns_to c.self.inside.count (reverse c.self.inside.txns.items)), length-txns_to c.self.inside.count (reverse c.self.inside.txns.items)) refl
+    rw (← c.self.view_is, length-queued (kept_of c.self.inside.streams.items) (cargoes_to c.self.inside.count (reverse c.self.inside.cargoes.items)), length-cargoes_to c.self.inside.count (reverse c.self.inside.cargoes.items)) refl
 
 pub returns-clause-deferred : goal.returns-clause-deferred
 returns-clause-deferred c =
     let streams = kept_of c.self.inside.streams.items in
-    let txns = reverse c.self.inside.txns.items in
-    rw (kept c, newest_first c, ← c.self.view_is, txns_to-pushed c.self.inside.count c.args.txn txns)
-    (queued-pushed c.args.to.now c.self.inside.count (c.self.inside.count + 1) streams c.args.txn (txns_to c.self.inside.count txns) (length-txns_to c.self.inside.count txns) refl c.self.invariant.streams_are.each)
+    let cargoes = reverse c.self.inside.cargoes.items in
+    rw (kept c, newest_first c, ← c.self.view_is, cargoes_to-pushed c.self.inside.count (cargo c) cargoes)
+    (queued-pushed c.args.to.now c.self.inside.count (c.self.inside.count + 1) streams (cargo c) (cargoes_to c.self.inside.count cargoes) (length-cargoes_to c.self.inside.count cargoes) refl c.self.invariant.streams_are.each)
 
 pub returns-clause-marks : goal.returns-clause-marks
 returns-clause-marks c = rw (kept c, ← c.self.view_is) (marks_of-extended c.args.to.now (c.self.inside.count + 1) (kept_of c.self.inside.streams.items))
 
 pub returns-clause-spare : goal.returns-clause-spare
 returns-clause-spare c =
-    let old = c.self.inside.txns in
+    let old = c.self.inside.cargoes in
     let new = c.push_reserved.new.self in
     let count = c.self.inside.count in
     let one_less : min (vec_capacity old - vec_len old) (2 ^ 64 - 1 - count) ≤ min (vec_capacity new - vec_len new) (2 ^ 64 - 1 - (count + 1)) + 1 = omega (arith, c.push_reserved.ensures.len, c.push_reserved.ensures.capacity) in

@@ -22,7 +22,7 @@ pub returns-in_err-reserve_each-clause-spare : goal.returns-in_err-reserve_each-
 returns-in_err-reserve_each-clause-spare c =
     let long : length c.reserve_each.new.streams ≡ c.self.inside.streams.len = same_length c.reserve_each.new.streams c.deref_mut.result.now c.reserve_each.ensures.kept ∙ c.deref_mut.ensures.len in
     rw (written_back c.reserve_each.new.streams _ c.self.inside.streams.len long, ← c.self.view_is)
-    (not_less (first (vec_capacity c.self.inside.txns - vec_len c.self.inside.txns) c.self.inside.count) (first (vec_capacity c.reserve.new.self - vec_len c.reserve.new.self) c.self.inside.count) c.self.inside.streams.items c.reserve_each.new.streams
+    (not_less (first (vec_capacity c.self.inside.cargoes - vec_len c.self.inside.cargoes) c.self.inside.count) (first (vec_capacity c.reserve.new.self - vec_len c.reserve.new.self) c.self.inside.count) c.self.inside.streams.items c.reserve_each.new.streams
     (omega (arith, c.in_ok-reserve.ensures.len, c.in_ok-reserve.ensures.capacity)) (rw c.deref_mut.ensures.value at c.reserve_each.ensures.room))
 
 pub returns-clause-ok : goal.returns-clause-ok
@@ -36,5 +36,5 @@ pub returns-clause-spare : goal.returns-clause-spare
 returns-clause-spare c =
     let long : length c.reserve_each.new.streams ≡ c.self.inside.streams.len = same_length c.reserve_each.new.streams c.deref_mut.result.now c.reserve_each.ensures.kept ∙ c.deref_mut.ensures.len in
     rw (written_back c.reserve_each.new.streams _ c.self.inside.streams.len long, ← c.self.view_is)
-    (not_less (first (vec_capacity c.self.inside.txns - vec_len c.self.inside.txns) c.self.inside.count) (first (vec_capacity c.reserve.new.self - vec_len c.reserve.new.self) c.self.inside.count) c.self.inside.streams.items c.reserve_each.new.streams
+    (not_less (first (vec_capacity c.self.inside.cargoes - vec_len c.self.inside.cargoes) c.self.inside.count) (first (vec_capacity c.reserve.new.self - vec_len c.reserve.new.self) c.self.inside.count) c.self.inside.streams.items c.reserve_each.new.streams
     (omega (arith, c.in_ok-reserve.ensures.len, c.in_ok-reserve.ensures.capacity)) (rw c.deref_mut.ensures.value at c.reserve_each.ensures.room))

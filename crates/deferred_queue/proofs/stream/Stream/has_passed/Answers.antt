@@ -1,4 +1,4 @@
-use Rattle.std.proofs.Common.{reverse, sym, ap, ◌∙◌, arith}
+use Rattle.std.proofs.Common.{ap, arith}
 use Rattle.deferred_queue.specs.Kept.{is_within}
 use Rattle.deferred_queue.proofs.stream.Stream.has_passed.Goals as goal
 

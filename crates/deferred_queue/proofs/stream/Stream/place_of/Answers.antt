@@ -1,4 +1,4 @@
-use Rattle.std.proofs.Common.{◌+◌, reverse, sym, ap, ◌∙◌, arith}
+use Rattle.std.proofs.Common.{◌+◌, reverse, sym, arith}
 use Rattle.deferred_queue.proofs.Numbers.{entry_of-found}
 use Rattle.deferred_queue.proofs.Places.{place_in-none, place_in-some}
 use Rattle.deferred_queue.proofs.stream.Stream.place_of.Goals as goal

@@ -1,0 +1,18 @@
+//! What a site had seen of another.
+
+use rep_lists::{Copies, NoMemory};
+use rep_values::SiteName;
+use std::alloc::Global;
+
+/// What the site that queued a transaction had finished of another master: the greatest queue number among these.
+#[derive(Clone, Copy)]
+pub struct Past {
+    pub origin: SiteName,
+    pub number: u64,
+}
+
+impl Copies for Past {
+    fn copy(&self, _alloc: Global) -> Result<Past, NoMemory> {
+        Ok(*self)
+    }
+}
