@@ -42,6 +42,9 @@ with_groups-shape priorities entry groups shape fit names free apart = record {
   constraint_names = shape.constraint_names;
   key_free = shape.key_free;
   constraints_apart = shape.constraints_apart;
+  checks = shape.checks;
+  check_number = shape.check_number;
+  check_names = shape.check_names;
 }
 
 -- a table with other secondary constraints
@@ -62,6 +65,9 @@ with_constraints-shape priorities entry constraints shape fit number names free 
   constraint_names = names;
   key_free = free;
   constraints_apart = apart;
+  checks = shape.checks;
+  check_number = shape.check_number;
+  check_names = shape.check_names;
 }
 
 -- a group of columns that are named, with no methods yet

@@ -10,4 +10,6 @@ mod PlacesNamed
 mod GroupShapes
 mod MethodShapes
 mod UniqueMethodShapes
+mod CheckShapes
 pub mod DeclaredShapes
+mod WorkedDeclarations

@@ -12,7 +12,7 @@ use Rattle.rep_values.specs.Name.{same_bytes}
 use Rattle.rep_schema.specs.declared.schema.Column.{Column}
 use Rattle.rep_schema.specs.declared.schema.Kind.TheVariants as kind
 use Rattle.rep_schema.specs.Shape.{AreDistinct, AreColumns, ShareNone}
-use Rattle.rep_schema.specs.Named.{is_column, column_place, places_from, places_named}
+use Rattle.rep_schema.specs.Named.{is_column, column_named, column_place, places_from, places_named}
 use Rattle.rep_values.specs.RefusalSteps.{unknown}
 use Rattle.rep_declare.specs.Refusals.{column_step, columns_step}
 use Rattle.rep_declare.specs.Additions.{place_or_zero, column_number}
@@ -91,6 +91,18 @@ column_number-below columns name there = at (column_place columns name) refl the
     at : (found : Option ℕ) → column_place columns name ≡ found → unknown found ≡ None → place_or_zero found < length columns
     at None is there = cc
     at (Some place) is there = (column_place-Some columns name place is).0
+
+-- and so has a column that is found by its name
+pub column_number-named : (columns : List Column) (name : List ℕ) (column : Column) → column_named columns name ≡ Some column → column_number columns name < length columns
+column_number-named columns name column found = at (column_place columns name) refl
+  where
+    some : (cs : List Column) → column_named cs name ≡ Some column → 0 < length cs
+    some [] found = cc
+    some (c ∷ cs) found = omega arith
+
+    at : (place : Option ℕ) → column_place columns name ≡ place → place_or_zero place < length columns
+    at None is = some columns found
+    at (Some place) is = (column_place-Some columns name place is).0
 
 module _ (columns : List Column) (is_taken : ℕ → Bool) (names : List (List ℕ)) (passed : columns_step columns is_taken [] names ≡ None) where
   free : All (IsFree columns is_taken) names

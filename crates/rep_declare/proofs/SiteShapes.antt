@@ -1,6 +1,6 @@
 -- A site more, or the level of a site, keeps the shape of a schema.
-use Rattle.std.proofs.Common.{◌≡◌, ◌≢◌, ◌+◌, ◌<◌, ◌≤◌, ℤ, Bool, true, false, List, [], ◌∷◌, ◌++◌, Option, Some, None, refl, sym, ap, ◌∙◌, arith}
-use Rattle.std.specs.Prelude.{IfSome, Any, ◌&&◌, is_none}
+use Rattle.std.proofs.Common.{◌≡◌, ◌≢◌, ◌+◌, ◌<◌, ◌≤◌, ℤ, Bool, true, false, List, [], ◌∷◌, ◌++◌, Option, Some, None, refl, ap, ◌∙◌, arith}
+use Rattle.std.specs.Prelude.{IfSome, Any, ◌&&◌}
 use Rattle.std.specs.List.{All, count_by}
 use Rattle.std.proofs.lemmas.Bool.{and_parts, not-false}
 use Rattle.std.proofs.lemmas.List.{get_or_append_left, length-append}
@@ -14,7 +14,8 @@ use Rattle.rep_values.specs.Name.{same_bytes}
 use Rattle.rep_schema.specs.declared.schema.Schema.{Schema}
 use Rattle.rep_schema.specs.declared.schema.SiteEntry.{SiteEntry}
 use Rattle.rep_schema.specs.Limits.{most_masters, most_snapshots}
-use Rattle.rep_schema.specs.Shape.{HasShape, HasMaster, is_master, is_snapshot}
+use Rattle.rep_schema.specs.Shape.{HasShape, HasMaster, is_master, is_early_master, is_snapshot}
+use Rattle.rep_schema.specs.Entries.{snapshot_site}
 use Rattle.rep_declare.specs.declared.declaration.Declare.TheVariants as declare
 use Rattle.rep_schema.specs.Named.{is_site, site_named, has_master}
 use Rattle.rep_declare.specs.Refusals.{refusal_of}
@@ -34,10 +35,10 @@ Any-push_more P xs x (k, y, within, is, holds) =
 HasMaster-push : (sites : List SiteEntry) (added site : SiteEntry) → HasMaster sites site → HasMaster (sites ++ added ∷ []) site
 HasMaster-push sites added site has = at site.master has
   where
-    at : (master : Option SiteName) → IfSome master (λ name. Any (λ s. (s.name ≡ name) × (s.master ≡ None)) sites)
-        → IfSome master (λ name. Any (λ s. (s.name ≡ name) × (s.master ≡ None)) (sites ++ added ∷ []))
+    at : (master : Option SiteName) → IfSome master (λ name. Any (λ s. (s.name ≡ name) × (is_early_master s ≡ true)) sites)
+        → IfSome master (λ name. Any (λ s. (s.name ≡ name) × (is_early_master s ≡ true)) (sites ++ added ∷ []))
     at None has = tt
-    at (Some name) has = Any-push_more (λ s. (s.name ≡ name) × (s.master ≡ None)) sites added has
+    at (Some name) has = Any-push_more (λ s. (s.name ≡ name) × (is_early_master s ≡ true)) sites added has
 
 -- a site more, whose name no other has and whose master is there
 one_more_site : (schema : Schema) (site : SiteEntry) → HasShape schema → site_named schema site.name ≡ None
@@ -59,21 +60,34 @@ one_more_site schema site shape new masters snapshots has = record {
   priority_names = shape.priority_names;
 }
 
--- with a master site that isn't refused
-pub HasShape-Site : (schema : Schema) (name : SiteName) → HasShape schema → refusal_of schema (declare.Site name) ≡ None → HasShape (declared (declare.Site name) schema)
-HasShape-Site schema name shape passed =
-    let site : SiteEntry = record { name = name; master = None; level = None; late = false } in
+-- a master site, there from the start or late
+abbrev master_entry : SiteName → Bool → SiteEntry
+master_entry name late = record { name = name; master = None; level = None; late = late }
+
+one_more_master : (schema : Schema) (name : SiteName) (late : Bool) → HasShape schema → refusal_of schema (declare.Site name) ≡ None
+    → HasShape (with_sites (schema.sites ++ master_entry name late ∷ []) schema)
+one_more_master schema name late shape passed =
+    let site : SiteEntry = master_entry name late in
     let steps = or_then-None _ _ passed in
     let room : count_by is_master schema.sites < most_masters = full-None _ _ limit.Masters (or_then-None _ _ steps.1).0 in
     let masters : count_by is_master (schema.sites ++ site ∷ []) ≡ count_by is_master schema.sites + 1 = sum_by_push _ schema.sites site in
     let snapshots : count_by is_snapshot (schema.sites ++ site ∷ []) ≡ count_by is_snapshot schema.sites + 0 = sum_by_push _ schema.sites site in
     one_more_site schema site shape (taken-None _ steps.0) (omega (arith, room, masters)) (omega (arith, snapshots, shape.snapshots)) tt
 
+-- with a master site that isn't refused
+pub HasShape-Site : (schema : Schema) (name : SiteName) → HasShape schema → refusal_of schema (declare.Site name) ≡ None → HasShape (declared (declare.Site name) schema)
+HasShape-Site schema name shape passed = one_more_master schema name false shape passed
+
+-- with a late master that isn't refused
+pub HasShape-LateSite : (schema : Schema) (name : SiteName) → HasShape schema → refusal_of schema (declare.LateSite name) ≡ None
+    → HasShape (declared (declare.LateSite name) schema)
+HasShape-LateSite schema name shape passed = one_more_master schema name true shape passed
+
 -- with a snapshot site that isn't refused
 pub HasShape-SnapSite : (schema : Schema) (name master : SiteName) → HasShape schema → refusal_of schema (declare.SnapSite name master) ≡ None
     → HasShape (declared (declare.SnapSite name master) schema)
 HasShape-SnapSite schema name master shape passed =
-    let site : SiteEntry = record { name = name; master = Some master; level = None; late = false } in
+    let site : SiteEntry = snapshot_site name master in
     let steps = or_then-None _ _ passed in
     let later = or_then-None _ _ steps.1 in
     let there : has_master schema master ≡ true = not-false _ (refused-None _ refusal.UnknownName later.0) in
@@ -81,26 +95,22 @@ HasShape-SnapSite schema name master shape passed =
     let masters : count_by is_master (schema.sites ++ site ∷ []) ≡ count_by is_master schema.sites + 0 = sum_by_push _ schema.sites site in
     let snapshots : count_by is_snapshot (schema.sites ++ site ∷ []) ≡ count_by is_snapshot schema.sites + 1 = sum_by_push _ schema.sites site in
     one_more_site schema site shape (taken-None _ steps.0) (omega (arith, masters, shape.masters)) (omega (arith, room, snapshots))
-    (found (Any-from_list_any (λ s. is_site master s && is_master s) schema.sites there))
+    (found (Any-from_list_any (λ s. is_site master s && is_early_master s) schema.sites there))
   where
-    none : (m : Option SiteName) (s : SiteEntry) → s.master ≡ m → is_master s ≡ true → m ≡ None
-    none None s same is = refl
-    none (Some m) s same is = absurd (let no : false ≡ true = ap is_none (sym same) ∙ is in cc)
-
-    found : Any (λ s. (is_site master s && is_master s) ≡ true) schema.sites → Any (λ s. (s.name ≡ master) × (s.master ≡ None)) schema.sites
+    found : Any (λ s. (is_site master s && is_early_master s) ≡ true) schema.sites → Any (λ s. (s.name ≡ master) × (is_early_master s ≡ true)) schema.sites
     found (k, s, within, is, passes) =
-        let both = and_parts (is_site master s) (is_master s) passes in
-        (k, s, within, is, (site_name-true s.name master both.0, none s.master s refl both.1))
+        let both = and_parts (is_site master s) (is_early_master s) passes in
+        (k, s, within, is, (site_name-true s.name master both.0, both.1))
 
 -- a site keeps its master with a level
 HasMaster-with_changed : (test : SiteEntry → Bool) (level : ℤ) (sites : List SiteEntry) (site : SiteEntry) → HasMaster sites site
     → HasMaster (with_changed test (with_site_level level) sites) site
 HasMaster-with_changed test level sites site has = at site.master has
   where
-    at : (master : Option SiteName) → IfSome master (λ name. Any (λ s. (s.name ≡ name) × (s.master ≡ None)) sites)
-        → IfSome master (λ name. Any (λ s. (s.name ≡ name) × (s.master ≡ None)) (with_changed test (with_site_level level) sites))
+    at : (master : Option SiteName) → IfSome master (λ name. Any (λ s. (s.name ≡ name) × (is_early_master s ≡ true)) sites)
+        → IfSome master (λ name. Any (λ s. (s.name ≡ name) × (is_early_master s ≡ true)) (with_changed test (with_site_level level) sites))
     at None has = tt
-    at (Some name) has = Any-with_changed test (with_site_level level) (λ s. (s.name ≡ name) × (s.master ≡ None)) (λ s holds. holds) sites has
+    at (Some name) has = Any-with_changed test (with_site_level level) (λ s. (s.name ≡ name) × (is_early_master s ≡ true)) (λ s holds. holds) sites has
 
 -- with the level of a site
 pub HasShape-SiteLevel : (schema : Schema) (site : SiteName) (level : ℤ) → HasShape schema → HasShape (declared (declare.SiteLevel site level) schema)

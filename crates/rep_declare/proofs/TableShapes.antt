@@ -17,9 +17,10 @@ use Rattle.rep_schema.specs.Limits.{most_tables, most_columns, most_keys}
 use Rattle.rep_schema.specs.Tables.{key_count}
 use Rattle.rep_schema.specs.Shape.{AreDistinct, IsPlaceIn, method_priority, HasGroupShape, HasTableShape, HasLevelShape, HasShape}
 use Rattle.rep_declare.specs.declared.declaration.Declare.TheVariants as declare
+use Rattle.rep_schema.specs.Entries.{plain_table}
 use Rattle.rep_schema.specs.Named.{is_table, is_column, table_named}
 use Rattle.rep_declare.specs.Refusals.{share_a_name, refusal_of}
-use Rattle.rep_declare.specs.Additions.{new_table, made_convergent, with_table_changed, with_priorities, declared}
+use Rattle.rep_declare.specs.Additions.{made_convergent, with_table_changed, with_priorities, declared}
 use Rattle.rep_values.proofs.RefusalSteps.{or_then-None, refused-None, full-None, too_many-None, taken-None}
 use Rattle.rep_declare.proofs.ListNames.{same_bytes-false, find-None, list_any-false, AreDistinct-push, All-with_changed, AreDistinct-with_changed, length-with_changed}
 
@@ -43,10 +44,10 @@ AreDistinct-share_a_name (c ∷ cs) none = at (AreDistinct-share_a_name cs parts
     at later (suc i) zero d below within = absurd (omega (arith, below))
     at later (suc i) (suc j) d below within = later i j d (omega (arith, below)) (omega (arith, within))
 
--- a new table has no groups, constraints and methods
-new_table-shape : (priorities : ℕ) (name : TableName) (columns : List Column) → length columns ≤ most_columns → share_a_name columns ≡ false → key_count columns ≤ most_keys
-    → HasTableShape priorities (new_table name columns)
-new_table-shape priorities name columns few own keys = record {
+-- a new table has no groups, constraints, methods and checks
+plain_table-shape : (priorities : ℕ) (name : TableName) (columns : List Column) → length columns ≤ most_columns → share_a_name columns ≡ false → key_count columns ≤ most_keys
+    → HasTableShape priorities (plain_table name columns)
+plain_table-shape priorities name columns few own keys = record {
   columns = few;
   column_names = AreDistinct-share_a_name columns own;
   keys = keys;
@@ -60,18 +61,21 @@ new_table-shape priorities name columns few own keys = record {
   constraint_names = λ i j d below within. absurd (omega (arith, within));
   key_free = λ k d within. absurd (omega (arith, within));
   constraints_apart = λ i j d below within. absurd (omega (arith, within));
+  checks = λ k d within. absurd (omega (arith, within));
+  check_number = omega arith;
+  check_names = λ i j d below within. absurd (omega (arith, within));
 }
 
 -- with a table that isn't refused
 pub HasShape-Table : (schema : Schema) (name : TableName) (columns : List Column) → HasShape schema → refusal_of schema (declare.Table name columns) ≡ None
     → HasShape (declared (declare.Table name columns) schema)
 HasShape-Table schema name columns shape passed =
-    let table : TableEntry = new_table name columns in
+    let table : TableEntry = plain_table name columns in
     let names = or_then-None _ _ passed in
     let own = or_then-None _ _ names.1 in
     let room = or_then-None _ _ own.1 in
     let few = or_then-None _ _ room.1 in
-    let fits : HasTableShape (length schema.priorities) table = new_table-shape (length schema.priorities) name columns
+    let fits : HasTableShape (length schema.priorities) table = plain_table-shape (length schema.priorities) name columns
     (too_many-None _ _ limit.Columns few.0) (refused-None _ refusal.NameTaken own.0) (too_many-None _ _ limit.Keys (or_then-None _ _ few.1).0) in
     let number : length schema.tables < most_tables = full-None _ _ limit.Tables room.0 in
     record {
@@ -134,6 +138,9 @@ HasTableShape-more number more entry up shape = record {
   constraint_names = shape.constraint_names;
   key_free = shape.key_free;
   constraints_apart = shape.constraints_apart;
+  checks = shape.checks;
+  check_number = shape.check_number;
+  check_names = shape.check_names;
 }
 
 -- other priority groups, not fewer than before
@@ -167,6 +174,9 @@ made_convergent-shape priorities entry shape = record {
   constraint_names = shape.constraint_names;
   key_free = shape.key_free;
   constraints_apart = shape.constraints_apart;
+  checks = shape.checks;
+  check_number = shape.check_number;
+  check_names = shape.check_names;
 }
 
 -- with a table that is to agree

@@ -56,6 +56,9 @@ with_key_methods-shape priorities entry methods shape fit = record {
   constraint_names = shape.constraint_names;
   key_free = shape.key_free;
   constraints_apart = shape.constraints_apart;
+  checks = shape.checks;
+  check_number = shape.check_number;
+  check_names = shape.check_names;
 }
 
 -- the steps behind the name of a constraint

@@ -1,5 +1,5 @@
 -- What a declaration adds to a schema.
-use Rattle.std.specs.Prelude.{ℕ, ◌≤◌, ℤ, Bool, true, false, cond, List, [], ◌∷◌, ◌++◌, length, Option, Some, None}
+use Rattle.std.specs.Prelude.{ℕ, ◌≤◌, ℤ, Bool, true, cond, List, [], ◌∷◌, ◌++◌, length, Option, Some, None}
 use Rattle.std.specs.List.{position}
 use Rattle.rep_values.specs.declared.name.TableName.{TableName}
 use Rattle.rep_values.specs.declared.value.Value.{Value}
@@ -16,6 +16,7 @@ use Rattle.rep_schema.specs.declared.schema.Method.{Method}
 use Rattle.rep_schema.specs.declared.schema.Method.TheVariants as method
 use Rattle.rep_schema.specs.declared.schema.UniqueMethod.{UniqueMethod}
 use Rattle.rep_schema.specs.declared.schema.UniqueMethod.TheVariants as unique
+use Rattle.rep_schema.specs.declared.check.Check.{Check}
 use Rattle.rep_declare.specs.declared.declaration.Declare.{Declare}
 use Rattle.rep_declare.specs.declared.declaration.Declare.TheVariants as declare
 use Rattle.rep_declare.specs.declared.declaration.MethodWords.{MethodWords}
@@ -23,6 +24,7 @@ use Rattle.rep_declare.specs.declared.declaration.MethodWords.TheVariants as wor
 use Rattle.rep_declare.specs.declared.declaration.UniqueWords.{UniqueWords}
 use Rattle.rep_declare.specs.declared.declaration.UniqueWords.TheVariants as unique_words
 use Rattle.rep_schema.specs.Shape.{key_name}
+use Rattle.rep_schema.specs.Entries.{master_site, late_site, snapshot_site, plain_table}
 use Rattle.rep_schema.specs.Named.{is_site, is_table, is_group, is_constraint, is_priority, column_place, places_named}
 
 -- the list with the first element that passes the test changed
@@ -79,29 +81,28 @@ unique_method_of columns (unique_words.AppendSite column) = unique.AppendSite (c
 unique_method_of columns (unique_words.AppendSequence column) = unique.AppendSequence (column_number columns column)
 unique_method_of columns unique_words.Discard = unique.Discard
 
--- a table with no groups and constraints yet
-abbrev pub new_table : TableName → List Column → TableEntry
-new_table name columns = record { name = name; columns = columns; groups = []; key_methods = []; constraints = []; checks = []; convergent = false }
-
 abbrev pub with_groups : List Group → TableEntry → TableEntry
-with_groups groups entry = record { name = entry.name; columns = entry.columns; groups = groups; key_methods = entry.key_methods; constraints = entry.constraints; checks = []; convergent = entry.convergent }
+with_groups groups entry = record entry { groups = groups }
 
 abbrev pub with_constraints : List Constraint → TableEntry → TableEntry
-with_constraints constraints entry = record { name = entry.name; columns = entry.columns; groups = entry.groups; key_methods = entry.key_methods; constraints = constraints; checks = []; convergent = entry.convergent }
+with_constraints constraints entry = record entry { constraints = constraints }
 
 abbrev pub with_key_methods : List UniqueMethod → TableEntry → TableEntry
-with_key_methods methods entry = record { name = entry.name; columns = entry.columns; groups = entry.groups; key_methods = methods; constraints = entry.constraints; checks = []; convergent = entry.convergent }
+with_key_methods methods entry = record entry { key_methods = methods }
+
+abbrev pub with_checks : List Check → TableEntry → TableEntry
+with_checks checks entry = record entry { checks = checks }
 
 abbrev pub made_convergent : TableEntry → TableEntry
-made_convergent entry = record { name = entry.name; columns = entry.columns; groups = entry.groups; key_methods = entry.key_methods; constraints = entry.constraints; checks = []; convergent = true }
+made_convergent entry = record entry { convergent = true }
 
 -- a group with one more method
 abbrev pub with_method : Method → Group → Group
-with_method method group = record { name = group.name; columns = group.columns; methods = group.methods ++ method ∷ [] }
+with_method method group = record group { methods = group.methods ++ method ∷ [] }
 
 -- a constraint with one more method
 abbrev pub with_unique_method : UniqueMethod → Constraint → Constraint
-with_unique_method method constraint = record { name = constraint.name; columns = constraint.columns; methods = constraint.methods ++ method ∷ [] }
+with_unique_method method constraint = record constraint { methods = constraint.methods ++ method ∷ [] }
 
 -- a table whose constraint of this name, the primary key's among them, has one more method
 abbrev pub with_method_on : List ℕ → UniqueMethod → TableEntry → TableEntry
@@ -111,20 +112,20 @@ with_method_on name method entry = cond (same_bytes name key_name)
 
 -- a priority group with one more level
 abbrev pub with_level : Value → ℤ → PriorityGroup → PriorityGroup
-with_level value level group = record { name = group.name; levels = group.levels ++ record { value = value; level = level } ∷ [] }
+with_level value level group = record group { levels = group.levels ++ record { value = value; level = level } ∷ [] }
 
 -- a site with its level
 abbrev pub with_site_level : ℤ → SiteEntry → SiteEntry
-with_site_level level site = record { name = site.name; master = site.master; level = Some level }
+with_site_level level site = record site { level = Some level }
 
 abbrev pub with_sites : List SiteEntry → Schema → Schema
-with_sites sites schema = record { sites = sites; tables = schema.tables; priorities = schema.priorities }
+with_sites sites schema = record schema { sites = sites }
 
 abbrev pub with_tables : List TableEntry → Schema → Schema
-with_tables tables schema = record { sites = schema.sites; tables = tables; priorities = schema.priorities }
+with_tables tables schema = record schema { tables = tables }
 
 abbrev pub with_priorities : List PriorityGroup → Schema → Schema
-with_priorities groups schema = record { sites = schema.sites; tables = schema.tables; priorities = groups }
+with_priorities groups schema = record schema { priorities = groups }
 
 -- the schema with its table of this name changed
 abbrev pub with_table_changed : TableName → (TableEntry → TableEntry) → Schema → Schema
@@ -132,9 +133,10 @@ with_table_changed name change schema = with_tables (with_changed (is_table name
 
 -- the schema with a declaration that isn't refused
 abbrev pub declared : Declare → Schema → Schema
-declared (declare.Site name) schema = with_sites (schema.sites ++ record { name = name; master = None; level = None; late = false } ∷ []) schema
-declared (declare.SnapSite name master) schema = with_sites (schema.sites ++ record { name = name; master = Some master; level = None; late = false } ∷ []) schema
-declared (declare.Table name columns) schema = with_tables (schema.tables ++ new_table name columns ∷ []) schema
+declared (declare.Site name) schema = with_sites (schema.sites ++ master_site name ∷ []) schema
+declared (declare.LateSite name) schema = with_sites (schema.sites ++ late_site name ∷ []) schema
+declared (declare.SnapSite name master) schema = with_sites (schema.sites ++ snapshot_site name master ∷ []) schema
+declared (declare.Table name columns) schema = with_tables (schema.tables ++ plain_table name columns ∷ []) schema
 declared (declare.Group table group columns) schema = with_table_changed table
     (λ entry. with_groups (entry.groups ++ record { name = group; columns = places_named entry.columns columns; methods = [] } ∷ []) entry) schema
 declared (declare.Method table group method) schema = with_priorities (with_words_priority method schema.priorities) (with_table_changed table
@@ -146,11 +148,14 @@ declared (declare.Unique table constraint columns) schema = with_table_changed t
     (λ entry. with_constraints (entry.constraints ++ record { name = constraint; columns = places_named entry.columns columns; methods = [] } ∷ []) entry) schema
 declared (declare.UniqueMethod table constraint method) schema = with_table_changed table
     (λ entry. with_method_on constraint (unique_method_of entry.columns method) entry) schema
+declared (declare.Check table check column rel value) schema = with_table_changed table
+    (λ entry. with_checks (entry.checks ++ record { name = check; column = column_number entry.columns column; rel = rel; value = value_of_literal value } ∷ []) entry) schema
 declared (declare.Convergent table) schema = with_table_changed table made_convergent schema
 
 -- a group or a constraint names a column
 abbrev pub ColumnNamed : Declare → Type 0
 ColumnNamed (declare.Site name) = Unit {0}
+ColumnNamed (declare.LateSite name) = Unit {0}
 ColumnNamed (declare.SnapSite name master) = Unit {0}
 ColumnNamed (declare.Table name columns) = Unit {0}
 ColumnNamed (declare.Group table group columns) = 1 ≤ length columns
@@ -159,4 +164,5 @@ ColumnNamed (declare.Priority group value level) = Unit {0}
 ColumnNamed (declare.SiteLevel site level) = Unit {0}
 ColumnNamed (declare.Unique table constraint columns) = 1 ≤ length columns
 ColumnNamed (declare.UniqueMethod table constraint method) = Unit {0}
+ColumnNamed (declare.Check table check column rel value) = Unit {0}
 ColumnNamed (declare.Convergent table) = Unit {0}

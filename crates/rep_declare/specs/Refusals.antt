@@ -1,9 +1,8 @@
 -- When a declaration is refused, and for what: the first of its steps that refuses it.
-use Rattle.std.specs.Prelude.{ℕ, nat_le, Bool, false, cond, not, ◌||◌, List, [], ◌∷◌, ◌++◌, length, Option, Some, None, is_some, is_none, ℤ}
+use Rattle.std.specs.Prelude.{ℕ, Bool, false, not, ◌||◌, List, [], ◌∷◌, ◌++◌, length, Option, Some, None, ℤ}
 use Rattle.std.specs.List.{list_any, count_by}
 use Rattle.rep_values.specs.declared.refusal.Refusal.{Refusal}
 use Rattle.rep_values.specs.declared.refusal.Refusal.TheVariants as refusal
-use Rattle.rep_values.specs.declared.refusal.Limit.{Limit}
 use Rattle.rep_values.specs.declared.refusal.Limit.TheVariants as limit
 use Rattle.rep_values.specs.declared.value.Value.{Value}
 use Rattle.rep_values.specs.declared.value.Value.TheVariants.{Num, Words}
@@ -20,12 +19,13 @@ use Rattle.rep_declare.specs.declared.declaration.MethodWords.{MethodWords}
 use Rattle.rep_declare.specs.declared.declaration.MethodWords.TheVariants as method
 use Rattle.rep_declare.specs.declared.declaration.UniqueWords.{UniqueWords}
 use Rattle.rep_declare.specs.declared.declaration.UniqueWords.TheVariants as unique
-use Rattle.rep_schema.specs.Limits.{most_masters, most_snapshots, most_tables, most_columns, most_keys, most_methods, most_constraints, most_levels}
+use Rattle.rep_schema.specs.Limits.{most_masters, most_snapshots, most_tables, most_columns, most_keys, most_methods, most_constraints, most_levels, most_checks}
 use Rattle.rep_schema.specs.Tables.{key_count}
 use Rattle.rep_schema.specs.Fitting.{is_in_range}
+use Rattle.rep_schema.specs.Kinds.{is_of_kind}
 use Rattle.rep_schema.specs.Shape.{shadow_name, key_name, is_master, is_snapshot}
 use Rattle.rep_schema.specs.Groups.{is_grouped}
-use Rattle.rep_schema.specs.Named.{is_column, site_named, has_master, table_named, group_named, constraint_named, methods_named, priority_named, column_place, is_constrained}
+use Rattle.rep_schema.specs.Named.{is_column, site_named, has_master, table_named, group_named, constraint_named, check_named, methods_named, priority_named, column_named, column_place, is_constrained}
 
 -- a number lies outside ±10^15
 abbrev pub out_of_range : ℤ → Option Refusal
@@ -83,9 +83,12 @@ abbrev pub value_out_of_range : Value → Option Refusal
 value_out_of_range (Num n) = out_of_range n
 value_out_of_range (Words text) = None
 
--- the steps of each declaration: its names from left to right, then the limits in their order, then the ranges
+-- the steps of each declaration: its names from left to right, then the limits in their order, then the shape, then the ranges
 abbrev pub steps_of : Schema → Declare → List (Option Refusal)
 steps_of schema (declare.Site name) =
+    taken (site_named schema name) ∷
+    full most_masters (count_by is_master schema.sites) limit.Masters ∷ []
+steps_of schema (declare.LateSite name) =
     taken (site_named schema name) ∷
     full most_masters (count_by is_master schema.sites) limit.Masters ∷ []
 steps_of schema (declare.SnapSite name master) =
@@ -121,6 +124,12 @@ steps_of schema (declare.Unique table constraint columns) = known (table_named s
 steps_of schema (declare.UniqueMethod table constraint method) = known (table_named schema table) (λ entry. known (methods_named entry constraint) (λ methods.
     unknown_column entry.columns (unique_words_column method) ∷
     full most_methods (length methods) limit.Methods ∷ []))
+steps_of schema (declare.Check table check column rel value) = known (table_named schema table) (λ entry.
+    taken (check_named entry check) ∷
+    known (column_named entry.columns column) (λ found.
+    full most_checks (length entry.checks) limit.Checks ∷
+    refused (not (is_of_kind found.kind value)) refusal.RowShape ∷
+    value_out_of_range (value_of_literal value) ∷ []))
 steps_of schema (declare.Convergent table) = unknown (table_named schema table) ∷ []
 
 -- why a declaration is refused, if it is

@@ -12,26 +12,30 @@ use crate::changes::change_one;
 use crate::priority_changes::LevelAdded;
 use crate::site_changes::SiteLevelled;
 use crate::table_changes::{
-    MadeConvergent, MethodIn, OneMoreConstraint, OneMoreGroup, UniqueMethodIn,
+    MadeConvergent, MethodIn, OneMoreCheck, OneMoreConstraint, OneMoreGroup, UniqueMethodIn,
 };
 use crate::{Declare, MethodWords, UniqueWords, refusal_of};
 use rep_lists::{Copies, Items, NoMemory};
 use rep_schema::{
-    Column, PriorityGroup, PriorityLevel, Schema, SiteEntry, TableEntry, find_priority,
+    Column, PriorityGroup, PriorityLevel, Rel, Schema, SiteEntry, TableEntry, find_priority,
 };
 use rep_values::{Literal, Name, Refusal, SiteName, TableName};
 use std::alloc::Global;
 
-fn add_site(schema: &mut Schema, name: SiteName, master: Option<SiteName>) -> Result<(), NoMemory>
-    ensures ok { OnOk result (schema.new ≡ with_sites (schema.old.sites ++ record { name = name; master = master; level = None } ∷ []) schema.old) }
+fn add_site(schema: &mut Schema, site: SiteEntry) -> Result<(), NoMemory>
+    ensures ok { OnOk result (schema.new ≡ with_sites (schema.old.sites ++ site ∷ []) schema.old) }
     ensures err { OnErr result (schema.new ≡ schema.old) }
 {
-    schema.sites.push(SiteEntry {
-        name,
-        master,
-        level: None,
-    })?;
+    // Made anew here, so that the check knows the types of its fields.
+    schema.sites.push(SiteEntry { ..site })?;
     Ok(())
+}
+
+fn add_snapshot_site(schema: &mut Schema, name: SiteName, master: SiteName) -> Result<(), NoMemory>
+    ensures ok { OnOk result (schema.new ≡ declared (Declare.SnapSite name master) schema.old) }
+    ensures err { OnErr result (schema.new ≡ schema.old) }
+{
+    add_site(schema, SiteEntry::snapshot(name, master))
 }
 
 fn add_table(
@@ -44,14 +48,7 @@ fn add_table(
     ensures err { OnErr result (schema.new ≡ schema.old) }
 {
     let columns = columns.copy(alloc)?;
-    schema.tables.push(TableEntry {
-        name,
-        columns,
-        groups: Items::new(alloc),
-        key_methods: Items::new(alloc),
-        constraints: Items::new(alloc),
-        convergent: false,
-    })?;
+    schema.tables.push(TableEntry::plain(alloc, name, columns))?;
     Ok(())
 }
 
@@ -275,6 +272,29 @@ fn add_unique_method(
     Ok(())
 }
 
+fn add_check(
+    alloc: Global,
+    schema: &mut Schema,
+    table: TableName,
+    check: Name,
+    column: Name,
+    rel: Rel,
+    value: &Literal,
+) -> Result<(), NoMemory>
+    ensures ok { OnOk result (schema.new ≡ declared (Declare.Check table check column rel value.now) schema.old) }
+    ensures err { OnErr result (schema.new ≡ schema.old) }
+{
+    let more = OneMoreCheck {
+        table,
+        check,
+        column,
+        rel,
+        value: value.value(),
+    };
+    change_one(alloc, &more, &mut schema.tables)?;
+    Ok(())
+}
+
 fn add_site_level(
     alloc: Global,
     schema: &mut Schema,
@@ -304,8 +324,9 @@ fn add(schema: &mut Schema, alloc: Global, declaration: &Declare) -> Result<(), 
     ensures err { OnErr result (schema.new ≡ schema.old) }
 {
     match declaration {
-        Declare::Site { name } => add_site(schema, *name, None),
-        Declare::SnapSite { name, master } => add_site(schema, *name, Some(*master)),
+        Declare::Site { name } => add_site(schema, SiteEntry::master(*name)),
+        Declare::LateSite { name } => add_site(schema, SiteEntry::late(*name)),
+        Declare::SnapSite { name, master } => add_snapshot_site(schema, *name, *master),
         Declare::Table { name, columns } => add_table(alloc, schema, *name, columns),
         Declare::Group {
             table,
@@ -333,6 +354,13 @@ fn add(schema: &mut Schema, alloc: Global, declaration: &Declare) -> Result<(), 
             constraint,
             method,
         } => add_unique_method(alloc, schema, *table, *constraint, *method),
+        Declare::Check {
+            table,
+            check,
+            column,
+            rel,
+            value,
+        } => add_check(alloc, schema, *table, *check, *column, *rel, value),
         Declare::Convergent { table } => make_convergent(alloc, schema, *table),
     }
 }

@@ -1,7 +1,7 @@
 //! Declarations: the lines of a script that add to a schema, with the names that they are written with.
 
 use rep_lists::Items;
-use rep_schema::Column;
+use rep_schema::{Column, Rel};
 use rep_values::{Literal, Name, SiteName, TableName};
 
 /// A declaration.
@@ -11,7 +11,11 @@ pub enum Declare {
     Site {
         name: SiteName,
     },
-    /// A snapshot site of a master site.
+    /// A master site that joins later.
+    LateSite {
+        name: SiteName,
+    },
+    /// A snapshot site of a master site that is there from the start.
     SnapSite {
         name: SiteName,
         master: SiteName,
@@ -55,6 +59,14 @@ pub enum Declare {
         table: TableName,
         constraint: Name,
         method: UniqueWords,
+    },
+    /// A check of a table: the column's value stands in this relation to the constant.
+    Check {
+        table: TableName,
+        check: Name,
+        column: Name,
+        rel: Rel,
+        value: Literal,
     },
     /// The table is to agree at all masters when nothing is under way.
     Convergent {

@@ -3,6 +3,7 @@
 
 mod additions;
 mod changes;
+mod check_refusals;
 mod declaration;
 mod method_changes;
 mod places;

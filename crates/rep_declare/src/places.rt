@@ -28,7 +28,7 @@ fn place(found: Option<usize>) -> Result<u32, NoMemory>
 }
 
 /// The place of the column of a name, or 0.
-fn column_number(columns: &[Column], name: &Name) -> Result<u32, NoMemory>
+pub fn column_number(columns: &[Column], name: &Name) -> Result<u32, NoMemory>
     ensures ok { IfOk result (λ number. number ≡ column_number columns.now name.now) }
     ensures err { OnErr result (4294967295 < column_number columns.now name.now) }
 {

@@ -1,4 +1,4 @@
-//! Why a declaration is refused: its names from left to right, then the limits, then the ranges.
+//! Why a declaration is refused: its names from left to right, then the limits, then the shape, then the ranges.
 ghost use Rattle.std.specs.Prelude.{◌≡◌, ◌==◌, not, [], ◌∷◌};
 ghost use Rattle.std.specs.List.{list_any, count_by};
 ghost use Rattle.rep_values.specs.Name.{same_bytes};
@@ -11,6 +11,7 @@ ghost use Rattle.rep_declare.specs.Refusals.{refusal_of, share_a_name, column_st
 ghost use Rattle.rep_schema.specs.Groups.{is_grouped};
 ghost use Rattle.rep_schema.specs.Named.{column_place, is_column, is_constrained};
 
+use crate::check_refusals::check_refusal;
 use crate::{Declare, MethodWords, UniqueWords};
 use rep_schema::{
     Column, OnColumns, PriorityLevel, Schema, SiteEntry, TableEntry, column_place, find_constraint,
@@ -314,7 +315,8 @@ fn unique_method_refusal(
     method_refusal(columns, unique_column_of(method), constraint.methods.len())
 }
 
-fn value_is_in_range(value: &Literal) -> bool
+/// Whether a literal's number lies within ±10^15; a text always passes.
+pub(crate) fn value_is_in_range(value: &Literal) -> bool
     ensures { value_out_of_range (value_of_literal value.now) ≡ refused (not result) Refusal.ValueRange }
 {
     match value {
@@ -373,6 +375,7 @@ pub fn refusal_of(schema: &Schema, declaration: &Declare) -> Option<Refusal>
 {
     match declaration {
         Declare::Site { name } => site_refusal(schema, name),
+        Declare::LateSite { name } => site_refusal(schema, name),
         Declare::SnapSite { name, master } => snapshot_site_refusal(schema, name, master),
         Declare::Table { name, columns } => table_refusal(schema, name, columns.as_slice()),
         Declare::Group {
@@ -401,6 +404,13 @@ pub fn refusal_of(schema: &Schema, declaration: &Declare) -> Option<Refusal>
             constraint,
             method,
         } => { unique_method_refusal(schema, table, constraint, method) }
+        Declare::Check {
+            table,
+            check,
+            column,
+            rel: _,
+            value,
+        } => { check_refusal(schema, table, check, column, value) }
         Declare::Convergent { table } => convergent_refusal(schema, table),
     }
 }

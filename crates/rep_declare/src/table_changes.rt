@@ -1,15 +1,17 @@
 //! Changes of a table of a schema.
 ghost use Rattle.std.specs.Prelude.{◌≡◌, ◌++◌, [], ◌∷◌, OnOk, OnErr};
 ghost use Rattle.rep_schema.specs.Named.{is_table, is_group, places_named};
-ghost use Rattle.rep_declare.specs.Additions.{with_groups, with_constraints, with_changed, with_method, with_method_on, method_of, unique_method_of, made_convergent};
+ghost use Rattle.rep_declare.specs.Additions.{with_groups, with_constraints, with_checks, with_changed, with_method, with_method_on, column_number, method_of, unique_method_of, made_convergent};
 
 use crate::changes::{ChangesOne, change_one};
 use crate::method_changes::{OneMoreMethod, OneMoreUniqueMethod};
-use crate::places::{method_of, places_named, unique_method_of};
+use crate::places::{column_number, method_of, places_named, unique_method_of};
 use crate::{MethodWords, UniqueWords};
 use rep_lists::{Items, NoMemory};
-use rep_schema::{Constraint, Group, PriorityGroup, TableEntry, UniqueMethod, is_key_name};
-use rep_values::{Name, TableName};
+use rep_schema::{
+    Check, Constraint, Group, PriorityGroup, Rel, TableEntry, UniqueMethod, is_key_name,
+};
+use rep_values::{Name, TableName, Value};
 use std::alloc::Global;
 
 /// The table of this name gets one more group.
@@ -139,6 +141,37 @@ impl ChangesOne<TableEntry> for UniqueMethodIn {
     fn change(&self, alloc: Global, one: &mut TableEntry) -> Result<(), NoMemory> {
         let method = unique_method_of(one.columns.as_slice(), &self.words)?;
         add_method_on(alloc, &self.constraint, method, one)?;
+        Ok(())
+    }
+}
+
+/// The table of this name gets one more check.
+#[derive(Drop)]
+pub struct OneMoreCheck {
+    pub table: TableName,
+    pub check: Name,
+    pub column: Name,
+    pub rel: Rel,
+    pub value: Value,
+}
+
+impl ChangesOne<TableEntry> for OneMoreCheck {
+    ghost is_it = { λ c table. is_table c.table table };
+
+    ghost changed = { λ c table. with_checks (table.checks ++ record { name = c.check; column = column_number table.columns c.column; rel = c.rel; value = c.value } ∷ []) table };
+
+    fn is_it(&self, one: &TableEntry) -> bool {
+        one.name.0.is_same(&self.table.0)
+    }
+
+    fn change(&self, _alloc: Global, one: &mut TableEntry) -> Result<(), NoMemory> {
+        let column = column_number(one.columns.as_slice(), &self.column)?;
+        one.checks.push(Check {
+            name: self.check,
+            column,
+            rel: self.rel,
+            value: self.value,
+        })?;
         Ok(())
     }
 }

@@ -1,6 +1,7 @@
 -- Schemas, and the lowest rule that each breaks.
 use Rattle.std.proofs.Common.{◌≡◌, ℕ, List, [], ◌∷◌, Option, Some, None, true, false, refl, ℤ, pos, negsuc}
 use Rattle.std.specs.Prelude.{codes}
+use Rattle.rep_values.specs.declared.name.SiteName.{SiteName}
 use Rattle.rep_values.specs.declared.value.Value.TheVariants.{Num}
 use Rattle.rep_schema.specs.declared.schema.Schema.{Schema}
 use Rattle.rep_schema.specs.declared.schema.SiteEntry.{SiteEntry}
@@ -9,6 +10,10 @@ use Rattle.rep_schema.specs.declared.schema.Column.{Column}
 use Rattle.rep_schema.specs.declared.schema.Group.{Group}
 use Rattle.rep_schema.specs.declared.schema.Constraint.{Constraint}
 use Rattle.rep_schema.specs.declared.schema.PriorityGroup.{PriorityGroup}
+use Rattle.rep_schema.specs.declared.check.Check.{Check}
+use Rattle.rep_schema.specs.declared.check.Rel.TheVariants.{Ge}
+use Rattle.rep_schema.specs.Entries.{master_site, late_site, snapshot_site, plain_table}
+use Rattle.rep_schema.specs.Shape.{no_schema}
 use Rattle.rep_schema.specs.declared.schema.Kind.{Kind}
 use Rattle.rep_schema.specs.declared.schema.Kind.TheVariants as kind
 use Rattle.rep_schema.specs.declared.schema.Method.{Method}
@@ -29,18 +34,22 @@ group columns methods = record { name = codes "g"; columns = columns; methods = 
 abbrev constraint : List ℕ → List UniqueMethod → Constraint
 constraint columns methods = record { name = codes "u"; columns = columns; methods = methods }
 
-abbrev site : Option ℤ → SiteEntry
-site level = record { name = record { 0 = codes "A" }; master = None; level = level; late = false }
+abbrev name : List ℕ → SiteName
+name bytes = record { 0 = bytes }
 
-abbrev snapshot_site : SiteEntry
-snapshot_site = record { name = record { 0 = codes "S" }; master = Some (record { 0 = codes "A" }); level = None; late = false }
+abbrev site : Option ℤ → SiteEntry
+site level = record (master_site (name (codes "A"))) { level = level }
+
+-- a snapshot site of A
+abbrev site_s : SiteEntry
+site_s = snapshot_site (name (codes "S")) (name (codes "A"))
 
 -- columns 1 to 5 behind a key column, one of each kind
 abbrev columns_behind : Column → List Column
 columns_behind k = k ∷ column kind.Number ∷ column kind.Words ∷ column kind.Stamp ∷ column kind.Site ∷ column kind.Date ∷ []
 
 abbrev table : List Column → List Group → TableEntry
-table columns groups = record { name = record { 0 = codes "T" }; columns = columns; groups = groups; key_methods = []; constraints = []; checks = []; convergent = false }
+table columns groups = record (plain_table (record { 0 = codes "T" }) columns) { groups = groups }
 
 -- the priority group 0 has a level, and 1 has none
 abbrev with_level : PriorityGroup
@@ -50,7 +59,7 @@ abbrev without_level : PriorityGroup
 without_level = record { name = codes "r"; levels = [] }
 
 abbrev of_table : TableEntry → Schema
-of_table entry = record { sites = site None ∷ snapshot_site ∷ []; tables = entry ∷ []; priorities = with_level ∷ without_level ∷ [] }
+of_table entry = record { sites = site None ∷ site_s ∷ []; tables = entry ∷ []; priorities = with_level ∷ without_level ∷ [] }
 
 -- a table whose key is a NUMBER, with one group
 abbrev grouped : List ℕ → List Method → Schema
@@ -65,6 +74,14 @@ constrained key_methods columns methods =
 abbrev convergent : Column → List Group → SiteEntry → Schema
 convergent first groups other = record (of_table (record (table (columns_behind first) groups) { convergent = true })) { sites = site (Some (pos 1)) ∷ other ∷ [] }
 
+-- the check of a column
+abbrev check : ℕ → Check
+check place = record { name = codes "c"; column = place; rel = Ge; value = Num (pos 0) }
+
+-- a table whose key is a NUMBER, with the check of a column
+abbrev checked : ℕ → Schema
+checked place = of_table (record (table (columns_behind (key kind.Number)) []) { checks = check place ∷ [] })
+
 -- the groups of the forms that a convergent table may have
 abbrev sum_group : Group
 sum_group = group (1 ∷ []) (method.Additive ∷ [])
@@ -75,6 +92,12 @@ least_group = group (1 ∷ []) (method.Minimum 1 ∷ method.Discard ∷ [])
 abbrev latest_group : Group
 latest_group = group (2 ∷ 3 ∷ 4 ∷ 5 ∷ []) (method.Latest 3 ∷ method.SitePriority 4 ∷ [])
 
+-- a convergent table whose groups have these forms, with the check of a column
+abbrev convergent_checked : ℕ → Schema
+convergent_checked place = record (convergent (key kind.Site) [] (site (Some (pos 2)))) {
+  tables = record (table (columns_behind (key kind.Site)) (sum_group ∷ latest_group ∷ [])) { convergent = true; checks = check place ∷ [] } ∷ [];
+}
+
 sound_with_groups : broken_rule (grouped (5 ∷ []) (method.Priority 5 0 ∷ method.Maximum 5 ∷ method.Latest 5 ∷ method.Discard ∷ [])) ≡ None
 unfolding broken_rule
 sound_with_groups = refl
@@ -82,6 +105,10 @@ sound_with_groups = refl
 sound_with_a_constraint : broken_rule (constrained (unique.Discard ∷ []) (1 ∷ 2 ∷ []) (unique.AppendSite 2 ∷ unique.AppendSequence 2 ∷ [])) ≡ None
 unfolding broken_rule
 sound_with_a_constraint = refl
+
+sound_with_a_check : broken_rule (checked 5) ≡ None
+unfolding broken_rule
+sound_with_a_check = refl
 
 sound_and_convergent : broken_rule (convergent (key kind.Site) (sum_group ∷ latest_group ∷ []) (site (Some (negsuc 0)))) ≡ None
 unfolding broken_rule
@@ -91,7 +118,11 @@ least_converges : broken_rule (convergent (key kind.Site) (least_group ∷ lates
 unfolding broken_rule
 least_converges = refl
 
-snapshot_sites_alone : broken_rule (record { sites = snapshot_site ∷ []; tables = []; priorities = [] }) ≡ Some 1
+late_masters_alone : broken_rule (record no_schema { sites = late_site (name (codes "D")) ∷ site_s ∷ [] }) ≡ Some 1
+unfolding broken_rule
+late_masters_alone = refl
+
+snapshot_sites_alone : broken_rule (record no_schema { sites = site_s ∷ [] }) ≡ Some 1
 unfolding broken_rule
 snapshot_sites_alone = refl
 
@@ -182,9 +213,26 @@ one_level_twice : broken_rule (convergent (key kind.Site) (sum_group ∷ latest_
 unfolding broken_rule
 one_level_twice = refl
 
-snapshot_site_without_level : broken_rule (convergent (key kind.Site) (sum_group ∷ latest_group ∷ []) snapshot_site) ≡ Some 15
+snapshot_site_without_level : broken_rule (convergent (key kind.Site) (sum_group ∷ latest_group ∷ []) site_s) ≡ Some 15
 unfolding broken_rule
 snapshot_site_without_level = refl
+
+stamp_checked : broken_rule (checked 3) ≡ Some 16
+unfolding broken_rule
+stamp_checked = refl
+
+site_checked : broken_rule (checked 4) ≡ Some 16
+unfolding broken_rule
+site_checked = refl
+
+convergent_and_checked : broken_rule (convergent_checked 1) ≡ Some 17
+unfolding broken_rule
+convergent_and_checked = refl
+
+-- rules 16 and 17 are both broken
+stamp_of_a_convergent_table_checked : broken_rule (convergent_checked 3) ≡ Some 16
+unfolding broken_rule
+stamp_of_a_convergent_table_checked = refl
 
 -- rules 6 and 9 are both broken
 lower_rule_is_told : broken_rule (grouped (1 ∷ []) (method.SitePriority 1 ∷ method.Latest 1 ∷ [])) ≡ Some 6

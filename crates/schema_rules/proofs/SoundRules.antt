@@ -1,6 +1,5 @@
 -- A schema that breaks no rule keeps each of them.
-use Rattle.std.proofs.Common.{◌≡◌, ℕ, ◌+◌, true, false, Bool, cond, List, [], ◌∷◌, Option, Some, None, refl}
-use Rattle.std.specs.Prelude.{◌↔◌}
+use Rattle.std.proofs.Common.{◌≡◌, ℕ, ◌+◌, true, false, Bool, List, [], ◌∷◌, None, refl}
 use Rattle.std.specs.List.{AllByRecursion}
 use Rattle.rep_schema.specs.declared.schema.Schema.{Schema}
 use Rattle.schema_rules.specs.Rules.{rules_of, broken_from, broken_rule}
@@ -38,12 +37,14 @@ sound_where_unbroken schema none =
       groups_alone = all.1.1.1.1.1.1.1.1.1.1.1.1.0;
       formed = all.1.1.1.1.1.1.1.1.1.1.1.1.1.0;
       levelled = all.1.1.1.1.1.1.1.1.1.1.1.1.1.1.0;
+      plainly_checked = all.1.1.1.1.1.1.1.1.1.1.1.1.1.1.1.0;
+      unchecked = all.1.1.1.1.1.1.1.1.1.1.1.1.1.1.1.1.0;
     }
 
 unbroken_where_sound : (schema : Schema) → IsSound schema → broken_rule schema ≡ None
 unfolding broken_rule
 unbroken_where_sound schema is = none_broken (rules_of schema) 1
-    (is.mastered, (is.keyed, (is.grouped_apart, (is.own_columns, (is.one_number, (is.times, (is.amounts, (is.ranked, (is.sites, (is.plainly_constrained, (is.appends, (is.site_keyed, (is.groups_alone, (is.formed, (is.levelled, tt)))))))))))))))
+    (is.mastered, (is.keyed, (is.grouped_apart, (is.own_columns, (is.one_number, (is.times, (is.amounts, (is.ranked, (is.sites, (is.plainly_constrained, (is.appends, (is.site_keyed, (is.groups_alone, (is.formed, (is.levelled, (is.plainly_checked, (is.unchecked, tt)))))))))))))))))
 
 -- a schema is sound exactly where no rule is broken
 pub IsSound-unbroken : SoundUnbroken

@@ -4,5 +4,6 @@ pub mod MethodRules
 pub mod ConstraintRules
 pub mod Forms
 pub mod ConvergentRules
+pub mod CheckRules
 pub mod Rules
 pub mod Soundness

@@ -1,11 +1,12 @@
 -- What the rules of a schema say, each under its name.
-use Rattle.std.specs.Prelude.{◌≡◌, ◌↔◌, true, None, is_some}
+use Rattle.std.specs.Prelude.{◌≡◌, ◌↔◌, true, None}
 use Rattle.std.specs.List.{list_all}
 use Rattle.rep_schema.specs.declared.schema.Schema.{Schema}
 use Rattle.schema_rules.specs.KeyRules.{is_well_keyed, is_off_the_key}
 use Rattle.schema_rules.specs.MethodRules.{each_group, each_method, names_own_columns, adds_one_number, compares_times, compares_amounts, ranks_plain_values, compares_sites}
 use Rattle.schema_rules.specs.ConstraintRules.{each_constraint, has_plain_columns, has_good_appends}
 use Rattle.schema_rules.specs.ConvergentRules.{each_convergent, is_keyed_by_site, has_groups_alone, have_forms, has_levels}
+use Rattle.schema_rules.specs.CheckRules.{each_check, tests_plain_column, is_unchecked}
 use Rattle.schema_rules.specs.Rules.{has_some_master, broken_rule}
 
 -- a schema that keeps all rules, one field for each in the order of their numbers
@@ -25,6 +26,8 @@ pub record IsSound (schema : Schema) : Type 0 where
   pub groups_alone : each_convergent has_groups_alone schema ≡ true
   pub formed : each_convergent have_forms schema ≡ true
   pub levelled : has_levels schema ≡ true
+  pub plainly_checked : each_check tests_plain_column schema ≡ true
+  pub unchecked : each_convergent is_unchecked schema ≡ true
 
 -- a schema is sound exactly where no rule is broken
 abbrev pub SoundUnbroken : Type 0

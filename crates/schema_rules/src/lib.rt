@@ -1,6 +1,7 @@
 //! The rules that a schema has to keep when its declarations end.
 #![tactic(auto)]
 
+mod check_rules;
 mod columns;
 mod constraint_rules;
 mod convergent_rules;

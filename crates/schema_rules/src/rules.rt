@@ -1,9 +1,10 @@
 //! The rules of a schema, which are tested when its declarations end.
 ghost use Rattle.std.specs.Prelude.{◌≡◌, Some, None, IfErr, OnOk, not};
 ghost use Rattle.std.specs.List.{list_any, list_all, position};
-ghost use Rattle.rep_schema.specs.Shape.{is_master};
+ghost use Rattle.rep_schema.specs.Shape.{is_early_master};
 ghost use Rattle.schema_rules.specs.Rules.{rules_of, broken_rule};
 
+use crate::check_rules::{each_is_unchecked, each_tests_plain_column};
 use crate::constraint_rules::{each_has_plain_columns, have_good_appends};
 use crate::convergent_rules::{
     each_has_forms, each_has_groups_alone, each_is_keyed_by_site, has_levels,
@@ -16,13 +17,13 @@ use crate::method_rules::{
 use rep_schema::{Schema, SiteEntry};
 
 fn has_some_master(sites: &[SiteEntry]) -> bool
-    ensures { result ≡ list_any is_master sites.now }
+    ensures { result ≡ list_any is_early_master sites.now }
 {
-    sites.iter().any(|site| site.master.is_none())
+    sites.iter().any(|site| site.is_early_master())
 }
 
 /// Whether each rule holds, in the order of their numbers.
-fn rules_of(schema: &Schema) -> [bool; 15]
+fn rules_of(schema: &Schema) -> [bool; 17]
     ensures { result ≡ rules_of schema.now }
 {
     [
@@ -41,6 +42,8 @@ fn rules_of(schema: &Schema) -> [bool; 15]
         each_has_groups_alone(schema),
         each_has_forms(schema),
         has_levels(schema),
+        each_tests_plain_column(schema),
+        each_is_unchecked(schema),
     ]
 }
 
@@ -52,7 +55,7 @@ fn first_broken(rules: &[bool]) -> Option<usize>
 
 /// The number of the lowest rule that is broken, if one is. It takes no memory.
 ///
-///  1. There is a master.
+///  1. There is a master that is there from the start.
 ///  2. Every table has a key column, and no key column is a STAMP.
 ///  3. No column of a named group is a key column.
 ///  4. The column named by a group's method is in the group.
@@ -69,6 +72,8 @@ fn first_broken(rules: &[bool]) -> Option<usize>
 ///     column, its maximum or its minimum, then discard; or a STAMP and a SITE column, with any others, latest of the
 ///     one, then site-priority of the other.
 /// 15. Where there is a convergent table, every site has a level, and all levels differ.
+/// 16. The column of a check is a NUMBER, TEXT or DATE.
+/// 17. A convergent table has no check.
 #[tactic(auto, unfolding(crate::specs::Rules::broken_rule))]
 pub fn check(schema: &Schema) -> Result<(), u8>
     ensures sound { OnOk result (broken_rule schema.now ≡ None) }
