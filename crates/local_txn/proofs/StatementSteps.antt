@@ -17,7 +17,7 @@ use Rattle.rep_schema.specs.Putting.{changes_between}
 use Rattle.rep_schema.specs.Kinds.{row_in_range}
 use Rattle.local_txn.specs.Literals.{literals_fit, key_literals_fit, values_of}
 use Rattle.local_txn.specs.Sets.{names_columns, names_one_twice, sets_fit, row_with, row_where_in_range}
-use Rattle.local_txn.specs.Statements.{row_at, row_set, unique_steps, update_steps}
+use Rattle.local_txn.specs.Statements.{row_at, row_set, free_steps, update_steps}
 use Rattle.local_txn.specs.Running.{CanRun, RunsAs}
 use Rattle.local_txn.proofs.RowShapes.{both_true, length-literals_fit, takes, RowFits-row_with, key_of-row_with}
 
@@ -93,10 +93,10 @@ module _ (schema : Schema) (tables : List Rows) (table : ℕ) (able : CanRun sch
           (ap (key_of (columns_of schema table)) in_range.0 ∙ key_of-row_with sets (columns_of schema table) found taken ∙ key_of-found (columns_of schema table) (values_of key) found (rows_of tables table) there)
 
       -- where it is put, the update runs
-      pub RunsAs-updated : (changes : List Change) → RunsAs (first_refusal (unique_steps schema tables table row)) (changes_between table (row_like (columns_of schema table) row (rows_of tables table)) (Some row)) changes
+      pub RunsAs-updated : (changes : List Change) → RunsAs (first_refusal (free_steps schema tables table row)) (changes_between table (row_like (columns_of schema table) row (rows_of tables table)) (Some row)) changes
           → RunsAs (first_refusal (update_steps schema tables table key sets)) (changes_between table (row_at schema tables table (values_of key)) (row_set sets (columns_of schema table) (row_at schema tables table (values_of key)))) changes
       RunsAs-updated changes runs =
-          let passes : first_refusal (unique_steps schema tables table after) ≡ None = subst (λ (r : Cells). first_refusal (unique_steps schema tables table r) ≡ None) in_range.0 runs.accepted in
+          let passes : first_refusal (free_steps schema tables table after) ≡ None = subst (λ (r : Cells). first_refusal (free_steps schema tables table r) ≡ None) in_range.0 runs.accepted in
           record {
             accepted = rw (known, fits, there, in_range.1) passes;
             changes = runs.changes ∙ ap (λ b. changes_between table b (Some row)) same_row ∙ rw there (ap (λ r. changes_between table (Some found) (Some r)) in_range.0);

@@ -13,6 +13,7 @@ use Rattle.rep_schema.specs.declared.schema.TableEntry.{TableEntry}
 use Rattle.rep_schema.specs.declared.schema.Column.{Column}
 use Rattle.rep_schema.specs.declared.schema.Kind.{Kind}
 use Rattle.rep_schema.specs.declared.schema.Kind.TheVariants as kind
+use Rattle.rep_schema.specs.declared.check.Rel.TheVariants.{Le}
 use Rattle.rep_schema.specs.declared.change.Change.{Change}
 use Rattle.rep_schema.specs.Tables.{Cells, Rows}
 use Rattle.rep_calls.specs.declared.statement.Statement.{Statement}
@@ -27,7 +28,7 @@ use Rattle.local_txn.specs.Locals.{local_effect}
 abbrev column : List ℕ → Kind → Bool → Column
 column name kind key = record { name = name; kind = kind; key = key }
 
--- the table T of the columns ID (the key) and Q; Q alone is the constraint u
+-- the table T of the columns ID (the key) and Q; Q alone is the constraint u, and it is at most 1000
 abbrev table_t : TableEntry
 table_t = record {
   name = record { 0 = codes "T" };
@@ -35,6 +36,7 @@ table_t = record {
   groups = [];
   key_methods = [];
   constraints = record { name = codes "u"; columns = 1 ∷ []; methods = [] } ∷ [];
+  checks = record { name = codes "high"; column = 1; rel = Le; value = Num (pos 1000) } ∷ [];
   convergent = false;
 }
 
@@ -174,6 +176,12 @@ value_is_another_row's = refl
 
 own_value_is_free : why (update 2 (to (codes "Q") 6 ∷ [])) ≡ None
 own_value_is_free = refl
+
+check_not_met : why (update 2 (to (codes "Q") 1001 ∷ [])) ≡ Some (refusal.CheckFailed (codes "high"))
+check_not_met = refl
+
+check_not_met_by_a_new_row : why (insert (num 3 ∷ num 1001 ∷ [])) ≡ Some (refusal.CheckFailed (codes "high"))
+check_not_met_by_a_new_row = refl
 
 -- what a statement that isn't refused does
 

@@ -1,5 +1,5 @@
 -- What one statement does: why it is refused, or which row it changes and how.
-use Rattle.std.specs.Prelude.{ℕ, not, ◌&&◌, List, [], ◌∷◌, map, Option, Some, None, is_some}
+use Rattle.std.specs.Prelude.{ℕ, not, ◌&&◌, List, [], ◌∷◌, ◌++◌, map, Option, Some, None, is_some}
 use Rattle.rep_values.specs.declared.literal.Literal.{Literal}
 use Rattle.rep_values.specs.declared.refusal.Refusal.{Refusal}
 use Rattle.rep_values.specs.declared.refusal.Refusal.TheVariants as refusal
@@ -18,6 +18,8 @@ use Rattle.local_txn.specs.declared.local.Here.{Here}
 use Rattle.rep_schema.specs.Named.{table_place}
 use Rattle.local_txn.specs.Held.{table_name, held_table}
 use Rattle.rep_schema.specs.Kinds.{row_in_range}
+use Rattle.rep_schema.specs.Checks.{failed_check}
+use Rattle.std.specs.Option.{option_map}
 use Rattle.local_txn.specs.Literals.{literals_fit, key_literals_fit, values_of}
 use Rattle.local_txn.specs.Sets.{names_columns, sets_fit, row_with}
 
@@ -67,9 +69,17 @@ taken_step schema tables table row constraint =
 abbrev pub unique_steps : Schema → List Rows → ℕ → Cells → List (Option Refusal)
 unique_steps schema tables table row = map (taken_step schema tables table row) (constraints_of schema table)
 
--- a new row: its numbers in range, its values in the constraints free
+-- the first check that a new row doesn't meet
+abbrev pub check_step : Schema → ℕ → Cells → Option Refusal
+check_step schema table row = option_map (λ check. refusal.CheckFailed check.name) (failed_check schema table row)
+
+-- its values in the constraints free, the checks met
+abbrev pub free_steps : Schema → List Rows → ℕ → Cells → List (Option Refusal)
+free_steps schema tables table row = unique_steps schema tables table row ++ check_step schema table row ∷ []
+
+-- a new row: its numbers in range, its values in the constraints free, the checks met
 abbrev pub row_steps : Schema → List Rows → ℕ → Cells → List (Option Refusal)
-row_steps schema tables table row = refused (not (row_in_range row)) refusal.ValueRange ∷ unique_steps schema tables table row
+row_steps schema tables table row = refused (not (row_in_range row)) refusal.ValueRange ∷ free_steps schema tables table row
 
 -- what follows where the row is there
 abbrev pub there : Option Cells → (Cells → List (Option Refusal)) → List (Option Refusal)

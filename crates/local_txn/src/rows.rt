@@ -6,12 +6,13 @@ ghost use Rattle.rep_schema.specs.Changes.{row_like};
 ghost use Rattle.rep_values.specs.RefusalSteps.{first_refusal};
 ghost use Rattle.unique_resolve.specs.Settling.{is_held};
 ghost use Rattle.rep_schema.specs.Putting.{changes_between, made_all, changes_of};
-ghost use Rattle.local_txn.specs.Statements.{taken_step, unique_steps, row_at};
+ghost use Rattle.local_txn.specs.Statements.{taken_step, unique_steps, check_step, free_steps, row_at};
 ghost use Rattle.local_txn.specs.Running.{CanRun, RunsAs, StopsAs};
 
 use crate::stop::Stop;
 use rep_schema::{
-    Change, Constraint, RowStore, Schema, columns_of, constraint_count, key_of, put_if_changed,
+    Change, Constraint, RowStore, Schema, columns_of, constraint_count, failed_check, key_of,
+    put_if_changed,
 };
 use rep_values::{Key, Refusal, Row};
 use std::alloc::Global;
@@ -65,7 +66,7 @@ fn taken_in<R: RowStore>(store: &R, table: u32, place: usize, row: &Row) -> Opti
 }
 
 /// The first secondary constraint in declared order in which another row has a row's values.
-pub(crate) fn unique_refusal<R: RowStore>(store: &R, table: u32, row: &Row) -> Option<Refusal>
+fn unique_refusal<R: RowStore>(store: &R, table: u32, row: &Row) -> Option<Refusal>
     requires able { CanRun (R.schema store.now) (R.tables store.now) table }
     requires fits { RowFits (columns_of (R.schema store.now) table) row.now }
     ensures { result ≡ first_refusal (unique_steps (R.schema store.now) (R.tables store.now) table row.now) }
@@ -78,7 +79,30 @@ pub(crate) fn unique_refusal<R: RowStore>(store: &R, table: u32, row: &Row) -> O
     None
 }
 
-/// Puts a row that fits, where no other row has its values in a secondary constraint.
+/// The first check that a row doesn't meet.
+fn check_refusal(schema: &Schema, table: u32, row: &Row) -> Option<Refusal>
+    requires { table < length schema.now.tables }
+    ensures { result ≡ check_step schema.now table row.now }
+{
+    match failed_check(schema, table, row) {
+        Some(check) => Some(Refusal::CheckFailed(check.name)),
+        None => None,
+    }
+}
+
+/// Why a row can't be put: a secondary constraint in which another row has its values, then a check.
+pub(crate) fn free_refusal<R: RowStore>(store: &R, table: u32, row: &Row) -> Option<Refusal>
+    requires able { CanRun (R.schema store.now) (R.tables store.now) table }
+    requires fits { RowFits (columns_of (R.schema store.now) table) row.now }
+    ensures { result ≡ first_refusal (free_steps (R.schema store.now) (R.tables store.now) table row.now) }
+{
+    if let Some(refusal) = unique_refusal(store, table, row) {
+        return Some(refusal);
+    }
+    check_refusal(store.schema(), table, row)
+}
+
+/// Puts a row that fits, where no other row has its values in a secondary constraint and it meets the checks.
 pub(crate) fn put_free<R: RowStore>(
     store: &mut R,
     alloc: Global,
@@ -88,16 +112,16 @@ pub(crate) fn put_free<R: RowStore>(
     requires able { CanRun (R.schema store.old) (R.tables store.old) table }
     requires fits { RowFits (columns_of (R.schema store.old) table) row }
     requires room { 1 ≤ slice_index (R.spare store.old) table }
-    ensures ok { IfOk result (λ change. RunsAs (first_refusal (unique_steps (R.schema store.old) (R.tables store.old) table row))
+    ensures ok { IfOk result (λ change. RunsAs (first_refusal (free_steps (R.schema store.old) (R.tables store.old) table row))
         (changes_between table (row_like (columns_of (R.schema store.old) table) row (rows_of (R.tables store.old) table)) (Some row)) (changes_of change)) }
     ensures tables { IfOk result (λ change. R.tables store.new ≡ made_all (R.schema store.old) (changes_of change) (R.tables store.old)) }
-    ensures err { IfErr result (StopsAs (first_refusal (unique_steps (R.schema store.old) (R.tables store.old) table row))) }
+    ensures err { IfErr result (StopsAs (first_refusal (free_steps (R.schema store.old) (R.tables store.old) table row))) }
     ensures same { OnErr result (R.tables store.new ≡ R.tables store.old) }
     ensures schema { R.schema store.new ≡ R.schema store.old }
     ensures same_room { OnErr result (R.spare store.new ≡ R.spare store.old) }
     ensures room { (t : ℕ) → slice_index (R.spare store.old) t ≤ slice_index (R.spare store.new) t + cond (t == table) 1 0 }
 {
-    if let Some(refusal) = unique_refusal(store, table, &row) {
+    if let Some(refusal) = free_refusal(store, table, &row) {
         return Err(Stop::Refused(refusal));
     }
     let change = put_if_changed(alloc, store, table, row)?;

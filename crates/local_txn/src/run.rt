@@ -11,6 +11,7 @@ ghost use Rattle.unique_resolve.specs.Numbers.{Numbers};
 ghost use Rattle.txn_effects.specs.Calls.{HasKeys};
 ghost use Rattle.rep_schema.specs.Putting.{made_all, changes_of};
 ghost use Rattle.txn_effects.specs.Transactions.{txn_effect};
+ghost use Rattle.txn_effects.specs.Laws.{IsChecked};
 ghost use Rattle.local_txn.specs.Statements.{statement_refusal, statement_changes};
 ghost use Rattle.local_txn.specs.Locals.{statements_effect, local_effect};
 ghost use Rattle.local_txn.specs.Running.{RunsAs, StopsAs, EndsAs};
@@ -70,6 +71,7 @@ fn run_statements<R: RowStore>(
     ensures tables { IfOk result (λ changes. R.tables store.new ≡ made_all (R.schema store.old) changes.rows (R.tables store.old)) }
     ensures leads { IfOk result (λ changes. LeadsTo (R.schema store.old) changes.rows (R.tables store.old) (R.tables store.new)) }
     ensures differ { IfOk result (λ changes. AllByRecursion (λ change. change.before ≢ change.after) changes.rows) }
+    ensures checked { IfOk result (λ changes. AllByRecursion (IsChecked (R.schema store.old)) changes.rows) }
     ensures were { AreTables (R.schema store.old) (R.tables store.old) }
     ensures room { IfOk result (λ changes. (t : ℕ) → room_for t changes.rows ≤ slice_index (R.spare store.new) t) }
     ensures err { IfErr result (EndsAs (statements_effect (R.schema store.old) here.now 1 statements.now (R.tables store.old))) }
@@ -127,6 +129,9 @@ pub fn run_local<R: RowStore>(
     ensures leads { IfOk result (λ local. LeadsTo (R.schema store.old) local.changes.rows (R.tables store.old) (R.tables store.new)) }
     ensures room { IfOk result (λ local. (t : ℕ) → room_for t local.changes.rows ≤ slice_index (R.spare store.new) t) }
     ensures fits { IfOk result (λ local. TxnFits (R.schema store.old) local.txn) }
+    ensures were { AreTables (R.schema store.old) (R.tables store.old) }
+    ensures differ { IfOk result (λ local. AllByRecursion (λ change. change.before ≢ change.after) local.changes.rows) }
+    ensures checked { IfOk result (λ local. AllByRecursion (IsChecked (R.schema store.old)) local.changes.rows) }
     ensures applies { IfOk result (λ local. (origin : SiteNameValue) (numbers : Numbers)
         → txn_effect (R.schema store.old) origin local.txn (R.tables store.old) numbers ≡ Ok (record { changes = local.changes.rows; numbers = numbers })) }
     ensures err { IfErr result (EndsAs (local_effect (R.schema store.old) here.now statements.now (R.tables store.old))) }
@@ -134,6 +139,7 @@ pub fn run_local<R: RowStore>(
     ensures stamps { stamps.new ≡ stamps.old }
     ensures schema { R.schema store.new ≡ R.schema store.old }
 {
+    holds_tables(store);
     if statements.len() > 1_000 {
         return Err(LocalStop {
             statement: 1_001,

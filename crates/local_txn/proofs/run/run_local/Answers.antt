@@ -30,4 +30,4 @@ returns-in-Ok-clause-applies g c origin numbers =
     let tables = g.R.RowStore.tables c.args.store.now in
     let done = c.in_ok-changes in
     let are : c.in-Ok.txn.calls ≡ map (call_of schema) done.changes.rows = rw (c.schema.ensures.value, done.ensures.schema, c.as_slice.ensures) at c.in-Ok.ensures in
-    rw are (calls_effect-own schema origin numbers 1 done.changes.rows tables (g.R.RowStore.tables c.run_statements.new.store) c.requires.shape done.ensures.were done.ensures.leads done.ensures.differ)
+    rw are (calls_effect-own schema origin numbers 1 done.changes.rows tables (g.R.RowStore.tables c.run_statements.new.store) c.requires.shape done.ensures.were done.ensures.leads done.ensures.differ done.ensures.checked)
