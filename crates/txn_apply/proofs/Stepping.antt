@@ -1,5 +1,5 @@
 -- One call after another.
-use Rattle.std.proofs.Common.{◌≡◌, ◌≢◌, ℕ, ◌<◌, ◌≤◌, List, ◌++◌, length, get_or, Ok, sym, ap, ◌∙◌, subst, inl, inr, arith}
+use Rattle.std.proofs.Common.{◌≡◌, ◌≢◌, ℕ, ◌<◌, ◌≤◌, Bool, true, false, cond, Some, None, refl, List, ◌++◌, length, get_or, Ok, sym, ap, ◌∙◌, subst, inl, inr, arith}
 use Rattle.std.specs.List.{AllByRecursion}
 use Rattle.std.proofs.lemmas.Bool.{cases_eq}
 use Rattle.rep_lists.proofs.Each.{each_at}
@@ -12,7 +12,7 @@ use Rattle.rep_schema.specs.Changes.{room_for}
 use Rattle.rep_schema.proofs.Leading.{room_for-append}
 use Rattle.rep_calls.specs.declared.call.Call.{Call}
 use Rattle.conflict_detect.specs.Fits.{table_of, CallFits}
-use Rattle.unique_resolve.specs.Numbers.{Numbers}
+use Rattle.unique_resolve.specs.Numbers.{Numbers, has_sequences, kept_numbers, put_back}
 use Rattle.txn_effects.specs.Calls.{HasKeys, KeysStandAlone, Effect, call_effect}
 use Rattle.rep_schema.specs.Putting.{made_all}
 use Rattle.txn_effects.specs.Laws.{IsApplied}
@@ -31,6 +31,14 @@ room_for-more schema tables numbers origin call one t done spare spare' rows giv
       let sum = room_for-append t done one.changes in
       omega (arith, others ne, so_far, none, sum)
 ]
+
+-- counters that were kept come back, and so do those that nothing moved
+pub put_back-kept : (schema : Schema) (before now : Numbers) → (has_sequences schema ≡ false → now ≡ before) → put_back (kept_numbers schema before) now ≡ before
+put_back-kept schema before now still = go (has_sequences schema) still
+  where
+    go : (b : Bool) → (b ≡ false → now ≡ before) → put_back (cond b (Some before) None) now ≡ before
+    go true same = refl
+    go false same = same refl
 
 module _ (schema : Schema) (origin : SiteName) (shape : HasShape schema) (keys : HasKeys schema) (apart : KeysStandAlone schema) (calls : List Call) (fit : AllByRecursion (CallFits schema) calls)
     (before now : List Rows) (numbers : Numbers) (done : List Change) (i : ℕ) (call : Call) (below : i < length calls) (is : call ≡ get_or calls i call)

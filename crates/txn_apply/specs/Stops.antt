@@ -13,12 +13,12 @@ use Rattle.txn_effects.specs.Transactions.{Failure}
 use Rattle.txn_apply.specs.declared.stop.ApplyStop.{ApplyStop}
 use Rattle.txn_apply.specs.declared.stop.ApplyStop.TheVariants.{Failed, Memory}
 use Rattle.txn_apply.specs.declared.stop.CallStop.{CallStop}
-use Rattle.txn_apply.specs.declared.stop.CallStop.TheVariants.{Failed as CallFailed, Memory as NoMemoryLeft}
+use Rattle.txn_apply.specs.declared.stop.CallStop.TheVariants as of_call
 
 -- with the error that there is; want of memory needs no cause
 abbrev pub CallStopsAs : {A : Type 0} → Result A ApplyError → CallStop → Type 0
-CallStopsAs outcome (CallFailed error) = outcome ≡ Err error
-CallStopsAs outcome NoMemoryLeft = Unit {0}
+CallStopsAs outcome (of_call.Failed error) = outcome ≡ Err error
+CallStopsAs outcome of_call.Memory = Unit {0}
 
 -- with the call that fails and its error; want of memory needs no cause
 abbrev pub StopsAs : Result Effect Failure → ApplyStop → Type 0
@@ -26,8 +26,8 @@ StopsAs outcome (Failed call error) = outcome ≡ Err (record { call = call; err
 StopsAs outcome Memory = Unit {0}
 
 abbrev pub stop_of : ℕ → CallStop → ApplyStop
-stop_of call (CallFailed error) = Failed call error
-stop_of call NoMemoryLeft = Memory
+stop_of number (of_call.Failed error) = Failed number error
+stop_of number of_call.Memory = Memory
 
 -- a call makes these changes and leaves these counters
 abbrev pub CallsAs : Result Effect ApplyError → List Change → Numbers → Type 0

@@ -6,5 +6,5 @@ mod call;
 mod part;
 mod stop;
 
-pub use apply::apply_txn;
+pub use apply::{Applied, apply_txn, take_back};
 pub use stop::ApplyStop;

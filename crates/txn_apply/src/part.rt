@@ -3,14 +3,14 @@ ghost use Rattle.std.specs.Prelude.{◌≡◌, ◌<◌, cond, length, Ok, Err, I
 ghost use Rattle.std.specs.List.{AllByRecursion};
 ghost use Rattle.rep_schema.specs.Tables.{columns_of, RowFits};
 ghost use Rattle.rep_schema.specs.Shape.{HasShape};
-ghost use Rattle.rep_schema.specs.Groups.{with_values};
+ghost use Rattle.rep_schema.specs.Groups.{group_columns_of, with_values};
 ghost use Rattle.conflict_detect.specs.Fits.{PartFits};
 ghost use Rattle.conflict_detect.specs.Differing.{is_matched};
 ghost use Rattle.resolve_methods.specs.declared.decision.Decision.TheVariants.{TakeNew};
 ghost use Rattle.resolve_methods.specs.Decide.{decision_of};
 ghost use Rattle.txn_effects.specs.Parts.{settled_part, settled_parts};
 
-use conflict_detect::is_matched;
+use conflict_detect::has_old_values;
 use rep_calls::Part;
 use rep_schema::{Schema, group_columns, group_name};
 use rep_values::{ApplyError, Row, Value};
@@ -26,15 +26,17 @@ fn set_values(places: &[u32], values: &[Value], row: &mut Row)
     }
 }
 
-/// What is to be taken for a part: the new values where the row has the old ones; else the group's methods decide.
-fn decision_for(schema: &Schema, table: u32, part: &Part, row: &Row) -> Decision
+/// What is to be taken for a part of a group with these columns: the new values where the row has the old ones; else the
+/// group's methods decide.
+fn decision_for(schema: &Schema, table: u32, columns: &[u32], part: &Part, row: &Row) -> Decision
     requires table { table < length schema.now.tables }
     requires shape { HasShape schema.now }
+    requires columns { columns.now ≡ group_columns_of schema.now table part.now.group }
     requires part { PartFits schema.now table part.now }
     requires row { RowFits (columns_of schema.now table) row.now }
     ensures { result ≡ cond (is_matched schema.now table row.now part.now) TakeNew (decision_of schema.now table part.now row.now) }
 {
-    if is_matched(schema, table, row.values(), part) {
+    if has_old_values(columns, part, row.values()) {
         return Decision::TakeNew;
     }
     decide(schema, table, part, row)
@@ -50,7 +52,7 @@ fn settle_part(schema: &Schema, table: u32, part: &Part, row: &mut Row) -> Resul
     ensures err { IfErr result (λ error. settled_part schema.now table part.now row.old ≡ Err error) }
 {
     let columns = group_columns(schema, table, part.group);
-    match decision_for(schema, table, part, row) {
+    match decision_for(schema, table, columns.as_slice(), part, row) {
         Decision::TakeNew => {
             set_values(columns.as_slice(), part.new.as_slice(), row);
             Ok(())

@@ -1,9 +1,10 @@
 -- Applying the calls one after the other.
-use Rattle.std.proofs.Common.{◌≡◌, ◌≤◌, ◌++◌, ◌∷◌, ◌+◌, length, drop, Ok, ◌∙◌, arith}
+use Rattle.std.proofs.Common.{◌≡◌, ◌≤◌, ◌++◌, ◌∷◌, ◌+◌, length, drop, Ok, ap, ◌∙◌, arith}
 use Rattle.std.specs.List.{AllByRecursion}
 use Rattle.std.specs.Prelude.{slice_index}
 use Rattle.rep_lists.proofs.Places.{drop_from_place}
 use Rattle.conflict_detect.specs.Fits.{CallFits}
+use Rattle.unique_resolve.specs.Numbers.{has_sequences}
 use Rattle.txn_effects.specs.Calls.{Effect, call_effect}
 use Rattle.rep_schema.specs.Putting.{made_all, changes_of}
 use Rattle.txn_effects.proofs.TransactionEffects.{so_far-Ok}
@@ -30,6 +31,7 @@ loop-i-preserved g c =
       same = c.in-Ok-apply_in_room.ensures.schema ∙ c.loop-i.invariant.same;
       number = omega (arith, c.push_change.ensures.number, c.loop-i.invariant.number);
       capacity = omega (arith, c.push_change.ensures.capacity, c.loop-i.invariant.capacity);
+      still = λ none. c.in-Ok-apply_in_room.ensures.still (ap has_sequences c.loop-i.invariant.same ∙ none) ∙ c.loop-i.invariant.still none;
       made = rw c.push_change.ensures.items (tables ∙ made_all-more schema c.args.origin.now c.requires.shape c.requires.keys c.requires.apart calls fit before now c.loop-i.counters done c.loop-i.i call c.loop-i-test.true c.index-calls-i.is c.loop-i.invariant.made c.loop-i.invariant.applied changes);
       applied = rw c.push_change.ensures.items (IsApplied-more schema c.args.origin.now c.requires.shape c.requires.keys c.requires.apart calls fit before now c.loop-i.counters done c.loop-i.i call c.loop-i-test.true c.index-calls-i.is c.loop-i.invariant.made c.loop-i.invariant.applied one gives);
       room = λ t. rw c.push_change.ensures.items

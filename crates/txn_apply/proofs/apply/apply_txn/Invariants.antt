@@ -1,9 +1,10 @@
 -- One call after the other.
-use Rattle.std.proofs.Common.{◌≡◌, ℕ, ◌+◌, ◌≤◌, length, drop}
+use Rattle.std.proofs.Common.{◌≡◌, ℕ, ◌+◌, ◌≤◌, false, length, drop}
 use Rattle.std.specs.Prelude.{slice_index, vec_len, vec_capacity}
 use Rattle.rep_schema.specs.Changes.{room_for}
 use Rattle.txn_effects.specs.Laws.{IsApplied}
 use Rattle.rep_schema.specs.Putting.{made_all}
+use Rattle.unique_resolve.specs.Numbers.{has_sequences}
 use Rattle.txn_effects.specs.Transactions.{behind, calls_effect}
 use Rattle.txn_apply.proofs.apply.apply_txn.Given as goal
 
@@ -17,6 +18,7 @@ invariant-loop-i g l =
       same : g.R.RowStore.schema l.store ≡ schema;
       number : vec_len l.done ≤ l.i;
       capacity : length l.calls ≤ vec_capacity l.done;
+      still : has_sequences schema ≡ false → l.counters ≡ l.fn.counters;
       made : now ≡ made_all schema l.done.items before;
       applied : IsApplied schema before (record { changes = l.done.items; numbers = l.counters });
       room : (t : ℕ) → room_for t l.done.items ≤ slice_index (g.R.RowStore.spare l.store) t;

@@ -1,16 +1,10 @@
 -- Changing a row by parts.
-use Rattle.std.proofs.Common.{◌≡◌, Ok, Some, [], false, sym, ◌∙◌, subst}
-use Rattle.rep_schema.specs.Tables.{columns_of, find_row, rows_of, RowFits}
-use Rattle.rep_schema.specs.declared.schema.Schema.{Schema}
-use Rattle.rep_schema.specs.Putting.{changes_of}
-use Rattle.unique_resolve.specs.declared.settled.Settled.{Settled}
-use Rattle.unique_resolve.specs.Numbers.{Numbers}
-use Rattle.rep_calls.specs.declared.call.Call.TheVariants.{Update}
+use Rattle.std.proofs.Common.{◌≡◌, Ok, Some, false, sym, ◌∙◌}
+use Rattle.rep_schema.specs.Tables.{columns_of, find_row, rows_of}
+use Rattle.unique_resolve.specs.Settling.{settlement_of}
+use Rattle.unique_resolve.proofs.RisingCounters.{counters_stand_still_without_sequences}
 use Rattle.txn_effects.specs.Parts.{settled_parts}
-use Rattle.txn_effects.specs.Calls.{call_effect}
-use Rattle.txn_apply.specs.Stops.{CallsAs}
-use Rattle.txn_apply.specs.Putting.{PutsAs}
-use Rattle.txn_apply.proofs.CallOutcomes.{IsPuttable-settled, RowFits-found, RowFits-parts, row_like-parts, PutsAs-kept, IsOther-settled, call_effect-Update}
+use Rattle.txn_apply.proofs.CallOutcomes.{row_to_put-Some, settled_changes-None, CanBePut-settled, RowFits-found, RowFits-parts, row_like-parts, call_effect-Update, call_effect-Update_other, call_effect-Update_same}
 use Rattle.txn_apply.proofs.call.update_row.Goals as goal
 
 pub settle_parts-requires-clause-row : goal.settle_parts-requires-clause-row
@@ -18,67 +12,109 @@ settle_parts-requires-clause-row g c =
     let able = c.requires.able in
     let schema = g.R.RowStore.schema c.args.store.now in
     let tables = g.R.RowStore.tables c.args.store.now in
-    let there : find_row (columns_of schema c.args.table) c.args.key.now (rows_of tables c.args.table) ≡ Some c.in-Some.found.now = sym c.in-Some.ensures in
-    rw (c.schema.ensures.value, c.in_ok-row.ensures) (RowFits-found schema tables c.args.counters.now c.args.origin.now c.args.table able.shape able.are able.counters able.fits.table able.apart c.args.key.now c.args.parts.now able.fits c.in-Some.found.now c.in-Some.found.now there)
+    let table = c.args.update.table in
+    let there : find_row (columns_of schema table) c.args.update.key.now (rows_of tables table) ≡ Some c.in-Some.found.now = sym c.in-Some.ensures in
+    rw (c.schema.ensures.value, c.in_ok-row.ensures) (RowFits-found schema tables c.args.counters.now c.args.origin.now table able.shape able.are able.counters able.fits.table able.apart c.args.update.key.now c.args.update.parts.now able.fits c.in-Some.found.now c.in-Some.found.now there)
 
 pub settle_unique-settled-requires-clause-before : goal.settle_unique-settled-requires-clause-before
 settle_unique-settled-requires-clause-before g c κs within =
     let able = c.requires.able in
     let schema = g.R.RowStore.schema c.args.store.now in
     let tables = g.R.RowStore.tables c.args.store.now in
-    let there : find_row (columns_of schema c.args.table) c.args.key.now (rows_of tables c.args.table) ≡ Some c.in-Some.found.now = sym c.in-Some.ensures in
-    let gives : settled_parts schema c.args.table c.args.parts.now c.in-Some.found.now ≡ Ok c.settle_parts.new.row = rw (c.schema.ensures.value, c.as_slice.ensures, c.in_ok-row.ensures) at c.in_ok-settle_parts.ensures.ok in
-    row_like-parts schema tables c.args.counters.now c.args.origin.now c.args.table able.shape able.are able.counters able.fits.table able.apart c.args.key.now c.args.parts.now able.fits c.in-Some.found.now c.settle_parts.new.row there gives
+    let table = c.args.update.table in
+    let there : find_row (columns_of schema table) c.args.update.key.now (rows_of tables table) ≡ Some c.in-Some.found.now = sym c.in-Some.ensures in
+    let gives : settled_parts schema table c.args.update.parts.now c.in-Some.found.now ≡ Ok c.settle_parts.new.row = rw (c.schema.ensures.value, c.in_ok-row.ensures) at c.in_ok-settle_parts.ensures.ok in
+    row_like-parts schema tables c.args.counters.now c.args.origin.now table able.shape able.are able.counters able.fits.table able.apart c.args.update.key.now c.args.update.parts.now able.fits c.in-Some.found.now c.settle_parts.new.row there gives
 
 pub settle_unique-settled-requires-clause-fits : goal.settle_unique-settled-requires-clause-fits
 settle_unique-settled-requires-clause-fits g c κs within =
     let able = c.requires.able in
     let schema = g.R.RowStore.schema c.args.store.now in
     let tables = g.R.RowStore.tables c.args.store.now in
-    let there : find_row (columns_of schema c.args.table) c.args.key.now (rows_of tables c.args.table) ≡ Some c.in-Some.found.now = sym c.in-Some.ensures in
-    let gives : settled_parts schema c.args.table c.args.parts.now c.in-Some.found.now ≡ Ok c.settle_parts.new.row = rw (c.schema.ensures.value, c.as_slice.ensures, c.in_ok-row.ensures) at c.in_ok-settle_parts.ensures.ok in
-    RowFits-parts schema tables c.args.counters.now c.args.origin.now c.args.table able.shape able.are able.counters able.fits.table able.apart c.args.key.now c.args.parts.now able.fits c.in-Some.found.now c.settle_parts.new.row there gives
+    let table = c.args.update.table in
+    let there : find_row (columns_of schema table) c.args.update.key.now (rows_of tables table) ≡ Some c.in-Some.found.now = sym c.in-Some.ensures in
+    let gives : settled_parts schema table c.args.update.parts.now c.in-Some.found.now ≡ Ok c.settle_parts.new.row = rw (c.schema.ensures.value, c.in_ok-row.ensures) at c.in_ok-settle_parts.ensures.ok in
+    RowFits-parts schema tables c.args.counters.now c.args.origin.now table able.shape able.are able.counters able.fits.table able.apart c.args.update.key.now c.args.update.parts.now able.fits c.in-Some.found.now c.settle_parts.new.row there gives
 
-pub put_settled-requires-clause-fits : goal.put_settled-requires-clause-fits
-put_settled-requires-clause-fits g c κs within =
+-- without append-sequence no counter moves
+pub returns-in_err-row-2-clause-still : goal.returns-in_err-row-2-clause-still
+returns-in_err-row-2-clause-still g c none =
+    c.settle_unique-settled.ensures.counters ∙ counters_stand_still_without_sequences (g.R.RowStore.schema c.args.store.now) (g.R.RowStore.tables c.args.store.now) c.args.counters.now c.args.origin.now c.args.update.table false c.settle_parts.new.row none
+
+pub returns-in_default-2-clause-still : goal.returns-in_default-2-clause-still
+returns-in_default-2-clause-still g c none =
+    c.settle_unique-settled.ensures.counters ∙ counters_stand_still_without_sequences (g.R.RowStore.schema c.args.store.now) (g.R.RowStore.tables c.args.store.now) c.args.counters.now c.args.origin.now c.args.update.table false c.settle_parts.new.row none
+
+pub returns-then-is_same_row-clause-still : goal.returns-then-is_same_row-clause-still
+returns-then-is_same_row-clause-still g c none =
+    c.settle_unique-settled.ensures.counters ∙ counters_stand_still_without_sequences (g.R.RowStore.schema c.args.store.now) (g.R.RowStore.tables c.args.store.now) c.args.counters.now c.args.origin.now c.args.update.table false c.settle_parts.new.row none
+
+pub returns-in_err-change-clause-still : goal.returns-in_err-change-clause-still
+returns-in_err-change-clause-still g c none =
+    c.settle_unique-settled.ensures.counters ∙ counters_stand_still_without_sequences (g.R.RowStore.schema c.args.store.now) (g.R.RowStore.tables c.args.store.now) c.args.counters.now c.args.origin.now c.args.update.table false c.settle_parts.new.row none
+
+pub returns-clause-still : goal.returns-clause-still
+returns-clause-still g c none =
+    c.settle_unique-settled.ensures.counters ∙ counters_stand_still_without_sequences (g.R.RowStore.schema c.args.store.now) (g.R.RowStore.tables c.args.store.now) c.args.counters.now c.args.origin.now c.args.update.table false c.settle_parts.new.row none
+
+-- a row that is given up
+pub returns-in_default-2-clause-ok : goal.returns-in_default-2-clause-ok
+returns-in_default-2-clause-ok g c =
     let able = c.requires.able in
     let schema = g.R.RowStore.schema c.args.store.now in
     let tables = g.R.RowStore.tables c.args.store.now in
-    let there : find_row (columns_of schema c.args.table) c.args.key.now (rows_of tables c.args.table) ≡ Some c.in-Some.found.now = sym c.in-Some.ensures in
-    let gives : settled_parts schema c.args.table c.args.parts.now c.in-Some.found.now ≡ Ok c.settle_parts.new.row = rw (c.schema.ensures.value, c.as_slice.ensures, c.in_ok-row.ensures) at c.in_ok-settle_parts.ensures.ok in
-    IsPuttable-settled schema tables c.args.counters.now c.args.origin.now c.args.table able.shape able.are able.counters able.fits.table false c.settle_parts.new.row c.settle_unique-settled.result
-    (RowFits-parts schema tables c.args.counters.now c.args.origin.now c.args.table able.shape able.are able.counters able.fits.table able.apart c.args.key.now c.args.parts.now able.fits c.in-Some.found.now c.settle_parts.new.row there gives) c.settle_unique-settled.ensures.settled
+    let table = c.args.update.table in
+    let there : find_row (columns_of schema table) c.args.update.key.now (rows_of tables table) ≡ Some c.in-Some.found.now = sym c.in-Some.ensures in
+    let gives : settled_parts schema table c.args.update.parts.now c.in-Some.found.now ≡ Ok c.settle_parts.new.row = rw (c.schema.ensures.value, c.in_ok-row.ensures) at c.in_ok-settle_parts.ensures.ok in
+    let puts = rw (c.schema-2.ensures.value, c.settle_unique-settled.ensures.settled, c.in_default-2.is) at c.in_ok-row-2.ensures in
+    rw c.settle_unique-settled.ensures.counters (call_effect-Update schema tables c.args.counters.now c.args.origin.now table able.shape able.are able.counters able.fits.table able.apart c.args.update.key.now c.args.update.parts.now able.fits c.in-Some.found.now c.settle_parts.new.row there gives
+    ∙ settled_changes-None schema table (Some c.in-Some.found.now) (settlement_of schema tables c.args.counters.now c.args.origin.now table false c.settle_parts.new.row).numbers
+    (settlement_of schema tables c.args.counters.now c.args.origin.now table false c.settle_parts.new.row).settled puts)
 
-pub put_settled-requires-clause-differs : goal.put_settled-requires-clause-differs
-put_settled-requires-clause-differs g c κs within =
+-- the very same row
+pub returns-then-is_same_row-clause-ok : goal.returns-then-is_same_row-clause-ok
+returns-then-is_same_row-clause-ok g c =
     let able = c.requires.able in
     let schema = g.R.RowStore.schema c.args.store.now in
     let tables = g.R.RowStore.tables c.args.store.now in
-    let there : find_row (columns_of schema c.args.table) c.args.key.now (rows_of tables c.args.table) ≡ Some c.in-Some.found.now = sym c.in-Some.ensures in
-    let gives : settled_parts schema c.args.table c.args.parts.now c.in-Some.found.now ≡ Ok c.settle_parts.new.row = rw (c.schema.ensures.value, c.as_slice.ensures, c.in_ok-row.ensures) at c.in_ok-settle_parts.ensures.ok in
-    IsOther-settled schema tables c.args.counters.now c.args.origin.now c.args.table able.shape able.are able.counters able.fits.table able.apart c.args.key.now c.args.parts.now able.fits c.in-Some.found.now c.settle_parts.new.row there gives c.settle_unique-settled.result c.settle_unique-settled.ensures.settled (sym c.is_kept.ensures ∙ c.if-is_kept.false)
+    let table = c.args.update.table in
+    let there : find_row (columns_of schema table) c.args.update.key.now (rows_of tables table) ≡ Some c.in-Some.found.now = sym c.in-Some.ensures in
+    let gives : settled_parts schema table c.args.update.parts.now c.in-Some.found.now ≡ Ok c.settle_parts.new.row = rw (c.schema.ensures.value, c.in_ok-row.ensures) at c.in_ok-settle_parts.ensures.ok in
+    let puts = rw (c.schema-2.ensures.value, c.settle_unique-settled.ensures.settled, c.in-Some-2.is) at c.in_ok-row-2.ensures in
+    rw c.settle_unique-settled.ensures.counters (call_effect-Update_same schema tables c.args.counters.now c.args.origin.now table able.shape able.are able.counters able.fits.table able.apart c.args.update.key.now c.args.update.parts.now able.fits c.in-Some.found.now c.settle_parts.new.row there gives c.in-Some-2.row puts (sym c.is_same_row.ensures ∙ c.if-is_same_row.true))
 
-pub returns-then-is_kept-clause-ok : goal.returns-then-is_kept-clause-ok
-returns-then-is_kept-clause-ok g c =
+-- another row can be put
+pub put_with_change-requires-clause-fits : goal.put_with_change-requires-clause-fits
+put_with_change-requires-clause-fits g c κs within =
     let able = c.requires.able in
     let schema = g.R.RowStore.schema c.args.store.now in
     let tables = g.R.RowStore.tables c.args.store.now in
-    let there : find_row (columns_of schema c.args.table) c.args.key.now (rows_of tables c.args.table) ≡ Some c.in-Some.found.now = sym c.in-Some.ensures in
-    let gives : settled_parts schema c.args.table c.args.parts.now c.in-Some.found.now ≡ Ok c.settle_parts.new.row = rw (c.schema.ensures.value, c.as_slice.ensures, c.in_ok-row.ensures) at c.in_ok-settle_parts.ensures.ok in
-    subst (λ (n : Numbers). CallsAs (call_effect schema tables c.args.counters.now c.args.origin.now (Update c.args.table c.args.key.now c.args.parts.now)) [] n)
-    (sym c.settle_unique-settled.ensures.counters)
-    (call_effect-Update schema tables c.args.counters.now c.args.origin.now c.args.table able.shape able.are able.counters able.fits.table able.apart c.args.key.now c.args.parts.now able.fits c.in-Some.found.now c.settle_parts.new.row there gives []
-    (subst (λ (s : Settled). PutsAs schema tables c.args.table s []) c.settle_unique-settled.ensures.settled
-    (PutsAs-kept schema tables c.args.counters.now c.args.origin.now c.args.table able.shape able.are able.counters able.fits.table able.apart c.args.key.now c.args.parts.now able.fits c.in-Some.found.now c.settle_parts.new.row there gives c.settle_unique-settled.result c.settle_unique-settled.ensures.settled (sym c.is_kept.ensures ∙ c.if-is_kept.true))))
+    let table = c.args.update.table in
+    let there : find_row (columns_of schema table) c.args.update.key.now (rows_of tables table) ≡ Some c.in-Some.found.now = sym c.in-Some.ensures in
+    let gives : settled_parts schema table c.args.update.parts.now c.in-Some.found.now ≡ Ok c.settle_parts.new.row = rw (c.schema.ensures.value, c.in_ok-row.ensures) at c.in_ok-settle_parts.ensures.ok in
+    let puts = rw (c.schema-2.ensures.value, c.settle_unique-settled.ensures.settled, c.in-Some-2.is) at c.in_ok-row-2.ensures in
+    (CanBePut-settled schema tables c.args.counters.now c.args.origin.now table able.shape able.are able.counters able.fits.table false c.settle_parts.new.row c.in-Some-2.row (RowFits-parts schema tables c.args.counters.now c.args.origin.now table able.shape able.are able.counters able.fits.table able.apart c.args.update.key.now c.args.update.parts.now able.fits c.in-Some.found.now c.settle_parts.new.row there gives)
+    (row_to_put-Some schema table (settlement_of schema tables c.args.counters.now c.args.origin.now table false c.settle_parts.new.row).settled c.in-Some-2.row puts)).fits
+
+pub put_with_change-requires-clause-unique : goal.put_with_change-requires-clause-unique
+put_with_change-requires-clause-unique g c κs within =
+    let able = c.requires.able in
+    let schema = g.R.RowStore.schema c.args.store.now in
+    let tables = g.R.RowStore.tables c.args.store.now in
+    let table = c.args.update.table in
+    let there : find_row (columns_of schema table) c.args.update.key.now (rows_of tables table) ≡ Some c.in-Some.found.now = sym c.in-Some.ensures in
+    let gives : settled_parts schema table c.args.update.parts.now c.in-Some.found.now ≡ Ok c.settle_parts.new.row = rw (c.schema.ensures.value, c.in_ok-row.ensures) at c.in_ok-settle_parts.ensures.ok in
+    let puts = rw (c.schema-2.ensures.value, c.settle_unique-settled.ensures.settled, c.in-Some-2.is) at c.in_ok-row-2.ensures in
+    (CanBePut-settled schema tables c.args.counters.now c.args.origin.now table able.shape able.are able.counters able.fits.table false c.settle_parts.new.row c.in-Some-2.row (RowFits-parts schema tables c.args.counters.now c.args.origin.now table able.shape able.are able.counters able.fits.table able.apart c.args.update.key.now c.args.update.parts.now able.fits c.in-Some.found.now c.settle_parts.new.row there gives)
+    (row_to_put-Some schema table (settlement_of schema tables c.args.counters.now c.args.origin.now table false c.settle_parts.new.row).settled c.in-Some-2.row puts)).unique
 
 pub returns-clause-ok : goal.returns-clause-ok
 returns-clause-ok g c =
     let able = c.requires.able in
     let schema = g.R.RowStore.schema c.args.store.now in
     let tables = g.R.RowStore.tables c.args.store.now in
-    let there : find_row (columns_of schema c.args.table) c.args.key.now (rows_of tables c.args.table) ≡ Some c.in-Some.found.now = sym c.in-Some.ensures in
-    let gives : settled_parts schema c.args.table c.args.parts.now c.in-Some.found.now ≡ Ok c.settle_parts.new.row = rw (c.schema.ensures.value, c.as_slice.ensures, c.in_ok-row.ensures) at c.in_ok-settle_parts.ensures.ok in
-    subst (λ (n : Numbers). CallsAs (call_effect schema tables c.args.counters.now c.args.origin.now (Update c.args.table c.args.key.now c.args.parts.now)) (changes_of c.in_ok-change.change) n)
-    (sym c.settle_unique-settled.ensures.counters)
-    (call_effect-Update schema tables c.args.counters.now c.args.origin.now c.args.table able.shape able.are able.counters able.fits.table able.apart c.args.key.now c.args.parts.now able.fits c.in-Some.found.now c.settle_parts.new.row there gives (changes_of c.in_ok-change.change)
-    (subst (λ (s : Settled). PutsAs schema tables c.args.table s (changes_of c.in_ok-change.change)) c.settle_unique-settled.ensures.settled c.in_ok-change.ensures.ok))
+    let table = c.args.update.table in
+    let there : find_row (columns_of schema table) c.args.update.key.now (rows_of tables table) ≡ Some c.in-Some.found.now = sym c.in-Some.ensures in
+    let gives : settled_parts schema table c.args.update.parts.now c.in-Some.found.now ≡ Ok c.settle_parts.new.row = rw (c.schema.ensures.value, c.in_ok-row.ensures) at c.in_ok-settle_parts.ensures.ok in
+    let puts = rw (c.schema-2.ensures.value, c.settle_unique-settled.ensures.settled, c.in-Some-2.is) at c.in_ok-row-2.ensures in
+    rw c.settle_unique-settled.ensures.counters (call_effect-Update_other schema tables c.args.counters.now c.args.origin.now table able.shape able.are able.counters able.fits.table able.apart c.args.update.key.now c.args.update.parts.now able.fits c.in-Some.found.now c.settle_parts.new.row there gives c.in-Some-2.row puts c.in_ok-change.change (sym c.is_same_row.ensures ∙ c.if-is_same_row.false) c.in_ok-change.ensures.ok)

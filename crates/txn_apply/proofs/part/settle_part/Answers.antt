@@ -5,7 +5,7 @@ use Rattle.txn_apply.proofs.GroupsInRange.{group_columns_of-within, settled_part
 use Rattle.txn_apply.proofs.part.settle_part.Goals as goal
 
 pub set_values-requires : goal.set_values-requires
-set_values-requires c = subst (AllByRecursion (λ place. place < length c.args.row.now)) (sym (c.as_slice.ensures ∙ c.group_columns-columns.ensures))
+set_values-requires c = subst (AllByRecursion (λ place. place < length c.args.row.now)) (sym (c.as_slice-in-TakeNew.ensures ∙ c.group_columns-columns.ensures))
     (group_columns_of-within c.args.schema.now c.requires.shape c.args.table c.args.part.now.group c.args.row.now c.requires.row)
 
 pub set_values-requires-in-TakeNumber : goal.set_values-requires-in-TakeNumber
