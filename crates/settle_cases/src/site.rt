@@ -62,8 +62,9 @@ impl Site {
             return Ok(out);
         }
         match apply_txn(alloc, &mut self.store, &mut self.counters, origin, txn) {
-            Ok(changes) => {
-                out.push_str(&format!(in alloc; "applied, {} changed", changes.rows.len())?)?;
+            Ok(applied) => {
+                let changed = applied.changes.rows.len();
+                out.push_str(&format!(in alloc; "applied, {changed} changed")?)?;
             }
             Err(ApplyStop::Failed { call, error }) => {
                 out.push_str(&format!(in alloc; "call {call}:")?)?;
