@@ -13,7 +13,9 @@ fn name_size(site: &SiteName) -> usize {
 /// The place behind the sites and the three numbers of a transaction, where version 2 tells the past; None for a mark.
 fn past_place(packet: &Packet) -> Option<usize> {
     match packet {
-        Packet::Carry { from, to, .. } => Some(name_size(from) + name_size(to) + 26),
+        Packet::Carry { from, to, .. } => {
+            Some(name_size(from).saturating_add(name_size(to)).saturating_add(26))
+        }
         Packet::Mark { .. } => None,
     }
 }
