@@ -14,7 +14,11 @@ fn name_size(site: &SiteName) -> usize {
 fn past_place(packet: &Packet) -> Option<usize> {
     match packet {
         Packet::Carry { from, to, .. } => {
-            Some(name_size(from).saturating_add(name_size(to)).saturating_add(26))
+            Some(
+                name_size(from)
+                    .saturating_add(name_size(to))
+                    .saturating_add(26),
+            )
         }
         Packet::Mark { .. } => None,
     }
