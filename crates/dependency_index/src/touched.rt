@@ -10,8 +10,9 @@ use crate::{Token, Tokens};
 use conflict_detect::table_of;
 use rep_calls::{Call, Part, Txn};
 use rep_lists::{Items, NoMemory};
-use rep_schema::{Schema, constraint_count, constraints_of, group_columns, is_taken, key_in};
+use rep_schema::{Schema, constraint_count, constraints_of, group_columns, key_in};
 use rep_values::Key;
+use schema_names::is_taken;
 use std::alloc::Global;
 
 /// The key of the row that a call names.

@@ -5,8 +5,9 @@ ghost use Rattle.local_txn.specs.Held.{table_name, held_of, held_table};
 
 use crate::Here;
 use rep_calls::Statement;
-use rep_schema::{Schema, table_place};
+use rep_schema::Schema;
 use rep_values::TableName;
+use schema_names::table_place;
 
 fn table_name(statement: &Statement) -> TableName
     ensures { result ≡ table_name statement.now }

@@ -4,8 +4,9 @@ ghost use Rattle.std.specs.List.{find, list_any, list_all};
 ghost use Rattle.local_txn.specs.Sets.{names_columns, is_about, names_one_twice, takes_how, takes_set, sets_fit, value_after, value_by, row_with, where_in_range, row_where_in_range};
 
 use rep_calls::{How, Set};
-use rep_schema::{Column, has_column, is_of_kind, value_in_range};
+use rep_schema::{Column, is_of_kind, value_in_range};
 use rep_values::{Name, Row, Value};
+use schema_names::has_column;
 
 /// Whether each name is that of a column.
 pub(crate) fn names_columns(columns: &[Column], sets: &[Set]) -> bool

@@ -16,10 +16,9 @@ use crate::table_changes::{
 };
 use crate::{Declare, MethodWords, UniqueWords, refusal_of};
 use rep_lists::{Copies, Items, NoMemory};
-use rep_schema::{
-    Column, PriorityGroup, PriorityLevel, Rel, Schema, SiteEntry, TableEntry, find_priority,
-};
+use rep_schema::{Column, PriorityGroup, PriorityLevel, Rel, Schema, SiteEntry, TableEntry};
 use rep_values::{Literal, Name, Refusal, SiteName, TableName};
+use schema_names::find_priority;
 use std::alloc::Global;
 
 fn add_site(schema: &mut Schema, site: SiteEntry) -> Result<(), NoMemory>

@@ -6,8 +6,9 @@ ghost use Rattle.rep_declare.specs.declared.declaration.Declare.{Declare};
 ghost use Rattle.rep_declare.specs.Refusals.{refusal_of};
 
 use crate::refusals::value_is_in_range;
-use rep_schema::{Schema, find_check, find_column, find_table, is_of_kind};
+use rep_schema::{Schema, is_of_kind};
 use rep_values::{Limit, Literal, Name, Refusal, TableName};
+use schema_names::{find_check, find_column, find_table};
 
 /// Why a check of a table is refused, whatever its relation is.
 pub fn check_refusal(

@@ -7,8 +7,9 @@ ghost use Rattle.rep_declare.specs.Additions.{place_or_zero, column_number, prio
 
 use crate::{MethodWords, UniqueWords};
 use rep_lists::{Items, NoMemory};
-use rep_schema::{Column, Method, PriorityGroup, UniqueMethod, column_place, priority_place};
+use rep_schema::{Column, Method, PriorityGroup, UniqueMethod};
 use rep_values::Name;
+use schema_names::{column_place, priority_place};
 use std::alloc::Global;
 
 // A place that was found, or 0. One that 32 bits can't name finds no memory: no schema has so many things.

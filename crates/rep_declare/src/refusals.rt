@@ -14,11 +14,14 @@ ghost use Rattle.rep_schema.specs.Named.{column_place, is_column, is_constrained
 use crate::check_refusals::check_refusal;
 use crate::{Declare, MethodWords, UniqueWords};
 use rep_schema::{
-    Column, OnColumns, PriorityLevel, Schema, SiteEntry, TableEntry, column_place, find_constraint,
-    find_group, find_priority, find_site, find_table, has_column, has_master, is_in_range,
-    is_key_name, is_shadow_name, is_taken, key_count,
+    Column, PriorityLevel, Schema, SiteEntry, TableEntry, is_in_range, is_key_name, is_shadow_name,
+    key_count,
 };
 use rep_values::{Limit, Literal, Name, Refusal, SiteName, TableName, Value, same_value};
+use schema_names::{
+    OnColumns, column_place, find_constraint, find_group, find_priority, find_site, find_table,
+    has_column, has_master, is_taken,
+};
 
 fn master_count(sites: &[SiteEntry]) -> usize
     ensures { result ≡ count_by is_master sites.now }

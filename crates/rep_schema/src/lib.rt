@@ -8,8 +8,8 @@ mod conditions;
 mod entries;
 mod groups;
 mod kinds;
-mod named;
 mod putting;
+mod reserved;
 mod schema;
 mod store;
 mod table_set;
@@ -26,12 +26,8 @@ pub use groups::{
     same_values_at, values_at,
 };
 pub use kinds::{is_key_at, is_of_kind, kind_at, row_in_range, value_in_range};
-pub use named::{
-    OnColumns, column_place, find_check, find_column, find_constraint, find_group, find_priority,
-    find_site, find_table, group_name, has_column, has_master, is_key_name, is_shadow_name,
-    is_taken, key_name, priority_place, shadow_name, table_place,
-};
 pub use putting::{copy_of_row, holds_tables, push_change, put_if_changed, put_with_change};
+pub use reserved::{is_key_name, is_shadow_name, key_name, shadow_name};
 pub use schema::{
     Column, Constraint, Group, Kind, Method, PriorityGroup, PriorityLevel, Schema, SiteEntry,
     TableEntry, UniqueMethod,

@@ -3,8 +3,9 @@ ghost use Rattle.rep_schema.specs.Shape.{HasShape};
 
 use crate::shown::table_of;
 use case_lines::{CaseStop, Words, push_name};
-use rep_schema::{Check, Schema, failed_check, find_check, table_place};
+use rep_schema::{Check, Schema, failed_check};
 use rep_values::Row;
+use schema_names::{find_check, table_place};
 use script_lex::Symbol;
 use std::alloc::Global;
 

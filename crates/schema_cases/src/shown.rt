@@ -4,10 +4,11 @@ ghost use Rattle.rep_schema.specs.Shape.{HasShape};
 use case_lines::{CaseStop, Words, push_name, push_number};
 use rep_lists::NoMemory;
 use rep_schema::{
-    Method, SHADOW, Schema, TableEntry, UniqueMethod, find_constraint, find_group, find_table,
-    group_columns, group_name, is_key_name, is_shadow_name, key_name, table_place,
+    Method, SHADOW, Schema, TableEntry, UniqueMethod, group_columns, is_key_name, is_shadow_name,
+    key_name,
 };
 use rep_values::{Limit, Refusal};
+use schema_names::{find_constraint, find_group, find_table, group_name, table_place};
 use schema_rules::{Form, form_of};
 use std::alloc::Global;
 

@@ -4,10 +4,10 @@ ghost use Rattle.std.specs.Prelude.{◌<◌, length, IfOk};
 use case_lines::{CaseStop, Words, push_row};
 use rep_schema::{
     RowStore, columns_of, constraint_count, constraints_of, is_keyed, is_unique, row_fits,
-    table_place,
 };
 use rep_values::{Name, Row};
 use row_tables::ListTables;
+use schema_names::table_place;
 use std::alloc::Global;
 
 /// The number of the table that comes next.

@@ -12,9 +12,10 @@ ghost use Rattle.txn_effects.specs.Parts.{settled_part, settled_parts};
 
 use conflict_detect::has_old_values;
 use rep_calls::Part;
-use rep_schema::{Schema, group_columns, group_name};
+use rep_schema::{Schema, group_columns};
 use rep_values::{ApplyError, Row, Value};
 use resolve_methods::{Decision, decide};
+use schema_names::group_name;
 
 /// Puts values at these places of a row.
 fn set_values(places: &[u32], values: &[Value], row: &mut Row)

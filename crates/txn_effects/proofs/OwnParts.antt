@@ -110,7 +110,7 @@ module _ (schema : Schema) (shape : HasShape schema) (table : ℕ) where
   turned xs ys apart x has also = apart x also has
 
   -- two groups of a table have no column in common
-  groups_share_none : (g h : ℕ) → IsGroupOf schema table g → IsGroupOf schema table h → g < h → ShareNone (group_columns_of schema table g) (group_columns_of schema table h)
+  pub groups_share_none : (g h : ℕ) → IsGroupOf schema table g → IsGroupOf schema table h → g < h → ShareNone (group_columns_of schema table g) (group_columns_of schema table h)
   groups_share_none g h of_g of_h below = elim (group_number_cases schema table g of_g) [
     | inl named ↦
         let few = length-groups_of schema shape table in

@@ -5,7 +5,7 @@ ghost use Rattle.rep_values.specs.Text.{is_text_byte};
 ghost use Rattle.rep_schema.specs.Tables.{Cells};
 ghost use Rattle.unique_resolve.specs.Appending.{is_key, may_change, most_bytes, text_appended, appended};
 
-use rep_schema::Column;
+use rep_schema::{Column, has_place};
 use rep_values::{Text, Value};
 
 /// How many bytes a text has room for.
@@ -58,12 +58,6 @@ fn value_with(value: Option<&Value>, bytes: &[u8]) -> Option<Value>
     }
 }
 
-fn is_listed(places: &[u32], column: u32) -> bool
-    ensures { result ≡ list_any (λ place. place == column) places.now }
-{
-    places.iter().any(|place| *place == column)
-}
-
 fn is_key(columns: &[Column], column: u32) -> bool
     ensures { result ≡ is_key (slice_get columns.now column) }
 {
@@ -77,7 +71,7 @@ fn is_key(columns: &[Column], column: u32) -> bool
 fn may_change(columns: &[Column], places: &[u32], column: u32) -> bool
     ensures { result ≡ may_change columns.now places.now column }
 {
-    is_listed(places, column) && !is_key(columns, column)
+    has_place(places, column as usize) && !is_key(columns, column)
 }
 
 /// What an append puts in the place of a row's value; None where it gives no row.

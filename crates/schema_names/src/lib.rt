@@ -1,13 +1,15 @@
-//! What stands in a schema under a name, and the names of groups and constraints.
+//! What stands in a schema under a name.
+#![tactic(auto)]
+
 ghost use Rattle.std.specs.Prelude.{◌≡◌, ◌&&◌, ◌<◌, ◌==◌, List, ℕ, length, option_copied};
 ghost use Rattle.std.specs.List.{find, list_any, position};
 ghost use Rattle.rep_values.specs.Name.{same_bytes};
-ghost use Rattle.rep_schema.specs.Shape.{is_early_master, shadow_name, key_name};
+ghost use Rattle.rep_schema.specs.Shape.{is_early_master};
 ghost use Rattle.rep_schema.specs.Named.{is_site, is_table, is_column, is_group, is_constraint, is_check, is_priority, has_column, group_name};
 
-use crate::{
+use rep_schema::{
     Check, Column, Constraint, Group, PriorityGroup, SHADOW, Schema, SiteEntry, TableEntry,
-    groups_of, has_place,
+    groups_of, has_place, shadow_name,
 };
 use rep_values::{Name, SiteName, TableName};
 
@@ -152,40 +154,6 @@ pub fn has_column(columns: &[Column], name: &Name) -> bool
     ensures { result ≡ has_column columns.now name.now }
 {
     columns.iter().any(|column| column.name.is_same(name))
-}
-
-/// Whether a name is that of the columns in no named group.
-pub fn is_shadow_name(name: &Name) -> bool
-    ensures { result ≡ same_bytes name.now shadow_name }
-{
-    name.bytes() == b"shadow".as_slice()
-}
-
-/// Whether a name is that of the primary key's constraint.
-pub fn is_key_name(name: &Name) -> bool
-    ensures { result ≡ same_bytes name.now key_name }
-{
-    name.bytes() == b"key".as_slice()
-}
-
-/// The name of the columns in no named group.
-pub fn shadow_name() -> Name
-    ensures { result ≡ shadow_name }
-{
-    match Name::of(b"shadow") {
-        Some(name) => name,
-        None => unreachable!(),
-    }
-}
-
-/// The name of the primary key's constraint.
-pub fn key_name() -> Name
-    ensures { result ≡ key_name }
-{
-    match Name::of(b"key") {
-        Some(name) => name,
-        None => unreachable!(),
-    }
 }
 
 /// The name of a table's group, by the group's number.
