@@ -101,7 +101,7 @@ IsApplied-then schema tables one later first rest =
 
 module _ (schema : Schema) (origin : SiteName) (shape : HasShape schema) (keys : HasKeys schema) (apart : KeysStandAlone schema) where
   -- a change, where the row changed, leads to the tables with it made
-  IsApplied-changes_between : (table : ℕ) (before after : Option Cells) (tables : List Rows) (numbers : Numbers) → AreTables schema tables → AreCounters schema numbers
+  pub IsApplied-changes_between : (table : ℕ) (before after : Option Cells) (tables : List Rows) (numbers : Numbers) → AreTables schema tables → AreCounters schema numbers
       → IsChange schema (record { table = table; before = before; after = after }) tables
       → (before ≢ after → IsChecked schema (record { table = table; before = before; after = after }))
       → IsApplied schema tables (record { changes = changes_between table before after; numbers = numbers })
