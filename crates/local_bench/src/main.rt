@@ -3,23 +3,25 @@
 #![tactic(auto)]
 
 mod runs;
-mod table;
 
 use anyhow::{Context, Result};
 use case_lines::CaseStop;
+use rep_laws::sound_schemas_have_keys;
 use row_tables::ListTables;
 use runs::{Bench, filled, updated};
+use schema_rules::check;
 use std::alloc::Global;
-use table::{is_keyed_alone, stock};
+use stock_table::stock;
 
 /// How many transactions ran of so many, on a table of so many rows.
 fn transactions_run(alloc: Global, rows: u64, count: u64) -> Result<u64, CaseStop> {
     let Some(schema) = stock(alloc)? else {
         return Err(CaseStop::NoCase);
     };
-    if !is_keyed_alone(&schema) {
+    if check(&schema).is_err() {
         return Err(CaseStop::NoCase);
     }
+    sound_schemas_have_keys();
     let Some(mut bench) = Bench::at(alloc, b"A") else {
         return Err(CaseStop::NoCase);
     };

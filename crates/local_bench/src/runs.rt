@@ -1,7 +1,7 @@
 //! Local transactions on the table.
 ghost use Rattle.std.specs.Prelude.{◌≡◌};
 ghost use Rattle.rep_schema.specs.Shape.{HasShape};
-ghost use Rattle.conflict_detect.specs.KeysNamed.{HasKeys};
+ghost use Rattle.txn_effects.specs.Calls.{HasKeys, KeysStandAlone};
 
 use case_lines::{CaseStop, Words, read_statement};
 use local_txn::{Here, Stamps, run_local};
@@ -44,6 +44,7 @@ fn statement(alloc: Global, line: &str) -> Result<Statement, CaseStop> {
 fn run(store: &mut ListTables, bench: &mut Bench, block: &[Statement]) -> bool
     requires shape { HasShape store.old.schema }
     requires keys { HasKeys store.old.schema }
+    requires apart { KeysStandAlone store.old.schema }
     ensures { store.new.schema ≡ store.old.schema }
 {
     run_local(store, bench.alloc, &mut bench.stamps, &bench.here, block).is_ok()
@@ -53,6 +54,7 @@ fn run(store: &mut ListTables, bench: &mut Bench, block: &[Statement]) -> bool
 pub fn filled(store: &mut ListTables, bench: &mut Bench, rows: u64) -> Result<(), CaseStop>
     requires shape { HasShape store.old.schema }
     requires keys { HasKeys store.old.schema }
+    requires apart { KeysStandAlone store.old.schema }
     ensures { store.new.schema ≡ store.old.schema }
 {
     for row in 0..rows {
@@ -74,6 +76,7 @@ pub fn updated(
 ) -> Result<u64, CaseStop>
     requires shape { HasShape store.old.schema }
     requires keys { HasKeys store.old.schema }
+    requires apart { KeysStandAlone store.old.schema }
 {
     let row = rows / 2;
     let up = format!(in bench.alloc;

@@ -1,10 +1,6 @@
 -- A row that no constraint refuses is unique.
 use Rattle.std.proofs.Common.{◌≡◌, ℕ, Bool, true, false, List, refl}
-use Rattle.std.specs.Prelude.{Option, Some, None, slice_get}
-use Rattle.std.specs.Option.{option_map}
-use Rattle.rep_values.specs.declared.refusal.Refusal.TheVariants as refusal
-use Rattle.rep_schema.specs.declared.check.Check.{Check}
-use Rattle.rep_schema.specs.Checks.{failed_check}
+use Rattle.std.specs.Prelude.{Some, None, slice_get}
 use Rattle.rep_schema.specs.declared.schema.Schema.{Schema}
 use Rattle.rep_schema.specs.declared.schema.Constraint.{Constraint}
 use Rattle.rep_schema.specs.Tables.{Cells, Rows, columns_of, constraints_of, constraint_columns_of, rows_of, RowFits, IsTable, IsUniqueRow}
@@ -12,23 +8,11 @@ use Rattle.rep_values.specs.RefusalSteps.{first_refusal}
 use Rattle.rep_values.proofs.RefusalSteps.{none_refuses}
 use Rattle.unique_resolve.specs.Settling.{is_held}
 use Rattle.unique_resolve.proofs.HeldValues.{held_test}
-use Rattle.local_txn.specs.Statements.{taken_step, unique_steps, check_step, free_steps}
-use Rattle.local_txn.proofs.RefusalsBehind.{none_behind}
+use Rattle.local_txn.specs.Statements.{taken_step, unique_steps}
 use Rattle.txn_effects.proofs.OwnParts.{found_at}
 
 module _ (schema : Schema) (tables : List Rows) (table : ℕ) (row : Cells) (is_table : IsTable schema table (rows_of tables table)) (fits : RowFits (columns_of schema table) row)
-    (free : first_refusal (free_steps schema tables table row) ≡ None) where
-  passes : first_refusal (unique_steps schema tables table row) ≡ None
-  passes = (none_behind (unique_steps schema tables table row) (check_step schema table row) free).0
-
-  -- it meets the checks
-  pub failed_check-free : failed_check schema table row ≡ None
-  failed_check-free = go (failed_check schema table row) (none_behind (unique_steps schema tables table row) (check_step schema table row) free).1
-    where
-      go : (found : Option Check) → option_map (λ (check : Check). refusal.CheckFailed check.name) found ≡ None → found ≡ None
-      go None none = refl
-      go (Some check) none = cc
-
+    (passes : first_refusal (unique_steps schema tables table row) ≡ None) where
   -- no other row has the row's values in a constraint
   pub free_of : (i : ℕ) (constraint : Constraint) → slice_get (constraints_of schema table) i ≡ Some constraint → is_held (columns_of schema table) constraint.columns (rows_of tables table) row ≡ false
   free_of i constraint there = go (is_held (columns_of schema table) constraint.columns (rows_of tables table) row) refl

@@ -1,9 +1,25 @@
 -- The lemmas of this crate, from the bottom up.
+mod NamedSets
+mod SetWalk
+mod FilledRows
 mod LiteralWalk
-mod RowShapes
-mod RefusalsBehind
+mod ConstraintSteps
+mod KindRows
+mod StampedRows
 mod FreeRows
+mod NewRows
+mod StampedKeys
+mod ModifiedColumns
+mod ApartGroups
+mod ModifiedRows
+mod StatementRows
 mod StatementSteps
 mod StatementEffects
 mod BlockSteps
+mod RisingStamps
 mod WorkedStatements
+mod WorkedStamps
+mod BaseRefusals
+mod BaseFilling
+mod BaseTables
+mod SoundFilling

@@ -1,6 +1,6 @@
 -- Literals beside columns, one after another.
 use Rattle.std.proofs.Common.{◌≡◌, ℕ, ◌+◌, ◌<◌, ◌≤◌, ◌==◌, Bool, true, false, List, [], ◌∷◌, length, drop, take, get_or, set, length-drop, refl, sym, ap, ◌∙◌, arith}
-use Rattle.std.specs.Prelude.{Option, Some, None, ◌&&◌, slice_get}
+use Rattle.std.specs.Prelude.{Option, Some, None, ◌&&◌, cond, not, filter, slice_get}
 use Rattle.std.proofs.lemmas.List.{take_more_set, map_more}
 use Rattle.std.proofs.lemmas.Option.{slice_get_within}
 use Rattle.std.proofs.lemmas.Bool.{eq-eqb, eqb-true}
@@ -10,8 +10,9 @@ use Rattle.rep_values.specs.declared.literal.Literal.{Literal}
 use Rattle.rep_values.specs.Literal.{value_of_literal}
 use Rattle.rep_schema.specs.declared.schema.Schema.{Schema}
 use Rattle.rep_schema.specs.declared.schema.Column.{Column}
-use Rattle.rep_schema.specs.Tables.{key_columns}
+use Rattle.rep_schema.specs.Kinds.{is_filled}
 use Rattle.rep_schema.proofs.ValuesAt.{slice_get-drop}
+use Rattle.local_txn.specs.Filled.{written_columns, with_written, row_written}
 use Rattle.local_txn.specs.Literals.{literal_there, literals_fit, values_of}
 
 -- behind its end a list has nothing
@@ -65,19 +66,22 @@ module _ (schema : Schema) (literals : List Literal) (read : ℕ) where
       go (l ∷ rest) some = other (read == length literals) refl
           (λ same. let long = length-drop read literals in let more : length (drop read literals) ≡ length (l ∷ rest) = ap length some in omega (arith, same, long, more))
 
--- key columns from a column on
-module _ (columns : List Column) (i : ℕ) (c : Column) (within : i < length columns) (is : c ≡ get_or columns i c) where
-  pub columns-more : drop i columns ≡ c ∷ drop (i + 1) columns
-  columns-more = drop_from_place columns i c within is
+-- the given columns from a column on
+module _ (given : Column → Bool) (columns : List Column) (i : ℕ) (c : Column) (within : i < length columns) (is : c ≡ get_or columns i c) where
+  pub given-more : given c ≡ true → filter given (drop i columns) ≡ c ∷ filter given (drop (i + 1) columns)
+  given-more is_given = rw (drop_from_place columns i c within is, is_given) refl
 
-  pub key_columns-more : c.key ≡ true → key_columns (drop i columns) ≡ c ∷ key_columns (drop (i + 1) columns)
-  key_columns-more is_key = rw (columns-more, is_key) refl
+  pub given-other : given c ≡ false → filter given (drop i columns) ≡ filter given (drop (i + 1) columns)
+  given-other other = rw (drop_from_place columns i c within is, other) refl
 
-  pub key_columns-other : c.key ≡ false → key_columns (drop i columns) ≡ key_columns (drop (i + 1) columns)
-  key_columns-other other = rw (columns-more, other) refl
-
--- one more literal's value in its cell
-pub front-more : (literals : List Literal) (cells : List Value) (i : ℕ) (l : Literal) → i < length literals → i < length cells → l ≡ get_or literals i l
-    → take i cells ≡ values_of (take i literals) → take (i + 1) (set cells i (value_of_literal l)) ≡ values_of (take (i + 1) literals)
-front-more literals cells i l within in_cells is front =
-    take_more_set cells i (value_of_literal l) in_cells ∙ rw (front, is) (sym (map_more value_of_literal literals i l within))
+-- a row has a value for each column where there is a literal for each one that is written
+pub length-row_written : (columns : List Column) (literals : List Literal) → length (written_columns columns) ≡ length literals → length (row_written columns (values_of literals)) ≡ length columns
+length-row_written [] [] long = refl
+length-row_written [] (l ∷ ls) long = absurd (omega (arith, long))
+length-row_written (c ∷ cs) literals long = go (is_filled c) literals long (λ ls few. length-row_written cs ls few)
+  where
+    go : (b : Bool) (ls : List Literal) → length (cond (not b) (c ∷ written_columns cs) (written_columns cs)) ≡ length ls
+        → ((rest : List Literal) → length (written_columns cs) ≡ length rest → length (row_written cs (values_of rest)) ≡ length cs) → length (with_written b c (row_written cs) (values_of ls)) ≡ length (c ∷ cs)
+    go true ls long rest = let all = rest ls long in omega (arith, all)
+    go false [] long rest = absurd (omega (arith, long))
+    go false (l ∷ ls) long rest = let all = rest ls (omega (arith, long)) in omega (arith, all)

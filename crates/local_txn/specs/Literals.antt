@@ -8,7 +8,9 @@ use Rattle.rep_values.specs.Name.{same_bytes}
 use Rattle.rep_schema.specs.declared.schema.Schema.{Schema}
 use Rattle.rep_schema.specs.declared.schema.Column.{Column}
 use Rattle.rep_schema.specs.Tables.{Cells, key_columns}
-use Rattle.rep_schema.specs.Kinds.{is_site_kind, is_of_kind}
+use Rattle.rep_schema.specs.Kinds.{is_site_kind, is_of_kind, is_filled}
+use Rattle.local_txn.specs.declared.literals.Given.{Given}
+use Rattle.local_txn.specs.declared.literals.Given.TheVariants.{Written, Key}
 
 -- a literal is the name of a declared site
 abbrev pub names_site : Schema → Literal → Bool
@@ -23,7 +25,7 @@ abbrev pub literal_there : Schema → Column → Option Literal → Bool
 literal_there schema column None = false
 literal_there schema column (Some literal) = literal_fits schema column literal
 
--- a literal for each column
+-- a literal for each of these columns
 abbrev pub literals_fit : Schema → List Column → List Literal → Bool
 literals_fit schema [] [] = true
 literals_fit schema [] (l ∷ ls) = false
@@ -33,6 +35,11 @@ literals_fit schema (c ∷ cs) (l ∷ ls) = literal_fits schema c l && literals_
 -- a literal for each key column
 abbrev pub key_literals_fit : Schema → List Column → List Literal → Bool
 key_literals_fit schema columns literals = literals_fit schema (key_columns columns) literals
+
+-- a column that literals are given for: one that a script writes, or a key column
+abbrev pub is_given : Given → Column → Bool
+is_given Written column = not (is_filled column)
+is_given Key column = column.key
 
 -- the values that literals stand for
 abbrev pub values_of : List Literal → Cells

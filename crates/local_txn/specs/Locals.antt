@@ -7,38 +7,47 @@ use Rattle.rep_schema.specs.declared.schema.Schema.{Schema}
 use Rattle.rep_schema.specs.declared.change.Change.{Change}
 use Rattle.rep_schema.specs.Tables.{Rows}
 use Rattle.rep_calls.specs.declared.statement.Statement.{Statement}
-use Rattle.rep_schema.specs.Putting.{made_all}
 use Rattle.local_txn.specs.declared.local.Here.{Here}
+use Rattle.local_txn.specs.declared.local.Stamps.{Stamps}
 use Rattle.local_txn.specs.declared.local.LocalStop.{LocalStop}
-use Rattle.local_txn.specs.Statements.{statement_refusal, statement_changes}
+use Rattle.local_txn.specs.Statements.{Standing, statement_refusal, statement_changes, standing_after}
 
 -- a block has at most so many statements
 abbrev pub most_statements : ℕ
 most_statements = 1000
 
-abbrev pub stop_at : ℕ → Refusal → Result (List Change) LocalStop
+-- what a block does: the changes in their order, and the site's stamps afterwards
+pub record BlockEffect : Type 0 where
+  pub changes : List Change
+  pub stamps : Stamps
+
+abbrev pub stop_at : ℕ → Refusal → Result BlockEffect LocalStop
 stop_at number why = Err (record { statement = number; refusal = why })
 
 -- a statement that is refused ends the block; else something follows
-abbrev pub unless_refused : Option Refusal → ℕ → Result (List Change) LocalStop → Result (List Change) LocalStop
+abbrev pub unless_refused : Option Refusal → ℕ → Result BlockEffect LocalStop → Result BlockEffect LocalStop
 unless_refused None number following = following
 unless_refused (Some why) number following = stop_at number why
 
 -- earlier changes before the later ones
-abbrev pub behind : List Change → Result (List Change) LocalStop → Result (List Change) LocalStop
-behind changes (Ok later) = Ok (changes ++ later)
+abbrev pub behind : List Change → Result BlockEffect LocalStop → Result BlockEffect LocalStop
+behind changes (Ok later) = Ok (record { changes = changes ++ later.changes; stamps = later.stamps })
 behind changes (Err stop) = Err stop
 
--- the changes of statements one after the other, the first of them having a number
-abbrev pub statements_effect : Schema → Here → ℕ → List Statement → List Rows → Result (List Change) LocalStop
-statements_effect schema here number [] tables = Ok []
-statements_effect schema here number (statement ∷ statements) tables = unless_refused (statement_refusal schema here tables statement) number
-    (behind (statement_changes schema tables statement)
-    (statements_effect schema here (number + 1) statements (made_all schema (statement_changes schema tables statement) tables)))
+-- what statements do one after the other, the first of them having a number, from where the block stands
+abbrev pub statements_effect : Schema → Here → ℕ → List Statement → Standing → Result BlockEffect LocalStop
+statements_effect schema here number [] standing = Ok (record { changes = []; stamps = standing.stamps })
+statements_effect schema here number (statement ∷ statements) standing = unless_refused (statement_refusal schema here standing statement) number
+    (behind (statement_changes schema here standing statement)
+    (statements_effect schema here (number + 1) statements (standing_after schema here standing statement)))
 
--- the changes of a block at a site; else the first statement that is refused, and why. Where there are too many statements, the first
--- that is too many
-abbrev pub local_effect : Schema → Here → List Statement → List Rows → Result (List Change) LocalStop
-local_effect schema here statements tables = cond (nat_le (length statements) most_statements)
-    (statements_effect schema here 1 statements tables)
+-- where a block begins
+abbrev pub beginning : Stamps → List Rows → Standing
+beginning stamps tables = record { tables = tables; stamps = stamps; side = None }
+
+-- what a block does at a site; else the first statement that is refused, and why. where there are too many statements, the
+-- first that is too many
+abbrev pub local_effect : Schema → Here → Stamps → List Statement → List Rows → Result BlockEffect LocalStop
+local_effect schema here stamps statements tables = cond (nat_le (length statements) most_statements)
+    (statements_effect schema here 1 statements (beginning stamps tables))
     (stop_at (most_statements + 1) (refusal.LimitReached limit.Statements))

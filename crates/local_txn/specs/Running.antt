@@ -1,38 +1,117 @@
 -- What the steps of running a statement take and tell.
-use Rattle.std.specs.Prelude.{◌≡◌, ◌⊎◌, ℕ, ◌<◌, List, length, Option, Some, None, Result, Err}
+use Rattle.std.specs.Prelude.{◌≡◌, ◌⊎◌, ℕ, ◌<◌, Bool, true, false, not, ◌&&◌, List, [], ◌∷◌, length, Option, Some, None, Result, Err}
 use Rattle.rep_values.specs.declared.refusal.Refusal.{Refusal}
 use Rattle.rep_values.specs.declared.refusal.Refusal.TheVariants as refusal
+use Rattle.rep_values.specs.declared.name.SiteName.{SiteName}
+use Rattle.rep_values.specs.declared.literal.Literal.{Literal}
+use Rattle.rep_values.specs.RefusalSteps.{refused, first_refusal}
 use Rattle.rep_schema.specs.declared.schema.Schema.{Schema}
+use Rattle.rep_schema.specs.declared.schema.Column.{Column}
 use Rattle.rep_schema.specs.declared.change.Change.{Change}
 use Rattle.rep_schema.specs.Shape.{HasShape}
-use Rattle.rep_schema.specs.Tables.{Rows, AreTables}
-use Rattle.txn_effects.specs.Calls.{HasKeys}
+use Rattle.rep_schema.specs.Tables.{Cells, Rows, columns_of, RowFits, IsKeyed, AreTables}
+use Rattle.rep_schema.specs.Kinds.{row_in_range}
 use Rattle.local_txn.specs.declared.stop.Stop.{Stop}
-use Rattle.local_txn.specs.declared.stop.Stop.TheVariants.{Refused, NoRoom}
+use Rattle.local_txn.specs.declared.stop.Stop.TheVariants.{Refused, Memory}
 use Rattle.local_txn.specs.declared.local.LocalStop.{LocalStop}
+use Rattle.local_txn.specs.declared.footing.Footing.{Footing}
+use Rattle.rep_calls.specs.declared.statement.Set.{Set}
+use Rattle.rep_calls.specs.declared.statement.Statement.{Statement}
+use Rattle.local_txn.specs.declared.local.Stamps.{Stamps}
+use Rattle.local_txn.specs.declared.side.Side.{Side}
+use Rattle.local_txn.specs.Literals.{key_literals_fit}
+use Rattle.local_txn.specs.Sets.{names_columns, sets_fit, sets_filled}
+use Rattle.local_txn.specs.ByColumn.{AreSets}
+use Rattle.local_txn.specs.Filled.{RowMade, everywhere, is_modified, bound_from, next_stamp, made_with}
+use Rattle.local_txn.specs.Chosen.{capped}
+use Rattle.local_txn.specs.Convergent.{side_of, barred, rule_step}
+use Rattle.local_txn.specs.Statements.{Standing, Outcome, outcome_changes, statement_refusal, statement_changes, standing_after}
+use Rattle.local_txn.specs.Locals.{BlockEffect}
 
--- a statement can run on a table of a schema
+-- rows can be put into a table of a schema
 pub record CanRun (schema : Schema) (tables : List Rows) (table : ℕ) : Type 0 where
   pub shape : HasShape schema
-  pub keys : HasKeys schema
+  pub keyed : IsKeyed (columns_of schema table)
   pub are : AreTables schema tables
   pub of_table : table < length schema.tables
 
--- nothing refuses, and these are the changes
-pub record RunsAs (refused : Option Refusal) (wanted made : List Change) : Type 0 where
+-- a row that fits a table where its numbers are in range
+pub record IsKindly (schema : Schema) (table : ℕ) (row : Cells) : Type 0 where
+  pub long : length (columns_of schema table) ≡ length row
+  pub fits : row_in_range row ≡ true → RowFits (columns_of schema table) row
+
+-- the row that an insert makes, with a stamp that no row may have where the next one isn't in range
+abbrev pub inserted_capped : List Column → SiteName → Stamps → Cells → RowMade
+inserted_capped columns site stamps row = made_with columns site stamps.last everywhere (capped (next_stamp stamps 0)) row
+
+-- the row that an update makes, with such a stamp
+abbrev pub updated_capped : Schema → ℕ → SiteName → Stamps → Cells → Cells → RowMade
+updated_capped schema table site stamps before row = made_with (columns_of schema table) site stamps.last (is_modified schema table before row)
+    (capped (next_stamp stamps (bound_from (is_modified schema table before row) 0 (columns_of schema table) before))) row
+
+-- the steps of an update whose sets are in order, up to the ranges of what is set
+abbrev pub change_steps : Schema → Option Side → ℕ → Cells → Cells → List (Option Refusal)
+change_steps schema side table before row =
+    barred schema side table false ∷ rule_step schema table before row ∷ refused (not (row_in_range row)) refusal.ValueRange ∷ []
+
+-- none of them refuses, and the row with the modified groups filled in is this one
+pub record ChangesTo (schema : Schema) (footing : Footing) (table : ℕ) (before row : Cells) (made : RowMade) : Type 0 where
+  pub accepted : first_refusal (change_steps schema footing.side table before row) ≡ None
+  pub gives : made ≡ updated_capped schema table footing.here.site footing.stamps before row
+
+-- an update's key and sets are in order, and this is set of each column
+pub record AreInOrder (schema : Schema) (table : ℕ) (key : List Literal) (sets : List Set) (found : List (Option Set)) : Type 0 where
+  pub are : AreSets (columns_of schema table) sets found
+  pub fits : (key_literals_fit schema (columns_of schema table) key && sets_fit (columns_of schema table) sets) ≡ true
+  pub unfilled : sets_filled (columns_of schema table) sets ≡ false
+
+-- the steps of an update that look at the statement alone
+abbrev pub order_steps : Schema → ℕ → List Literal → List Set → List (Option Refusal)
+order_steps schema table key sets =
+    refused (not (names_columns (columns_of schema table) sets)) refusal.UnknownName ∷
+    refused (not (key_literals_fit schema (columns_of schema table) key && sets_fit (columns_of schema table) sets)) refusal.RowShape ∷
+    refused (sets_filled (columns_of schema table) sets) refusal.FilledBySite ∷ []
+
+-- where a block stands, with the tables
+abbrev pub standing_of : Footing → List Rows → Standing
+standing_of footing tables = record { tables = tables; stamps = footing.stamps; side = footing.side }
+
+-- where it stands behind a statement on a table that leaves this last stamp
+abbrev pub footing_after : Schema → ℕ → ℕ → Footing → Footing
+footing_after schema table last footing = record {
+  here = footing.here;
+  stamps = record { clock = footing.stamps.clock; last = last };
+  side = Some (side_of schema table);
+}
+
+-- nothing refuses, these are the changes, and the block stands behind the statement
+pub record RunsAs (schema : Schema) (table : ℕ) (refused : Option Refusal) (outcome : Outcome) (made : List Change) (old new : Footing) : Type 0 where
   pub accepted : refused ≡ None
-  pub changes : made ≡ wanted
+  pub changes : made ≡ outcome_changes table outcome
+  pub footing : new ≡ footing_after schema table outcome.last old
+
+-- nothing refuses a statement of a block, these are its changes, and the block stands behind it
+pub record GoesOn (schema : Schema) (statement : Statement) (tables later : List Rows) (made : List Change) (old new : Footing) : Type 0 where
+  pub accepted : statement_refusal schema old.here (standing_of old tables) statement ≡ None
+  pub changes : made ≡ statement_changes schema old.here (standing_of old tables) statement
+  pub here : new.here ≡ old.here
+  pub standing : standing_of new later ≡ standing_after schema old.here (standing_of old tables) statement
 
 -- with the refusal that there is; want of memory needs no cause
 abbrev pub StopsAs : Option Refusal → Stop → Type 0
 StopsAs refused (Refused why) = refused ≡ Some why
-StopsAs refused NoRoom = Unit {0}
+StopsAs refused Memory = Unit {0}
+
+-- the refusal that this is answered as
+abbrev pub refusal_of : Stop → Refusal
+refusal_of (Refused why) = why
+refusal_of Memory = refusal.Memory
 
 -- why the block stops at this statement
 abbrev pub stop_of : ℕ → Stop → LocalStop
 stop_of statement (Refused why) = record { statement = statement; refusal = why }
-stop_of statement NoRoom = record { statement = 0; refusal = refusal.Memory }
+stop_of statement Memory = record { statement = 0; refusal = refusal.Memory }
 
 -- with the statement that is refused, and why; want of memory has statement 0 and needs no cause
-abbrev pub EndsAs : Result (List Change) LocalStop → LocalStop → Type 0
+abbrev pub EndsAs : Result BlockEffect LocalStop → LocalStop → Type 0
 EndsAs outcome stop = (stop ≡ record { statement = 0; refusal = refusal.Memory }) ⊎ (outcome ≡ Err stop)

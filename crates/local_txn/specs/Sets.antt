@@ -1,5 +1,5 @@
 -- What an update sets: which columns, and to what.
-use Rattle.std.specs.Prelude.{ℕ, ◌+ℤ◌, Bool, true, false, cond, not, ◌&&◌, ◌||◌, List, [], ◌∷◌, Option, Some, None}
+use Rattle.std.specs.Prelude.{ℕ, ◌+ℤ◌, Bool, true, false, cond, not, ◌&&◌, ◌||◌, List, [], ◌∷◌, map, Option, Some, None}
 use Rattle.std.specs.List.{find, list_any, list_all}
 use Rattle.rep_values.specs.declared.value.Value.{Value}
 use Rattle.rep_values.specs.declared.value.Value.TheVariants.{Num, Words}
@@ -11,7 +11,7 @@ use Rattle.rep_calls.specs.declared.statement.Set.{Set}
 use Rattle.rep_calls.specs.declared.statement.How.{How}
 use Rattle.rep_calls.specs.declared.statement.How.TheVariants.{To, Add}
 use Rattle.rep_schema.specs.Named.{is_column}
-use Rattle.rep_schema.specs.Kinds.{is_of_kind, takes_amounts, value_in_range, row_in_range}
+use Rattle.rep_schema.specs.Kinds.{is_of_kind, takes_amounts, is_filled}
 
 -- each name is that of a column
 abbrev pub names_columns : List Column → List Set → Bool
@@ -40,6 +40,14 @@ takes_set column (Some s) = not column.key && takes_how column s.how
 abbrev pub sets_fit : List Column → List Set → Bool
 sets_fit columns sets = list_all (λ c. takes_set c (find (is_about c.name) sets)) columns && not (names_one_twice sets)
 
+-- a set is of a column that the site fills
+abbrev pub is_of_filled : List Column → Set → Bool
+is_of_filled columns s = list_any (λ c. is_column s.column c && is_filled c) columns
+
+-- a column that the site fills is set
+abbrev pub sets_filled : List Column → List Set → Bool
+sets_filled columns sets = list_any (is_of_filled columns) sets
+
 -- a value after what is done to it: the literal, or the old value plus the amount
 abbrev pub value_after : How → Value → Value
 value_after (To literal) old = value_of_literal literal
@@ -50,16 +58,12 @@ abbrev pub value_by : Option Set → Value → Value
 value_by None old = old
 value_by (Some s) old = value_after s.how old
 
+-- what is set of each column
+abbrev pub sets_by_column : List Column → List Set → List (Option Set)
+sets_by_column columns sets = map (λ c. find (is_about c.name) sets) columns
+
 -- the row after an update: the columns that are set have their new values, all from the row before, and the others keep theirs
 abbrev pub row_with : List Set → List Column → Cells → Cells
 row_with sets [] row = row
 row_with sets (c ∷ cs) [] = []
 row_with sets (c ∷ cs) (v ∷ vs) = value_by (find (is_about c.name) sets) v ∷ row_with sets cs vs
-
--- a value that lies in range
-abbrev pub where_in_range : Value → Option Value
-where_in_range value = cond (value_in_range value) (Some value) None
-
--- a row whose numbers lie in range
-abbrev pub row_where_in_range : Cells → Option Cells
-row_where_in_range row = cond (row_in_range row) (Some row) None

@@ -1,64 +1,112 @@
 -- What one statement does: why it is refused, or which row it changes and how.
-use Rattle.std.specs.Prelude.{ℕ, not, ◌&&◌, List, [], ◌∷◌, ◌++◌, map, Option, Some, None, is_some}
+use Rattle.std.specs.Prelude.{ℕ, Bool, true, false, not, ◌&&◌, List, [], ◌∷◌, ◌++◌, map, Option, Some, None, is_some}
+use Rattle.std.specs.Option.{option_map}
 use Rattle.rep_values.specs.declared.literal.Literal.{Literal}
 use Rattle.rep_values.specs.declared.refusal.Refusal.{Refusal}
 use Rattle.rep_values.specs.declared.refusal.Refusal.TheVariants as refusal
+use Rattle.rep_values.specs.RefusalSteps.{refused, known, first_refusal}
 use Rattle.rep_schema.specs.declared.schema.Schema.{Schema}
 use Rattle.rep_schema.specs.declared.schema.Column.{Column}
 use Rattle.rep_schema.specs.declared.schema.Constraint.{Constraint}
 use Rattle.rep_schema.specs.declared.change.Change.{Change}
 use Rattle.rep_schema.specs.Tables.{Cells, Rows, columns_of, constraints_of, key_of, find_row, rows_of}
+use Rattle.rep_schema.specs.Kinds.{row_in_range}
+use Rattle.rep_schema.specs.Checks.{failed_check}
+use Rattle.rep_schema.specs.Named.{table_place}
+use Rattle.rep_schema.specs.Putting.{changes_between, made_all}
 use Rattle.rep_calls.specs.declared.statement.Statement.{Statement}
 use Rattle.rep_calls.specs.declared.statement.Statement.TheVariants.{Insert, Update, Delete}
 use Rattle.rep_calls.specs.declared.statement.Set.{Set}
-use Rattle.rep_values.specs.RefusalSteps.{refused, known, first_refusal}
 use Rattle.unique_resolve.specs.Settling.{is_held}
-use Rattle.rep_schema.specs.Putting.{changes_between}
 use Rattle.local_txn.specs.declared.local.Here.{Here}
-use Rattle.rep_schema.specs.Named.{table_place}
+use Rattle.local_txn.specs.declared.local.Stamps.{Stamps}
+use Rattle.local_txn.specs.declared.side.Side.{Side}
 use Rattle.local_txn.specs.Held.{table_name, held_table}
-use Rattle.rep_schema.specs.Kinds.{row_in_range}
-use Rattle.rep_schema.specs.Checks.{failed_check}
-use Rattle.std.specs.Option.{option_map}
 use Rattle.local_txn.specs.Literals.{literals_fit, key_literals_fit, values_of}
-use Rattle.local_txn.specs.Sets.{names_columns, sets_fit, row_with}
+use Rattle.local_txn.specs.Sets.{names_columns, sets_fit, sets_filled, row_with}
+use Rattle.local_txn.specs.Filled.{written_columns, row_written, RowMade, inserted, updated}
+use Rattle.local_txn.specs.Convergent.{side_of, barred, own_key_step, rule_step}
+
+-- where a block stands: the tables, the site's stamps, and which tables its statements are on, None before the first
+pub record Standing : Type 0 where
+  pub tables : List Rows
+  pub stamps : Stamps
+  pub side : Option Side
 
 -- the row of a table with a key, where it is there
 abbrev pub row_at : Schema → List Rows → ℕ → Cells → Option Cells
 row_at schema tables table key = find_row (columns_of schema table) key (rows_of tables table)
 
--- the key that a statement names
-abbrev pub key_named : List Column → Statement → Cells
-key_named columns (Insert table values) = key_of columns (values_of values)
-key_named columns (Update table key sets) = values_of key
-key_named columns (Delete table key) = values_of key
+-- the row that an insert makes
+abbrev pub insert_made : Schema → Here → Stamps → ℕ → List Literal → RowMade
+insert_made schema here stamps table values = inserted (columns_of schema table) here.site stamps (row_written (columns_of schema table) (values_of values))
 
--- the row of a table that a statement is about, where it is there
-abbrev pub row_before : Schema → List Rows → ℕ → Statement → Option Cells
-row_before schema tables table statement = row_at schema tables table (key_named (columns_of schema table) statement)
+-- the row that an update makes of one
+abbrev pub update_made : Schema → Here → Stamps → ℕ → List Set → Cells → RowMade
+update_made schema here stamps table sets before = updated schema table here.site stamps before (row_with sets (columns_of schema table) before)
 
-abbrev pub row_set : List Set → List Column → Option Cells → Option Cells
-row_set sets columns None = None
-row_set sets columns (Some row) = Some (row_with sets columns row)
+-- the row that a statement is about, where it is there, the row after it, and the site's last stamp then
+pub record Outcome : Type 0 where
+  pub before : Option Cells
+  pub after : Option Cells
+  pub last : ℕ
 
--- the row after a statement: the one that it inserts, the one that it sets, or none
-abbrev pub row_after : List Column → Statement → Option Cells → Option Cells
-row_after columns (Insert table values) before = Some (values_of values)
-row_after columns (Update table key sets) before = row_set sets columns before
-row_after columns (Delete table key) before = None
+abbrev pub insert_outcome : Option Cells → RowMade → Outcome
+insert_outcome before made = record { before = before; after = Some made.row; last = made.last }
 
--- the change that a statement makes in a table: of its row, where that changes
-abbrev pub change_in : Schema → List Rows → ℕ → Statement → List Change
-change_in schema tables table statement = changes_between table (row_before schema tables table statement)
-    (row_after (columns_of schema table) statement (row_before schema tables table statement))
+abbrev pub update_outcome : ℕ → (Cells → RowMade) → Option Cells → Outcome
+update_outcome last make None = record { before = None; after = None; last = last }
+update_outcome last make (Some row) = record { before = Some row; after = Some (make row).row; last = (make row).last }
 
-abbrev pub change_at : Schema → List Rows → Option ℕ → Statement → List Change
-change_at schema tables None statement = []
-change_at schema tables (Some table) statement = change_in schema tables table statement
+-- an insert makes a row
+abbrev pub insert_in : Schema → Here → Standing → ℕ → List Literal → Outcome
+insert_in schema here standing table values = insert_outcome
+    (row_at schema standing.tables table (key_of (columns_of schema table) (insert_made schema here standing.stamps table values).row))
+    (insert_made schema here standing.stamps table values)
+
+-- an update makes another row of one
+abbrev pub update_in : Schema → Here → Standing → ℕ → List Literal → List Set → Outcome
+update_in schema here standing table key sets = update_outcome standing.stamps.last (update_made schema here standing.stamps table sets)
+    (row_at schema standing.tables table (values_of key))
+
+-- a delete takes one
+abbrev pub delete_in : Schema → Standing → ℕ → List Literal → Outcome
+delete_in schema standing table key = record { before = row_at schema standing.tables table (values_of key); after = None; last = standing.stamps.last }
+
+-- what a statement does in a table
+abbrev pub outcome_in : Schema → Here → Standing → ℕ → Statement → Outcome
+outcome_in schema here standing table (Insert name values) = insert_in schema here standing table values
+outcome_in schema here standing table (Update name key sets) = update_in schema here standing table key sets
+outcome_in schema here standing table (Delete name key) = delete_in schema standing table key
+
+-- the change of a row that has an outcome, where it changed
+abbrev pub outcome_changes : ℕ → Outcome → List Change
+outcome_changes table outcome = changes_between table outcome.before outcome.after
+
+-- where a block stands after changes in a table
+abbrev pub standing_with : Schema → ℕ → List Change → ℕ → Standing → Standing
+standing_with schema table changes last standing = record {
+  tables = made_all schema changes standing.tables;
+  stamps = record { clock = standing.stamps.clock; last = last };
+  side = Some (side_of schema table);
+}
+
+abbrev pub changes_at : Schema → Here → Standing → Option ℕ → Statement → List Change
+changes_at schema here standing None statement = []
+changes_at schema here standing (Some table) statement = outcome_changes table (outcome_in schema here standing table statement)
 
 -- the change that a statement makes
-abbrev pub statement_changes : Schema → List Rows → Statement → List Change
-statement_changes schema tables statement = change_at schema tables (table_place schema (table_name statement)) statement
+abbrev pub statement_changes : Schema → Here → Standing → Statement → List Change
+statement_changes schema here standing statement = changes_at schema here standing (table_place schema (table_name statement)) statement
+
+abbrev pub standing_at : Schema → Here → Standing → Option ℕ → Statement → Standing
+standing_at schema here standing None statement = standing
+standing_at schema here standing (Some table) statement = standing_with schema table
+    (outcome_changes table (outcome_in schema here standing table statement)) (outcome_in schema here standing table statement).last standing
+
+-- where a block stands after a statement
+abbrev pub standing_after : Schema → Here → Standing → Statement → Standing
+standing_after schema here standing statement = standing_at schema here standing (table_place schema (table_name statement)) statement
 
 -- another row has a new row's values in a secondary constraint
 abbrev pub taken_step : Schema → List Rows → ℕ → Cells → Constraint → Option Refusal
@@ -73,42 +121,52 @@ unique_steps schema tables table row = map (taken_step schema tables table row) 
 abbrev pub check_step : Schema → ℕ → Cells → Option Refusal
 check_step schema table row = option_map (λ check. refusal.CheckFailed check.name) (failed_check schema table row)
 
--- its values in the constraints free, the checks met
-abbrev pub free_steps : Schema → List Rows → ℕ → Cells → List (Option Refusal)
-free_steps schema tables table row = unique_steps schema tables table row ++ check_step schema table row ∷ []
-
--- a new row: its numbers in range, its values in the constraints free, the checks met
+-- a new row: its numbers and stamps in range, its values in the constraints free, the checks met
 abbrev pub row_steps : Schema → List Rows → ℕ → Cells → List (Option Refusal)
-row_steps schema tables table row = refused (not (row_in_range row)) refusal.ValueRange ∷ free_steps schema tables table row
+row_steps schema tables table row = refused (not (row_in_range row)) refusal.ValueRange ∷ unique_steps schema tables table row ++ check_step schema table row ∷ []
 
 -- what follows where the row is there
 abbrev pub there : Option Cells → (Cells → List (Option Refusal)) → List (Option Refusal)
 there None steps = Some refusal.NoRow ∷ []
 there (Some row) steps = steps row
 
-abbrev pub insert_steps : Schema → List Rows → ℕ → List Literal → List (Option Refusal)
-insert_steps schema tables table values =
-    refused (not (literals_fit schema (columns_of schema table) values)) refusal.RowShape ∷
-    refused (is_some (row_at schema tables table (key_of (columns_of schema table) (values_of values)))) refusal.KeyTaken ∷
-    row_steps schema tables table (values_of values)
+abbrev pub new_row_steps : Schema → Here → Standing → ℕ → Cells → List (Option Refusal)
+new_row_steps schema here standing table row =
+    refused (is_some (row_at schema standing.tables table (key_of (columns_of schema table) row))) refusal.KeyTaken ∷
+    barred schema standing.side table (not here.is_master) ∷
+    own_key_step schema here table row ∷
+    row_steps schema standing.tables table row
 
-abbrev pub update_steps : Schema → List Rows → ℕ → List Literal → List Set → List (Option Refusal)
-update_steps schema tables table key sets =
+abbrev pub insert_steps : Schema → Here → Standing → ℕ → List Literal → List (Option Refusal)
+insert_steps schema here standing table values =
+    refused (not (literals_fit schema (written_columns (columns_of schema table)) values)) refusal.RowShape ∷
+    new_row_steps schema here standing table (insert_made schema here standing.stamps table values).row
+
+-- a row that an update sets, and the one that it was
+abbrev pub changed_row_steps : Schema → Here → Standing → ℕ → List Set → Cells → List (Option Refusal)
+changed_row_steps schema here standing table sets before =
+    barred schema standing.side table false ∷
+    rule_step schema table before (row_with sets (columns_of schema table) before) ∷
+    row_steps schema standing.tables table (update_made schema here standing.stamps table sets before).row
+
+abbrev pub update_steps : Schema → Here → Standing → ℕ → List Literal → List Set → List (Option Refusal)
+update_steps schema here standing table key sets =
     refused (not (names_columns (columns_of schema table) sets)) refusal.UnknownName ∷
     refused (not (key_literals_fit schema (columns_of schema table) key && sets_fit (columns_of schema table) sets)) refusal.RowShape ∷
-    there (row_at schema tables table (values_of key)) (λ row. row_steps schema tables table (row_with sets (columns_of schema table) row))
+    refused (sets_filled (columns_of schema table) sets) refusal.FilledBySite ∷
+    there (row_at schema standing.tables table (values_of key)) (changed_row_steps schema here standing table sets)
 
-abbrev pub delete_steps : Schema → List Rows → ℕ → List Literal → List (Option Refusal)
-delete_steps schema tables table key =
+abbrev pub delete_steps : Schema → Standing → ℕ → List Literal → List (Option Refusal)
+delete_steps schema standing table key =
     refused (not (key_literals_fit schema (columns_of schema table) key)) refusal.RowShape ∷
-    there (row_at schema tables table (values_of key)) (λ row. [])
+    there (row_at schema standing.tables table (values_of key)) (λ row. barred schema standing.side table true ∷ [])
 
 -- the steps that can refuse a statement on a table, in their order
-abbrev pub steps_in : Schema → List Rows → ℕ → Statement → List (Option Refusal)
-steps_in schema tables table (Insert name values) = insert_steps schema tables table values
-steps_in schema tables table (Update name key sets) = update_steps schema tables table key sets
-steps_in schema tables table (Delete name key) = delete_steps schema tables table key
+abbrev pub steps_in : Schema → Here → Standing → ℕ → Statement → List (Option Refusal)
+steps_in schema here standing table (Insert name values) = insert_steps schema here standing table values
+steps_in schema here standing table (Update name key sets) = update_steps schema here standing table key sets
+steps_in schema here standing table (Delete name key) = delete_steps schema standing table key
 
 -- why a statement is refused, if it is: its table is not known or not held here, or the first of its steps
-abbrev pub statement_refusal : Schema → Here → List Rows → Statement → Option Refusal
-statement_refusal schema here tables statement = first_refusal (known (held_table schema here statement) (λ table. steps_in schema tables table statement))
+abbrev pub statement_refusal : Schema → Here → Standing → Statement → Option Refusal
+statement_refusal schema here standing statement = first_refusal (known (held_table schema here statement) (λ table. steps_in schema here standing table statement))

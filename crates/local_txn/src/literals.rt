@@ -1,15 +1,22 @@
 //! A script's literals beside columns, and the rows and keys that they give.
-ghost use Rattle.std.specs.Prelude.{◌≡◌, ◌<◌, ◌≤◌, length, slice_get, IfOk};
-ghost use Rattle.std.specs.List.{list_any, list_all};
+ghost use Rattle.std.specs.Prelude.{◌≡◌, [], length, slice_get, filter, IfOk};
+ghost use Rattle.std.specs.List.{list_any};
 ghost use Rattle.rep_values.specs.Number.{IsKeyLen, IsRowLen};
 ghost use Rattle.rep_values.specs.Name.{same_bytes};
-ghost use Rattle.rep_schema.specs.Tables.{key_columns};
-ghost use Rattle.local_txn.specs.Literals.{names_site, literal_fits, literal_there, literals_fit, key_literals_fit, values_of};
+ghost use Rattle.local_txn.specs.Filled.{blank_value, written_columns, row_written};
+ghost use Rattle.local_txn.specs.Literals.{names_site, literal_fits, literal_there, literals_fit, is_given, key_literals_fit, values_of};
 
-use rep_lists::NoMemory;
+use rep_lists::{Items, NoMemory};
 use rep_schema::{Column, Schema, SiteEntry, is_of_kind};
 use rep_values::{Key, Literal, Row, Text, Value};
 use std::alloc::Global;
+
+/// The columns that literals are given for: those that a script writes, or the key columns.
+#[derive(Clone, Copy)]
+enum Given {
+    Written,
+    Key,
+}
 
 fn has_site(sites: &[SiteEntry], name: &Text) -> bool
     ensures { result ≡ list_any (λ site. same_bytes site.name.0 name.now) sites.now }
@@ -43,25 +50,21 @@ fn fits_there(schema: &Schema, column: &Column, literals: &[Literal], place: usi
     }
 }
 
-/// Whether there is a literal for each column, and each fits.
-pub(crate) fn literals_fit(schema: &Schema, columns: &[Column], literals: &[Literal]) -> bool
-    ensures { result ≡ literals_fit schema.now columns.now literals.now }
+fn is_given(given: Given, column: &Column) -> bool
+    ensures { result ≡ is_given given column.now }
 {
-    for i in 0..columns.len() {
-        if !fits_there(schema, &columns[i], literals, i) {
-            return false;
-        }
+    match given {
+        Given::Written => !column.is_filled(),
+        Given::Key => column.key,
     }
-    columns.len() == literals.len()
 }
 
-/// Whether there is a literal for each key column, and each fits.
-pub(crate) fn key_literals_fit(schema: &Schema, columns: &[Column], literals: &[Literal]) -> bool
-    ensures { result ≡ key_literals_fit schema.now columns.now literals.now }
+fn literals_fit(schema: &Schema, given: Given, columns: &[Column], literals: &[Literal]) -> bool
+    ensures { result ≡ literals_fit schema.now (filter (is_given given) columns.now) literals.now }
 {
     let mut read = 0;
     for column in columns {
-        if column.key {
+        if is_given(given, column) {
             if !fits_there(schema, column, literals, read) {
                 return false;
             }
@@ -71,16 +74,61 @@ pub(crate) fn key_literals_fit(schema: &Schema, columns: &[Column], literals: &[
     read == literals.len()
 }
 
-/// The row of literals.
-pub(crate) fn row_of(alloc: Global, literals: &[Literal]) -> Result<Row, NoMemory>
-    requires { IsRowLen (length literals.now) }
-    ensures { IfOk result (λ row. row ≡ values_of literals.now) }
+/// Whether there is a literal for each column that a script writes, and each fits.
+pub(crate) fn written_fit(schema: &Schema, columns: &[Column], literals: &[Literal]) -> bool
+    ensures { result ≡ literals_fit schema.now (written_columns columns.now) literals.now }
 {
-    let mut cells = [Value::Num(0); 32];
-    for i in 0..literals.len() {
-        cells[i] = literals[i].value();
+    literals_fit(schema, Given::Written, columns, literals)
+}
+
+/// Whether there is a literal for each key column, and each fits.
+pub(crate) fn key_literals_fit(schema: &Schema, columns: &[Column], literals: &[Literal]) -> bool
+    ensures { result ≡ key_literals_fit schema.now columns.now literals.now }
+{
+    literals_fit(schema, Given::Key, columns, literals)
+}
+
+fn empty_text() -> Text
+    ensures { result ≡ [] }
+{
+    match Text::of(b"") {
+        Some(text) => text,
+        None => unreachable!(),
     }
-    match Row::of(alloc, &cells[..literals.len()])? {
+}
+
+/// What a filled column holds before it is filled.
+fn blank_value(column: &Column) -> Value
+    ensures { result ≡ blank_value column.now }
+{
+    if column.kind.is_stamp() {
+        Value::Num(0)
+    } else {
+        Value::Words(empty_text())
+    }
+}
+
+/// The row of literals, blank in the columns that the site fills.
+pub(crate) fn row_written(
+    alloc: Global,
+    columns: &[Column],
+    literals: &[Literal],
+) -> Result<Row, NoMemory>
+    requires some { IsRowLen (length columns.now) }
+    requires long { length (written_columns columns.now) ≡ length literals.now }
+    ensures { IfOk result (λ row. row ≡ row_written columns.now (values_of literals.now)) }
+{
+    let mut cells = Items::with_capacity(alloc, columns.len())?;
+    let mut read = 0;
+    for column in columns {
+        if column.is_filled() {
+            cells.push(blank_value(column))?;
+        } else {
+            cells.push(literals[read].value())?;
+            read += 1;
+        }
+    }
+    match Row::from_items(cells) {
         Some(row) => Ok(row),
         None => unreachable!(),
     }
@@ -91,12 +139,9 @@ pub(crate) fn key_of_literals(literals: &[Literal]) -> Key
     requires { IsKeyLen (length literals.now) }
     ensures { result ≡ values_of literals.now }
 {
-    let mut cells = [Value::Num(0); 4];
-    for i in 0..literals.len() {
-        cells[i] = literals[i].value();
+    let mut key = Key::first(literals[0].value());
+    for i in 1..literals.len() {
+        key.push(literals[i].value());
     }
-    match Key::of(&cells[..literals.len()]) {
-        Some(key) => key,
-        None => unreachable!(),
-    }
+    key
 }

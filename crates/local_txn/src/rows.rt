@@ -1,26 +1,21 @@
-//! Rows in a store: whether one is there, whether one may be put, and putting it.
-ghost use Rattle.std.specs.Prelude.{◌≡◌, ◌≢◌, ℕ, ◌+◌, ◌<◌, ◌≤◌, ◌==◌, cond, map, length, slice_get, slice_index, is_some, Some, IfOk, IfErr, OnErr};
-ghost use Rattle.rep_schema.specs.Tables.{columns_of, constraints_of, constraint_columns_of, key_of, rows_of, RowFits, IsUniqueRow};
+//! Rows in a store, and why a row can't be put there.
+ghost use Rattle.std.specs.Prelude.{◌≡◌, ◌<◌, map, length, slice_get, is_some, Some};
 ghost use Rattle.rep_schema.specs.declared.schema.Constraint.{Constraint as ConstraintValue};
-ghost use Rattle.rep_schema.specs.Changes.{row_like};
+ghost use Rattle.rep_schema.specs.Tables.{columns_of, constraints_of, constraint_columns_of, key_of, rows_of, RowFits};
 ghost use Rattle.rep_values.specs.RefusalSteps.{first_refusal};
 ghost use Rattle.unique_resolve.specs.Settling.{is_held};
-ghost use Rattle.rep_schema.specs.Putting.{changes_between, made_all, changes_of};
-ghost use Rattle.local_txn.specs.Statements.{taken_step, unique_steps, check_step, free_steps, row_at};
-ghost use Rattle.local_txn.specs.Running.{CanRun, RunsAs, StopsAs};
+ghost use Rattle.local_txn.specs.Statements.{taken_step, unique_steps, check_step, row_steps, row_at};
+ghost use Rattle.local_txn.specs.Running.{CanRun, IsKindly};
 
-use crate::stop::Stop;
 use rep_schema::{
-    Change, Constraint, RowStore, Schema, columns_of, constraint_count, failed_check, key_of,
-    put_if_changed,
+    Constraint, RowStore, Schema, columns_of, constraint_count, failed_check, key_of, row_in_range,
 };
 use rep_values::{Key, Refusal, Row};
-use std::alloc::Global;
 
-/// The key of a row that fits a table.
+/// The key of a row that is as long as its table has columns.
 pub(crate) fn key_in<R: RowStore>(store: &R, table: u32, row: &Row) -> Key
     requires able { CanRun (R.schema store.now) (R.tables store.now) table }
-    requires fits { length (columns_of (R.schema store.now) table) ≡ length row.now }
+    requires long { length (columns_of (R.schema store.now) table) ≡ length row.now }
     ensures { result ≡ key_of (columns_of (R.schema store.now) table) row.now }
 {
     key_of(columns_of(store.schema(), table), row.values())
@@ -90,40 +85,18 @@ fn check_refusal(schema: &Schema, table: u32, row: &Row) -> Option<Refusal>
     }
 }
 
-/// Why a row can't be put: a secondary constraint in which another row has its values, then a check.
-pub(crate) fn free_refusal<R: RowStore>(store: &R, table: u32, row: &Row) -> Option<Refusal>
+/// Why a row can't be put, if it can't: a number or stamp out of range, a secondary constraint in which another row has
+/// its values, then a check.
+pub(crate) fn row_refusal<R: RowStore>(store: &R, table: u32, row: &Row) -> Option<Refusal>
     requires able { CanRun (R.schema store.now) (R.tables store.now) table }
-    requires fits { RowFits (columns_of (R.schema store.now) table) row.now }
-    ensures { result ≡ first_refusal (free_steps (R.schema store.now) (R.tables store.now) table row.now) }
+    requires kindly { IsKindly (R.schema store.now) table row.now }
+    ensures { result ≡ first_refusal (row_steps (R.schema store.now) (R.tables store.now) table row.now) }
 {
+    if !row_in_range(row.values()) {
+        return Some(Refusal::ValueRange);
+    }
     if let Some(refusal) = unique_refusal(store, table, row) {
         return Some(refusal);
     }
     check_refusal(store.schema(), table, row)
-}
-
-/// Puts a row that fits, where no other row has its values in a secondary constraint and it meets the checks.
-pub(crate) fn put_free<R: RowStore>(
-    store: &mut R,
-    alloc: Global,
-    table: u32,
-    row: Row,
-) -> Result<Option<Change>, Stop>
-    requires able { CanRun (R.schema store.old) (R.tables store.old) table }
-    requires fits { RowFits (columns_of (R.schema store.old) table) row }
-    requires room { 1 ≤ slice_index (R.spare store.old) table }
-    ensures ok { IfOk result (λ change. RunsAs (first_refusal (free_steps (R.schema store.old) (R.tables store.old) table row))
-        (changes_between table (row_like (columns_of (R.schema store.old) table) row (rows_of (R.tables store.old) table)) (Some row)) (changes_of change)) }
-    ensures tables { IfOk result (λ change. R.tables store.new ≡ made_all (R.schema store.old) (changes_of change) (R.tables store.old)) }
-    ensures err { IfErr result (StopsAs (first_refusal (free_steps (R.schema store.old) (R.tables store.old) table row))) }
-    ensures same { OnErr result (R.tables store.new ≡ R.tables store.old) }
-    ensures schema { R.schema store.new ≡ R.schema store.old }
-    ensures same_room { OnErr result (R.spare store.new ≡ R.spare store.old) }
-    ensures room { (t : ℕ) → slice_index (R.spare store.old) t ≤ slice_index (R.spare store.new) t + cond (t == table) 1 0 }
-{
-    if let Some(refusal) = free_refusal(store, table, &row) {
-        return Err(Stop::Refused(refusal));
-    }
-    let change = put_if_changed(alloc, store, table, row)?;
-    Ok(change)
 }

@@ -1,21 +1,22 @@
 //! A block of statements on a store, all of it or nothing.
-ghost use Rattle.std.specs.Prelude.{◌≡◌, ◌≢◌, ◌⊎◌, ℕ, ◌+◌, ◌<◌, ◌≤◌, ◌^◌, ◌++◌, map, length, slice_index, vec_len, vec_capacity, Ok, IfOk, IfErr, OnErr};
+ghost use Rattle.std.specs.Prelude.{◌≡◌, ◌≢◌, ◌⊎◌, ℕ, ◌+◌, ◌<◌, ◌≤◌, ◌^◌, map, length, slice_index, Ok, IfOk, IfErr, OnErr};
 ghost use Rattle.std.specs.List.{AllByRecursion};
 ghost use Rattle.rep_values.specs.declared.name.SiteName.{SiteName as SiteNameValue};
 ghost use Rattle.rep_schema.specs.Shape.{HasShape};
 ghost use Rattle.rep_schema.specs.Tables.{AreTables};
 ghost use Rattle.rep_schema.specs.Changes.{ChangeFits, LeadsTo, room_for};
+ghost use Rattle.rep_schema.specs.Putting.{made_all, changes_of};
 ghost use Rattle.conflict_detect.specs.Fits.{TxnFits};
 ghost use Rattle.conflict_detect.specs.ChangeCalls.{call_of};
 ghost use Rattle.unique_resolve.specs.Numbers.{Numbers};
-ghost use Rattle.txn_effects.specs.Calls.{HasKeys};
-ghost use Rattle.rep_schema.specs.Putting.{made_all, changes_of};
+ghost use Rattle.txn_effects.specs.Calls.{HasKeys, KeysStandAlone};
 ghost use Rattle.txn_effects.specs.Transactions.{txn_effect};
 ghost use Rattle.txn_effects.specs.Laws.{IsChecked};
-ghost use Rattle.local_txn.specs.Statements.{statement_refusal, statement_changes};
-ghost use Rattle.local_txn.specs.Locals.{statements_effect, local_effect};
-ghost use Rattle.local_txn.specs.Running.{RunsAs, StopsAs, EndsAs};
+ghost use Rattle.local_txn.specs.Statements.{statement_refusal};
+ghost use Rattle.local_txn.specs.Locals.{statements_effect, local_effect, BlockEffect};
+ghost use Rattle.local_txn.specs.Running.{GoesOn, standing_of, StopsAs, EndsAs};
 
+use crate::footing::Footing;
 use crate::held::held_table;
 use crate::statement::run_in;
 use crate::stop::{Stop, stop_at};
@@ -31,59 +32,61 @@ use std::alloc::Global;
 fn run_in_room<R: RowStore>(
     store: &mut R,
     alloc: Global,
-    here: &Here,
+    footing: &mut Footing,
     statement: &Statement,
     rows: usize,
 ) -> Result<Option<Change>, Stop>
     requires shape { HasShape (R.schema store.old) }
     requires keys { HasKeys (R.schema store.old) }
+    requires apart { KeysStandAlone (R.schema store.old) }
     requires are { AreTables (R.schema store.old) (R.tables store.old) }
     requires few { rows < 2 ^ 32 }
-    ensures ok { IfOk result (λ change. RunsAs (statement_refusal (R.schema store.old) here.now (R.tables store.old) statement.now)
-        (statement_changes (R.schema store.old) (R.tables store.old) statement.now) (changes_of change)) }
+    ensures ok { IfOk result (λ change. GoesOn (R.schema store.old) statement.now (R.tables store.old) (R.tables store.new) (changes_of change) footing.old footing.new) }
+    ensures err { IfErr result (StopsAs (statement_refusal (R.schema store.old) footing.old.here (standing_of footing.old (R.tables store.old)) statement.now)) }
     ensures tables { IfOk result (λ change. R.tables store.new ≡ made_all (R.schema store.old) (changes_of change) (R.tables store.old)) }
-    ensures err { IfErr result (StopsAs (statement_refusal (R.schema store.old) here.now (R.tables store.old) statement.now)) }
     ensures same { OnErr result (R.tables store.new ≡ R.tables store.old) }
     ensures schema { R.schema store.new ≡ R.schema store.old }
     ensures room { IfOk result (λ change. (t : ℕ) → (rows ≤ slice_index (R.spare store.new) t)
         ⊎ ((slice_index (R.spare store.old) t ≤ slice_index (R.spare store.new) t) × (room_for t (changes_of change) ≡ 0))) }
     ensures kept { OnErr result ((t : ℕ) → slice_index (R.spare store.old) t ≤ slice_index (R.spare store.new) t) }
 {
-    let Some(table) = held_table(store.schema(), here, statement) else {
+    let Some(table) = held_table(store.schema(), &footing.here, statement) else {
         return Err(Stop::Refused(Refusal::UnknownName));
     };
     store.reserve(table, rows as u64 + 1)?;
-    let change = run_in(store, alloc, table, statement)?;
+    let change = run_in(store, alloc, footing, table, statement)?;
     Ok(change)
 }
 
-/// Runs the statements, or none of them.
+/// Runs the statements, or none of them. Where one is refused, the footing is open.
 fn run_statements<R: RowStore>(
     store: &mut R,
     alloc: Global,
-    here: &Here,
+    footing: &mut Footing,
     statements: &[Statement],
 ) -> Result<Changes, LocalStop>
     requires shape { HasShape (R.schema store.old) }
     requires keys { HasKeys (R.schema store.old) }
+    requires apart { KeysStandAlone (R.schema store.old) }
     requires few { length statements.now ≤ 1000 }
-    ensures ok { IfOk result (λ changes. statements_effect (R.schema store.old) here.now 1 statements.now (R.tables store.old) ≡ Ok changes.rows) }
+    ensures ok { IfOk result (λ changes. statements_effect (R.schema store.old) footing.old.here 1 statements.now (standing_of footing.old (R.tables store.old))
+        ≡ Ok (record { changes = changes.rows; stamps = footing.new.stamps })) }
     ensures tables { IfOk result (λ changes. R.tables store.new ≡ made_all (R.schema store.old) changes.rows (R.tables store.old)) }
     ensures leads { IfOk result (λ changes. LeadsTo (R.schema store.old) changes.rows (R.tables store.old) (R.tables store.new)) }
     ensures differ { IfOk result (λ changes. AllByRecursion (λ change. change.before ≢ change.after) changes.rows) }
     ensures checked { IfOk result (λ changes. AllByRecursion (IsChecked (R.schema store.old)) changes.rows) }
     ensures were { AreTables (R.schema store.old) (R.tables store.old) }
     ensures room { IfOk result (λ changes. (t : ℕ) → room_for t changes.rows ≤ slice_index (R.spare store.new) t) }
-    ensures err { IfErr result (EndsAs (statements_effect (R.schema store.old) here.now 1 statements.now (R.tables store.old))) }
+    ensures err { IfErr result (EndsAs (statements_effect (R.schema store.old) footing.old.here 1 statements.now (standing_of footing.old (R.tables store.old)))) }
     ensures kept { OnErr result (R.tables store.new ≡ R.tables store.old) }
     ensures schema { R.schema store.new ≡ R.schema store.old }
 {
     holds_tables(store);
     let Ok(mut done) = Vec::with_capacity(alloc, statements.len()) else {
-        return Err(stop_at(0, Stop::NoRoom));
+        return Err(stop_at(0, Stop::Memory));
     };
     for i in 0..statements.len() {
-        match run_in_room(store, alloc, here, &statements[i], statements.len()) {
+        match run_in_room(store, alloc, footing, &statements[i], statements.len()) {
             Ok(change) => push_change(&mut done, change),
             Err(stop) => {
                 let rows = Items::from_vec(done);
@@ -112,8 +115,9 @@ fn txn_of(alloc: Global, schema: &Schema, changes: &[Change]) -> Result<Txn, NoM
 
 /// Runs the statements of a block at a site as one local transaction: all of them, or none. It answers the
 /// transaction, with one call for each row that a statement changed, and those changes; there is room in the store to
-/// undo them. Where a statement is refused, the answer names the first one, from 1, with its refusal; then, and where
-/// there is no memory, the store's rows are as before.
+/// undo them. The columns that the site fills are filled in in new rows and in the modified groups of changed ones,
+/// with stamps that rise from the site's last one. Where a statement is refused, the answer names the first one, from
+/// 1, with its refusal; then, and where there is no memory, the store's rows and the site's stamps are as before.
 pub fn run_local<R: RowStore>(
     store: &mut R,
     alloc: Global,
@@ -123,7 +127,9 @@ pub fn run_local<R: RowStore>(
 ) -> Result<Local, LocalStop>
     requires shape { HasShape (R.schema store.old) }
     requires keys { HasKeys (R.schema store.old) }
-    ensures ok { IfOk result (λ local. local_effect (R.schema store.old) here.now statements.now (R.tables store.old) ≡ Ok local.changes.rows) }
+    requires apart { KeysStandAlone (R.schema store.old) }
+    ensures ok { IfOk result (λ local. local_effect (R.schema store.old) here.now stamps.old statements.now (R.tables store.old)
+        ≡ Ok (record { changes = local.changes.rows; stamps = stamps.new })) }
     ensures txn { IfOk result (λ local. local.txn.calls ≡ map (call_of (R.schema store.old)) local.changes.rows) }
     ensures tables { IfOk result (λ local. R.tables store.new ≡ made_all (R.schema store.old) local.changes.rows (R.tables store.old)) }
     ensures leads { IfOk result (λ local. LeadsTo (R.schema store.old) local.changes.rows (R.tables store.old) (R.tables store.new)) }
@@ -134,9 +140,9 @@ pub fn run_local<R: RowStore>(
     ensures checked { IfOk result (λ local. AllByRecursion (IsChecked (R.schema store.old)) local.changes.rows) }
     ensures applies { IfOk result (λ local. (origin : SiteNameValue) (numbers : Numbers)
         → txn_effect (R.schema store.old) origin local.txn (R.tables store.old) numbers ≡ Ok (record { changes = local.changes.rows; numbers = numbers })) }
-    ensures err { IfErr result (EndsAs (local_effect (R.schema store.old) here.now statements.now (R.tables store.old))) }
+    ensures err { IfErr result (EndsAs (local_effect (R.schema store.old) here.now stamps.old statements.now (R.tables store.old))) }
     ensures kept { OnErr result (R.tables store.new ≡ R.tables store.old) }
-    ensures stamps { stamps.new ≡ stamps.old }
+    ensures stood { OnErr result (stamps.new ≡ stamps.old) }
     ensures schema { R.schema store.new ≡ R.schema store.old }
 {
     holds_tables(store);
@@ -146,12 +152,20 @@ pub fn run_local<R: RowStore>(
             refusal: Refusal::LimitReached(Limit::Statements),
         });
     }
-    let changes = run_statements(store, alloc, here, statements)?;
+    let mut footing = Footing {
+        here: *here,
+        stamps: *stamps,
+        side: None,
+    };
+    let changes = run_statements(store, alloc, &mut footing, statements)?;
     match txn_of(alloc, store.schema(), changes.rows.as_slice()) {
-        Ok(txn) => Ok(Local { txn, changes }),
+        Ok(txn) => {
+            *stamps = footing.stamps;
+            Ok(Local { txn, changes })
+        }
         Err(_) => {
             undo(store, changes);
-            Err(stop_at(0, Stop::NoRoom))
+            Err(stop_at(0, Stop::Memory))
         }
     }
 }

@@ -1,42 +1,80 @@
 //! What an update sets.
-ghost use Rattle.std.specs.Prelude.{◌≡◌, option_copied, length};
-ghost use Rattle.std.specs.List.{find, list_any, list_all};
-ghost use Rattle.local_txn.specs.Sets.{names_columns, is_about, names_one_twice, takes_how, takes_set, sets_fit, value_after, value_by, row_with, where_in_range, row_where_in_range};
+ghost use Rattle.std.specs.Prelude.{◌≡◌, ◌≤◌, length, map, option_copied, true, pos, IfOk, IfErr};
+ghost use Rattle.std.specs.Ordering.{int_cmp};
+ghost use Rattle.rep_values.specs.Order.{value_cmp};
+ghost use Rattle.rep_schema.specs.Limits.{most_columns};
+ghost use Rattle.rep_schema.specs.Shape.{AreDistinct};
+ghost use Rattle.rep_schema.specs.Kinds.{row_in_range};
+ghost use Rattle.local_txn.specs.Sets.{takes_how, takes_set, value_after, value_by};
+ghost use Rattle.local_txn.specs.ByColumn.{set_at, takes_each, fills_some, row_by, where_in_range, row_where_in_range, AreSets, names_refusal};
 
 use rep_calls::{How, Set};
 use rep_schema::{Column, is_of_kind, value_in_range};
-use rep_values::{Name, Row, Value};
-use schema_names::has_column;
+use rep_values::{Refusal, Row, Value, compare_values};
+use schema_names::column_place;
+use std::cmp::Ordering;
+use std::marker::Model;
 
-/// Whether each name is that of a column.
-pub(crate) fn names_columns(columns: &[Column], sets: &[Set]) -> bool
-    ensures { result ≡ names_columns columns.now sets.now }
-{
-    sets.iter().all(|set| has_column(columns, &set.column))
+/// What is set of each column of a table. It is kept in place and takes no memory.
+#[derive(Drop)]
+pub(crate) struct SetsByColumn<'a> {
+    sets: &'a [Set],
+    cells: [Option<usize>; 32],
+    len: usize,
 }
 
-fn has_set(sets: &[Set], name: &Name) -> bool
-    ensures { result ≡ list_any (is_about name.now) sets.now }
-{
-    sets.iter().any(|set| set.column.is_same(name))
+impl<'a> Model for SetsByColumn<'a> {
+    ghost use Rattle.std.specs.Prelude.{ℕ, ◌≤◌, List, Option, map, take};
+    ghost use Rattle.rep_calls.specs.declared.statement.Set.{Set as SetValue};
+    ghost use Rattle.local_txn.specs.ByColumn.{set_of};
+
+    ghost Value = { List (Option SetValue) };
+
+    ghost view = { λ s. map (set_of s.sets.now) (take s.len s.cells) };
+
+    ghost invariant = { λ s. s.len ≤ 32 };
 }
 
-/// What is set of the column of a name.
-pub(crate) fn find_set<'a>(sets: &'a [Set], name: &Name) -> Option<&'a Set>
-    ensures { option_copied result ≡ find (is_about name.now) sets.now }
-{
-    sets.iter().find(|set| set.column.is_same(name))
-}
+impl<'a> SetsByColumn<'a> {
+    /// What these sets set of each column. Else a name is unknown, or a column is named twice.
+    pub(crate) fn of(columns: &[Column], sets: &'a [Set]) -> Result<SetsByColumn<'a>, Refusal>
+        requires few { length columns.now ≤ most_columns }
+        requires apart { AreDistinct (map (λ c. c.name) columns.now) }
+        ensures ok { IfOk result (AreSets columns.now sets.now) }
+        ensures err { IfErr result (λ why. names_refusal columns.now sets.now ≡ Some why) }
+    {
+        let mut cells = [None; 32];
+        let mut twice = false;
+        for i in (0..sets.len()).rev() {
+            let set = &sets[i];
+            let Some(place) = column_place(columns, &set.column) else {
+                return Err(Refusal::UnknownName);
+            };
+            twice = twice || cells[place].is_some();
+            cells[place] = Some(i);
+        }
+        if twice {
+            return Err(Refusal::RowShape);
+        }
+        Ok(SetsByColumn {
+            sets,
+            cells,
+            len: columns.len(),
+        })
+    }
 
-fn names_one_twice(sets: &[Set]) -> bool
-    ensures { result ≡ names_one_twice sets.now }
-{
-    for i in 0..sets.len() {
-        if has_set(&sets[i + 1..], &sets[i].column) {
-            return true;
+    /// What is set of the column at a place.
+    pub(crate) fn at(&self, place: usize) -> Option<&'a Set>
+        ensures { option_copied result ≡ set_at self.now place }
+    {
+        if place >= self.len {
+            return None;
+        }
+        match self.cells[place] {
+            Some(number) => self.sets.get(number),
+            None => None,
         }
     }
-    false
 }
 
 fn takes_how(column: &Column, how: &How) -> bool
@@ -57,19 +95,28 @@ fn takes_set(column: &Column, set: Option<&Set>) -> bool
     }
 }
 
-fn takes_sets(columns: &[Column], sets: &[Set]) -> bool
-    ensures { result ≡ list_all (λ c. takes_set c (find (is_about c.name) sets.now)) columns.now }
+/// Whether each column takes what is set of it.
+pub(crate) fn takes_each(columns: &[Column], sets: &SetsByColumn) -> bool
+    ensures { result ≡ takes_each columns.now sets.now }
 {
-    columns
-        .iter()
-        .all(|column| takes_set(column, find_set(sets, &column.name)))
+    for i in 0..columns.len() {
+        if !takes_set(&columns[i], sets.at(i)) {
+            return false;
+        }
+    }
+    true
 }
 
-/// Whether each column takes what is set of it, and none is set twice.
-pub(crate) fn sets_fit(columns: &[Column], sets: &[Set]) -> bool
-    ensures { result ≡ sets_fit columns.now sets.now }
+/// Whether something is set of a column that the site fills.
+pub(crate) fn fills_some(columns: &[Column], sets: &SetsByColumn) -> bool
+    ensures { result ≡ fills_some columns.now sets.now }
 {
-    takes_sets(columns, sets) && !names_one_twice(sets)
+    for i in 0..columns.len() {
+        if columns[i].is_filled() && sets.at(i).is_some() {
+            return true;
+        }
+    }
+    false
 }
 
 fn where_in_range(value: Value) -> Option<Value>
@@ -82,6 +129,7 @@ fn where_in_range(value: Value) -> Option<Value>
     }
 }
 
+/// A value after what is done to it; None where a number leaves its range.
 fn value_after(how: &How, old: &Value) -> Option<Value>
     ensures { result ≡ where_in_range (value_after how.now old.now) }
 {
@@ -94,24 +142,46 @@ fn value_after(how: &How, old: &Value) -> Option<Value>
     }
 }
 
-fn value_by(set: Option<&Set>, old: &Value) -> Option<Value>
-    ensures { result ≡ where_in_range (value_by (option_copied set.entry) old.now) }
+/// The row with what is set of its columns; None where a number leaves its range.
+pub(crate) fn set_row(sets: &SetsByColumn, row: Row) -> Option<Row>
+    requires { row_in_range row ≡ true }
+    ensures { result ≡ row_where_in_range (row_by sets.now row) }
+{
+    let mut row = row;
+    for i in 0..row.values().len() {
+        if let Some(set) = sets.at(i) {
+            let value = value_after(&set.how, &row.values()[i])?;
+            row.set(i, value);
+        }
+    }
+    Some(row)
+}
+
+/// How a number stands to another one plus it.
+fn order_of_amount(amount: i64) -> Ordering
+    ensures { result ≡ int_cmp amount (pos 0) }
+{
+    amount.cmp(&0)
+}
+
+/// How a value after what is set of it stands to the value before.
+pub(crate) fn order_after(set: Option<&Set>, old: &Value) -> Ordering
+    ensures { result ≡ value_cmp (value_by (option_copied set.entry) old.now) old.now }
 {
     match set {
-        None => where_in_range(*old),
-        Some(set) => value_after(&set.how, old),
+        None => Ordering::Equal,
+        Some(set) => order_of(&set.how, old),
     }
 }
 
-/// The row with what is set of its columns; None where a number leaves its range.
-pub(crate) fn set_row(columns: &[Column], sets: &[Set], row: Row) -> Option<Row>
-    requires { length columns.now ≡ length row }
-    ensures { result ≡ row_where_in_range (row_with sets.now columns.now row) }
+fn order_of(how: &How, old: &Value) -> Ordering
+    ensures { result ≡ value_cmp (value_after how.now old.now) old.now }
 {
-    let mut row = row;
-    for i in 0..columns.len() {
-        let value = value_by(find_set(sets, &columns[i].name), &row.values()[i])?;
-        row.set(i, value);
+    match (how, old) {
+        (How::To(literal), Value::Num(_) | Value::Words(_)) => {
+            compare_values(&literal.value(), old)
+        }
+        (How::Add(amount), Value::Num(_)) => order_of_amount(*amount),
+        (How::Add(_), Value::Words(_)) => Ordering::Equal,
     }
-    Some(row)
 }

@@ -1,110 +1,189 @@
 //! One statement on a store.
-ghost use Rattle.std.specs.Prelude.{◌≡◌, ◌≢◌, ℕ, ◌+◌, ◌<◌, ◌≤◌, ◌^◌, ◌==◌, ◌&&◌, cond, length, slice_index, Some, None, IfOk, IfErr, OnOk, OnErr};
-ghost use Rattle.rep_schema.specs.Tables.{columns_of, key_of};
+ghost use Rattle.std.specs.Prelude.{◌≡◌, ◌<◌, ◌≤◌, length, slice_index, Some, IfOk, IfErr};
 ghost use Rattle.rep_values.specs.RefusalSteps.{first_refusal};
-ghost use Rattle.rep_schema.specs.Putting.{changes_between, made_all, changes_of};
-ghost use Rattle.local_txn.specs.Literals.{key_literals_fit, values_of};
-ghost use Rattle.local_txn.specs.Sets.{sets_fit};
-ghost use Rattle.local_txn.specs.Statements.{row_at, row_set, insert_steps, update_steps, delete_steps, steps_in, change_in};
-ghost use Rattle.local_txn.specs.Running.{CanRun, RunsAs, StopsAs};
+ghost use Rattle.rep_schema.specs.Shape.{HasShape};
+ghost use Rattle.rep_schema.specs.Tables.{columns_of, RowFits};
+ghost use Rattle.rep_schema.specs.Putting.{changes_of, StepsIn};
+ghost use Rattle.txn_effects.specs.Calls.{KeysStandAlone};
+ghost use Rattle.local_txn.specs.ByColumn.{row_by};
+ghost use Rattle.local_txn.specs.Statements.{insert_in, update_in, delete_in, outcome_in, new_row_steps, insert_steps, update_steps, delete_steps, steps_in};
+ghost use Rattle.local_txn.specs.Running.{CanRun, IsKindly, ChangesTo, AreInOrder, change_steps, order_steps, standing_of, RunsAs, StopsAs};
 
-use crate::literals::{key_literals_fit, key_of_literals, literals_fit, row_of};
-use crate::rows::{has_row, key_in, put_free};
-use crate::sets::{names_columns, set_row, sets_fit};
+use crate::convergent::{bar_refusal, own_key_refusal, rule_refusal};
+use crate::filled::{RowMade, inserted, updated};
+use crate::footing::Footing;
+use crate::literals::{key_literals_fit, key_of_literals, row_written, written_fit};
+use crate::rows::{has_row, key_in, row_refusal};
+use crate::sets::{SetsByColumn, fills_some, set_row, takes_each};
 use crate::stop::Stop;
 use rep_calls::{Set, Statement};
-use rep_schema::{Change, Column, RowStore, Schema, columns_of, copy_of_row, row_in_range};
-use rep_values::{Literal, Refusal};
+use rep_lists::Copies;
+use rep_schema::{Change, RowStore, Schema, columns_of, put_with_change};
+use rep_values::{Literal, Refusal, Row, same_values};
 use std::alloc::Global;
+
+/// Why a new row can't be put, if it can't.
+fn new_row_refusal<R: RowStore>(
+    store: &R,
+    footing: &Footing,
+    table: u32,
+    row: &Row,
+) -> Option<Refusal>
+    requires able { CanRun (R.schema store.now) (R.tables store.now) table }
+    requires kindly { IsKindly (R.schema store.now) table row.now }
+    ensures { result ≡ first_refusal (new_row_steps (R.schema store.now) footing.now.here (standing_of footing.now (R.tables store.now)) table row.now) }
+{
+    let key = key_in(store, table, row);
+    if has_row(store, table, &key) {
+        return Some(Refusal::KeyTaken);
+    }
+    if let Some(refusal) = bar_refusal(
+        store.schema(),
+        footing.side,
+        table,
+        !footing.here.is_master,
+    ) {
+        return Some(refusal);
+    }
+    if let Some(refusal) = own_key_refusal(
+        store.schema(),
+        &footing.here.site,
+        table,
+        key.values(),
+    ) {
+        return Some(refusal);
+    }
+    row_refusal(store, table, row)
+}
 
 fn insert_row<R: RowStore>(
     store: &mut R,
     alloc: Global,
+    footing: &mut Footing,
     table: u32,
     values: &[Literal],
 ) -> Result<Option<Change>, Stop>
     requires able { CanRun (R.schema store.old) (R.tables store.old) table }
     requires room { 1 ≤ slice_index (R.spare store.old) table }
-    ensures ok { IfOk result (λ change. RunsAs (first_refusal (insert_steps (R.schema store.old) (R.tables store.old) table values.now))
-        (changes_between table (row_at (R.schema store.old) (R.tables store.old) table (key_of (columns_of (R.schema store.old) table) (values_of values.now))) (Some (values_of values.now))) (changes_of change)) }
-    ensures tables { IfOk result (λ change. R.tables store.new ≡ made_all (R.schema store.old) (changes_of change) (R.tables store.old)) }
-    ensures err { IfErr result (StopsAs (first_refusal (insert_steps (R.schema store.old) (R.tables store.old) table values.now))) }
-    ensures same { OnErr result (R.tables store.new ≡ R.tables store.old) }
-    ensures schema { R.schema store.new ≡ R.schema store.old }
-    ensures same_room { OnErr result (R.spare store.new ≡ R.spare store.old) }
-    ensures room { (t : ℕ) → slice_index (R.spare store.old) t ≤ slice_index (R.spare store.new) t + cond (t == table) 1 0 }
+    ensures ok { IfOk result (λ change. RunsAs (R.schema store.old) table
+        (first_refusal (insert_steps (R.schema store.old) footing.old.here (standing_of footing.old (R.tables store.old)) table values.now))
+        (insert_in (R.schema store.old) footing.old.here (standing_of footing.old (R.tables store.old)) table values.now) (changes_of change) footing.old footing.new) }
+    ensures err { IfErr result (StopsAs (first_refusal (insert_steps (R.schema store.old) footing.old.here (standing_of footing.old (R.tables store.old)) table values.now))) }
+    ensures step { StepsIn table (record { schema = R.schema store.old; tables = R.tables store.old; spare = R.spare store.old })
+        (record { schema = R.schema store.new; tables = R.tables store.new; spare = R.spare store.new }) result }
 {
-    if !literals_fit(store.schema(), columns_of(store.schema(), table), values) {
+    let columns = columns_of(store.schema(), table);
+    if !written_fit(store.schema(), columns, values) {
         return Err(Stop::Refused(Refusal::RowShape));
     }
-    let row = row_of(alloc, values)?;
-    if has_row(store, table, &key_in(store, table, &row)) {
-        return Err(Stop::Refused(Refusal::KeyTaken));
+    let row = row_written(alloc, columns, values)?;
+    let made = inserted(columns, &footing.stamps, &footing.here.site, row);
+    if let Some(refusal) = new_row_refusal(store, footing, table, &made.row) {
+        return Err(Stop::Refused(refusal));
     }
-    if !row_in_range(row.values()) {
-        return Err(Stop::Refused(Refusal::ValueRange));
-    }
-    let change = put_free(store, alloc, table, row)?;
-    Ok(change)
+    footing.go_on(store.schema(), table, made.last);
+    let change = put_with_change(alloc, store, table, made.row)?;
+    Ok(Some(change))
 }
 
-/// Whether the key and what is set fit.
-fn update_fits(schema: &Schema, columns: &[Column], key: &[Literal], sets: &[Set]) -> bool
-    ensures { result ≡ (key_literals_fit schema.now columns.now key.now && sets_fit columns.now sets.now) }
+/// What an update sets of each column, where its key and its sets are in order.
+fn sets_in_order<'a>(
+    schema: &Schema,
+    table: u32,
+    key: &[Literal],
+    sets: &'a [Set],
+) -> Result<SetsByColumn<'a>, Refusal>
+    requires table { table < length schema.now.tables }
+    requires shape { HasShape schema.now }
+    ensures ok { IfOk result (AreInOrder schema.now table key.now sets.now) }
+    ensures err { IfErr result (λ why. first_refusal (order_steps schema.now table key.now sets.now) ≡ Some why) }
 {
-    key_literals_fit(schema, columns, key) && sets_fit(columns, sets)
+    let columns = columns_of(schema, table);
+    let found = SetsByColumn::of(columns, sets)?;
+    if !key_literals_fit(schema, columns, key) || !takes_each(columns, &found) {
+        return Err(Refusal::RowShape);
+    }
+    if fills_some(columns, &found) {
+        return Err(Refusal::FilledBySite);
+    }
+    Ok(found)
+}
+
+/// The row that an update makes of another one, unless it is refused for what it sets.
+fn changed_row(
+    alloc: Global,
+    schema: &Schema,
+    footing: &Footing,
+    table: u32,
+    before: &Row,
+    sets: &SetsByColumn,
+) -> Result<RowMade, Stop>
+    requires table { table < length schema.now.tables }
+    requires shape { HasShape schema.now }
+    requires fits { RowFits (columns_of schema.now table) before.now }
+    ensures ok { IfOk result (ChangesTo schema.now footing.now table before.now (row_by sets.now before.now)) }
+    ensures err { IfErr result (StopsAs (first_refusal (change_steps schema.now footing.now.side table before.now (row_by sets.now before.now)))) }
+{
+    if let Some(refusal) = bar_refusal(schema, footing.side, table, false) {
+        return Err(Stop::Refused(refusal));
+    }
+    if let Some(refusal) = rule_refusal(schema, table, before.values(), sets) {
+        return Err(Stop::Refused(refusal));
+    }
+    let Some(row) = set_row(sets, before.copy(alloc)?) else {
+        return Err(Stop::Refused(Refusal::ValueRange));
+    };
+    let site = &footing.here.site;
+    Ok(updated(schema, table, &footing.stamps, site, before.values(), row))
 }
 
 fn update_row<R: RowStore>(
     store: &mut R,
     alloc: Global,
+    footing: &mut Footing,
     table: u32,
     key: &[Literal],
     sets: &[Set],
 ) -> Result<Option<Change>, Stop>
     requires able { CanRun (R.schema store.old) (R.tables store.old) table }
+    requires apart { KeysStandAlone (R.schema store.old) }
     requires room { 1 ≤ slice_index (R.spare store.old) table }
-    ensures ok { IfOk result (λ change. RunsAs (first_refusal (update_steps (R.schema store.old) (R.tables store.old) table key.now sets.now))
-        (changes_between table (row_at (R.schema store.old) (R.tables store.old) table (values_of key.now))
-        (row_set sets.now (columns_of (R.schema store.old) table) (row_at (R.schema store.old) (R.tables store.old) table (values_of key.now)))) (changes_of change)) }
-    ensures tables { IfOk result (λ change. R.tables store.new ≡ made_all (R.schema store.old) (changes_of change) (R.tables store.old)) }
-    ensures err { IfErr result (StopsAs (first_refusal (update_steps (R.schema store.old) (R.tables store.old) table key.now sets.now))) }
-    ensures same { OnErr result (R.tables store.new ≡ R.tables store.old) }
-    ensures schema { R.schema store.new ≡ R.schema store.old }
-    ensures same_room { OnErr result (R.spare store.new ≡ R.spare store.old) }
-    ensures room { (t : ℕ) → slice_index (R.spare store.old) t ≤ slice_index (R.spare store.new) t + cond (t == table) 1 0 }
+    ensures ok { IfOk result (λ change. RunsAs (R.schema store.old) table
+        (first_refusal (update_steps (R.schema store.old) footing.old.here (standing_of footing.old (R.tables store.old)) table key.now sets.now))
+        (update_in (R.schema store.old) footing.old.here (standing_of footing.old (R.tables store.old)) table key.now sets.now) (changes_of change) footing.old footing.new) }
+    ensures err { IfErr result (StopsAs (first_refusal (update_steps (R.schema store.old) footing.old.here (standing_of footing.old (R.tables store.old)) table key.now sets.now))) }
+    ensures step { StepsIn table (record { schema = R.schema store.old; tables = R.tables store.old; spare = R.spare store.old })
+        (record { schema = R.schema store.new; tables = R.tables store.new; spare = R.spare store.new }) result }
 {
-    let columns = columns_of(store.schema(), table);
-    if !names_columns(columns, sets) {
-        return Err(Stop::Refused(Refusal::UnknownName));
-    }
-    if !update_fits(store.schema(), columns, key, sets) {
-        return Err(Stop::Refused(Refusal::RowShape));
-    }
-    let Some(found) = copy_of_row(alloc, store, table, &key_of_literals(key))? else {
+    let found = sets_in_order(store.schema(), table, key, sets)?;
+    let Some(before) = store.get(table, &key_of_literals(key)) else {
         return Err(Stop::Refused(Refusal::NoRow));
     };
-    let Some(row) = set_row(columns, sets, found) else {
-        return Err(Stop::Refused(Refusal::ValueRange));
-    };
-    let change = put_free(store, alloc, table, row)?;
-    Ok(change)
+    let made = changed_row(alloc, store.schema(), footing, table, before, &found)?;
+    if let Some(refusal) = row_refusal(store, table, &made.row) {
+        return Err(Stop::Refused(refusal));
+    }
+    footing.go_on(store.schema(), table, made.last);
+    if same_values(before.values(), made.row.values()) {
+        return Ok(None);
+    }
+    let change = put_with_change(alloc, store, table, made.row)?;
+    Ok(Some(change))
 }
 
 fn delete_row<R: RowStore>(
     store: &mut R,
+    footing: &mut Footing,
     table: u32,
     key: &[Literal],
 ) -> Result<Option<Change>, Stop>
     requires able { CanRun (R.schema store.old) (R.tables store.old) table }
-    ensures ok { IfOk result (λ change. RunsAs (first_refusal (delete_steps (R.schema store.old) (R.tables store.old) table key.now))
-        (changes_between table (row_at (R.schema store.old) (R.tables store.old) table (values_of key.now)) None) (changes_of change)) }
-    ensures tables { IfOk result (λ change. R.tables store.new ≡ made_all (R.schema store.old) (changes_of change) (R.tables store.old)) }
-    ensures err { IfErr result (StopsAs (first_refusal (delete_steps (R.schema store.old) (R.tables store.old) table key.now))) }
-    ensures same { OnErr result (R.tables store.new ≡ R.tables store.old) }
-    ensures schema { R.schema store.new ≡ R.schema store.old }
-    ensures same_room { OnErr result (R.spare store.new ≡ R.spare store.old) }
-    ensures room { (t : ℕ) → slice_index (R.spare store.old) t ≤ slice_index (R.spare store.new) t }
+    ensures ok { IfOk result (λ change. RunsAs (R.schema store.old) table
+        (first_refusal (delete_steps (R.schema store.old) (standing_of footing.old (R.tables store.old)) table key.now))
+        (delete_in (R.schema store.old) (standing_of footing.old (R.tables store.old)) table key.now) (changes_of change) footing.old footing.new) }
+    ensures err { IfErr result (StopsAs (first_refusal (delete_steps (R.schema store.old) (standing_of footing.old (R.tables store.old)) table key.now))) }
+    ensures step { StepsIn table (record { schema = R.schema store.old; tables = R.tables store.old; spare = R.spare store.old })
+        (record { schema = R.schema store.new; tables = R.tables store.new; spare = R.spare store.new }) result }
 {
     if !key_literals_fit(store.schema(), columns_of(store.schema(), table), key) {
         return Err(Stop::Refused(Refusal::RowShape));
@@ -113,43 +192,53 @@ fn delete_row<R: RowStore>(
     if !has_row(store, table, &key) {
         return Err(Stop::Refused(Refusal::NoRow));
     }
-    match store.take(table, &key) {
-        Some(before) => Ok(Some(Change {
-            table,
-            before: Some(before),
-            after: None,
-        })),
-        None => unreachable!(),
+    if let Some(refusal) = bar_refusal(store.schema(), footing.side, table, true) {
+        return Err(Stop::Refused(refusal));
     }
+    footing.go_on(store.schema(), table, footing.stamps.last);
+    let before = store.take(table, &key);
+    Ok(Some(Change {
+        table,
+        before,
+        after: None,
+    }))
 }
 
-/// Runs a statement on its table, for which there is room.
+/// Runs a statement on its table, for which there is room. Where it stops, the store is as before, and the footing is
+/// open.
 pub(crate) fn run_in<R: RowStore>(
     store: &mut R,
     alloc: Global,
+    footing: &mut Footing,
     table: u32,
     statement: &Statement,
 ) -> Result<Option<Change>, Stop>
     requires able { CanRun (R.schema store.old) (R.tables store.old) table }
+    requires apart { KeysStandAlone (R.schema store.old) }
     requires room { 1 ≤ slice_index (R.spare store.old) table }
-    ensures ok { IfOk result (λ change. RunsAs (first_refusal (steps_in (R.schema store.old) (R.tables store.old) table statement.now))
-        (change_in (R.schema store.old) (R.tables store.old) table statement.now) (changes_of change)) }
-    ensures tables { IfOk result (λ change. R.tables store.new ≡ made_all (R.schema store.old) (changes_of change) (R.tables store.old)) }
-    ensures err { IfErr result (StopsAs (first_refusal (steps_in (R.schema store.old) (R.tables store.old) table statement.now))) }
-    ensures same { OnErr result (R.tables store.new ≡ R.tables store.old) }
-    ensures schema { R.schema store.new ≡ R.schema store.old }
-    ensures same_room { OnErr result (R.spare store.new ≡ R.spare store.old) }
-    ensures room { (t : ℕ) → slice_index (R.spare store.old) t ≤ slice_index (R.spare store.new) t + cond (t == table) 1 0 }
+    ensures ok { IfOk result (λ change. RunsAs (R.schema store.old) table
+        (first_refusal (steps_in (R.schema store.old) footing.old.here (standing_of footing.old (R.tables store.old)) table statement.now))
+        (outcome_in (R.schema store.old) footing.old.here (standing_of footing.old (R.tables store.old)) table statement.now) (changes_of change) footing.old footing.new) }
+    ensures err { IfErr result (StopsAs (first_refusal (steps_in (R.schema store.old) footing.old.here (standing_of footing.old (R.tables store.old)) table statement.now))) }
+    ensures step { StepsIn table (record { schema = R.schema store.old; tables = R.tables store.old; spare = R.spare store.old })
+        (record { schema = R.schema store.new; tables = R.tables store.new; spare = R.spare store.new }) result }
 {
     match statement {
         Statement::Insert { table: _, values } => {
-            insert_row(store, alloc, table, values.as_slice())
+            insert_row(store, alloc, footing, table, values.as_slice())
         }
         Statement::Update {
             table: _,
             key,
             sets,
-        } => update_row(store, alloc, table, key.as_slice(), sets.as_slice()),
-        Statement::Delete { table: _, key } => delete_row(store, table, key.as_slice()),
+        } => update_row(
+            store,
+            alloc,
+            footing,
+            table,
+            key.as_slice(),
+            sets.as_slice(),
+        ),
+        Statement::Delete { table: _, key } => delete_row(store, footing, table, key.as_slice()),
     }
 }

@@ -1,6 +1,6 @@
 //! Why a statement doesn't run.
 ghost use Rattle.std.specs.Prelude.{◌≡◌};
-ghost use Rattle.local_txn.specs.Running.{stop_of};
+ghost use Rattle.local_txn.specs.Running.{refusal_of, stop_of};
 
 use crate::LocalStop;
 use rep_lists::NoMemory;
@@ -11,17 +11,40 @@ use rep_values::Refusal;
 pub(crate) enum Stop {
     Refused(Refusal),
     /// There is no memory.
-    NoRoom,
+    Memory,
 }
 
 impl From<NoMemory> for Stop {
     ghost use Rattle.std.specs.Prelude.{◌≡◌};
     ghost use Rattle.local_txn.specs.declared.stop.Stop.{Stop};
 
-    ghost from_gives = { λ _ stop. stop ≡ Stop.NoRoom };
+    ghost from_gives = { λ _ stop. stop ≡ Stop.Memory };
 
     fn from(_: NoMemory) -> Stop {
-        Stop::NoRoom
+        Stop::Memory
+    }
+}
+
+impl From<Refusal> for Stop {
+    ghost use Rattle.std.specs.Prelude.{◌≡◌};
+    ghost use Rattle.local_txn.specs.declared.stop.Stop.{Stop};
+
+    ghost from_gives = { λ refusal stop. stop ≡ Stop.Refused refusal };
+
+    fn from(refusal: Refusal) -> Stop {
+        Stop::Refused(refusal)
+    }
+}
+
+impl Stop {
+    /// The refusal that it is answered as.
+    pub(crate) fn refusal(self) -> Refusal
+        ensures { result ≡ refusal_of self }
+    {
+        match self {
+            Stop::Refused(refusal) => refusal,
+            Stop::Memory => Refusal::Memory,
+        }
     }
 }
 
@@ -31,7 +54,7 @@ pub(crate) fn stop_at(statement: u32, stop: Stop) -> LocalStop
 {
     match stop {
         Stop::Refused(refusal) => LocalStop { statement, refusal },
-        Stop::NoRoom => LocalStop {
+        Stop::Memory => LocalStop {
             statement: 0,
             refusal: Refusal::Memory,
         },

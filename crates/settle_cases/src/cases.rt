@@ -127,6 +127,52 @@ impl Cases {
         Ok(Some(outcome))
     }
 
+    /// Sets the clock of a site.
+    fn clocked(&mut self, words: &mut Words) -> Result<Option<String>, CaseStop> {
+        let (name, clock) = (words.site()?, words.whole()?);
+        words.end()?;
+        let Some(place) = place_of(&self.sites, &name) else {
+            return Err(CaseStop::NoCase);
+        };
+        self.sites[place].stamps.clock = clock;
+        Ok(None)
+    }
+
+    /// The clock of a site, and its last stamp.
+    fn stamps(&self, alloc: Global, words: &mut Words) -> Result<Option<String>, CaseStop> {
+        let name = words.site()?;
+        words.end()?;
+        let Some(place) = place_of(&self.sites, &name) else {
+            return Err(CaseStop::NoCase);
+        };
+        let stamps = self.sites[place].stamps;
+        Ok(Some(format!(in alloc; "clock {}, last {}", stamps.clock, stamps.last)?))
+    }
+
+    /// The row of an insert, put into the tables of a site as a base row.
+    fn base(&mut self, alloc: Global, words: &mut Words) -> Result<Option<String>, CaseStop> {
+        let name = words.site()?;
+        let Statement::Insert { table, values } = read_statement(alloc, words)? else {
+            return Err(CaseStop::NoCase);
+        };
+        let Some(place) = place_of(&self.sites, &name) else {
+            return Err(CaseStop::NoCase);
+        };
+        let outcome = self.sites[place].put_base(alloc, &table, values.as_slice())?;
+        Ok(Some(outcome))
+    }
+
+    /// The base rows of the first site, filled in for the site of the second name.
+    fn filled(&mut self, words: &mut Words) -> Result<Option<String>, CaseStop> {
+        let (name, site) = (words.site()?, words.site()?);
+        words.end()?;
+        let Some(place) = place_of(&self.sites, &name) else {
+            return Err(CaseStop::NoCase);
+        };
+        self.sites[place].fill_base(&site)?;
+        Ok(None)
+    }
+
     /// The rows of a site.
     fn rows(&self, alloc: Global, words: &mut Words) -> Result<Option<String>, CaseStop> {
         let name = words.site()?;
@@ -202,6 +248,10 @@ impl Cases {
             "again" => self.again(alloc, &mut words),
             "run" => self.run(alloc, &mut words),
             "deliver" => self.delivered(alloc, &mut words),
+            "clock" => self.clocked(&mut words),
+            "stamps" => self.stamps(alloc, &mut words),
+            "base" => self.base(alloc, &mut words),
+            "fill" => self.filled(&mut words),
             "rows" => self.rows(alloc, &mut words),
             "beside" => self.beside(alloc, &mut words),
             "detect" => self.detected(alloc, &mut words),

@@ -32,9 +32,12 @@ pub fn push_error(out: &mut String, error: &ApplyError) -> Result<(), NoMemory> 
     Ok(())
 }
 
-/// The constraint or the check that a refusal names.
+/// The constraint, the check or the group that a refusal names.
 pub fn push_name_of(out: &mut String, refusal: &Refusal) -> Result<(), NoMemory> {
-    if let Refusal::UniqueTaken(name) | Refusal::CheckFailed(name) = refusal {
+    if let Refusal::UniqueTaken(name)
+    | Refusal::CheckFailed(name)
+    | Refusal::RuleBroken(name) = refusal
+    {
         push_name(out, name)?;
     }
     Ok(())

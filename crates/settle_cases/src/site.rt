@@ -6,12 +6,12 @@ ghost use Rattle.settle_cases.specs.Single.{IsServed-prop};
 use crate::shown::{push_error, push_name_of};
 use case_lines::{CaseStop, push_row};
 use conflict_detect::fits;
-use local_txn::{Here, Stamps, run_local};
+use local_txn::{Here, Stamps, fill_base_rows, put_base_row, run_local};
 use rep_calls::{Statement, Txn};
 use rep_laws::sound_schemas_have_keys;
 use rep_lists::{Copies, NoMemory};
 use rep_schema::{RowStore, Schema, TableSet};
-use rep_values::SiteName;
+use rep_values::{Literal, SiteName, TableName};
 use row_tables::ListTables;
 use schema_rules::check;
 use std::alloc::Global;
@@ -22,6 +22,7 @@ use unique_resolve::Counters;
 #[derive(Drop)]
 pub struct Site {
     pub name: SiteName,
+    pub stamps: Stamps,
     store: ListTables,
     counters: Counters,
     ghost served: { IsServed store.schema counters } by { IsServed-prop store.schema counters },
@@ -44,6 +45,7 @@ impl Site {
         let store = ListTables::make(alloc, schema.copy(alloc)?)?;
         Ok(Ok(Site {
             name,
+            stamps: Stamps { clock: 0, last: 0 },
             store,
             counters,
         }))
@@ -83,13 +85,12 @@ impl Site {
         statements: &[Statement],
     ) -> Result<(String, Option<Txn>), CaseStop> {
         let mut out = String::new(alloc);
-        let mut stamps = Stamps { clock: 0, last: 0 };
         let here = Here {
             site: self.name,
             is_master,
             tables: TableSet::of(&[0, 1]),
         };
-        match run_local(&mut self.store, alloc, &mut stamps, &here, statements) {
+        match run_local(&mut self.store, alloc, &mut self.stamps, &here, statements) {
             Ok(local) => {
                 out.push_str(&format!(in alloc; "committed, {} calls", local.txn.calls.len())?)?;
                 Ok((out, Some(local.txn)))
@@ -101,6 +102,29 @@ impl Site {
                 Ok((out, None))
             }
         }
+    }
+
+    /// Puts a base row, and tells what came of it.
+    pub fn put_base(
+        &mut self,
+        alloc: Global,
+        table: &TableName,
+        values: &[Literal],
+    ) -> Result<String, CaseStop> {
+        let mut out = String::new(alloc);
+        match put_base_row(&mut self.store, alloc, table, values) {
+            Ok(()) => out.push_str("put")?,
+            Err(refusal) => {
+                out.push_str(&format!(in alloc; "refused: {}", refusal.number())?)?;
+                push_name_of(&mut out, &refusal)?;
+            }
+        }
+        Ok(out)
+    }
+
+    /// Fills in what a site of this name fills of all rows.
+    pub fn fill_base(&mut self, site: &SiteName) -> Result<(), NoMemory> {
+        fill_base_rows(&mut self.store, site)
     }
 
     /// The rows of a table in order, one behind the other.

@@ -1,5 +1,5 @@
 use Rattle.std.proofs.Common.{sym, ◌∙◌}
-use Rattle.local_txn.proofs.RowShapes.{taken_step-held, taken_step-free}
+use Rattle.local_txn.proofs.ConstraintSteps.{taken_step-held, taken_step-free}
 use Rattle.local_txn.proofs.rows.taken_in.Goals as goal
 
 pub returns-then-is_held : goal.returns-then-is_held

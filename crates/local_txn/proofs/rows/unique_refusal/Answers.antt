@@ -2,7 +2,7 @@ use Rattle.std.proofs.Common.{◌≡◌, ◌<◌, length, Some, None, sym, ◌�
 use Rattle.rep_schema.specs.Tables.{constraints_of}
 use Rattle.local_txn.specs.Statements.{taken_step}
 use Rattle.txn_effects.proofs.OwnParts.{found_at}
-use Rattle.local_txn.proofs.RowShapes.{first_refusal-here, first_refusal-more}
+use Rattle.local_txn.proofs.ConstraintSteps.{first_refusal-here, first_refusal-more}
 use Rattle.local_txn.proofs.rows.unique_refusal.Goals as goal
 
 pub returns-in-Some : goal.returns-in-Some

@@ -1,13 +1,13 @@
--- Setting column after column.
-use Rattle.std.proofs.Common.{◌≡◌, ◌++◌, true, length, take, drop}
+-- Value after value.
+use Rattle.std.proofs.Common.{◌≡◌, ◌++◌, true, length, drop, take}
 use Rattle.rep_schema.specs.Kinds.{row_in_range}
-use Rattle.local_txn.specs.Sets.{row_with}
+use Rattle.local_txn.specs.ByColumn.{row_by}
 use Rattle.local_txn.proofs.sets.set_row.Given as goal
 
--- the columns so far are set and in range, and those to come are as they were
+-- the values so far are set, and all are in range
 abbrev pub invariant-loop-i : goal.invariant-loop-i
 invariant-loop-i l = record {
-  size : length l.columns ≡ length l.row;
-  rest : row_with l.sets l.columns l.fn.row ≡ take l.i l.row ++ row_with l.sets (drop l.i l.columns) (drop l.i l.row);
-  front : row_in_range (take l.i l.row) ≡ true;
+  size : length l.row ≡ length l.fn.row;
+  range : row_in_range l.row ≡ true;
+  rest : row_by l.sets l.fn.row ≡ take l.i l.row ++ row_by (drop l.i l.sets) (drop l.i l.row);
 }

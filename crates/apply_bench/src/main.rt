@@ -1,0 +1,48 @@
+//! Applies transactions of one update each to a table of rows: a benchmark. A line of the input is the number of rows and
+//! the number of transactions.
+#![tactic(auto)]
+
+mod runs;
+
+use anyhow::{Context, Result};
+use case_lines::CaseStop;
+use rep_laws::sound_schemas_have_keys;
+use row_tables::ListTables;
+use runs::{Bench, filled, updated};
+use schema_rules::check;
+use std::alloc::Global;
+use stock_table::stock;
+use unique_resolve::Counters;
+
+/// How many transactions were applied of so many, to a table of so many rows.
+fn transactions_applied(alloc: Global, rows: u64, count: u64) -> Result<u64, CaseStop> {
+    let Some(schema) = stock(alloc)? else {
+        return Err(CaseStop::NoCase);
+    };
+    if check(&schema).is_err() {
+        return Err(CaseStop::NoCase);
+    }
+    sound_schemas_have_keys();
+    let Some(bench) = Bench::at(alloc, b"B") else {
+        return Err(CaseStop::NoCase);
+    };
+    let mut counters = Counters::make(alloc, &schema)?;
+    let mut store = ListTables::make(alloc, schema)?;
+    filled(&mut store, &mut counters, &bench, rows)?;
+    updated(&mut store, &mut counters, &bench, rows, count)
+}
+
+fn main(rt: HostRuntime) -> Result<()> {
+    for line in rt.lines(rt.alloc()) {
+        let line = line?;
+        let (rows, count) = line.split_once(' ').context("rows and transactions")?;
+        let rows = rows.parse::<u64>().context("a number of rows")?;
+        let count = count.parse::<u64>().context("a number of transactions")?;
+        match transactions_applied(rt.alloc(), rows, count) {
+            Ok(run) => println!(rt; "{rows} rows: {run} of {count} transactions")?,
+            Err(CaseStop::NoCase) => println!(rt; "no table")?,
+            Err(CaseStop::Memory) => println!(rt; "no memory")?,
+        }
+    }
+    Ok(())
+}

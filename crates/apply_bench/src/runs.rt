@@ -1,0 +1,130 @@
+//! Transactions applied to the table.
+ghost use Rattle.std.specs.Prelude.{◌≡◌, ◌≤◌, length, IsTrue};
+ghost use Rattle.rep_schema.specs.Shape.{HasShape};
+ghost use Rattle.conflict_detect.specs.Fits.{TxnFits};
+ghost use Rattle.unique_resolve.specs.Numbers.{AreCounters};
+ghost use Rattle.txn_effects.specs.Calls.{HasKeys, KeysStandAlone};
+
+use case_lines::{CaseStop, Words, read_call};
+use conflict_detect::fits;
+use rep_calls::Txn;
+use rep_lists::Items;
+use rep_schema::{RowStore, Schema};
+use rep_values::{Name, SiteName};
+use row_tables::ListTables;
+use script_lex::lex;
+use std::alloc::Global;
+use txn_apply::apply_txn;
+use unique_resolve::Counters;
+
+/// Where memory is taken from, and where the transactions come from.
+#[derive(Clone, Copy)]
+pub struct Bench {
+    alloc: Global,
+    origin: SiteName,
+}
+
+impl Bench {
+    /// Transactions from a site of this name; None where it is no name.
+    pub fn at(alloc: Global, origin: &[u8]) -> Option<Bench> {
+        Some(Bench {
+            alloc,
+            origin: SiteName(Name::of(origin)?),
+        })
+    }
+}
+
+/// A transaction of one call.
+fn txn_of(alloc: Global, line: &str) -> Result<Txn, CaseStop> {
+    let tokens = lex(alloc, line.as_bytes())?;
+    let mut calls = Items::new(alloc);
+    calls.push(read_call(alloc, &mut Words::of(tokens.as_slice()))?)?;
+    let txn = Txn::of(alloc, calls)?;
+    Ok(txn)
+}
+
+/// Whether a transaction fits the schema and has few calls.
+fn can_be_applied(schema: &Schema, txn: &Txn) -> bool
+    requires { HasShape schema.now }
+    ensures fits { IsTrue result → TxnFits schema.now txn.now }
+    ensures few { IsTrue result → length txn.now.calls ≤ 1000 }
+{
+    txn.calls.len() <= 1_000 && fits(schema, txn)
+}
+
+/// Whether the transaction is applied.
+fn is_applied(store: &mut ListTables, counters: &mut Counters, bench: &Bench, txn: &Txn) -> bool
+    requires shape { HasShape store.old.schema }
+    requires keys { HasKeys store.old.schema }
+    requires apart { KeysStandAlone store.old.schema }
+    requires counters { AreCounters store.old.schema counters.old }
+    requires fits { TxnFits store.old.schema txn.now }
+    requires few { length txn.now.calls ≤ 1000 }
+    ensures schema { store.new.schema ≡ store.old.schema }
+    ensures counted { AreCounters store.old.schema counters.new }
+{
+    apply_txn(bench.alloc, store, counters, &bench.origin, txn).is_ok()
+}
+
+/// Inserts so many rows.
+pub fn filled(
+    store: &mut ListTables,
+    counters: &mut Counters,
+    bench: &Bench,
+    rows: u64,
+) -> Result<(), CaseStop>
+    requires shape { HasShape store.old.schema }
+    requires keys { HasKeys store.old.schema }
+    requires apart { KeysStandAlone store.old.schema }
+    requires counters { AreCounters store.old.schema counters.old }
+    ensures schema { store.new.schema ≡ store.old.schema }
+    ensures counted { AreCounters store.old.schema counters.new }
+{
+    for row in 0..rows {
+        let line = format!(in bench.alloc; "insert 0 : 'A' {row} 1000 12344 'n12344'")?;
+        let txn = txn_of(bench.alloc, &line)?;
+        if !can_be_applied(store.schema(), &txn) {
+            return Err(CaseStop::NoCase);
+        }
+        if !is_applied(store, counters, bench, &txn) {
+            return Err(CaseStop::NoCase);
+        }
+    }
+    Ok(())
+}
+
+/// Updates the row in the middle so many times, in turn to other values and back, and counts the updates that were
+/// applied.
+pub fn updated(
+    store: &mut ListTables,
+    counters: &mut Counters,
+    bench: &Bench,
+    rows: u64,
+    count: u64,
+) -> Result<u64, CaseStop>
+    requires shape { HasShape store.old.schema }
+    requires keys { HasKeys store.old.schema }
+    requires apart { KeysStandAlone store.old.schema }
+    requires counters { AreCounters store.old.schema counters.old }
+{
+    let row = rows / 2;
+    let up = format!(in bench.alloc;
+        "update 0 : 'A' {row}, 0 : 1000 > 1003, 1 : 12344 > 12345, 2 : 'n12344' > 'n12345'"
+    )?;
+    let down = format!(in bench.alloc;
+        "update 0 : 'A' {row}, 0 : 1003 > 1000, 1 : 12345 > 12344, 2 : 'n12345' > 'n12344'"
+    )?;
+    let up = txn_of(bench.alloc, &up)?;
+    let down = txn_of(bench.alloc, &down)?;
+    if !can_be_applied(store.schema(), &up) || !can_be_applied(store.schema(), &down) {
+        return Err(CaseStop::NoCase);
+    }
+    let mut applied: u64 = 0;
+    for number in 0..count {
+        let txn = if number % 2 == 0 { &up } else { &down };
+        if is_applied(store, counters, bench, txn) {
+            applied = applied.saturating_add(1);
+        }
+    }
+    Ok(applied)
+}
