@@ -1,8 +1,8 @@
 -- Rows with columns filled in, column by column.
-use Rattle.std.proofs.Common.{◌≡◌, ℕ, zero, suc, ◌+◌, ◌<◌, ◌≤◌, max, min, Bool, true, false, List, [], ◌∷◌, ◌++◌, length, drop, take, get_or, set, map, refl, sym, ap, ◌∙◌, arith, add-one, zero-add, add-zero, append_assoc, append-nil, pos}
-use Rattle.std.specs.Prelude.{Option, Some, None, ◌&&◌, ◌||◌, cond, not, filter, replicate}
-use Rattle.std.specs.List.{list_any, list_all, range_with_len, AllByRecursion}
-use Rattle.std.proofs.lemmas.List.{take_more_set, drop-set-lt, take_more, take_all, drop_all, length-set}
+use Rattle.std.proofs.Common.{◌≡◌, ℕ, zero, suc, ◌+◌, ◌<◌, max, Bool, true, false, List, [], ◌∷◌, ◌++◌, length, drop, take, get_or, set, refl, sym, ap, ◌∙◌, arith, add-one, zero-add, add-zero, append_assoc, pos}
+use Rattle.std.specs.Prelude.{◌&&◌, ◌||◌, cond, not, filter, replicate}
+use Rattle.std.specs.List.{list_any, range_with_len}
+use Rattle.std.proofs.lemmas.List.{take_more_set, drop-set-lt, take_more}
 use Rattle.std.proofs.lemmas.Bool.{or_parts, and_right}
 use Rattle.rep_values.specs.declared.name.SiteName.{SiteName}
 use Rattle.std.proofs.lemmas.List.Folds.{list_any-append}
@@ -15,8 +15,8 @@ use Rattle.rep_schema.specs.declared.schema.Schema.{Schema}
 use Rattle.rep_schema.specs.declared.schema.Column.{Column}
 use Rattle.rep_schema.specs.Tables.{Cells}
 use Rattle.rep_schema.specs.Kinds.{is_filled, is_stamp, is_site_kind, has_place}
-use Rattle.rep_schema.specs.Groups.{groups_of, shadow_group, differ_in, differing_groups, group_numbers_of, group_columns_of}
-use Rattle.local_txn.specs.Filled.{Filling, RowMade, filling_value, value_filled, filled_from, is_modified, above_value, bound_by, bound_from, has_stamp_from, made_with}
+use Rattle.rep_schema.specs.Groups.{groups_of, shadow_group, differ_in, group_numbers_of, group_columns_of}
+use Rattle.local_txn.specs.Filled.{Filling, filling_value, value_filled, filled_from, is_modified, above_value, bound_by, bound_from, has_stamp_from, made_with}
 use Rattle.local_txn.specs.Chosen.{chosen_at, is_modified_in}
 use Rattle.local_txn.proofs.SetWalk.{get_or_same}
 

@@ -1,5 +1,5 @@
 -- Rows whose values are of their columns' kinds, whether or not their numbers are in range.
-use Rattle.std.proofs.Common.{◌≡◌, ℕ, zero, suc, ◌+◌, ◌<◌, Bool, true, false, List, [], ◌∷◌, length, map, refl, sym, ap, ◌∙◌, arith, add-zero, pos}
+use Rattle.std.proofs.Common.{◌≡◌, ℕ, suc, ◌+◌, Bool, true, false, List, [], ◌∷◌, length, refl, arith, add-zero, pos}
 use Rattle.std.specs.Prelude.{ℤ, Option, Some, None, ◌&&◌, ◌||◌, cond, not, slice_get}
 use Rattle.std.specs.List.{find, list_all}
 use Rattle.std.proofs.lemmas.Bool.{and_parts, and_from, both_ways, not-true}
@@ -14,7 +14,7 @@ use Rattle.rep_schema.specs.declared.schema.Kind.{Kind}
 use Rattle.rep_schema.specs.declared.schema.Kind.TheVariants as kind
 use Rattle.rep_schema.specs.Tables.{Cells, key_of, RowFits}
 use Rattle.rep_schema.specs.Fitting.{fits_kind, row_fits}
-use Rattle.rep_schema.specs.Kinds.{takes_numbers, takes_amounts, is_stamp, is_site_kind, is_filled, is_of_kind, value_in_range, row_in_range}
+use Rattle.rep_schema.specs.Kinds.{takes_numbers, is_stamp, is_site_kind, is_filled, is_of_kind, value_in_range, row_in_range}
 use Rattle.rep_schema.proofs.FittingTests.{row_test}
 use Rattle.rep_calls.specs.declared.statement.Set.{Set}
 use Rattle.rep_calls.specs.declared.statement.How.{How}

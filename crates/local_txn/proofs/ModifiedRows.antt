@@ -1,18 +1,17 @@
 -- The groups that an update modifies, before and after its filled columns are filled in.
-use Rattle.std.proofs.Common.{◌≡◌, ◌≢◌, ◌⊎◌, ℕ, zero, suc, ◌+◌, ◌<◌, ◌≤◌, Bool, true, false, List, [], ◌∷◌, length, map, refl, sym, ap, ◌∙◌, inl, inr, subst, arith, add-zero, zero-add}
+use Rattle.std.proofs.Common.{◌≡◌, ℕ, zero, suc, ◌+◌, ◌<◌, Bool, true, false, List, [], ◌∷◌, length, refl, sym, ap, ◌∙◌, subst, arith, add-zero, zero-add}
 use Rattle.std.specs.Prelude.{Option, Some, None, ◌&&◌, ◌||◌, cond, not, is_some, filter, slice_get, ◌==◌}
 use Rattle.std.specs.Option.{option_map}
 use Rattle.std.specs.List.{find, list_any, AllByRecursion}
 use Rattle.std.proofs.lemmas.Bool.{and_right, or_parts, both_ways, false_from_ne_true, not-false, eqb-true, eq-eqb}
 use Rattle.std.proofs.lemmas.Option.{slice_get_within}
-use Rattle.rep_lists.proofs.Each.{each_then}
 use Rattle.rep_values.specs.declared.value.Value.{Value}
 use Rattle.rep_schema.specs.declared.schema.Schema.{Schema}
 use Rattle.rep_schema.specs.declared.schema.Column.{Column}
 use Rattle.rep_schema.specs.Tables.{Cells, columns_of, picked}
 use Rattle.rep_schema.specs.Shape.{HasShape}
 use Rattle.rep_schema.specs.Kinds.{is_filled, has_place}
-use Rattle.rep_schema.specs.Groups.{group_columns_of, group_values, group_numbers_of, are_same, differ_in, differing_groups}
+use Rattle.rep_schema.specs.Groups.{group_columns_of, group_values, group_numbers_of, are_same, differ_in}
 use Rattle.rep_schema.proofs.ValuesAt.{picked-values_at, are_same-Decides}
 use Rattle.rep_schema.proofs.Coverage.{group_columns_of-below}
 use Rattle.rep_calls.specs.declared.statement.Set.{Set}

@@ -1,11 +1,11 @@
 -- The sets of an update column by column.
 use Rattle.std.proofs.Common.{◌≡◌, ℕ, zero, suc, ◌+◌, ◌<◌, ◌≤◌, Bool, true, false, List, [], ◌∷◌, length, map, drop, take, get_or, set, refl, sym, ap, ◌∙◌, inl, inr, arith}
 use Rattle.std.specs.Prelude.{Option, Some, None, ◌&&◌, ◌||◌, ◌≢◌, cond, not, is_some, slice_get, nat_lt, replicate}
-use Rattle.std.specs.List.{find, list_any, list_all, position, position_or_len, AllByRecursion}
+use Rattle.std.specs.List.{find, list_any, position, position_or_len, AllByRecursion}
 use Rattle.std.specs.Bool.{Decides}
 use Rattle.std.specs.Cmp.{unsigned_Decides}
 use Rattle.std.proofs.lemmas.Slice.Eq.{slice_eq-Decides}
-use Rattle.std.proofs.lemmas.Bool.{and_parts, and_right, both_ways, false_from_ne_true, ltb-true, lt-ltb, cases_order}
+use Rattle.std.proofs.lemmas.Bool.{and_right, both_ways, false_from_ne_true, ltb-true, lt-ltb, cases_order}
 use Rattle.std.proofs.lemmas.List.Folds.{list_all-append, list_any_at}
 use Rattle.std.proofs.lemmas.List.{take-append-drop, get_or-map, length-map}
 use Rattle.std.proofs.lemmas.Option.{slice_get-map, slice_get-get_or}
@@ -13,13 +13,12 @@ use Rattle.std.proofs.lemmas.List.Quantifiers.{position-Some}
 use Rattle.rep_values.specs.Name.{same_bytes}
 use Rattle.rep_schema.specs.declared.schema.Column.{Column}
 use Rattle.rep_schema.specs.declared.schema.Kind.TheVariants as Kind
-use Rattle.rep_schema.specs.Tables.{Cells}
 use Rattle.rep_schema.specs.Shape.{AreDistinct}
 use Rattle.rep_schema.specs.Named.{is_column}
 use Rattle.rep_schema.specs.Kinds.{is_filled}
 use Rattle.rep_calls.specs.declared.statement.Set.{Set}
-use Rattle.local_txn.specs.Sets.{names_columns, is_about, names_one_twice, takes_set, sets_filled, is_of_filled, row_with, sets_by_column}
-use Rattle.local_txn.specs.ByColumn.{set_of, set_at, takes_each, fills_some, row_by}
+use Rattle.local_txn.specs.Sets.{names_columns, is_about, names_one_twice, sets_filled, sets_by_column}
+use Rattle.local_txn.specs.ByColumn.{set_of, set_at, fills_some}
 
 pub same_bytes-Decides : (a b : List ℕ) → Decides (same_bytes a b) (a ≡ b)
 same_bytes-Decides a b = slice_eq-Decides unsigned_Decides a b (same_bytes a b) refl

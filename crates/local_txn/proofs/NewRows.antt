@@ -1,5 +1,5 @@
 -- A new row that no step refuses fits, is unique, and meets the checks.
-use Rattle.std.proofs.Common.{◌≡◌, ℕ, ◌<◌, Bool, true, false, List, [], ◌∷◌, ◌++◌, map, refl, sym, ap, ◌∙◌}
+use Rattle.std.proofs.Common.{◌≡◌, ℕ, true, false, List, [], ◌∷◌, ◌++◌, refl, sym, ap, ◌∙◌}
 use Rattle.std.specs.Prelude.{Option, Some, None, not}
 use Rattle.std.specs.Option.{option_map}
 use Rattle.rep_values.specs.declared.refusal.Refusal.{Refusal}
@@ -8,7 +8,7 @@ use Rattle.rep_values.specs.RefusalSteps.{refused, or_then, first_refusal}
 use Rattle.rep_values.proofs.RefusalSteps.{or_then-None, refused_not-None}
 use Rattle.rep_schema.specs.declared.schema.Schema.{Schema}
 use Rattle.rep_schema.specs.declared.check.Check.{Check}
-use Rattle.rep_schema.specs.Tables.{Cells, Rows, columns_of, rows_of, RowFits, IsTable, IsUniqueRow, AreTables}
+use Rattle.rep_schema.specs.Tables.{Cells, Rows, columns_of, rows_of, RowFits, IsTable, IsUniqueRow}
 use Rattle.rep_schema.specs.Kinds.{row_in_range}
 use Rattle.rep_schema.specs.Checks.{failed_check}
 use Rattle.local_txn.specs.Statements.{unique_steps, check_step, row_steps}

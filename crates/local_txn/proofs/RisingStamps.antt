@@ -1,6 +1,6 @@
 -- The stamps of a block rise, statement by statement.
-use Rattle.std.proofs.Common.{◌≡◌, ℕ, ◌+◌, ◌<◌, ◌≤◌, max, Bool, true, false, List, [], ◌∷◌, ◌++◌, length, refl, sym, ap, ◌∙◌, subst, arith, Ok, Err}
-use Rattle.std.specs.Prelude.{Option, Some, None, Result, cond, nat_le, slice_get, is_some}
+use Rattle.std.proofs.Common.{◌≡◌, ℕ, ◌+◌, ◌<◌, ◌≤◌, Bool, true, false, List, [], ◌∷◌, ◌++◌, length, refl, sym, ◌∙◌, subst, arith, Ok, Err}
+use Rattle.std.specs.Prelude.{Option, Some, None, Result, cond, nat_le}
 use Rattle.std.specs.Bool.{MatchBool}
 use Rattle.rep_values.specs.declared.literal.Literal.{Literal}
 use Rattle.rep_values.specs.declared.name.SiteName.{SiteName}
@@ -14,7 +14,6 @@ use Rattle.rep_schema.specs.declared.schema.Column.{Column}
 use Rattle.rep_schema.specs.declared.change.Change.{Change}
 use Rattle.rep_schema.specs.Shape.{HasShape}
 use Rattle.rep_schema.specs.Tables.{Cells, Rows, columns_of, key_of, rows_of, IsTable, AreTables}
-use Rattle.rep_schema.specs.Kinds.{is_filled}
 use Rattle.rep_schema.specs.Groups.{are_same}
 use Rattle.rep_schema.specs.Changes.{made_in}
 use Rattle.rep_schema.specs.Named.{is_table, table_place}
@@ -32,9 +31,9 @@ use Rattle.local_txn.specs.Held.{table_name, held_table}
 use Rattle.local_txn.specs.Literals.{values_of}
 use Rattle.local_txn.specs.Sets.{sets_filled, row_with}
 use Rattle.local_txn.specs.Filled.{Filling, RowMade, everywhere, is_modified, bound_from, has_stamp_from, next_stamp, row_written}
-use Rattle.local_txn.specs.Statements.{Standing, Outcome, row_at, insert_made, update_made, outcome_in, outcome_changes, steps_in, statement_refusal, statement_changes, standing_after}
+use Rattle.local_txn.specs.Statements.{Standing, row_at, insert_made, update_made, outcome_in, outcome_changes, steps_in, statement_refusal, statement_changes, standing_after}
 use Rattle.local_txn.specs.Locals.{BlockEffect, unless_refused, behind, statements_effect, beginning, local_effect, most_statements, stop_at}
-use Rattle.local_txn.specs.Laws.{gives_stamp, filled_places, Carries, StampsRise, GivesStamps}
+use Rattle.local_txn.specs.Laws.{gives_stamp, StampsRise, GivesStamps}
 use Rattle.local_txn.proofs.FilledRows.{has_stamp_from-same, bound_from-same}
 use Rattle.local_txn.proofs.KindRows.{length-are_of, are_of-row_written}
 use Rattle.local_txn.proofs.ModifiedRows.{filled_at, is_modified-made, is_modified-none, length-row_with}

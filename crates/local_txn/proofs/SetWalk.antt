@@ -1,7 +1,7 @@
 -- What is set of a table's columns, one after another.
-use Rattle.std.proofs.Common.{◌≡◌, ℕ, zero, suc, ◌+◌, ◌<◌, ◌≤◌, Bool, true, false, List, [], ◌∷◌, ◌++◌, length, map, drop, take, get_or, set, refl, sym, ap, ◌∙◌, subst, arith, add-one, append_assoc, append-nil, Bor, pos}
+use Rattle.std.proofs.Common.{◌≡◌, ℕ, zero, suc, ◌+◌, ◌<◌, ◌≤◌, Bool, true, false, List, [], ◌∷◌, ◌++◌, length, drop, take, get_or, set, refl, sym, ap, ◌∙◌, arith, add-one, append_assoc, append-nil, Bor, pos}
 use Rattle.std.specs.Prelude.{Option, Some, None, ◌&&◌, ◌||◌, cond, is_some, ◌==◌, slice_get, option_copied}
-use Rattle.std.specs.List.{find, list_any, list_all}
+use Rattle.std.specs.List.{find, list_all}
 use Rattle.std.proofs.lemmas.Bool.{and_right, and_parts, and_from}
 use Rattle.std.proofs.lemmas.List.{take_more_set, drop-set-lt, take_more, take_all, drop_all}
 use Rattle.std.proofs.lemmas.List.Folds.{list_all-append}
@@ -19,7 +19,7 @@ use Rattle.rep_schema.specs.Tables.{Cells, cell_cmp}
 use Rattle.rep_schema.specs.Kinds.{is_filled, value_in_range, row_in_range}
 use Rattle.rep_schema.proofs.ValuesAt.{slice_get-drop}
 use Rattle.rep_calls.specs.declared.statement.Set.{Set}
-use Rattle.local_txn.specs.Sets.{is_about, takes_set, value_by, row_with, sets_filled, is_of_filled, sets_by_column}
+use Rattle.local_txn.specs.Sets.{is_about, takes_set, value_by, row_with, sets_by_column}
 use Rattle.local_txn.specs.ByColumn.{set_in, set_at, takes_each, fills_some, row_by, where_in_range}
 
 drop-one : {X : Type 0} (xs : List X) (i : ℕ) → drop 1 (drop i xs) ≡ drop (i + 1) xs

@@ -1,5 +1,5 @@
 -- A key with a stamp that no column may hold, and with another one in its place.
-use Rattle.std.proofs.Common.{◌≡◌, ◌⊎◌, ℕ, ◌+◌, ◌<◌, ◌≤◌, Bool, true, false, List, [], ◌∷◌, length, refl, sym, ap, ◌∙◌, inl, inr, arith, pos}
+use Rattle.std.proofs.Common.{◌≡◌, ◌⊎◌, ℕ, ◌+◌, ◌≤◌, Bool, true, false, List, [], ◌∷◌, length, refl, sym, ap, ◌∙◌, inl, inr, arith, pos}
 use Rattle.std.specs.Prelude.{Option, Some, None, ◌&&◌, cond, not, is_some}
 use Rattle.std.proofs.lemmas.Bool.{and_parts, and_from, and_right, both_ways, cases_lt}
 use Rattle.rep_values.specs.declared.name.SiteName.{SiteName}
@@ -10,11 +10,11 @@ use Rattle.rep_values.specs.declared.refusal.Refusal.TheVariants as refusal
 use Rattle.rep_values.specs.RefusalSteps.{refused, or_then, first_refusal}
 use Rattle.rep_schema.specs.declared.schema.Schema.{Schema}
 use Rattle.rep_schema.specs.declared.schema.Column.{Column}
-use Rattle.rep_schema.specs.Tables.{Cells, Rows, columns_of, key_of, find_row, rows_of, RowFits, IsTable}
+use Rattle.rep_schema.specs.Tables.{Cells, Rows, columns_of, key_of, rows_of, RowFits, IsTable}
 use Rattle.rep_schema.specs.Kinds.{is_stamp, is_filled, value_in_range, row_in_range}
 use Rattle.rep_schema.proofs.FoundRows.{found_row, key_of-found}
 use Rattle.local_txn.specs.declared.local.Here.{Here}
-use Rattle.local_txn.specs.Filled.{filling_value, value_filled, filled_from, everywhere, next_stamp, made_with, inserted}
+use Rattle.local_txn.specs.Filled.{filled_from, everywhere, next_stamp, inserted}
 use Rattle.local_txn.specs.Chosen.{first_outside, capped}
 use Rattle.local_txn.specs.Convergent.{is_convergent, barred, begins_with}
 use Rattle.local_txn.specs.Statements.{Standing, row_at, row_steps, new_row_steps}

@@ -1,14 +1,13 @@
 -- A stamp that no column may hold, and another one in its place.
-use Rattle.std.proofs.Common.{◌≡◌, ◌⊎◌, ℕ, zero, suc, ◌+◌, ◌<◌, ◌≤◌, min, Bool, true, false, List, [], ◌∷◌, length, refl, sym, ap, ◌∙◌, inl, inr, arith, pos, negsuc}
-use Rattle.std.specs.Prelude.{◌&&◌, ◌||◌, cond, not, int_le}
+use Rattle.std.proofs.Common.{◌≡◌, ◌⊎◌, ℕ, ◌+◌, ◌<◌, ◌≤◌, Bool, true, false, List, [], ◌∷◌, length, refl, ap, inl, inr, arith, pos, negsuc}
+use Rattle.std.specs.Prelude.{◌&&◌, not, int_le}
 use Rattle.std.proofs.lemmas.Bool.{and_parts, and_left, and_right, and_cases, or_parts, lt-leb, cases_lt, false≢true}
 use Rattle.rep_values.specs.declared.name.SiteName.{SiteName}
-use Rattle.rep_values.specs.declared.value.Value.{Value}
 use Rattle.rep_values.specs.declared.value.Value.TheVariants.{Num, Words}
 use Rattle.rep_schema.specs.declared.schema.Column.{Column}
 use Rattle.rep_schema.specs.Tables.{Cells}
 use Rattle.rep_schema.specs.Kinds.{is_stamp, is_site_kind, is_filled, value_in_range, row_in_range}
-use Rattle.local_txn.specs.Filled.{Filling, filling_value, value_filled, filled_from, has_stamp_from, made_with}
+use Rattle.local_txn.specs.Filled.{Filling, filled_from, has_stamp_from, made_with}
 use Rattle.local_txn.specs.Chosen.{first_outside, capped}
 
 -- a number above the greatest one

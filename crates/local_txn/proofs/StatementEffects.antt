@@ -1,14 +1,11 @@
 -- A statement that isn't refused changes its tables soundly.
-use Rattle.std.proofs.Common.{◌≡◌, ◌≢◌, ℕ, ◌<◌, Bool, true, false, List, [], ◌∷◌, refl, sym, ap, ◌∙◌}
-use Rattle.std.specs.Prelude.{Option, Some, None, cond, IfSome}
-use Rattle.rep_values.specs.declared.literal.Literal.{Literal}
+use Rattle.std.proofs.Common.{◌≡◌, ℕ, Bool, true, false, List, refl, sym, ap, ◌∙◌}
+use Rattle.std.specs.Prelude.{Option, Some, None, cond}
 use Rattle.rep_values.specs.RefusalSteps.{first_refusal}
 use Rattle.rep_schema.specs.declared.schema.Schema.{Schema}
 use Rattle.rep_schema.specs.declared.change.Change.{Change}
 use Rattle.rep_schema.specs.Changes.{IsChange}
-use Rattle.rep_schema.specs.Shape.{HasShape}
 use Rattle.rep_schema.specs.Tables.{Cells, Rows, columns_of, key_of, find_row, rows_of}
-use Rattle.rep_schema.specs.Checks.{failed_check}
 use Rattle.rep_schema.specs.Named.{table_place}
 use Rattle.rep_schema.proofs.FoundRows.{key_of-found}
 use Rattle.rep_schema.proofs.Leading.{IsChange-put, IsChange-take}

@@ -1,19 +1,15 @@
 -- The rows that statements make: of their columns' kinds, and accepted where nothing refuses.
-use Rattle.std.proofs.Common.{◌≡◌, ℕ, ◌<◌, ◌≤◌, Bool, true, false, List, [], ◌∷◌, length, refl, ◌+◌, sym, ap, ◌∙◌, zero-add}
-use Rattle.std.specs.Prelude.{Option, Some, None, ◌&&◌, not, is_some, slice_get}
+use Rattle.std.proofs.Common.{◌≡◌, ℕ, ◌<◌, Bool, true, false, List, length, refl, ◌+◌, ◌∙◌, zero-add}
+use Rattle.std.specs.Prelude.{Option, Some, None, ◌&&◌, not, is_some}
 use Rattle.std.specs.List.{list_all}
 use Rattle.std.proofs.lemmas.Bool.{and_parts, and_left}
 use Rattle.rep_values.specs.declared.literal.Literal.{Literal}
-use Rattle.rep_values.specs.declared.refusal.Refusal.{Refusal}
 use Rattle.rep_values.specs.declared.refusal.Refusal.TheVariants as refusal
 use Rattle.rep_values.specs.RefusalSteps.{refused, first_refusal}
 use Rattle.rep_values.proofs.RefusalSteps.{or_then-None, refused-None, refused_not-None}
 use Rattle.rep_schema.specs.declared.schema.Schema.{Schema}
-use Rattle.rep_schema.specs.declared.schema.Column.{Column}
-use Rattle.rep_schema.specs.Tables.{Cells, Rows, columns_of, key_of, find_row, rows_of, RowFits, IsUniqueRow, IsTable}
-use Rattle.rep_schema.specs.Kinds.{row_in_range}
-use Rattle.rep_schema.specs.Checks.{failed_check}
-use Rattle.rep_schema.proofs.FoundRows.{found_row, key_of-found}
+use Rattle.rep_schema.specs.Tables.{Cells, Rows, columns_of, key_of, rows_of, RowFits, IsTable}
+use Rattle.rep_schema.proofs.FoundRows.{found_row}
 use Rattle.rep_calls.specs.declared.statement.Set.{Set}
 use Rattle.txn_effects.specs.Calls.{KeysStandAlone}
 use Rattle.local_txn.specs.declared.local.Here.{Here}
@@ -21,11 +17,11 @@ use Rattle.local_txn.specs.Literals.{literals_fit, key_literals_fit, values_of}
 use Rattle.local_txn.specs.Sets.{names_columns, names_one_twice, sets_fit, sets_filled, row_with}
 use Rattle.local_txn.specs.Filled.{Filling, filled_from, everywhere, is_modified, bound_from, next_stamp, written_columns, row_written}
 use Rattle.local_txn.specs.Convergent.{barred, own_key_step, rule_step}
-use Rattle.local_txn.specs.Statements.{Standing, row_at, insert_made, update_made, row_steps, there, new_row_steps, insert_steps, changed_row_steps, update_steps, delete_steps}
+use Rattle.local_txn.specs.Statements.{Standing, row_at, insert_made, update_made, row_steps, there, new_row_steps, insert_steps, changed_row_steps, update_steps}
 use Rattle.local_txn.specs.Running.{IsKindly}
 use Rattle.local_txn.proofs.KindRows.{are_of, length-are_of, RowFits-are_of, are_of-RowFits, are_of-row_written, are_of-filled_from, are_of-row_with, key_of-row_with, key_of-filled_from, takes}
 use Rattle.local_txn.proofs.ModifiedColumns.{is_modified-key}
-use Rattle.local_txn.proofs.NewRows.{IsAccepted, accepted_row, RowFits-accepted, IsUniqueRow-accepted}
+use Rattle.local_txn.proofs.NewRows.{IsAccepted, accepted_row}
 
 -- a row of its columns' kinds
 pub IsKindly-are_of : (schema : Schema) (table : ℕ) (row : Cells) → are_of (columns_of schema table) row ≡ true → IsKindly schema table row

@@ -1,6 +1,6 @@
 -- A statement as it is gone through: what its steps find, and what comes of it.
-use Rattle.std.proofs.Common.{◌≡◌, ◌≢◌, inl, inr, ℕ, ◌+◌, ◌<◌, ◌≤◌, Bool, true, false, List, [], ◌∷◌, length, refl, sym, ap, ◌∙◌, subst, arith}
-use Rattle.std.specs.Prelude.{Option, Some, None, cond, ◌&&◌, ◌||◌, not, is_some, min, slice_index, ◌==◌}
+use Rattle.std.proofs.Common.{◌≡◌, ◌≢◌, inl, inr, ℕ, ◌+◌, ◌≤◌, Bool, true, false, List, [], ◌∷◌, length, refl, sym, ap, ◌∙◌, subst, arith}
+use Rattle.std.specs.Prelude.{Option, Some, None, cond, ◌&&◌, not, is_some, slice_index, ◌==◌}
 use Rattle.std.specs.List.{find, list_all}
 use Rattle.std.proofs.lemmas.Bool.{and_parts, and_right, or_parts, both_ways}
 use Rattle.std.proofs.lemmas.Bool.Decides.{eqb_tells}
@@ -11,15 +11,14 @@ use Rattle.rep_values.specs.declared.name.SiteName.{SiteName}
 use Rattle.rep_values.specs.declared.refusal.Refusal.{Refusal}
 use Rattle.rep_values.specs.declared.refusal.Refusal.TheVariants as refusal
 use Rattle.rep_values.specs.RefusalSteps.{refused, or_then, first_refusal}
-use Rattle.rep_values.proofs.RefusalSteps.{or_then-None, refused-None, refused_not-None}
+use Rattle.rep_values.proofs.RefusalSteps.{or_then-None, refused-None}
 use Rattle.rep_schema.specs.declared.schema.Schema.{Schema}
 use Rattle.rep_schema.specs.declared.schema.Column.{Column}
 use Rattle.rep_schema.specs.declared.change.Change.{Change}
-use Rattle.rep_schema.specs.Shape.{HasShape}
-use Rattle.rep_schema.specs.Tables.{Cells, Rows, columns_of, key_of, key_count, key_columns, find_row, take_row, rows_of, RowFits, IsKeyed, IsUniqueRow, IsTable}
+use Rattle.rep_schema.specs.Tables.{Cells, Rows, columns_of, key_of, key_count, key_columns, find_row, take_row, rows_of, RowFits, IsUniqueRow}
 use Rattle.rep_schema.specs.Kinds.{value_in_range, row_in_range, is_filled}
 use Rattle.rep_schema.specs.Changes.{row_like, made_in}
-use Rattle.rep_schema.specs.Putting.{changes_between, changes_of}
+use Rattle.rep_schema.specs.Putting.{changes_between}
 use Rattle.rep_schema.proofs.FoundRows.{found_row, key_of-found}
 use Rattle.rep_schema.proofs.RowFit.{length-fits}
 use Rattle.rep_schema.proofs.Shapes.{length-columns_of}
@@ -30,13 +29,13 @@ use Rattle.local_txn.specs.declared.local.Here.{Here}
 use Rattle.local_txn.specs.declared.stop.Stop.{Stop}
 use Rattle.local_txn.specs.declared.stop.Stop.TheVariants.{Refused, Memory}
 use Rattle.local_txn.specs.Literals.{literal_fits, literals_fit, key_literals_fit, values_of}
-use Rattle.local_txn.specs.Sets.{names_columns, names_one_twice, takes_set, is_about, sets_fit, sets_filled, value_by, row_with, sets_by_column}
+use Rattle.local_txn.specs.Sets.{names_columns, names_one_twice, takes_set, is_about, sets_fit, sets_filled, value_by, row_with}
 use Rattle.local_txn.specs.ByColumn.{AreSets, names_refusal, takes_each, fills_some, row_by, row_where_in_range}
 use Rattle.local_txn.specs.Filled.{Filling, RowMade, filled_from, value_filled, everywhere, is_modified, bound_from, next_stamp, made_with, written_columns, row_written}
 use Rattle.local_txn.specs.Chosen.{capped}
 use Rattle.local_txn.specs.Convergent.{barred, own_key_step, rule_step}
-use Rattle.local_txn.specs.Statements.{Standing, row_at, insert_made, update_made, insert_in, update_in, delete_in, outcome_changes, row_steps, there, new_row_steps, insert_steps, changed_row_steps, update_steps, delete_steps}
-use Rattle.local_txn.specs.Running.{CanRun, IsKindly, inserted_capped, updated_capped, change_steps, ChangesTo, order_steps, AreInOrder, standing_of, footing_after, RunsAs, StopsAs}
+use Rattle.local_txn.specs.Statements.{Standing, row_at, insert_made, update_made, insert_in, update_in, delete_in, row_steps, there, new_row_steps, insert_steps, changed_row_steps, update_steps, delete_steps}
+use Rattle.local_txn.specs.Running.{CanRun, IsKindly, inserted_capped, change_steps, ChangesTo, order_steps, AreInOrder, standing_of, footing_after, RunsAs, StopsAs}
 use Rattle.local_txn.proofs.LiteralWalk.{length-row_written}
 use Rattle.local_txn.proofs.SetWalk.{row_by-sets, takes_each-sets}
 use Rattle.local_txn.proofs.NamedSets.{fills_some-sets}
@@ -45,7 +44,7 @@ use Rattle.local_txn.proofs.StampedRows.{row_in_range-capped, made_with-capped}
 use Rattle.local_txn.proofs.StampedKeys.{new_row_steps-inserted}
 use Rattle.local_txn.proofs.NewRows.{row_steps-out, IsAccepted, accepted_row, RowFits-accepted, IsUniqueRow-accepted}
 use Rattle.local_txn.proofs.ModifiedRows.{length-row_with}
-use Rattle.local_txn.proofs.StatementRows.{IsKindly-written, IsKindly-set, IsNew, key_of-set}
+use Rattle.local_txn.proofs.StatementRows.{IsKindly-written, IsKindly-set, key_of-set}
 
 or_then-last : (o : Option Refusal) → or_then o None ≡ o
 or_then-last None = refl

@@ -1,9 +1,8 @@
 -- Blocks on tables with stamps and on convergent tables, worked out by hand.
 use Rattle.std.proofs.Common.{◌≡◌, ℕ, List, [], ◌∷◌, Bool, true, false, Ok, Err, refl, pos, negsuc}
-use Rattle.std.specs.Prelude.{ℤ, codes, Option, Some, None, Result}
+use Rattle.std.specs.Prelude.{ℤ, codes, Some, None, Result}
 use Rattle.rep_values.specs.declared.literal.Literal.{Literal}
 use Rattle.rep_values.specs.declared.literal.Literal.TheVariants as literal
-use Rattle.rep_values.specs.declared.value.Value.{Value}
 use Rattle.rep_values.specs.declared.value.Value.TheVariants.{Num, Words}
 use Rattle.rep_values.specs.declared.refusal.Refusal.{Refusal}
 use Rattle.rep_values.specs.declared.refusal.Refusal.TheVariants as refusal
@@ -16,7 +15,6 @@ use Rattle.rep_schema.specs.declared.schema.Kind.{Kind}
 use Rattle.rep_schema.specs.declared.schema.Kind.TheVariants as kind
 use Rattle.rep_schema.specs.declared.schema.Method.{Method}
 use Rattle.rep_schema.specs.declared.schema.Method.TheVariants as method
-use Rattle.rep_schema.specs.declared.check.Check.{Check}
 use Rattle.rep_schema.specs.declared.check.Rel.TheVariants.{Ge}
 use Rattle.rep_schema.specs.declared.change.Change.{Change}
 use Rattle.rep_schema.specs.Groups.{group_columns_of}

@@ -1,5 +1,5 @@
 -- Laws of local transactions.
-use Rattle.std.specs.Prelude.{◌≡◌, ℕ, ◌<◌, ◌≤◌, Bool, true, false, cond, List, [], ◌∷◌, Option, Some, None, Ok, slice_get}
+use Rattle.std.specs.Prelude.{◌≡◌, ℕ, ◌<◌, ◌≤◌, Bool, true, false, List, [], ◌∷◌, Option, Some, None, Ok, slice_get}
 use Rattle.std.specs.Bool.{MatchBool}
 use Rattle.rep_values.specs.declared.name.SiteName.{SiteName}
 use Rattle.rep_schema.specs.declared.schema.Schema.{Schema}
@@ -12,7 +12,7 @@ use Rattle.rep_calls.specs.declared.statement.Statement.{Statement}
 use Rattle.schema_rules.specs.Soundness.{IsSound}
 use Rattle.local_txn.specs.declared.local.Here.{Here}
 use Rattle.local_txn.specs.declared.local.Stamps.{Stamps}
-use Rattle.local_txn.specs.Filled.{Filling, filling_value, everywhere, is_modified, bound_from, has_stamp_from}
+use Rattle.local_txn.specs.Filled.{Filling, filling_value, is_modified, bound_from, has_stamp_from}
 use Rattle.local_txn.specs.Locals.{BlockEffect, local_effect}
 use Rattle.local_txn.specs.BaseRows.{FillsFreely}
 

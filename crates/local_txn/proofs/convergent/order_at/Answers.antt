@@ -1,5 +1,5 @@
-use Rattle.std.proofs.Common.{◌≡◌, Some, None, sym, ap, ◌∙◌, refl}
-use Rattle.std.specs.Prelude.{option_copied, slice_get}
+use Rattle.std.proofs.Common.{◌≡◌, Some, None, sym, ◌∙◌, refl}
+use Rattle.std.specs.Prelude.{slice_get}
 use Rattle.local_txn.proofs.SetWalk.{slice_get-row_by}
 use Rattle.local_txn.proofs.convergent.order_at.Goals as goal
 

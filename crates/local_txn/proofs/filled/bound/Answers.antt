@@ -1,4 +1,4 @@
-use Rattle.std.proofs.Common.{◌≡◌, max, drop, true, false, sym, ap, ◌∙◌, arith, refl}
+use Rattle.std.proofs.Common.{◌≡◌, max, sym, ◌∙◌, arith, refl}
 use Rattle.local_txn.specs.Filled.{above_value}
 use Rattle.local_txn.specs.Chosen.{chosen_at}
 use Rattle.local_txn.proofs.FilledRows.{ord_max-max, bound-more, bound-other}

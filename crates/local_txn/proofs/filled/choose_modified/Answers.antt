@@ -1,15 +1,13 @@
-use Rattle.std.proofs.Common.{◌≡◌, ◌<◌, ◌≤◌, true, false, length, sym, ap, ◌∙◌, arith, refl}
-use Rattle.std.specs.Prelude.{◌||◌, ◌&&◌, not}
+use Rattle.std.proofs.Common.{◌≡◌, ◌<◌, true, false, length, sym, ap, ◌∙◌, arith, refl}
+use Rattle.std.specs.Prelude.{not}
 use Rattle.std.specs.Bool.{one_answer}
-use Rattle.std.specs.List.{AllByRecursion}
 use Rattle.rep_lists.proofs.Each.{each_then}
 use Rattle.rep_schema.specs.Tables.{columns_of}
 use Rattle.rep_schema.specs.Groups.{differ_in, group_values, group_columns_of}
-use Rattle.rep_schema.specs.Kinds.{has_place}
 use Rattle.rep_schema.proofs.ValuesAt.{are_same-Decides}
 use Rattle.rep_schema.proofs.Coverage.{group_columns_of-below}
 use Rattle.rep_schema.proofs.Shapes.{length-columns_of}
-use Rattle.local_txn.specs.Chosen.{chosen_at, is_modified_in}
+use Rattle.local_txn.specs.Chosen.{chosen_at}
 use Rattle.local_txn.proofs.FilledRows.{or_false}
 use Rattle.local_txn.proofs.filled.choose_modified.Goals as goal
 

@@ -1,4 +1,4 @@
-use Rattle.std.proofs.Common.{◌≡◌, ◌+◌, true, sym, ◌∙◌, arith, zero-add}
+use Rattle.std.proofs.Common.{true, ◌∙◌, arith, zero-add}
 use Rattle.std.specs.Prelude.{replicate}
 use Rattle.local_txn.specs.Filled.{everywhere}
 use Rattle.local_txn.specs.Chosen.{chosen_at}

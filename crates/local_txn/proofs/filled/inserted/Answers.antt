@@ -1,4 +1,4 @@
-use Rattle.std.proofs.Common.{◌≡◌, true, false, refl, sym, ap, ◌∙◌, arith}
+use Rattle.std.proofs.Common.{true, sym, ◌∙◌, arith}
 use Rattle.std.specs.Prelude.{replicate}
 use Rattle.local_txn.specs.Filled.{everywhere, next_stamp}
 use Rattle.local_txn.specs.Chosen.{chosen_at, capped}

@@ -1,4 +1,4 @@
-use Rattle.std.proofs.Common.{◌≡◌, ℕ, Bool, true, false, length, ◌+◌, refl, sym, ap, ◌∙◌}
+use Rattle.std.proofs.Common.{◌≡◌, ℕ, Bool, ◌+◌, refl, sym, ◌∙◌}
 use Rattle.rep_schema.specs.Tables.{columns_of}
 use Rattle.local_txn.specs.Filled.{is_modified, bound_from, next_stamp}
 use Rattle.local_txn.specs.Chosen.{chosen_at, capped}

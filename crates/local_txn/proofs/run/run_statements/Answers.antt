@@ -8,7 +8,7 @@ use Rattle.unique_resolve.specs.Numbers.{first_numbers}
 use Rattle.unique_resolve.proofs.Settlements.{AreCounters-first}
 use Rattle.local_txn.specs.Statements.{Standing, statement_refusal, statement_changes, standing_after}
 use Rattle.local_txn.specs.Running.{GoesOn, StopsAs, standing_of}
-use Rattle.local_txn.proofs.BlockSteps.{room_for-more, IsApplied-more, made_all-more, so_far-none, so_far-Ok, so_far-Err, so_far-all}
+use Rattle.local_txn.proofs.BlockSteps.{room_for-more, IsApplied-more, made_all-more, so_far-none, so_far-Ok, so_far-Err}
 use Rattle.local_txn.proofs.run.run_statements.Goals as goal
 
 pub loop-i-init : goal.loop-i-init

@@ -1,4 +1,4 @@
-use Rattle.std.proofs.Common.{true, false, refl, sym, ◌∙◌}
+use Rattle.std.proofs.Common.{refl, sym, ◌∙◌}
 use Rattle.local_txn.proofs.SetWalk.{takes_each-more}
 use Rattle.local_txn.proofs.sets.takes_each.Goals as goal
 

@@ -1,5 +1,5 @@
 -- The row that an update makes of another one.
-use Rattle.std.proofs.Common.{◌≡◌, length, sym, ◌∙◌}
+use Rattle.std.proofs.Common.{◌≡◌, sym, ◌∙◌}
 use Rattle.std.specs.Prelude.{Some}
 use Rattle.rep_schema.specs.Tables.{columns_of}
 use Rattle.rep_schema.proofs.RowFit.{length-fits}

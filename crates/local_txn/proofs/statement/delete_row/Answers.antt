@@ -1,9 +1,8 @@
 -- Taking a row away by its key.
-use Rattle.std.proofs.Common.{◌≡◌, true, refl, sym, ap, ◌∙◌}
-use Rattle.std.specs.Prelude.{Some, None, slice_set}
+use Rattle.std.proofs.Common.{◌≡◌, true, sym, ap, ◌∙◌}
+use Rattle.std.specs.Prelude.{slice_set}
 use Rattle.rep_schema.specs.Tables.{columns_of, find_row, rows_of}
-use Rattle.local_txn.specs.Literals.{key_literals_fit, values_of}
-use Rattle.local_txn.specs.Statements.{row_at}
+use Rattle.local_txn.specs.Literals.{key_literals_fit}
 use Rattle.local_txn.proofs.StatementSteps.{there_is, IsKeyLen-fits, made_in-found, room_kept}
 use Rattle.local_txn.proofs.statement.delete_row.Goals as goal
 

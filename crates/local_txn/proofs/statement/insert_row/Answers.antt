@@ -1,5 +1,5 @@
 -- Inserting a row.
-use Rattle.std.proofs.Common.{◌≡◌, length, true, sym, ap, ◌∙◌, refl, subst}
+use Rattle.std.proofs.Common.{◌≡◌, true, sym, ap, ◌∙◌, subst}
 use Rattle.std.specs.Prelude.{None, Some}
 use Rattle.rep_values.specs.RefusalSteps.{first_refusal}
 use Rattle.rep_schema.specs.Tables.{columns_of, rows_of, RowFits, IsUniqueRow}

@@ -1,5 +1,5 @@
 -- Whether an update's key and sets are in order.
-use Rattle.std.proofs.Common.{◌≡◌, true, false, sym, ◌∙◌, refl}
+use Rattle.std.proofs.Common.{◌≡◌, true, false, sym, ◌∙◌}
 use Rattle.std.specs.Prelude.{◌&&◌}
 use Rattle.std.proofs.lemmas.Bool.{and_from, and_left, and_right}
 use Rattle.rep_schema.specs.Tables.{columns_of}

@@ -1,12 +1,11 @@
-use Rattle.std.proofs.Common.{None, get_or, ◌≡◌, ◌+◌, ◌-◌, ◌<◌, ◌∷◌, ◌||◌, true, false, length, map, drop, take, set, Some, refl, sym, ap, ◌∙◌, arith, length-drop}
-use Rattle.std.specs.Prelude.{is_some, slice_get}
+use Rattle.std.proofs.Common.{None, get_or, ◌≡◌, ◌+◌, ◌-◌, ◌<◌, ◌∷◌, length, map, drop, take, Some, refl, sym, ◌∙◌, arith}
+use Rattle.std.specs.Prelude.{is_some}
 use Rattle.std.proofs.lemmas.List.{drop_all, length-set, map-set}
 use Rattle.std.proofs.Math.Seq.{take-set-lt}
 use Rattle.std.proofs.lemmas.Option.{slice_get_read}
 use Rattle.rep_lists.proofs.Each.{each_set, each_at}
 use Rattle.rep_lists.proofs.Places.{drop_from_place}
-use Rattle.rep_calls.specs.declared.statement.Set.{Set}
-use Rattle.local_txn.specs.Sets.{names_columns, names_one_twice, sets_by_column}
+use Rattle.local_txn.specs.Sets.{names_one_twice, sets_by_column}
 use Rattle.local_txn.specs.ByColumn.{set_of, set_at}
 use Rattle.local_txn.proofs.NamedSets.{named-within, nothing_set, numbered-none, set_at-cells, unknown-set, known-more, twice-more, each-more}
 use Rattle.local_txn.proofs.sets.SetsByColumn.of.Goals as goal
