@@ -70,4 +70,5 @@ broken_group schema table before after = find (λ group. breaks (form_of (column
 
 -- a changed row in a convergent table has to keep the forms of its groups
 abbrev pub rule_step : Schema → ℕ → Cells → Cells → Option Refusal
-rule_step schema table before after = cond (is_convergent schema table) (option_map (λ group. refusal.RuleBroken group.name) (broken_group schema table before after)) None
+rule_step schema table before after = cond (is_convergent schema table)
+    (option_map (λ group. refusal.RuleBroken group.name) (broken_group schema table before after)) None

@@ -34,7 +34,8 @@ IsFilledAt filling columns row place = (column : Column) → slice_get columns p
 abbrev pub CarriesIn : Schema → Filling → ℕ → Option Cells → Option Cells → Type 0
 CarriesIn schema filling table before None = Unit {0}
 CarriesIn schema filling table None (Some after) = (place : ℕ) → IsFilledAt filling (columns_of schema table) after place
-CarriesIn schema filling table (Some before) (Some after) = ((place : ℕ) → is_modified schema table before after place ≡ true → IsFilledAt filling (columns_of schema table) after place)
+CarriesIn schema filling table (Some before) (Some after) = ((place : ℕ) → is_modified schema table before after place ≡ true
+    → IsFilledAt filling (columns_of schema table) after place)
     × (bound_from (is_modified schema table before after) 0 (columns_of schema table) before ≤ filling.stamp)
 
 -- all that a change fills in is the stamp and the site's name, and the stamp is above those that were there

@@ -95,7 +95,8 @@ fn fill_count<R: RowStore>(store: &R, table: u32) -> u64
 /// Makes room in each table for as many rows as are filled in there.
 fn reserve_to_fill<R: RowStore>(store: &mut R) -> Result<(), NoMemory>
     requires shape { HasShape (R.schema store.old) }
-    ensures ok { OnOk result ((t : ℕ) → t < length (R.schema store.old).tables → fill_count (columns_of (R.schema store.old) t) (rows_of (R.tables store.old) t) ≤ slice_index (R.spare store.new) t) }
+    ensures ok { OnOk result ((t : ℕ) → t < length (R.schema store.old).tables →
+        fill_count (columns_of (R.schema store.old) t) (rows_of (R.tables store.old) t) ≤ slice_index (R.spare store.new) t) }
     ensures schema { R.schema store.new ≡ R.schema store.old }
     ensures tables { R.tables store.new ≡ R.tables store.old }
 {

@@ -41,7 +41,8 @@ fn is_held<R: RowStore>(store: &R, table: u32, place: usize, row: &Row) -> bool
     requires able { CanRun (R.schema store.now) (R.tables store.now) table }
     requires place { place < length (constraints_of (R.schema store.now) table) }
     requires fits { RowFits (columns_of (R.schema store.now) table) row.now }
-    ensures { result ≡ is_held (columns_of (R.schema store.now) table) (constraint_columns_of (R.schema store.now) table place) (rows_of (R.tables store.now) table) row.now }
+    ensures { result ≡ is_held (columns_of (R.schema store.now) table)
+        (constraint_columns_of (R.schema store.now) table place) (rows_of (R.tables store.now) table) row.now }
 {
     store.holds_unique(table, place as u32, row)
 }

@@ -68,7 +68,8 @@ fn insert_row<R: RowStore>(
     ensures ok { IfOk result (λ change. RunsAs (R.schema store.old) table
         (first_refusal (insert_steps (R.schema store.old) footing.old.here (standing_of footing.old (R.tables store.old)) table values.now))
         (insert_in (R.schema store.old) footing.old.here (standing_of footing.old (R.tables store.old)) table values.now) (changes_of change) footing.old footing.new) }
-    ensures err { IfErr result (StopsAs (first_refusal (insert_steps (R.schema store.old) footing.old.here (standing_of footing.old (R.tables store.old)) table values.now))) }
+    ensures err { IfErr result (StopsAs (first_refusal (insert_steps (R.schema store.old) footing.old.here
+        (standing_of footing.old (R.tables store.old)) table values.now))) }
     ensures step { StepsIn table (record { schema = R.schema store.old; tables = R.tables store.old; spare = R.spare store.old })
         (record { schema = R.schema store.new; tables = R.tables store.new; spare = R.spare store.new }) result }
 {
@@ -150,8 +151,10 @@ fn update_row<R: RowStore>(
     requires room { 1 ≤ slice_index (R.spare store.old) table }
     ensures ok { IfOk result (λ change. RunsAs (R.schema store.old) table
         (first_refusal (update_steps (R.schema store.old) footing.old.here (standing_of footing.old (R.tables store.old)) table key.now sets.now))
-        (update_in (R.schema store.old) footing.old.here (standing_of footing.old (R.tables store.old)) table key.now sets.now) (changes_of change) footing.old footing.new) }
-    ensures err { IfErr result (StopsAs (first_refusal (update_steps (R.schema store.old) footing.old.here (standing_of footing.old (R.tables store.old)) table key.now sets.now))) }
+        (update_in (R.schema store.old) footing.old.here (standing_of footing.old (R.tables store.old)) table key.now sets.now)
+        (changes_of change) footing.old footing.new) }
+    ensures err { IfErr result (StopsAs (first_refusal (update_steps (R.schema store.old) footing.old.here
+        (standing_of footing.old (R.tables store.old)) table key.now sets.now))) }
     ensures step { StepsIn table (record { schema = R.schema store.old; tables = R.tables store.old; spare = R.spare store.old })
         (record { schema = R.schema store.new; tables = R.tables store.new; spare = R.spare store.new }) result }
 {
@@ -218,8 +221,10 @@ pub(crate) fn run_in<R: RowStore>(
     requires room { 1 ≤ slice_index (R.spare store.old) table }
     ensures ok { IfOk result (λ change. RunsAs (R.schema store.old) table
         (first_refusal (steps_in (R.schema store.old) footing.old.here (standing_of footing.old (R.tables store.old)) table statement.now))
-        (outcome_in (R.schema store.old) footing.old.here (standing_of footing.old (R.tables store.old)) table statement.now) (changes_of change) footing.old footing.new) }
-    ensures err { IfErr result (StopsAs (first_refusal (steps_in (R.schema store.old) footing.old.here (standing_of footing.old (R.tables store.old)) table statement.now))) }
+        (outcome_in (R.schema store.old) footing.old.here (standing_of footing.old (R.tables store.old)) table statement.now)
+        (changes_of change) footing.old footing.new) }
+    ensures err { IfErr result (StopsAs (first_refusal (steps_in (R.schema store.old) footing.old.here
+        (standing_of footing.old (R.tables store.old)) table statement.now))) }
     ensures step { StepsIn table (record { schema = R.schema store.old; tables = R.tables store.old; spare = R.spare store.old })
         (record { schema = R.schema store.new; tables = R.tables store.new; spare = R.spare store.new }) result }
 {

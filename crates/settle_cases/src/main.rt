@@ -3,8 +3,8 @@
 //! `new` forgets all. `declare DECLARATION` declares, and a refusal is printed. `open NAME..` makes sites with empty
 //! tables, or tells the broken rule. `statement STATEMENT` keeps a statement, `again N` the last one so many times more,
 //! and `run SITE [snapshot]` runs those that are kept; `deliver SITE ORIGIN` applies the last committed transaction.
-//! `call CALL` keeps a call, and `apply SITE ORIGIN` applies those that are kept. `rows SITE` are the rows of its first two
-//! tables. `clock SITE N` sets a site's clock, and `stamps SITE` tells it with the last stamp. `base SITE INSERT` puts a base
+//! `call CALL` keeps a call, and `apply SITE ORIGIN` applies those that are kept. `rows SITE` are the rows of its first
+//! three tables. `clock SITE N` sets a site's clock, and `stamps SITE` tells it with the last stamp. `base SITE INSERT` puts a base
 //! row, and `fill SITE NAME` fills the base rows in for the site of that name. `beside [VALUE..]` is the row, or none, with
 //! which `detect CALL` compares. An empty line and one that begins with `#` is printed as it is.
 #![tactic(auto)]

@@ -77,7 +77,7 @@ impl Site {
         Ok(out)
     }
 
-    /// Runs a block of statements as a master that holds the tables 0 and 1, and tells what came of it.
+    /// Runs a block of statements at the site, which holds the first three tables, and tells what came of it.
     pub fn run(
         &mut self,
         alloc: Global,
@@ -88,7 +88,7 @@ impl Site {
         let here = Here {
             site: self.name,
             is_master,
-            tables: TableSet::of(&[0, 1]),
+            tables: TableSet::of(&[0, 1, 2]),
         };
         match run_local(&mut self.store, alloc, &mut self.stamps, &here, statements) {
             Ok(local) => {
@@ -142,13 +142,17 @@ impl Site {
         Ok(())
     }
 
-    /// The rows of the first two tables.
+    /// The rows of the first three tables, of the third only where there is one.
     pub fn rows(&self, alloc: Global) -> Result<String, CaseStop> {
         let mut out = String::new(alloc);
         out.push_str("0:")?;
         self.push_rows(alloc, &mut out, 0)?;
         out.push_str("; 1:")?;
         self.push_rows(alloc, &mut out, 1)?;
+        if self.store.schema().tables.len() > 2 {
+            out.push_str("; 2:")?;
+            self.push_rows(alloc, &mut out, 2)?;
+        }
         Ok(out)
     }
 }
