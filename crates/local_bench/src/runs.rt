@@ -47,7 +47,7 @@ fn run(store: &mut ListTables, bench: &mut Bench, block: &[Statement]) -> bool
     requires apart { KeysStandAlone store.old.schema }
     ensures { store.new.schema ≡ store.old.schema }
 {
-    run_local(store, bench.alloc, &mut bench.stamps, &bench.here, block).is_ok()
+    run_local(bench.alloc, store, &mut bench.stamps, &bench.here, block).is_ok()
 }
 
 /// Inserts so many rows.

@@ -351,6 +351,14 @@ module _ (schema : Schema) (footing : Footing) (tables : List Rows) (table : ℕ
         pub update_row_refused : (why : Refusal) → first_refusal (row_steps schema tables table made.row) ≡ Some why → first_refusal (update_steps schema footing.here standing table key sets) ≡ Some why
         update_row_refused why refuses = update_row_steps ∙ refuses
 
+        -- it has the key of the row that was there
+        pub row_like-made : KeysStandAlone schema → row_like columns made.row (rows_of tables table) ≡ Some before
+        row_like-made apart =
+            let own : key_of columns before ≡ values_of key = key_of-found columns (values_of key) before (rows_of tables table) is_there in
+            let kept = key_of-set schema table apart able.of_table sets before before (row_with sets columns before) (record { stamp = capped stamp; site = footing.here.site })
+            (and_parts (key_literals_fit schema columns key) (sets_fit columns sets) order.fits).1 in
+            rw is_made (ap (λ k. find_row columns k (rows_of tables table)) (kept ∙ own)) ∙ is_there
+
         module _ (none : first_refusal (row_steps schema tables table made.row) ≡ None) where
           accepted : IsAccepted schema tables table made.row
           accepted = accepted_row schema tables table made.row none
@@ -363,14 +371,6 @@ module _ (schema : Schema) (footing : Footing) (tables : List Rows) (table : ℕ
 
           same_made : made ≡ made_by
           same_made = is_made ∙ made_with-capped columns footing.here.site footing.stamps.last modified stamp (row_with sets columns before) long (rw is_made at accepted.range)
-
-          -- it has the key of the row that was there
-          pub row_like-made : KeysStandAlone schema → row_like columns made.row (rows_of tables table) ≡ Some before
-          row_like-made apart =
-              let own : key_of columns before ≡ values_of key = key_of-found columns (values_of key) before (rows_of tables table) is_there in
-              let kept = key_of-set schema table apart able.of_table sets before before (row_with sets columns before) (record { stamp = capped stamp; site = footing.here.site })
-              (and_parts (key_literals_fit schema columns key) (sets_fit columns sets) order.fits).1 in
-              rw is_made (ap (λ k. find_row columns k (rows_of tables table)) (kept ∙ own)) ∙ is_there
 
           pub RunsAs-updated : (changes : List Change) → changes ≡ changes_between table (Some before) (Some made.row)
               → RunsAs schema table (first_refusal (update_steps schema footing.here standing table key sets)) (update_in schema footing.here standing table key sets) changes footing (footing_after schema table made.last footing)

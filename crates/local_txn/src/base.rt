@@ -31,8 +31,8 @@ fn takes_values(schema: &Schema, table: u32, values: &[Literal]) -> bool
 
 /// The row that literals write for a table, unless it is refused there.
 fn base_row<R: RowStore>(
-    store: &R,
     alloc: Global,
+    store: &R,
     table: u32,
     values: &[Literal],
 ) -> Result<Row, Refusal>
@@ -49,7 +49,7 @@ fn base_row<R: RowStore>(
     if has_row(store, table, &key_in(store, table, &row)) {
         return Err(Refusal::KeyTaken);
     }
-    if let Some(refusal) = row_refusal(store, table, &row) {
+    if let Some(refusal) = row_refusal(store, table, None, &row) {
         return Err(refusal);
     }
     Ok(row)
@@ -58,8 +58,8 @@ fn base_row<R: RowStore>(
 /// Puts a row that a script writes into a table, before any site is made; the columns that a site fills stay blank.
 /// Where it is refused, and where there is no memory, the rows are as before.
 pub fn put_base_row<R: RowStore>(
-    store: &mut R,
     alloc: Global,
+    store: &mut R,
     table: &TableName,
     values: &[Literal],
 ) -> Result<(), Refusal>
@@ -74,7 +74,7 @@ pub fn put_base_row<R: RowStore>(
         return Err(Refusal::UnknownName);
     };
     let table = place as u32;
-    let row = base_row(store, alloc, table, values)?;
+    let row = base_row(alloc, store, table, values)?;
     store.reserve(table, 1)?;
     store.put(table, row);
     Ok(())

@@ -1,9 +1,9 @@
 //! Rows in a store, and why a row can't be put there.
-ghost use Rattle.std.specs.Prelude.{◌≡◌, ◌<◌, map, length, slice_get, is_some, Some};
+ghost use Rattle.std.specs.Prelude.{◌≡◌, ◌<◌, map, length, slice_get, is_some, option_copied, Some};
 ghost use Rattle.rep_schema.specs.declared.schema.Constraint.{Constraint as ConstraintValue};
-ghost use Rattle.rep_schema.specs.Tables.{columns_of, constraints_of, constraint_columns_of, key_of, rows_of, RowFits};
+ghost use Rattle.rep_schema.specs.Tables.{columns_of, constraints_of, key_of, RowFits};
 ghost use Rattle.rep_values.specs.RefusalSteps.{first_refusal};
-ghost use Rattle.unique_resolve.specs.Settling.{is_held};
+ghost use Rattle.unique_resolve.specs.Trying.{IsTestable, HasBefore};
 ghost use Rattle.local_txn.specs.Statements.{taken_step, unique_steps, check_step, row_steps, row_at};
 ghost use Rattle.local_txn.specs.Running.{CanRun, IsKindly};
 
@@ -11,6 +11,7 @@ use rep_schema::{
     Constraint, RowStore, Schema, columns_of, constraint_count, failed_check, key_of, row_in_range,
 };
 use rep_values::{Key, Refusal, Row};
+use unique_resolve::{ConstraintPlace, is_violated};
 
 /// The key of a row that is as long as its table has columns.
 pub(crate) fn key_in<R: RowStore>(store: &R, table: u32, row: &Row) -> Key
@@ -29,46 +30,54 @@ pub(crate) fn has_row<R: RowStore>(store: &R, table: u32, key: &Key) -> bool
     store.get(table, key).is_some()
 }
 
-fn constraint_at(schema: &Schema, table: u32, place: usize) -> &Constraint
-    requires table { table < length schema.now.tables }
-    requires place { place < length (constraints_of schema.now table) }
-    ensures { slice_get (constraints_of schema.now table) place ≡ Some result.now }
+fn constraint_at(schema: &Schema, at: ConstraintPlace) -> &Constraint
+    requires table { at.table < length schema.now.tables }
+    requires place { at.place < length (constraints_of schema.now at.table) }
+    ensures { slice_get (constraints_of schema.now at.table) at.place ≡ Some result.now }
 {
-    schema.tables.at(table as usize).constraints.at(place)
-}
-
-fn is_held<R: RowStore>(store: &R, table: u32, place: usize, row: &Row) -> bool
-    requires able { CanRun (R.schema store.now) (R.tables store.now) table }
-    requires place { place < length (constraints_of (R.schema store.now) table) }
-    requires fits { RowFits (columns_of (R.schema store.now) table) row.now }
-    ensures { result ≡ is_held (columns_of (R.schema store.now) table)
-        (constraint_columns_of (R.schema store.now) table place) (rows_of (R.tables store.now) table) row.now }
-{
-    store.holds_unique(table, place as u32, row)
+    schema
+        .tables
+        .at(at.table as usize)
+        .constraints
+        .at(at.place as usize)
 }
 
 /// Whether another row has a row's values in one secondary constraint.
-fn taken_in<R: RowStore>(store: &R, table: u32, place: usize, row: &Row) -> Option<Refusal>
-    requires able { CanRun (R.schema store.now) (R.tables store.now) table }
-    requires place { place < length (constraints_of (R.schema store.now) table) }
-    requires fits { RowFits (columns_of (R.schema store.now) table) row.now }
-    ensures { (constraint : ConstraintValue) → slice_get (constraints_of (R.schema store.now) table) place ≡ Some constraint
-        → result ≡ taken_step (R.schema store.now) (R.tables store.now) table row.now constraint }
+fn taken_in<R: RowStore>(
+    store: &R,
+    at: ConstraintPlace,
+    before: Option<&Row>,
+    row: &Row,
+) -> Option<Refusal>
+    requires testable { IsTestable (R.schema store.now) (R.tables store.now) at.table at.place row.now }
+    requires before { HasBefore (R.schema store.now) (R.tables store.now) at.table (option_copied before) row.now }
+    ensures { (constraint : ConstraintValue) → slice_get (constraints_of (R.schema store.now) at.table) at.place ≡ Some constraint
+        → result ≡ taken_step (R.schema store.now) (R.tables store.now) at.table row.now constraint }
 {
-    if is_held(store, table, place, row) {
-        return Some(Refusal::UniqueTaken(constraint_at(store.schema(), table, place).name));
+    if is_violated(store, at, before, row) {
+        return Some(Refusal::UniqueTaken(constraint_at(store.schema(), at).name));
     }
     None
 }
 
 /// The first secondary constraint in declared order in which another row has a row's values.
-fn unique_refusal<R: RowStore>(store: &R, table: u32, row: &Row) -> Option<Refusal>
+fn unique_refusal<R: RowStore>(
+    store: &R,
+    table: u32,
+    before: Option<&Row>,
+    row: &Row,
+) -> Option<Refusal>
     requires able { CanRun (R.schema store.now) (R.tables store.now) table }
     requires fits { RowFits (columns_of (R.schema store.now) table) row.now }
+    requires before { HasBefore (R.schema store.now) (R.tables store.now) table (option_copied before) row.now }
     ensures { result ≡ first_refusal (unique_steps (R.schema store.now) (R.tables store.now) table row.now) }
 {
     for i in 0..constraint_count(store.schema(), table) {
-        if let Some(refusal) = taken_in(store, table, i, row) {
+        let at = ConstraintPlace {
+            table,
+            place: i as u32,
+        };
+        if let Some(refusal) = taken_in(store, at, before, row) {
             return Some(refusal);
         }
     }
@@ -87,16 +96,22 @@ fn check_refusal(schema: &Schema, table: u32, row: &Row) -> Option<Refusal>
 }
 
 /// Why a row can't be put, if it can't: a number or stamp out of range, a secondary constraint in which another row has
-/// its values, then a check.
-pub(crate) fn row_refusal<R: RowStore>(store: &R, table: u32, row: &Row) -> Option<Refusal>
+/// its values, then a check. The row before is the one with its key, if it is given.
+pub(crate) fn row_refusal<R: RowStore>(
+    store: &R,
+    table: u32,
+    before: Option<&Row>,
+    row: &Row,
+) -> Option<Refusal>
     requires able { CanRun (R.schema store.now) (R.tables store.now) table }
     requires kindly { IsKindly (R.schema store.now) table row.now }
+    requires before { HasBefore (R.schema store.now) (R.tables store.now) table (option_copied before) row.now }
     ensures { result ≡ first_refusal (row_steps (R.schema store.now) (R.tables store.now) table row.now) }
 {
     if !row_in_range(row.values()) {
         return Some(Refusal::ValueRange);
     }
-    if let Some(refusal) = unique_refusal(store, table, row) {
+    if let Some(refusal) = unique_refusal(store, table, before, row) {
         return Some(refusal);
     }
     check_refusal(store.schema(), table, row)

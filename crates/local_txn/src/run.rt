@@ -30,8 +30,8 @@ use std::alloc::Global;
 
 /// Runs one statement, after it took room for so many further rows of its table.
 fn run_in_room<R: RowStore>(
-    store: &mut R,
     alloc: Global,
+    store: &mut R,
     footing: &mut Footing,
     statement: &Statement,
     rows: usize,
@@ -54,14 +54,14 @@ fn run_in_room<R: RowStore>(
         return Err(Stop::Refused(Refusal::UnknownName));
     };
     store.reserve(table, rows as u64 + 1)?;
-    let change = run_in(store, alloc, footing, table, statement)?;
+    let change = run_in(alloc, store, footing, table, statement)?;
     Ok(change)
 }
 
 /// Runs the statements, or none of them. Where one is refused, the footing is open.
 fn run_statements<R: RowStore>(
-    store: &mut R,
     alloc: Global,
+    store: &mut R,
     footing: &mut Footing,
     statements: &[Statement],
 ) -> Result<Changes, LocalStop>
@@ -75,6 +75,7 @@ fn run_statements<R: RowStore>(
     ensures leads { IfOk result (λ changes. LeadsTo (R.schema store.old) changes.rows (R.tables store.old) (R.tables store.new)) }
     ensures differ { IfOk result (λ changes. AllByRecursion (λ change. change.before ≢ change.after) changes.rows) }
     ensures checked { IfOk result (λ changes. AllByRecursion (IsChecked (R.schema store.old)) changes.rows) }
+    ensures few { IfOk result (λ changes. length changes.rows ≤ length statements.now) }
     ensures were { AreTables (R.schema store.old) (R.tables store.old) }
     ensures room { IfOk result (λ changes. (t : ℕ) → room_for t changes.rows ≤ slice_index (R.spare store.new) t) }
     ensures err { IfErr result (EndsAs (statements_effect (R.schema store.old) footing.old.here 1 statements.now (standing_of footing.old (R.tables store.old)))) }
@@ -86,7 +87,7 @@ fn run_statements<R: RowStore>(
         return Err(stop_at(0, Stop::Memory));
     };
     for i in 0..statements.len() {
-        match run_in_room(store, alloc, footing, &statements[i], statements.len()) {
+        match run_in_room(alloc, store, footing, &statements[i], statements.len()) {
             Ok(change) => push_change(&mut done, change),
             Err(stop) => {
                 let rows = Items::from_vec(done);
@@ -119,8 +120,8 @@ fn txn_of(alloc: Global, schema: &Schema, changes: &[Change]) -> Result<Txn, NoM
 /// with stamps that rise from the site's last one. Where a statement is refused, the answer names the first one, from
 /// 1, with its refusal; then, and where there is no memory, the store's rows and the site's stamps are as before.
 pub fn run_local<R: RowStore>(
-    store: &mut R,
     alloc: Global,
+    store: &mut R,
     stamps: &mut Stamps,
     here: &Here,
     statements: &[Statement],
@@ -135,6 +136,7 @@ pub fn run_local<R: RowStore>(
     ensures leads { IfOk result (λ local. LeadsTo (R.schema store.old) local.changes.rows (R.tables store.old) (R.tables store.new)) }
     ensures room { IfOk result (λ local. (t : ℕ) → room_for t local.changes.rows ≤ slice_index (R.spare store.new) t) }
     ensures fits { IfOk result (λ local. TxnFits (R.schema store.old) local.txn) }
+    ensures few { IfOk result (λ local. length local.txn.calls ≤ 1000) }
     ensures were { AreTables (R.schema store.old) (R.tables store.old) }
     ensures differ { IfOk result (λ local. AllByRecursion (λ change. change.before ≢ change.after) local.changes.rows) }
     ensures checked { IfOk result (λ local. AllByRecursion (IsChecked (R.schema store.old)) local.changes.rows) }
@@ -157,7 +159,7 @@ pub fn run_local<R: RowStore>(
         stamps: *stamps,
         side: None,
     };
-    let changes = run_statements(store, alloc, &mut footing, statements)?;
+    let changes = run_statements(alloc, store, &mut footing, statements)?;
     match txn_of(alloc, store.schema(), changes.rows.as_slice()) {
         Ok(txn) => {
             *stamps = footing.stamps;

@@ -53,12 +53,12 @@ fn new_row_refusal<R: RowStore>(
     ) {
         return Some(refusal);
     }
-    row_refusal(store, table, row)
+    row_refusal(store, table, None, row)
 }
 
 fn insert_row<R: RowStore>(
-    store: &mut R,
     alloc: Global,
+    store: &mut R,
     footing: &mut Footing,
     table: u32,
     values: &[Literal],
@@ -139,8 +139,8 @@ fn changed_row(
 }
 
 fn update_row<R: RowStore>(
-    store: &mut R,
     alloc: Global,
+    store: &mut R,
     footing: &mut Footing,
     table: u32,
     key: &[Literal],
@@ -163,7 +163,7 @@ fn update_row<R: RowStore>(
         return Err(Stop::Refused(Refusal::NoRow));
     };
     let made = changed_row(alloc, store.schema(), footing, table, before, &found)?;
-    if let Some(refusal) = row_refusal(store, table, &made.row) {
+    if let Some(refusal) = row_refusal(store, table, Some(before), &made.row) {
         return Err(Stop::Refused(refusal));
     }
     footing.go_on(store.schema(), table, made.last);
@@ -210,8 +210,8 @@ fn delete_row<R: RowStore>(
 /// Runs a statement on its table, for which there is room. Where it stops, the store is as before, and the footing is
 /// open.
 pub(crate) fn run_in<R: RowStore>(
-    store: &mut R,
     alloc: Global,
+    store: &mut R,
     footing: &mut Footing,
     table: u32,
     statement: &Statement,
@@ -230,7 +230,7 @@ pub(crate) fn run_in<R: RowStore>(
 {
     match statement {
         Statement::Insert { table: _, values } => {
-            insert_row(store, alloc, footing, table, values.as_slice())
+            insert_row(alloc, store, footing, table, values.as_slice())
         }
         Statement::Update {
             table: _,

@@ -90,7 +90,7 @@ impl Site {
             is_master,
             tables: TableSet::of(&[0, 1, 2]),
         };
-        match run_local(&mut self.store, alloc, &mut self.stamps, &here, statements) {
+        match run_local(alloc, &mut self.store, &mut self.stamps, &here, statements) {
             Ok(local) => {
                 out.push_str(&format!(in alloc; "committed, {} calls", local.txn.calls.len())?)?;
                 Ok((out, Some(local.txn)))
@@ -112,7 +112,7 @@ impl Site {
         values: &[Literal],
     ) -> Result<String, CaseStop> {
         let mut out = String::new(alloc);
-        match put_base_row(&mut self.store, alloc, table, values) {
+        match put_base_row(alloc, &mut self.store, table, values) {
             Ok(()) => out.push_str("put")?,
             Err(refusal) => {
                 out.push_str(&format!(in alloc; "refused: {}", refusal.number())?)?;

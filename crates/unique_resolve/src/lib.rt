@@ -14,3 +14,4 @@ pub use laws::{
     settled_texts_grow,
 };
 pub use settled::{Settled, settle_unique};
+pub use trying::{ConstraintPlace, is_violated};

@@ -19,7 +19,7 @@ use rep_values::{Name, Row, SiteName, Value};
 
 /// A secondary constraint of a table, both by their places.
 #[derive(Clone, Copy)]
-pub(crate) struct ConstraintPlace {
+pub struct ConstraintPlace {
     pub table: u32,
     pub place: u32,
 }
@@ -58,9 +58,14 @@ fn is_kept(places: &[u32], before: Option<&Row>, row: &Row) -> bool
     }
 }
 
-/// Whether a row violates a constraint. Where it has what the row before it has there, which is as unique as that one,
-/// no other row is looked at.
-fn is_violated<R: RowStore>(store: &R, at: ConstraintPlace, before: Option<&Row>, row: &Row) -> bool
+/// Whether a row violates a secondary constraint: a row with another key has its values there. The row before is the one
+/// with its key, if it is given. Where the row has what that one has there, it is as unique, and no other row is looked at.
+pub fn is_violated<R: RowStore>(
+    store: &R,
+    at: ConstraintPlace,
+    before: Option<&Row>,
+    row: &Row,
+) -> bool
     requires testable { IsTestable (R.schema store.now) (R.tables store.now) at.table at.place row.now }
     requires before { HasBefore (R.schema store.now) (R.tables store.now) at.table (option_copied before) row.now }
     ensures { result ≡ is_held (columns_of (R.schema store.now) at.table) (constraint_columns_of (R.schema store.now) at.table at.place) (rows_of (R.tables store.now) at.table) row.now }

@@ -131,7 +131,21 @@ returns-clause-ok g c =
     let none : first_refusal (row_steps schema tables c.args.table made.row) ≡ None = sym c.row_refusal.ensures ∙ c.in_default-row_refusal.is in
     let same = rw (c.values.ensures.value, c.values-2.ensures.value) at c.same_values.ensures in
     let other : are_same before made.row ≡ false = sym (one_answer _ _ same (are_same-Decides before made.row)) ∙ c.if-same_values.false in
-    let was : row_like columns made.row (rows_of tables c.args.table) ≡ Some before = row_like-made schema footing tables c.args.table c.requires.able c.args.key.now c.args.sets.now found order before there made change_to none c.requires.apart in
+    let was : row_like columns made.row (rows_of tables c.args.table) ≡ Some before = row_like-made schema footing tables c.args.table c.requires.able c.args.key.now c.args.sets.now found order before there made change_to c.requires.apart in
     let change : c.in_ok-change.change ≡ record { table = c.args.table; before = Some before; after = Some made.row } = rw was at c.in_ok-change.ensures.ok in
     let runs = RunsAs-updated schema footing tables c.args.table c.requires.able c.args.key.now c.args.sets.now found order before there made change_to none (c.in_ok-change.change ∷ []) (rw other (ap (λ one. one ∷ []) change)) in
     record { accepted = runs.accepted; changes = runs.changes; footing = rw c.schema-3.ensures.value at c.go_on.ensures ∙ runs.footing }
+
+-- the row before has the key of the row after
+pub row_refusal-requires-clause-before : goal.row_refusal-requires-clause-before
+row_refusal-requires-clause-before g c κs within =
+    let schema = g.R.RowStore.schema c.args.store.now in
+    let tables = g.R.RowStore.tables c.args.store.now in
+    let footing = c.args.footing.now in
+    let found = c.in_ok-found.found in
+    let before = c.in-Some.before.now in
+    let made = c.in_ok-made.made in
+    let order : AreInOrder schema c.args.table c.args.key.now c.args.sets.now c.in_ok-found.found = rw c.schema.ensures.value at c.in_ok-found.ensures.ok in
+    let there : row_at schema tables c.args.table (values_of c.args.key.now) ≡ Some c.in-Some.before.now = sym (rw c.key_of_literals.ensures at c.in-Some.ensures) in
+    let change_to : ChangesTo schema c.args.footing.now c.args.table c.in-Some.before.now (row_by c.in_ok-found.found c.in-Some.before.now) c.in_ok-made.made = rw c.schema-2.ensures.value at c.in_ok-made.ensures.ok in
+    row_like-made schema footing tables c.args.table c.requires.able c.args.key.now c.args.sets.now found order before there made change_to c.requires.apart
