@@ -237,8 +237,8 @@ pub(crate) fn run_in<R: RowStore>(
             key,
             sets,
         } => update_row(
-            store,
             alloc,
+            store,
             footing,
             table,
             key.as_slice(),
