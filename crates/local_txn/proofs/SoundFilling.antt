@@ -73,4 +73,4 @@ constraints_unfilled schema sound table constraint = go (slice_get schema.tables
 
 -- so filling columns in moves no row
 pub FillsFreely-sound : SoundSchemasFillFreely
-FillsFreely-sound schema shape sound = record { keys = keys_unfilled schema sound; constraints = constraints_unfilled schema sound }
+FillsFreely-sound schema sound = record { keys = keys_unfilled schema sound; constraints = constraints_unfilled schema sound }

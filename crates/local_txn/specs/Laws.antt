@@ -60,4 +60,4 @@ StampsOfABlockRise = (schema : Schema) (here : Here) (stamps : Stamps) (statemen
 
 -- a schema that breaks no rule fills its base rows freely
 abbrev pub SoundSchemasFillFreely : Type 0
-SoundSchemasFillFreely = (schema : Schema) → HasShape schema → IsSound schema → FillsFreely schema
+SoundSchemasFillFreely = (schema : Schema) → IsSound schema → FillsFreely schema

@@ -6,7 +6,7 @@ ghost use Rattle.settle_cases.specs.Single.{IsServed-prop};
 use crate::shown::{push_error, push_name_of};
 use case_lines::{CaseStop, push_row};
 use conflict_detect::fits;
-use local_txn::{Here, Stamps, fill_base_rows, put_base_row, run_local};
+use local_txn::{Here, Stamps, fill_base_rows, put_base_row, run_local, sound_schemas_fill_freely};
 use rep_calls::{Statement, Txn};
 use rep_laws::sound_schemas_have_keys;
 use rep_lists::{Copies, NoMemory};
@@ -123,8 +123,13 @@ impl Site {
     }
 
     /// Fills in what a site of this name fills of all rows.
-    pub fn fill_base(&mut self, site: &SiteName) -> Result<(), NoMemory> {
-        fill_base_rows(&mut self.store, site)
+    pub fn fill_base(&mut self, site: &SiteName) -> Result<(), CaseStop> {
+        if check(self.store.schema()).is_err() {
+            return Err(CaseStop::NoCase);
+        }
+        sound_schemas_fill_freely();
+        fill_base_rows(&mut self.store, site)?;
+        Ok(())
     }
 
     /// The rows of a table in order, one behind the other.
