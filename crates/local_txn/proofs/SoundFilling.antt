@@ -14,6 +14,7 @@ use Rattle.rep_schema.specs.Kinds.{is_stamp, is_site_kind, is_filled, is_plain, 
 use Rattle.schema_rules.specs.KeyRules.{is_well_keyed}
 use Rattle.schema_rules.specs.ConstraintRules.{has_plain_columns}
 use Rattle.schema_rules.specs.Soundness.{IsSound}
+use Rattle.schema_rules.proofs.SoundRules.{IsSound-unbroken}
 use Rattle.local_txn.specs.BaseRows.{IsNotFilled}
 use Rattle.local_txn.specs.Laws.{SoundSchemasFillFreely}
 
@@ -73,4 +74,6 @@ constraints_unfilled schema sound table constraint = go (slice_get schema.tables
 
 -- so filling columns in moves no row
 pub FillsFreely-sound : SoundSchemasFillFreely
-FillsFreely-sound schema sound = record { keys = keys_unfilled schema sound; constraints = constraints_unfilled schema sound }
+FillsFreely-sound schema unbroken =
+    let sound = (IsSound-unbroken schema).1 unbroken in
+    record { keys = keys_unfilled schema sound; constraints = constraints_unfilled schema sound }

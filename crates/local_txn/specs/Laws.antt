@@ -9,7 +9,7 @@ use Rattle.rep_schema.specs.Shape.{HasShape}
 use Rattle.rep_schema.specs.Tables.{Cells, Rows, columns_of, AreTables}
 use Rattle.rep_schema.specs.Kinds.{is_filled}
 use Rattle.rep_calls.specs.declared.statement.Statement.{Statement}
-use Rattle.schema_rules.specs.Soundness.{IsSound}
+use Rattle.schema_rules.specs.Rules.{broken_rule}
 use Rattle.local_txn.specs.declared.local.Here.{Here}
 use Rattle.local_txn.specs.declared.local.Stamps.{Stamps}
 use Rattle.local_txn.specs.Filled.{Filling, filling_value, is_modified, bound_from, has_stamp_from}
@@ -60,4 +60,4 @@ StampsOfABlockRise = (schema : Schema) (here : Here) (stamps : Stamps) (statemen
 
 -- a schema that breaks no rule fills its base rows freely
 abbrev pub SoundSchemasFillFreely : Type 0
-SoundSchemasFillFreely = (schema : Schema) → IsSound schema → FillsFreely schema
+SoundSchemasFillFreely = (schema : Schema) → broken_rule schema ≡ None → FillsFreely schema

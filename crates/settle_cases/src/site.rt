@@ -124,7 +124,7 @@ impl Site {
 
     /// Fills in what a site of this name fills of all rows.
     pub fn fill_base(&mut self, site: &SiteName) -> Result<(), CaseStop> {
-        if check(self.store.schema()).is_err() {
+        if let Err(_) = check(self.store.schema()) {
             return Err(CaseStop::NoCase);
         }
         sound_schemas_fill_freely();
