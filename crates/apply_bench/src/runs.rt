@@ -121,8 +121,11 @@ pub fn updated(
     }
     let mut applied: u64 = 0;
     for number in 0..count {
-        let txn = if number % 2 == 0 { &up } else { &down };
-        if is_applied(store, counters, bench, txn) {
+        let is_up = number % 2 == 0;
+        if is_up && is_applied(store, counters, bench, &up) {
+            applied = applied.saturating_add(1);
+        }
+        if !is_up && is_applied(store, counters, bench, &down) {
             applied = applied.saturating_add(1);
         }
     }
