@@ -95,7 +95,7 @@ fn packet(alloc: Global, bytes: &mut Reader<'_>) -> Result<Packet, Stop>
 }
 
 /// A packet, and nothing behind it.
-fn whole(alloc: Global, bytes: &[u8]) -> Result<Packet, Stop>
+pub(crate) fn whole(alloc: Global, bytes: &[u8]) -> Result<Packet, Stop>
     ensures { Gives (packet_in bytes.now) result }
 {
     let mut left = Reader::of(bytes);

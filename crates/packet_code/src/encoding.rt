@@ -3,6 +3,7 @@ ghost use Rattle.std.specs.Prelude.{◌≡◌, ◌≤◌, ◌<◌, ◌∷◌, �
 ghost use Rattle.std.specs.Int.{w16, w32, w64, to_be_bytes};
 ghost use Rattle.std.specs.List.{AllByRecursion, flat_map};
 ghost use Rattle.packet_code.specs.Limits.{IsPlainPart, ArePlainParts, IsPlainTable, IsPlainCall, IsPlainTxn, IsSiteName, IsPast, IsPacket};
+ghost use Rattle.rep_values.specs.declared.value.Value.TheVariants.{Num};
 ghost use Rattle.packet_code.specs.declared.packet.Packet.TheVariants.{Mark};
 ghost use Rattle.packet_code.specs.Texts.{TxnHasTextForm, PastHasForm};
 ghost use Rattle.packet_code.specs.Spelling.{name_bytes, value_bytes, values_bytes, part_bytes, parts_bytes, call_bytes, txn_bytes, seen_bytes, past_bytes, packet_bytes, IsEncoding};
@@ -47,18 +48,24 @@ fn push_name(out: &mut Vec<u8>, site: &SiteName) -> Result<(), NoMemory>
     Ok(())
 }
 
+/// 1, and its eight bytes.
+fn push_number_value(out: &mut Vec<u8>, number: i64) -> Result<(), NoMemory>
+    ensures { OnOk result (out.new.items ≡ out.old.items ++ value_bytes (Num number)) }
+{
+    let mut bytes = [1; 9];
+    bytes[1..].copy_from_slice(&number.cast_unsigned().to_be_bytes());
+    out.extend_from_slice(&bytes)?;
+    Ok(())
+}
+
 fn push_value(out: &mut Vec<u8>, value: &Value) -> Result<(), NoMemory>
     ensures { OnOk result (out.new.items ≡ out.old.items ++ value_bytes value.now) }
 {
     match value {
-        Value::Num(number) => {
-            out.push(1)?;
-            push_number(out, number.cast_unsigned())
-        }
+        Value::Num(number) => push_number_value(out, *number),
         Value::Words(text) => {
             let bytes = text.bytes();
-            out.push(2)?;
-            out.push(bytes.len() as u8)?;
+            out.extend_from_slice(&[2, bytes.len() as u8])?;
             out.extend_from_slice(bytes)?;
             Ok(())
         }

@@ -27,7 +27,7 @@ pub fn times<P: Piece>(
 {
     let mut found = Vec::with_capacity(alloc, count)?;
     for _ in 0..count {
-        found.push(P::read(alloc, bytes)?)?;
+        found.push_reserved(P::read(alloc, bytes)?);
     }
     Ok(Items::from_vec(found))
 }

@@ -6,8 +6,10 @@ ghost use Rattle.packet_code.specs.Texts.{TxnHasTextForm, PastHasForm};
 ghost use Rattle.packet_code.specs.Spelling.{packet_bytes};
 ghost use Rattle.packet_code.specs.Route.{carried};
 
+use crate::decoding::whole;
 use crate::encoding::{carry_bytes, mark_bytes};
-use crate::{Packet, Route, decode, encode};
+use crate::stop::Stop;
+use crate::{Packet, Route, encode};
 use rep_calls::{Past, Txn};
 use rep_lists::{Copies, NoMemory};
 use rep_values::SiteName;
@@ -81,10 +83,11 @@ impl Sealed {
         ensures same { IfOk result (λ packet. packet ≡ self.now) }
         ensures plain { IsPacket self.now }
     {
-        let Some(packet) = decode(alloc, &self.kept)? else {
-            unreachable!();
-        };
-        Ok(packet)
+        match whole(alloc, &self.kept) {
+            Ok(packet) => Ok(packet),
+            Err(Stop::Memory) => Err(NoMemory),
+            Err(Stop::Form) => unreachable!(),
+        }
     }
 
     /// The bytes of the packet. It takes no memory.
