@@ -3,6 +3,7 @@ use Rattle.std.proofs.Common.{◌≡◌, ℕ, zero, suc, ◌<◌, Bool, true, fa
 use Rattle.std.specs.Prelude.{◌&&◌, nat_le, slice_get, IfSome}
 use Rattle.std.specs.List.{AllByRecursion, list_all}
 use Rattle.std.proofs.lemmas.Bool.{leb-true}
+use Rattle.rep_lists.proofs.Places.{found_at}
 use Rattle.rep_schema.specs.declared.schema.Schema.{Schema}
 use Rattle.rep_schema.specs.declared.schema.TableEntry.{TableEntry}
 use Rattle.rep_schema.specs.declared.schema.Column.{Column}
@@ -14,29 +15,20 @@ use Rattle.rep_schema.proofs.Shapes.{key_count-columns_of}
 use Rattle.rep_schema.specs.Kinds.{is_some_and, is_key_at}
 use Rattle.schema_rules.specs.KeyRules.{is_well_keyed, is_off_the_key}
 use Rattle.schema_rules.specs.MethodRules.{each_group}
-use Rattle.schema_rules.specs.Rules.{has_some_master, broken_rule}
+use Rattle.schema_rules.specs.Rules.{broken_rule}
+use Rattle.schema_rules.specs.Soundness.{IsSound}
+use Rattle.schema_rules.proofs.SoundRules.{IsSound-unbroken}
 use Rattle.txn_effects.specs.Calls.{HasKeys, IsOffTheKey, KeysStandAlone}
 
 both_hold : (a b : Bool) → (a && b) ≡ true → (a ≡ true) × (b ≡ true)
 both_hold true b holds = (refl, holds)
 both_hold false b holds = cc
 
--- where no rule is broken, the first holds, and none of the others is broken
-none_broken : (holds : Bool) (rest : Option ℕ) (n : ℕ) → cond holds rest (Some n) ≡ None → (holds ≡ true) × (rest ≡ None)
-none_broken true rest n none = (refl, none)
-none_broken false rest n none = cc
-
 -- what all pass, each that is found passes
 passes : {X : Type 0} (test : X → Bool) (xs : List X) (i : ℕ) (x : X) → list_all test xs ≡ true → slice_get xs i ≡ Some x → test x ≡ true
 passes test [] i x all found = cc
 passes test (y ∷ ys) zero x all found = let same : y ≡ x = cc in rw (← same) (both_hold (test y) (list_all test ys) all).0
 passes test (y ∷ ys) (suc i) x all found = passes test ys i x (both_hold (test y) (list_all test ys) all).1 found
-
--- at each place below the length something is found
-there : {X : Type 0} (xs : List X) (i : ℕ) → i < length xs → (x : X) × (slice_get xs i ≡ Some x)
-there [] i within = absurd (omega (arith, within))
-there (x ∷ xs) zero within = (x, refl)
-there (x ∷ xs) (suc i) within = there xs i (omega (arith, within))
 
 off_the_key : (columns : List Column) (places : List ℕ) → list_all (λ place. not (is_key_at columns place)) places ≡ true → AllByRecursion (IsOffTheKey columns) places
 off_the_key columns [] all = tt
@@ -52,21 +44,15 @@ off_the_key columns (p ∷ ps) all =
     plain None is = tt
     plain (Some column) is = no_key column.key is
 
-module _ (schema : Schema) (sound : broken_rule schema ≡ None) where
-  -- the first three rules hold
-  rules_hold : (list_all is_well_keyed schema.tables ≡ true) × (each_group is_off_the_key schema ≡ true)
-  unfolding broken_rule
-  rules_hold =
-      let first = none_broken (has_some_master schema) _ 1 sound in
-      let second = none_broken (list_all is_well_keyed schema.tables) _ 2 first.1 in
-      let third = none_broken (each_group is_off_the_key schema) _ 3 second.1 in
-      (second.0, third.0)
+module _ (schema : Schema) (unbroken : broken_rule schema ≡ None) where
+  sound : IsSound schema
+  sound = (IsSound-unbroken schema).1 unbroken
 
   -- every table has 1 to 4 key columns
   pub HasKeys-sound : HasShape schema → HasKeys schema
   HasKeys-sound shape table below =
-      let found = there schema.tables table below in
-      let keyed = passes is_well_keyed schema.tables table found.0 rules_hold.0 found.1 in
+      let found = found_at schema.tables table below in
+      let keyed = passes is_well_keyed schema.tables table found.0 sound.keyed found.1 in
       let some = both_hold (nat_le 1 (key_count found.0.columns)) _ keyed in
       let columns : columns_of schema table ≡ found.0.columns = ap columns_in found.1 in
       (rw columns (leb-true 1 (key_count found.0.columns) some.0), key_count-columns_of schema shape table)
@@ -74,8 +60,8 @@ module _ (schema : Schema) (sound : broken_rule schema ≡ None) where
   -- no column of a named group is a key column
   pub KeysStandAlone-sound : KeysStandAlone schema
   KeysStandAlone-sound table below group =
-      let found = there schema.tables table below in
-      let groups = passes (λ (entry : TableEntry). list_all (is_off_the_key entry.columns) entry.groups) schema.tables table found.0 rules_hold.1 found.1 in
+      let found = found_at schema.tables table below in
+      let groups = passes (λ (entry : TableEntry). list_all (is_off_the_key entry.columns) entry.groups) schema.tables table found.0 sound.grouped_apart found.1 in
       rw found.1 (named found.0.columns found.0.groups (slice_get found.0.groups group) refl groups)
     where
       named : (columns : List Column) (all : List Group) (one : Option Group) → slice_get all group ≡ one → list_all (is_off_the_key columns) all ≡ true
