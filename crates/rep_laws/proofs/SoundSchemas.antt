@@ -1,5 +1,5 @@
 -- A sound schema has keys, and they stand alone.
-use Rattle.std.proofs.Common.{◌≡◌, ℕ, zero, suc, ◌<◌, Bool, true, false, cond, not, List, [], ◌∷◌, length, Option, Some, None, refl, ap, arith}
+use Rattle.std.proofs.Common.{◌≡◌, ℕ, zero, suc, Bool, true, false, not, List, [], ◌∷◌, Option, Some, None, refl, ap}
 use Rattle.std.specs.Prelude.{◌&&◌, nat_le, slice_get, IfSome}
 use Rattle.std.specs.List.{AllByRecursion, list_all}
 use Rattle.std.proofs.lemmas.Bool.{leb-true}
@@ -14,7 +14,6 @@ use Rattle.rep_schema.specs.Groups.{named_columns}
 use Rattle.rep_schema.proofs.Shapes.{key_count-columns_of}
 use Rattle.rep_schema.specs.Kinds.{is_some_and, is_key_at}
 use Rattle.schema_rules.specs.KeyRules.{is_well_keyed, is_off_the_key}
-use Rattle.schema_rules.specs.MethodRules.{each_group}
 use Rattle.schema_rules.specs.Rules.{broken_rule}
 use Rattle.schema_rules.specs.Soundness.{IsSound}
 use Rattle.schema_rules.proofs.SoundRules.{IsSound-unbroken}
