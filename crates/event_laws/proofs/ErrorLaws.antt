@@ -5,6 +5,7 @@ use Rattle.rep_values.specs.declared.name.SiteName.{SiteName}
 use Rattle.txn_effects.specs.Calls.{Effect}
 use Rattle.txn_effects.specs.Transactions.{Failure}
 use Rattle.deferred_queue.proofs.Sites.{is_same_site-refl, eq_true}
+use Rattle.rep_values.specs.declared.refusal.Refusal.TheVariants as refusal
 use Rattle.site_state.specs.declared.entry.ErrorEntry.{ErrorEntry}
 use Rattle.site_state.specs.declared.answers.Applied.TheVariants as applied
 use Rattle.site_state.specs.declared.answers.Why.{Why}
@@ -71,7 +72,7 @@ executions_apply_anew x origin position is = go (error_at origin position x.jour
 pub drops_settle : DropsSettle
 drops_settle x origin position is = go (error_at origin position x.journal) refl is
   where
-    go : (found : Option ErrorEntry) → error_at origin position x.journal ≡ found → cond (is_some found) None (Some _) ≡ None → IsDropped x (dropped_found found x) origin position
+    go : (found : Option ErrorEntry) → error_at origin position x.journal ≡ found → cond (is_some found) None (Some refusal.NoSuchError) ≡ None → IsDropped x (dropped_found found x) origin position
     go None stood is = absurd (cc is)
     go (Some e) stood is =
         let own = error_found origin position x.journal e stood in

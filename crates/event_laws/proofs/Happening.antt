@@ -11,7 +11,7 @@ use Rattle.site_state.specs.Refreshes.{rows_shown, site_refresh}
 use Rattle.site_state.proofs.Stepping.{Steps, clock_steps, begun_steps, purge_log_steps, commit_steps, apply_steps, execute_steps, drop_steps}
 use Rattle.event_laws.specs.Core.{Core, site_of, at_site}
 use Rattle.event_laws.specs.Joins.{may_join, with_joined, joined_by, joined}
-use Rattle.event_laws.specs.Events.{Event, Commit, SetClock, Send, SendMark, Deliver, Begin, Apply, Execute, Drop, Purge, PurgeLog, Refresh, Join, with_packet, packet_from, mark_from, receiver, delivered, is_among, applied_where, master_of, is_all_acked, refreshed_from, found_site, refreshed, happens, run}
+use Rattle.event_laws.specs.Events.{Event, Commit, SetClock, Send, SendMark, Deliver, Begin, Apply, Execute, Drop, Purge, PurgeLog, Refresh, Join, with_packet, packet_from, mark_from, receiver, delivered, may_apply, applied_where, master_of, is_all_acked, refreshed_from, found_site, refreshed, happens, run}
 
 -- a site that is no master, as a refresh leaves it
 pub data IsRefreshed (sites : List SiteState) (x : SiteState) : SiteState → Type 0 where
@@ -78,7 +78,7 @@ happens_becomes (Send from to position) w = Sends from to position
 happens_becomes (SendMark from to) w = Marks from to
 happens_becomes (Deliver which) w = delivered_becomes w.sites w.sent which
 happens_becomes (Begin site) w = Journalled site _ begun_steps
-happens_becomes (Apply site origin position) w = applied_becomes w.sites w.sent site origin position (is_among w.begun site)
+happens_becomes (Apply site origin position) w = applied_becomes w.sites w.sent site origin position (may_apply site w)
 happens_becomes (Execute site origin position) w = Journalled site _ (execute_steps origin position)
 happens_becomes (Drop site origin position) w = Journalled site _ (drop_steps origin position)
 happens_becomes (Purge site) w = Purges site

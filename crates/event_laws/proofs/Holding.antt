@@ -19,7 +19,7 @@ use Rattle.site_state.specs.Packets.{count_opened, number_at, past_before, carry
 use Rattle.site_state.specs.Journal.{low_water}
 use Rattle.site_state.specs.Purges.{site_purge}
 use Rattle.site_state.specs.Making.{new_sender, new_destination}
-use Rattle.site_state.specs.Joining.{site_open, site_first, with_first, with_firsts, opened_at}
+use Rattle.site_state.specs.Joining.{site_open, site_first, with_first, opened_at}
 use Rattle.site_state.proofs.Stepping.{Later, later_same, Steps, steps_later, IsSent, sent_later, low_water-later}
 use Rattle.site_state.proofs.Destinations.{acked_in-acknowledged, acked_in-opened}
 use Rattle.site_state.proofs.Changing.{PurgedIsAcked, purged_kept, accept_later, accept_purged, purge_later, purge_purged, refresh_later, open_later, open_purged}
@@ -76,12 +76,12 @@ sent_by_later None u to number position dep txn later sent = absurd sent
 sent_by_later (Some x) None to number position dep txn later sent = absurd later
 sent_by_later (Some x) (Some y) to number position dep txn later sent = sent_later x y to number position dep txn later sent
 
-low_at-later : (o u : Option SiteState) (origin : SiteName) → LaterIn o u → low_at origin o ≤ low_at origin u
+pub low_at-later : (o u : Option SiteState) (origin : SiteName) → LaterIn o u → low_at origin o ≤ low_at origin u
 low_at-later None u origin later = omega arith
 low_at-later (Some x) None origin later = absurd later
 low_at-later (Some x) (Some y) origin later = low_water-later origin x y later
 
-packets_later : (xs ys : List SiteState) (sent : List Packet) → AllLater xs ys → AllByRecursion (PacketHolds xs) sent → AllByRecursion (PacketHolds ys) sent
+pub packets_later : (xs ys : List SiteState) (sent : List Packet) → AllLater xs ys → AllByRecursion (PacketHolds xs) sent → AllByRecursion (PacketHolds ys) sent
 packets_later xs ys [] later holds = tt
 packets_later xs ys (Carry from to number position dep past txn ∷ sent) later holds =
     (sent_by_later (site_of from xs) (site_of from ys) to number position dep txn (later from) holds.0, packets_later xs ys sent later holds.1)
@@ -93,7 +93,7 @@ arrivals_later xs ys site origin [] later holds = tt
 arrivals_later xs ys site origin (a ∷ arrived) later holds =
     (sent_by_later (site_of origin xs) (site_of origin ys) site a.number a.position a.dep a.txn (later origin) holds.0, arrivals_later xs ys site origin arrived later holds.1)
 
-senders_later : (xs ys : List SiteState) (site : SiteName) (ss : List SenderState) → AllLater xs ys → SendersHold xs site ss → SendersHold ys site ss
+pub senders_later : (xs ys : List SiteState) (site : SiteName) (ss : List SenderState) → AllLater xs ys → SendersHold xs site ss → SendersHold ys site ss
 senders_later xs ys site [] later holds = tt
 senders_later xs ys site (s ∷ ss) later holds = (arrivals_later xs ys site s.origin s.arrived later holds.0, senders_later xs ys site ss later holds.1)
 

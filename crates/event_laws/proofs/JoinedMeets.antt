@@ -65,7 +65,7 @@ late_new schema (n ∷ ns) name late = go (is_same_site n name) refl (late_new s
 -- what is open stays so
 open_each_stays : (others : List SiteState) (x : SiteState) (name : SiteName) (count : ℕ) → opened_of name x ≡ Some count → opened_of name (open_to_each others x) ≡ Some count
 open_each_stays others x name count is =
-    open_to_each_keeps (λ y. opened_of name y ≡ Some count) (λ site y open. opened_from_stays (count_of y) (opened_of name y) (opened_of name (site_open site y)) count (opened_in-opened name site (count_of y) y.destinations) open) others x is
+    open_to_each_keeps (λ y. opened_of name y ≡ Some count) (λ site y is_open. opened_from_stays (count_of y) (opened_of name y) (opened_of name (site_open site y)) count (opened_in-opened name site (count_of y) y.destinations) is_open) others x is
 
 -- none of these sites has the name
 none_named : (name : SiteName) (sites : List SiteState) → site_of name sites ≡ None → AllByRecursion (λ (o : SiteState). is_same_site o.here.site name ≡ false) sites

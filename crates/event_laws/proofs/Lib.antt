@@ -4,6 +4,15 @@ pub mod Happening
 pub mod NewSites
 pub mod Holding
 pub mod MarkLaws
+pub mod OrderLaws
+pub mod ErrorLaws
+pub mod PassLaws
+pub mod SchemaSites
+pub mod DeclaredSites
+pub mod Passing
+pub mod Meeting
+pub mod JoinedMeets
+pub mod Waiting
 mod WorkedRuns
 mod WorkedDeliveries
 mod WorkedErrors

@@ -25,6 +25,8 @@ use Rattle.site_state.proofs.Stepping.{Steps}
 use Rattle.site_state.proofs.Changing.{accept_later}
 use Rattle.site_state.proofs.Pasts.{FinishedHaveArrived, arrived_at-put, finished_have_arrived, length-pasts_after}
 use Rattle.site_state.proofs.Queueing.{Adds, Opens, Queues, adds_nothing, steps_add, accept_adds, purge_adds, refresh_adds}
+use Rattle.site_state.specs.Contents.{tables_of}
+use Rattle.site_state.specs.Refreshes.{rows_shown}
 use Rattle.event_laws.specs.Core.{Core, site_of, at_site}
 use Rattle.event_laws.specs.Events.{with_packet, packet_from, mark_from, receiver}
 use Rattle.event_laws.specs.Waiting.{IsFirst, AreFirsts, StreamsMeet, AbsentAreClosed}
@@ -298,7 +300,7 @@ refreshed_meets sites name change refreshed = record {
 
     adds : (x y : SiteState) → IsRefreshed sites x y → Adds x y
     adds x _ happening.Not = adds_nothing x
-    adds x _ (happening.From master found is) = refresh_adds _ master.moment x is
+    adds x _ (happening.From master found is) = refresh_adds (rows_shown (tables_of master) x.snapshots) master.moment x is
 
     by : (x y : SiteState) → IsRefreshed sites x y → SiteMeets sites name x → SiteMeets sites name y
     by x _ happening.Not meets = meets

@@ -1,5 +1,5 @@
 -- One site of several.
-use Rattle.std.proofs.Common.{◌≡◌, ℕ, zero, suc, List, [], ◌∷◌, ◌++◌, map, Bool, true, false, cond, Some, None, refl, sym, ap, ◌∙◌, arith}
+use Rattle.std.proofs.Common.{◌≡◌, ℕ, zero, suc, List, [], ◌∷◌, ◌++◌, map, Bool, true, false, cond, Some, None, refl, sym, ap, ◌∙◌, arith, subst}
 use Rattle.std.specs.Prelude.{Option, option_map, slice_get}
 use Rattle.std.specs.List.{AllByRecursion}
 use Rattle.rep_values.specs.declared.name.SiteName.{SiteName}
@@ -68,7 +68,7 @@ found_name name (y ∷ ys) x found = go (is_same_site y.here.site name) refl (fo
 
 -- and by its own name it is found
 pub found_again : (name : SiteName) (xs : List SiteState) (x : SiteState) → site_of name xs ≡ Some x → site_of x.here.site xs ≡ Some x
-found_again name xs x found = rw (found_name name xs x found) found
+found_again name xs x found = subst (λ (n : SiteName). site_of n xs ≡ Some x) (sym (found_name name xs x found)) found
 
 -- ---- what holds of each site
 

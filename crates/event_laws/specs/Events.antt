@@ -1,5 +1,5 @@
 -- What may happen next, and whole runs.
-use Rattle.std.specs.Prelude.{ℕ, ◌==◌, ◌&&◌, Bool, true, false, not, cond, List, [], ◌∷◌, length, slice_get, Option, Some, None}
+use Rattle.std.specs.Prelude.{ℕ, ◌==◌, ◌&&◌, ◌||◌, Bool, true, false, not, cond, List, [], ◌∷◌, length, slice_get, Option, Some, None}
 use Rattle.std.specs.List.{list_all, list_any}
 use Rattle.std.specs.Option.{option_and_then}
 use Rattle.rep_values.specs.declared.name.SiteName.{SiteName}
@@ -63,7 +63,7 @@ abbrev pub delivered : Option Packet → List SiteState → List SiteState
 delivered None sites = sites
 delivered (Some packet) sites = at_site (receiver packet) (site_accept packet) sites
 
--- ---- a pass is begun before anything is applied
+-- ---- at a master a pass is begun before anything is applied
 
 -- a name is among these
 abbrev pub is_among : List SiteName → SiteName → Bool
@@ -73,6 +73,14 @@ is_among names name = list_any (λ (n : SiteName). is_same_site n name) names
 abbrev pub without : SiteName → List SiteName → List SiteName
 without name [] = []
 without name (n ∷ ns) = cond (is_same_site n name) (without name ns) (n ∷ without name ns)
+
+abbrev pub is_master_in : Option SiteState → Bool
+is_master_in None = false
+is_master_in (Some x) = x.here.is_master
+
+-- a position may be applied at a site: at a master a pass was begun there
+abbrev pub may_apply : SiteName → Core → Bool
+may_apply site w = is_among w.begun site || not (is_master_in (site_of site w.sites))
 
 abbrev pub applied_where : Bool → SiteName → SiteName → ℕ → List SiteState → List SiteState
 applied_where true site origin position sites = at_site site (site_apply origin position) sites
@@ -123,7 +131,7 @@ happens (Send from to position) w = record w { sent = with_packet (packet_from t
 happens (SendMark from to) w = record w { sent = with_packet (mark_from to (site_of from w.sites)) w.sent }
 happens (Deliver which) w = record w { sites = delivered (slice_get w.sent which) w.sites }
 happens (Begin site) w = record w { sites = at_site site begun w.sites; begun = site ∷ w.begun }
-happens (Apply site origin position) w = record w { sites = applied_where (is_among w.begun site) site origin position w.sites }
+happens (Apply site origin position) w = record w { sites = applied_where (may_apply site w) site origin position w.sites }
 happens (Execute site origin position) w = record w { sites = at_site site (site_execute origin position) w.sites }
 happens (Drop site origin position) w = record w { sites = at_site site (site_drop origin position) w.sites }
 happens (Purge site) w = record w { sites = at_site site site_purge w.sites }

@@ -4,5 +4,9 @@ pub mod Quiet
 pub mod Joins
 pub mod Events
 pub mod Starts
+pub mod Declared
 pub mod Marks
 pub mod Orders
+pub mod ErrorLaws
+pub mod PassLaws
+pub mod Waiting

@@ -16,9 +16,9 @@ use Rattle.deferred_queue.specs.Streams.{Deferred, InStream, is_same_site, desti
 use Rattle.deferred_queue.specs.Streams as queue
 use Rattle.deferred_queue.proofs.Sites.{is_same_site-true, is_same_site-refl}
 use Rattle.site_state.specs.State.{DestinationState, SiteState, destination_of, opened_in, acked_in, opened_of}
-use Rattle.site_state.specs.Streams.{with_one, queued_behind, queue_of, count_of, dependency_of, dep_at}
+use Rattle.site_state.specs.Streams.{with_one, queued_behind, stream_in, queue_of, count_of, dependency_of, dep_at}
 use Rattle.site_state.specs.Pasts.{pasts_of}
-use Rattle.site_state.specs.Packets.{past_in, site_packet}
+use Rattle.site_state.specs.Packets.{count_opened, packet_found, past_in, site_packet}
 use Rattle.site_state.specs.Purges.{acknowledged_by, acknowledged_by_all, site_purge}
 use Rattle.site_state.specs.Deferrals.{place_since, place_for, cargo_kept, deferred_in, deferred_of, marks_of, StandApart}
 use Rattle.site_state.proofs.Growing.{length-queued_behind}
@@ -147,6 +147,12 @@ abbrev pub packet_of : SiteName → SiteName → ℕ → Option InStream → Opt
 packet_of from to position None = None
 packet_of from to position (Some found) = option_map (packet_with from to position found) found.cargo
 
+-- the packet that carries a transaction of the queue behind an opening count
+abbrev packet_in : SiteName → ℕ → SiteState → Option ℕ → Option Txn → Option Packet
+packet_in site p x opened None = None
+packet_in site p x opened (Some txn) = cond (nat_le (count_opened opened + p) x.purged) None
+    (Some (Carry x.here.site site (count_opened opened + p) p (dep_at x.schema p (stream_in opened (queue_of x))) (past_in (at_position (count_opened opened + p) (pasts_of x))) txn))
+
 -- the packet of what the queue's crate finds at a position is the site's packet
 pub packet_of-deferred_of : (site : SiteName) (p : ℕ) (x : SiteState) → StandApart x.destinations
     → packet_of x.here.site site p (at_position p (stream_to site (deferred_of x))) ≡ site_packet site p x
@@ -159,10 +165,20 @@ packet_of-deferred_of site p x apart = go (opened_of site x) refl
     kept opened txn is true = refl
     kept opened txn is false = refl
 
+    same : (t : Option Txn) → packet_found site p x t ≡ packet_in site p x (opened_of site x) t
+    same None = refl
+    same (Some txn) = refl
+
+    sent : (opened : ℕ) → opened_of site x ≡ Some opened → (t : Option Txn) → at_position p (queued_behind opened (queue_of x)) ≡ t → packet_in site p x (Some opened) t ≡ site_packet site p x
+    sent opened is t there =
+        sym (ap (packet_in site p x (Some opened)) there)
+        ∙ sym (ap (λ (o : Option ℕ). packet_in site p x o (at_position p (stream_in o (queue_of x)))) is)
+        ∙ sym (same (at_position p (stream_in (opened_of site x) (queue_of x))))
+
     by : (opened : ℕ) → opened_of site x ≡ Some opened → (t : Option Txn) → at_position p (queued_behind opened (queue_of x)) ≡ t
         → packet_of x.here.site site p (option_map (in_stream x.schema opened x.purged (pasts_of x) p (queued_behind opened (queue_of x))) t) ≡ site_packet site p x
-    by opened is None there = rw (is, there) refl
-    by opened is (Some txn) there = rw (is, there) (kept opened txn is (nat_le (opened + p) x.purged))
+    by opened is None there = sent opened is None there
+    by opened is (Some txn) there = kept opened txn is (nat_le (opened + p) x.purged) ∙ sent opened is (Some txn) there
 
     go : (o : Option ℕ) → opened_of site x ≡ o → packet_of x.here.site site p (at_position p (stream_to site (deferred_of x))) ≡ site_packet site p x
     go None is = rw (stream_to-closed x.schema site x.destinations x.purged (pasts_of x) (queue_of x) apart is, is) refl
@@ -207,10 +223,10 @@ acked_by-marks site (d ∷ ds) = go (is_same_site d.site site) (acked_by-marks s
     go false later = later
 
 module _ (schema : Schema) (all : List DestinationState) (apart : StandApart all) (gone : ℕ) (pasts : List (List Past)) (count : ℕ) (txn : Txn) (older : List Txn) (within : length older + 1 ≤ count) where
-  marks : List queue.Mark
+  abbrev marks : List queue.Mark
   marks = map (λ (d : DestinationState). record { site = d.site; acked = d.acked }) all
 
-  has_acked : Destination → Bool
+  abbrev has_acked : Destination → Bool
   has_acked d = nat_le (last_position d.site (deferred_in schema all gone pasts older) + 1) (acked_by d.site marks)
 
   two_tests : (m n k : ℕ) → nat_le n (min m k) ≡ (nat_le n m && nat_le n k)

@@ -83,7 +83,7 @@ steps_by x y journals schema here base senders destinations purged =
 steps_same : (x : SiteState) → Steps x x
 steps_same x = steps_by x x (no_entry x x refl) refl refl refl refl refl refl
 
-one_entry : (x y : SiteState) (e : Entry) → y.journal ≡ e ∷ x.journal → MayFollow x e → Journals x y
+pub one_entry : (x y : SiteState) (e : Entry) → y.journal ≡ e ∷ x.journal → MayFollow x e → Journals x y
 one_entry x y e is follows = record { entry = Some e; journal = is; follows = follows }
 
 pub clock_steps : (clock : ℕ) (x : SiteState) → Steps x (site_clock clock x)

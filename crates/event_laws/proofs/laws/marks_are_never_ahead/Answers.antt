@@ -1,3 +1,4 @@
+-- The laws of marks.
 use Rattle.event_laws.proofs.MarkLaws.{marks_are_low, purged_is_finished, arrivals_are_well_numbered}
 use Rattle.event_laws.proofs.laws.marks_are_never_ahead.Goals as goal
 
