@@ -11,8 +11,10 @@ use Rattle.rep_calls.specs.declared.past.Past.{Past}
 use Rattle.deferred_queue.specs.Streams.{is_same_site}
 use Rattle.deferred_queue.proofs.Sites.{is_same_site-true, is_same_site-refl}
 use Rattle.packet_code.specs.declared.packet.Packet.{Packet}
+use Rattle.site_state.specs.declared.entry.Entry.{Entry}
 use Rattle.site_state.specs.State.{Arrival, SenderState, DestinationState, SiteState, is_master_site, destination_of, at_destination, opened_in, opened_of}
 use Rattle.site_state.specs.Streams.{queue_of, count_of}
+use Rattle.site_state.specs.Journal.{finished}
 use Rattle.site_state.specs.Pasts.{pasts_of}
 use Rattle.site_state.specs.Making.{is_late_master, new_destination, master_here}
 use Rattle.site_state.specs.Joining.{opened_from, opened_at, site_open, number_for, sender_from, site_copy}
@@ -152,14 +154,19 @@ each_sender : (names : List SiteName) (ss : List SenderState) → AllByRecursion
 each_sender names [] all = tt
 each_sender names (s ∷ ss) all = (all.0, each_sender names ss all.1)
 
+-- nothing is finished in an empty journal
+nothing_finished : (origin : SiteName) (p : ℕ) (es : List Entry) → es ≡ [] → finished origin es p ≡ true → ⊥
+nothing_finished origin p [] none is = absurd (cc is)
+nothing_finished origin p (e ∷ es) none is = absurd (cc none)
+
 -- ---- the join
 
 module _ (schema : Schema) (shape : HasShape schema) (sites : List SiteState) (source : SiteState) (site from : SiteName) (absent : site_of site sites ≡ None) (found_source : site_of from sites ≡ Some source)
     (may : may_join sites source site ≡ true) (all_of : AllByRecursion (IsSiteOf schema) sites) (closed : AbsentAreClosed schema sites) where
-  new : SiteState
+  abbrev new : SiteState
   new = copied sites source site
 
-  ys : List SiteState
+  abbrev ys : List SiteState
   ys = with_joined sites source site
 
   found : (name : SiteName) → site_of name ys ≡ found_or (site_of name (new ∷ [])) (option_map (site_open site) (site_of name sites))
@@ -174,7 +181,7 @@ module _ (schema : Schema) (shape : HasShape schema) (sites : List SiteState) (s
   name_is : new.here.site ≡ site
   name_is = ap (λ h. h.site) (copied_here sites source site)
 
-  base_new : SiteState
+  abbrev base_new : SiteState
   base_new = site_copy source (master_here source.schema site) (queue_counts sites)
 
   -- ---- to whom it is open
@@ -236,7 +243,7 @@ module _ (schema : Schema) (shape : HasShape schema) (sites : List SiteState) (s
 
   it_meets : SiteMeets ys site new
   it_meets = record {
-    arrived = λ origin p done. absurd (cc (done, (copied_is_new sites source site).journal));
+    arrived = λ origin p done. absurd (nothing_finished origin p new.journal (copied_is_new sites source site).journal done);
     known = nothing_arrived _ new.senders (copied_is_new sites source site).arrived;
     pasts = nothing_arrived _ new.senders (copied_is_new sites source site).arrived;
     firsts = rw senders_of_it (firsts_of_it (senders_of schema site) (all_among (senders_of schema site)));

@@ -47,6 +47,7 @@ use Rattle.event_laws.proofs.NewSites.{copied_is_new, start_is_new}
 use Rattle.event_laws.proofs.Holding.{SentBy, ArrivalHolds, SendersHold, SiteHolds, HoldsAt, Holds}
 use Rattle.event_laws.proofs.MarkLaws.{becomes_holds, start_holds, arrived_was_sent}
 use Rattle.event_laws.proofs.PassLaws.{Finishes, apply_finishes}
+use Rattle.event_laws.proofs.PassLaws as passing
 use Rattle.event_laws.proofs.DeclaredSites.{IsSiteOf, becomes_sites_of, start_sites_of}
 use Rattle.event_laws.proofs.Meeting.{PastIs, PacketPast, is_known, EachArrival, HasPast, KnowsPast, SiteMeets, MeetsAt, Meets, AddsIn, AllAdd, all_add_same, at_adds, at_meets, steps_meet, accept_meets, purge_meets, refreshed_meets, sends_meet, marks_meet, still_closed, count_of-adds}
 use Rattle.event_laws.proofs.JoinedMeets.{joined_meets, joined_closed}
@@ -303,8 +304,8 @@ each_appends origin [] x = front_none _
 each_appends origin (a ∷ arrived) x = by (site_apply origin a.position x) (apply_finishes origin a.position x) (each_appends origin arrived (site_apply origin a.position x))
   where
     by : (y : SiteState) → Finishes origin a.position x y → IsFront (apply_each origin arrived y).journal y.journal → IsFront (apply_each origin arrived y).journal x.journal
-    by _ Finishes.Not more = more
-    by _ (Finishes.By y e is senders here finishing by) more = record { front = more.front ++ e ∷ []; is = more.is ∙ ap (λ l. more.front ++ l) is ∙ sym (append_assoc more.front (e ∷ []) x.journal) }
+    by _ passing.Not more = more
+    by _ (passing.By y e is senders here finishing placed) more = record { front = more.front ++ e ∷ []; is = more.is ∙ ap (λ l. more.front ++ l) is ∙ sym (append_assoc more.front (e ∷ []) x.journal) }
 
 -- what isn't stale has arrived
 not_stale_arrived : (origin : SiteName) (position : ℕ) (x : SiteState) → stale_of origin position x ≡ None → arrived_at origin position x.senders ≢ None
