@@ -1,5 +1,5 @@
 -- Sites stay as the schema declares them.
-use Rattle.std.proofs.Common.{◌≡◌, ℕ, List, [], ◌∷◌, map, Bool, true, false, cond, Some, None, refl, sym, ap, ◌∙◌, subst}
+use Rattle.std.proofs.Common.{◌≡◌, List, [], ◌∷◌, map, Bool, true, false, cond, Some, None, refl, sym, ap, ◌∙◌, subst}
 use Rattle.std.specs.Prelude.{◌||◌, ◌&&◌, Option}
 use Rattle.std.specs.List.{list_any, AllByRecursion}
 use Rattle.rep_values.specs.declared.name.SiteName.{SiteName}
@@ -21,7 +21,6 @@ use Rattle.site_state.specs.Making.{is_late_master, new_destination, master_here
 use Rattle.site_state.specs.Joining.{opened_at, site_open, sender_from, site_copy}
 use Rattle.site_state.proofs.Stepping.{Steps, steps_later, Later}
 use Rattle.site_state.proofs.Changing.{accept_later, purge_later, open_later}
-use Rattle.event_laws.specs.Core.{Core, site_of}
 use Rattle.event_laws.specs.Quiet.{are_quiet}
 use Rattle.event_laws.specs.Joins.{queue_counts, copied, may_join}
 use Rattle.event_laws.specs.Events.{receiver}

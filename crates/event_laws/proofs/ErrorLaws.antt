@@ -1,5 +1,5 @@
 -- Errors, executions and drops.
-use Rattle.std.proofs.Common.{◌≡◌, ℕ, Bool, true, false, Some, None, refl}
+use Rattle.std.proofs.Common.{◌≡◌, ℕ, true, Some, None, refl}
 use Rattle.std.specs.Prelude.{Option, Result, Ok, Err, is_some, cond}
 use Rattle.rep_values.specs.declared.name.SiteName.{SiteName}
 use Rattle.txn_effects.specs.Calls.{Effect}

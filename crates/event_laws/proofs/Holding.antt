@@ -1,32 +1,24 @@
 -- What holds of the sites and of every packet that was ever sent.
-use Rattle.std.proofs.Common.{◌≡◌, ℕ, ◌≤◌, List, [], ◌∷◌, ◌++◌, map, Bool, true, false, cond, Some, None, refl, sym, arith, subst}
-use Rattle.std.specs.Prelude.{◌||◌, not, Option, option_map, nat_lt, nat_le, is_none}
-use Rattle.std.specs.List.{list_all, AllByRecursion}
-use Rattle.std.proofs.lemmas.Bool.Decides.{nat_tests}
-use Rattle.std.specs.declared.cmp.Ordering.{Ordering}
+use Rattle.std.proofs.Common.{◌≡◌, ℕ, ◌≤◌, List, [], ◌∷◌, Bool, true, false, cond, Some, None, refl, sym, arith, subst}
+use Rattle.std.specs.Prelude.{Option, option_map}
+use Rattle.std.specs.List.{AllByRecursion}
 use Rattle.rep_lists.proofs.Rising.{all_put}
 use Rattle.rep_values.specs.declared.name.SiteName.{SiteName}
 use Rattle.rep_calls.specs.declared.call.Txn.{Txn}
-use Rattle.rep_calls.specs.declared.past.Past.{Past}
-use Rattle.deferred_queue.specs.Streams.{is_same_site, at_position}
+use Rattle.deferred_queue.specs.Streams.{is_same_site}
 use Rattle.deferred_queue.proofs.Sites.{is_same_site-true}
 use Rattle.packet_code.specs.declared.packet.Packet.{Packet}
 use Rattle.packet_code.specs.declared.packet.Packet.TheVariants.{Carry, Mark}
-use Rattle.site_state.specs.State.{Arrival, SenderState, SiteState, at_sender, beside, arrived_at, acked_of, opened_of, sender_of, destination_of}
-use Rattle.site_state.specs.Streams.{stream_to, count_of}
-use Rattle.site_state.specs.Pasts.{pasts_of}
-use Rattle.site_state.specs.Packets.{count_opened, number_at, past_before, carry_of, packet_found, with_arrival, arrived_by, taken_unless, is_foreign, site_accept}
-use Rattle.site_state.specs.Journal.{low_water}
+use Rattle.site_state.specs.State.{Arrival, SenderState, SiteState, at_sender, beside, arrived_at, acked_of}
+use Rattle.site_state.specs.Packets.{with_arrival, arrived_by, taken_unless, is_foreign, site_accept}
 use Rattle.site_state.specs.Purges.{site_purge}
-use Rattle.site_state.specs.Making.{new_sender, new_destination}
-use Rattle.site_state.specs.Joining.{site_open, site_first, with_first, opened_at}
 use Rattle.site_state.proofs.Stepping.{Later, later_same, Steps, steps_later, IsSent, sent_later, low_water-later}
-use Rattle.site_state.proofs.Destinations.{acked_in-acknowledged, acked_in-opened}
-use Rattle.site_state.proofs.Changing.{PurgedIsAcked, purged_kept, accept_later, accept_purged, purge_later, purge_purged, refresh_later, open_later, open_purged}
-use Rattle.event_laws.specs.Core.{Core, site_of, at_site}
+use Rattle.site_state.proofs.Destinations.{acked_in-acknowledged}
+use Rattle.site_state.proofs.Changing.{PurgedIsAcked, purged_kept, accept_later, accept_purged, purge_later, purge_purged}
+use Rattle.event_laws.specs.Core.{site_of, at_site}
 use Rattle.event_laws.specs.Marks.{acked_at, low_at, MarksAreLow}
-use Rattle.event_laws.specs.Events.{receiver, with_packet, packet_from, mark_from}
-use Rattle.event_laws.proofs.Sites.{KeepsHere, at_split, found_name, found_again, all_at_place}
+use Rattle.event_laws.specs.Events.{receiver}
+use Rattle.event_laws.proofs.Sites.{KeepsHere, at_split}
 
 -- ---- what holds
 

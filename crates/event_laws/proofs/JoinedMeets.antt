@@ -1,8 +1,8 @@
 -- Streams meet where a master joins: each master opens its stream to it behind what it had queued, and it is open to each
 -- that is there from its first transaction on.
-use Rattle.std.proofs.Common.{◌≡◌, ◌≢◌, ℕ, ◌+◌, ◌≤◌, List, [], ◌∷◌, ◌++◌, length, map, filter, Bool, true, false, cond, Some, None, refl, sym, ap, ◌∙◌, arith, subst, inl, inr}
-use Rattle.std.specs.Prelude.{◌||◌, ◌&&◌, ◌⊎◌, Option, option_map}
-use Rattle.std.specs.List.{list_any, AllByRecursion}
+use Rattle.std.proofs.Common.{◌≡◌, ◌≢◌, ℕ, List, [], ◌∷◌, map, filter, Bool, true, false, cond, Some, None, refl, sym, ap, ◌∙◌, arith, subst, inl, inr}
+use Rattle.std.specs.Prelude.{◌||◌, ◌⊎◌, Option, option_map}
+use Rattle.std.specs.List.{AllByRecursion}
 use Rattle.rep_values.specs.declared.name.SiteName.{SiteName}
 use Rattle.rep_schema.specs.declared.schema.Schema.{Schema}
 use Rattle.rep_schema.specs.Shape.{HasShape}
@@ -12,17 +12,16 @@ use Rattle.deferred_queue.specs.Streams.{is_same_site}
 use Rattle.deferred_queue.proofs.Sites.{is_same_site-true, is_same_site-refl}
 use Rattle.packet_code.specs.declared.packet.Packet.{Packet}
 use Rattle.site_state.specs.declared.entry.Entry.{Entry}
-use Rattle.site_state.specs.State.{Arrival, SenderState, DestinationState, SiteState, is_master_site, destination_of, at_destination, opened_in, opened_of}
-use Rattle.site_state.specs.Streams.{queue_of, count_of}
+use Rattle.site_state.specs.State.{Arrival, SenderState, DestinationState, SiteState, is_master_site, destination_of, opened_in, opened_of}
+use Rattle.site_state.specs.Streams.{count_of}
 use Rattle.site_state.specs.Journal.{finished}
-use Rattle.site_state.specs.Pasts.{pasts_of}
 use Rattle.site_state.specs.Making.{is_late_master, new_destination, master_here}
-use Rattle.site_state.specs.Joining.{opened_from, opened_at, site_open, number_for, sender_from, site_copy}
+use Rattle.site_state.specs.Joining.{opened_from, site_open, number_for, sender_from, site_copy}
 use Rattle.site_state.proofs.Destinations.{opened_in-opened, opened_from_stays, opened_in-other, opened_in-own}
 use Rattle.event_laws.specs.Core.{site_of}
 use Rattle.event_laws.specs.Joins.{count_at, queue_counts, open_to_each, copied, with_joined, may_join}
 use Rattle.event_laws.specs.Events.{is_among}
-use Rattle.event_laws.specs.Waiting.{IsFirst, AreFirsts, AbsentAreClosed}
+use Rattle.event_laws.specs.Waiting.{IsFirst, AbsentAreClosed}
 use Rattle.event_laws.proofs.Sites.{found_or, site_of-joined, found_name, found_all}
 use Rattle.event_laws.proofs.NewSites.{open_to_each_keeps, copied_is_new, copied_here}
 use Rattle.event_laws.proofs.SchemaSites.{sender_has_destination, own_is_no_sender, late_has_masters}
@@ -265,7 +264,7 @@ module _ (schema : Schema) (shape : HasShape schema) (sites : List SiteState) (s
       joined true same zero =
           let own : origin ≡ site = sym (is_same_site-true new.here.site origin same) ∙ name_is in
           let to : is_among (destinations_of schema site) name ≡ true =
-                  sender_has_destination schema shape name site (subst (λ (n : SiteName). is_among (senders_of schema name) n ≡ true) own among) in
+          sender_has_destination schema shape name site (subst (λ (n : SiteName). is_among (senders_of schema name) n ≡ true) own among) in
           rw zero (opened_to name to there, omega arith)
       joined false same zero = zero
 

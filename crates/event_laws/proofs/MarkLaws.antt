@@ -1,8 +1,7 @@
 -- The marks, purges and dependency numbers of every run.
-use Rattle.std.proofs.Common.{◌≡◌, ℕ, ◌+◌, ◌-◌, ◌<◌, ◌≤◌, ◌==◌, List, [], ◌∷◌, ◌++◌, map, length, Bool, true, false, cond, Some, None, refl, sym, ap, ◌∙◌, arith, subst}
-use Rattle.std.specs.Prelude.{Option, option_map, nat_le, slice_get}
+use Rattle.std.proofs.Common.{◌≡◌, ℕ, ◌+◌, ◌-◌, ◌<◌, ◌≤◌, List, [], ◌∷◌, Bool, true, false, cond, Some, None, refl, sym, ap, ◌∙◌, arith, subst}
+use Rattle.std.specs.Prelude.{Option, option_map, nat_le}
 use Rattle.std.specs.List.{AllByRecursion}
-use Rattle.std.proofs.lemmas.Bool.Decides.{nat_tests}
 use Rattle.std.specs.declared.cmp.Ordering.{Ordering}
 use Rattle.std.specs.declared.cmp.Ordering.TheVariants.{Less, Equal, Greater}
 use Rattle.rep_lists.specs.Rising.{find_at, found_here}
@@ -25,11 +24,11 @@ use Rattle.site_state.proofs.Growing.{dep_at-covers}
 use Rattle.site_state.proofs.Stepping.{Later, later_same, steps_later, IsSent, found_at}
 use Rattle.site_state.proofs.Destinations.{acked_in-opened}
 use Rattle.site_state.proofs.Changing.{PurgedIsAcked, purged_kept, accept_later, purge_later, refresh_later, open_later, open_purged}
-use Rattle.event_laws.specs.Core.{Core, site_of, at_site}
+use Rattle.event_laws.specs.Core.{Core, site_of}
 use Rattle.event_laws.specs.Joins.{with_joined, copied}
 use Rattle.event_laws.specs.Events.{Event, with_packet, packet_from, mark_from, receiver, run}
 use Rattle.event_laws.specs.Starts.{IsNewSite, IsStart, InEveryRun}
-use Rattle.event_laws.specs.Marks.{journal_in, acked_at, low_at, MarksAreLow, PurgedIsFinished, IsWellNumbered, AreWellNumbered}
+use Rattle.event_laws.specs.Marks.{journal_in, acked_at, low_at, MarksAreLow, PurgedIsFinished, AreWellNumbered}
 use Rattle.event_laws.proofs.Sites.{found_or, site_of-joined, found_again, found_all, all_at, all_joined, all_at_place}
 use Rattle.event_laws.proofs.Happening.{IsRefreshed, Becomes, run_keeps}
 use Rattle.event_laws.proofs.Happening as happening

@@ -1,6 +1,6 @@
 -- What every packet and arrival tells of the past is what its sender had seen, and streams meet.
-use Rattle.std.proofs.Common.{◌≡◌, ◌≢◌, ℕ, suc, ◌+◌, ◌≤◌, List, [], ◌∷◌, length, Bool, true, false, cond, Some, None, refl, sym, ap, ◌∙◌, arith, subst, inl, inr}
-use Rattle.std.specs.Prelude.{◌||◌, ◌&&◌, ◌⊎◌, not, nat_le, Option, option_map, is_some, is_none}
+use Rattle.std.proofs.Common.{◌≡◌, ◌≢◌, ℕ, ◌+◌, ◌≤◌, List, [], ◌∷◌, length, Bool, true, false, cond, Some, None, refl, sym, ap, ◌∙◌, arith, subst}
+use Rattle.std.specs.Prelude.{◌||◌, ◌&&◌, not, nat_le, Option, option_map, is_some, is_none}
 use Rattle.std.specs.List.{list_all, AllByRecursion}
 use Rattle.std.proofs.lemmas.Bool.Decides.{nat_tests}
 use Rattle.rep_lists.proofs.Rising.{all_put}
@@ -19,17 +19,16 @@ use Rattle.site_state.specs.Streams.{with_one, queue_of, count_of, stream_to, st
 use Rattle.site_state.specs.Pasts.{pasts_of}
 use Rattle.site_state.specs.Packets.{past_in, count_opened, number_at, past_before, carry_of, packet_found, is_known_past, with_arrival, arrived_by, taken_unless, is_foreign, site_accept}
 use Rattle.site_state.specs.Purges.{site_purge}
-use Rattle.site_state.specs.Making.{is_late_master}
 use Rattle.site_state.proofs.Growing.{length-queued_behind, queued_behind-none, at_position-append}
 use Rattle.site_state.proofs.Stepping.{Steps}
 use Rattle.site_state.proofs.Changing.{accept_later}
 use Rattle.site_state.proofs.Pasts.{FinishedHaveArrived, arrived_at-put, finished_have_arrived, length-pasts_after}
-use Rattle.site_state.proofs.Queueing.{Adds, Opens, Queues, adds_nothing, steps_add, accept_adds, purge_adds, refresh_adds}
+use Rattle.site_state.proofs.Queueing.{Adds, adds_nothing, steps_add, accept_adds, purge_adds, refresh_adds}
 use Rattle.site_state.specs.Contents.{tables_of}
 use Rattle.site_state.specs.Refreshes.{rows_shown}
-use Rattle.event_laws.specs.Core.{Core, site_of, at_site}
+use Rattle.event_laws.specs.Core.{site_of, at_site}
 use Rattle.event_laws.specs.Events.{with_packet, packet_from, mark_from, receiver}
-use Rattle.event_laws.specs.Waiting.{IsFirst, AreFirsts, StreamsMeet, AbsentAreClosed}
+use Rattle.event_laws.specs.Waiting.{IsFirst, AreFirsts, AbsentAreClosed}
 use Rattle.event_laws.proofs.Sites.{KeepsHere, at_split, found_again}
 use Rattle.event_laws.proofs.Happening.{IsRefreshed}
 use Rattle.event_laws.proofs.Happening as happening

@@ -1,5 +1,5 @@
 -- Sites at which nothing has happened: those of a start, and one that joins.
-use Rattle.std.proofs.Common.{◌≡◌, ℕ, List, [], ◌∷◌, map, Bool, true, false, cond, Some, None, refl, ◌∙◌}
+use Rattle.std.proofs.Common.{◌≡◌, List, [], ◌∷◌, map, Bool, true, false, cond, Some, None, refl, ◌∙◌}
 use Rattle.std.specs.Prelude.{Option}
 use Rattle.std.specs.List.{AllByRecursion}
 use Rattle.rep_values.specs.declared.name.SiteName.{SiteName}
@@ -10,7 +10,7 @@ use Rattle.rep_calls.specs.declared.past.Past.{Past}
 use Rattle.deferred_queue.specs.Streams.{is_same_site}
 use Rattle.local_txn.specs.declared.local.Here.{Here}
 use Rattle.snapshot_query.specs.declared.snapshot.Snapshot.{Snapshot}
-use Rattle.site_state.specs.State.{SenderState, DestinationState, SiteState, destination_of, acked_in}
+use Rattle.site_state.specs.State.{SenderState, SiteState, destination_of, acked_in}
 use Rattle.site_state.specs.Streams.{count_of}
 use Rattle.site_state.specs.Making.{new_sender, new_destination, new_site, master_here}
 use Rattle.site_state.specs.Joining.{site_open, sender_from, site_copy}

@@ -1,7 +1,7 @@
 -- Positions are finished once, and in an order that keeps dependencies, in every run.
-use Rattle.std.proofs.Common.{◌≡◌, ℕ, ◌+◌, ◌<◌, ◌≤◌, List, [], ◌∷◌, ◌++◌, map, length, Bool, true, false, cond, Some, None, refl, sym, ap, ◌∙◌, arith, subst}
+use Rattle.std.proofs.Common.{◌≡◌, ℕ, ◌+◌, ◌<◌, ◌≤◌, List, [], ◌∷◌, length, Bool, true, false, cond, Some, None, refl, sym, ap, ◌∙◌, arith, subst}
 use Rattle.std.specs.Prelude.{◌≢◌, ◌||◌, ◌&&◌, Option, IfSome, option_map, nat_le}
-use Rattle.std.specs.List.{list_any, list_all, AllByRecursion}
+use Rattle.std.specs.List.{list_any, list_all}
 use Rattle.std.proofs.lemmas.Bool.Decides.{nat_tests}
 use Rattle.rep_values.specs.declared.name.SiteName.{SiteName}
 use Rattle.rep_schema.specs.declared.schema.Schema.{Schema}
@@ -14,7 +14,7 @@ use Rattle.site_state.specs.declared.entry.Entry.{Entry}
 use Rattle.site_state.specs.declared.entry.Entry.TheVariants.{Local, Done, Error, Executed, Dropped, Refreshed}
 use Rattle.site_state.specs.declared.entry.ErrorEntry.{ErrorEntry}
 use Rattle.site_state.specs.State.{Arrival, SiteState, arrived_at}
-use Rattle.site_state.specs.Journal.{finishes, settles, finished, is_position, low_water, error_at}
+use Rattle.site_state.specs.Journal.{finishes, settles, is_position, low_water, error_at}
 use Rattle.site_state.specs.Streams.{stream_to, shares}
 use Rattle.site_state.specs.Ready.{is_due, is_covered}
 use Rattle.site_state.specs.Steps.{count_where}
@@ -23,12 +23,12 @@ use Rattle.site_state.specs.Purges.{site_purge}
 use Rattle.site_state.specs.Joining.{site_open}
 use Rattle.site_state.proofs.LowWater.{low_water-below}
 use Rattle.site_state.proofs.Growing.{IsFront, at_position-append, at_position-older, dep_at-covers}
-use Rattle.site_state.proofs.Stepping.{MayFollow, IsTaken, with_entry, Journals, no_entry, one_entry, Steps, steps_later, Later, IsSent, stream_to-later, arrived_has, is_position-true}
+use Rattle.site_state.proofs.Stepping.{MayFollow, IsTaken, with_entry, Journals, no_entry, one_entry, steps_later, Later, IsSent, stream_to-later, arrived_has, is_position-true}
 use Rattle.site_state.proofs.Changing.{accept_later, purge_later}
 use Rattle.event_laws.specs.Core.{Core, site_of, at_site}
 use Rattle.event_laws.specs.Joins.{copied, with_joined}
 use Rattle.event_laws.specs.Events.{Event, receiver, run}
-use Rattle.event_laws.specs.Starts.{IsNewSite, IsStart, InEveryRun}
+use Rattle.event_laws.specs.Starts.{IsStart, InEveryRun}
 use Rattle.event_laws.specs.Marks.{journal_in}
 use Rattle.event_laws.specs.Orders.{AreFinishedOnce, AreSettledOnce, FollowsEarlier, FollowsIn, EntryFollows, IsInOrder, EarlierComesFirst}
 use Rattle.event_laws.proofs.Sites.{at_split, site_of-joined, found_or}

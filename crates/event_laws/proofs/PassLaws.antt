@@ -1,6 +1,6 @@
 -- A pass finishes what is ready at its turn, and what isn't ready then isn't so afterwards; and what a purge takes.
-use Rattle.std.proofs.Common.{◌≡◌, ◌≢◌, ℕ, zero, suc, ◌+◌, ◌<◌, ◌≤◌, ◌==◌, List, [], ◌∷◌, Bool, true, false, cond, Some, None, refl, sym, ap, ◌∙◌, arith, subst}
-use Rattle.std.specs.Prelude.{◌||◌, ◌&&◌, not, nat_le, nat_lt, is_none, Option, Result, Ok, Err}
+use Rattle.std.proofs.Common.{◌≡◌, ℕ, zero, suc, ◌+◌, ◌<◌, ◌≤◌, ◌==◌, List, [], ◌∷◌, Bool, true, false, cond, Some, None, refl, sym, ap, ◌∙◌, arith, subst}
+use Rattle.std.specs.Prelude.{◌||◌, ◌&&◌, not, nat_le, nat_lt, Option, Result, Ok, Err}
 use Rattle.std.specs.List.{list_all, AllByRecursion}
 use Rattle.std.specs.Ordering.{nat_cmp}
 use Rattle.std.proofs.lemmas.Bool.Decides.{nat_tests}
@@ -19,7 +19,7 @@ use Rattle.origin_marks.specs.Marks.{low_up_to}
 use Rattle.site_state.specs.declared.entry.Entry.{Entry}
 use Rattle.site_state.specs.declared.entry.Entry.TheVariants.{Done, Error}
 use Rattle.site_state.specs.declared.answers.Why.{Why}
-use Rattle.site_state.specs.State.{Arrival, DestinationState, SiteState, sender_of, arrived_in, arrived_at, arrivals, beside}
+use Rattle.site_state.specs.State.{Arrival, DestinationState, SiteState, sender_of, arrived_at, arrivals, beside}
 use Rattle.site_state.specs.Journal.{finishes, finished, position_by, last_finished, low_water, is_position}
 use Rattle.site_state.specs.Streams.{count_of}
 use Rattle.site_state.specs.Ready.{covered_at, covered, is_covered, is_due, stale_of, is_ready}
@@ -27,7 +27,7 @@ use Rattle.site_state.specs.Steps.{begun}
 use Rattle.site_state.specs.Passes.{effect_here, finished_by, applied_unless, site_apply, apply_each, site_pass}
 use Rattle.site_state.specs.Purges.{acknowledged_by, acknowledged_by_all}
 use Rattle.site_state.proofs.LowWater.{low_water-greatest, low_water-below, low_water-is, finished-append}
-use Rattle.site_state.proofs.Stepping.{found_at, arrived_has}
+use Rattle.site_state.proofs.Stepping.{arrived_has}
 use Rattle.event_laws.specs.PassLaws.{NamesOthers, CanPass, PassesLeaveNothingReady, LowWaterIsThatOfTheFinished, AckedSince, HasAcked, PurgesTakeWhatIsAcknowledged}
 use Rattle.event_laws.proofs.ErrorLaws.{is_position-own}
 
@@ -134,7 +134,7 @@ due_before origin bound x y a after less off due =
     let both = and_both (nat_le a.dep (low_water origin y.journal)) (list_all (is_covered y) a.past) due in
     let low_y : a.dep ≤ low_water origin y.journal = grind (arith, nat_tests, both.0) in
     let low_x : a.dep ≤ low_water origin x.journal =
-            low_water-greatest origin x.journal a.dep (λ p from_one up_to. sym (after.older p (omega (arith, up_to, less))) ∙ low_water-below origin y.journal p from_one (omega (arith, up_to, low_y))) in
+    low_water-greatest origin x.journal a.dep (λ p from_one up_to. sym (after.older p (omega (arith, up_to, less))) ∙ low_water-below origin y.journal p from_one (omega (arith, up_to, low_y))) in
     let past : list_all (is_covered x) a.past ≡ true = sym (past_same origin bound x y after a.past off) ∙ both.1 in
     let within : nat_le a.dep (low_water origin x.journal) ≡ true = grind (arith, nat_tests, low_x) in
     rw (within, past) refl

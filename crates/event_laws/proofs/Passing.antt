@@ -1,6 +1,6 @@
 -- At every site what arrived can be passed: it rises, depends on what is earlier, and its pasts name others than its sender.
-use Rattle.std.proofs.Common.{◌≡◌, ℕ, ◌<◌, ◌==◌, ◌+◌, List, [], ◌∷◌, ◌++◌, map, length, Bool, true, false, cond, Some, None, refl, arith, subst}
-use Rattle.std.specs.Prelude.{◌||◌, ◌&&◌, not, nat_le, nat_lt, Option}
+use Rattle.std.proofs.Common.{◌≡◌, ℕ, ◌<◌, ◌==◌, ◌+◌, List, [], ◌∷◌, length, Bool, true, false, cond, Some, None, refl, arith, subst}
+use Rattle.std.specs.Prelude.{◌&&◌, not, nat_le, nat_lt, Option}
 use Rattle.std.specs.List.{list_all, AllByRecursion}
 use Rattle.std.specs.Ordering.{nat_cmp}
 use Rattle.std.proofs.lemmas.Cmp.{nat_cmp_total}
@@ -21,25 +21,24 @@ use Rattle.packet_code.specs.declared.packet.Packet.{Packet}
 use Rattle.packet_code.specs.declared.packet.Packet.TheVariants.{Carry, Mark}
 use Rattle.site_state.specs.declared.entry.Entry.{Entry}
 use Rattle.site_state.specs.declared.entry.Entry.TheVariants.{Local, Done, Error, Executed, Dropped, Refreshed}
-use Rattle.site_state.specs.State.{Arrival, SenderState, SiteState, is_master_site, sender_of, at_sender, arrived_in, arrived_at, arrivals, beside}
+use Rattle.site_state.specs.State.{Arrival, SenderState, SiteState, is_master_site, sender_of, at_sender, arrived_in, arrived_at, beside}
 use Rattle.site_state.specs.Streams.{with_one, went_onward, stream_to}
 use Rattle.site_state.specs.Pasts.{beside_name, seen_of, with_seen, past_at, pasts_after, pasts_of}
 use Rattle.site_state.specs.Packets.{past_in, number_at, carry_of, packet_found, with_arrival, arrived_by, taken_unless, is_foreign, site_accept}
 use Rattle.site_state.specs.Purges.{site_purge}
-use Rattle.site_state.specs.Making.{master_here}
-use Rattle.site_state.specs.Joining.{site_open, site_copy}
+use Rattle.site_state.specs.Joining.{site_open}
 use Rattle.site_state.proofs.Growing.{dep_at-earlier}
 use Rattle.site_state.proofs.Stepping.{Steps}
-use Rattle.event_laws.specs.Core.{Core, site_of, at_site}
-use Rattle.event_laws.specs.Joins.{queue_counts, copied, with_joined}
+use Rattle.event_laws.specs.Core.{Core, site_of}
+use Rattle.event_laws.specs.Joins.{copied}
 use Rattle.event_laws.specs.Events.{Event, with_packet, packet_from, mark_from, receiver, run}
 use Rattle.event_laws.specs.Starts.{IsNewSite, IsStart}
 use Rattle.event_laws.specs.Declared.{IsDeclared, AreDeclared}
-use Rattle.event_laws.specs.PassLaws.{NamesOthers, CanPass, EverySiteCanPass}
+use Rattle.event_laws.specs.PassLaws.{NamesOthers, EverySiteCanPass}
 use Rattle.event_laws.proofs.Sites.{found_all, all_at, all_joined, all_at_place}
 use Rattle.event_laws.proofs.Happening.{IsRefreshed, Becomes, run_keeps}
 use Rattle.event_laws.proofs.Happening as happening
-use Rattle.event_laws.proofs.NewSites.{open_to_each_keeps, copied_is_new}
+use Rattle.event_laws.proofs.NewSites.{copied_is_new}
 use Rattle.event_laws.proofs.Holding.{SentBy, ArrivalHolds, SendersHold, HoldsAt}
 use Rattle.event_laws.proofs.MarkLaws.{run_holds}
 use Rattle.event_laws.proofs.SchemaSites.{senders_of-others}

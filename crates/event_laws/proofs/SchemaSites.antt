@@ -1,7 +1,7 @@
 -- What a schema says of its sites: who sends to whom is told alike from both ends, nobody sends to itself, and masters alone
 -- send to a late master.
-use Rattle.std.proofs.Common.{◌≡◌, ◌≢◌, ℕ, zero, suc, ◌+◌, ◌<◌, List, [], ◌∷◌, length, map, Bool, true, false, cond, Some, None, refl, sym, ap, ◌∙◌, arith, subst}
-use Rattle.std.specs.Prelude.{◌||◌, ◌&&◌, not, is_none, filter, Option, IfSome}
+use Rattle.std.proofs.Common.{◌≡◌, ◌≢◌, ℕ, zero, suc, ◌<◌, List, [], ◌∷◌, length, map, Bool, true, false, cond, Some, None, refl, sym, ◌∙◌, arith, subst}
+use Rattle.std.specs.Prelude.{◌||◌, ◌&&◌, not, is_none, filter, Option}
 use Rattle.std.specs.List.{Any, list_any, find, AllByRecursion, slice_index_or}
 use Rattle.std.proofs.lemmas.List.Elements.{recursion_from_All}
 use Rattle.rep_values.specs.declared.name.SiteName.{SiteName}
@@ -9,7 +9,7 @@ use Rattle.rep_schema.specs.declared.schema.Schema.{Schema}
 use Rattle.rep_schema.specs.declared.schema.SiteEntry.{SiteEntry}
 use Rattle.rep_schema.specs.Shape.{AreDistinct, is_master, is_early_master, HasMaster, HasShape}
 use Rattle.rep_schema.specs.Named.{is_site, site_named}
-use Rattle.rep_schema.specs.Sites.{addresses, sends_to, names_of, senders_to, destinations_from, senders_of, destinations_of}
+use Rattle.rep_schema.specs.Sites.{addresses, sends_to, names_of, senders_to, senders_of, destinations_of}
 use Rattle.deferred_queue.specs.Streams.{is_same_site}
 use Rattle.deferred_queue.proofs.Sites.{is_same_site-true, is_same_site-refl}
 use Rattle.site_state.specs.State.{is_master_site}

@@ -4,7 +4,7 @@ use Rattle.std.specs.Prelude.{Option, option_map, slice_get}
 use Rattle.std.specs.List.{AllByRecursion}
 use Rattle.rep_values.specs.declared.name.SiteName.{SiteName}
 use Rattle.deferred_queue.specs.Streams.{is_same_site}
-use Rattle.deferred_queue.proofs.Sites.{is_same_site-true, is_same_site-refl}
+use Rattle.deferred_queue.proofs.Sites.{is_same_site-true}
 use Rattle.local_txn.specs.declared.local.Here.{Here}
 use Rattle.site_state.specs.State.{SiteState}
 use Rattle.event_laws.specs.Core.{site_of, at_site}

@@ -1,6 +1,6 @@
 -- Where all has arrived and passes finish nothing, all that was queued is finished: by the order in which it was queued.
-use Rattle.std.proofs.Common.{◌≡◌, ◌≢◌, ℕ, zero, suc, ◌+◌, ◌-◌, ◌<◌, ◌≤◌, ◌==◌, List, [], ◌∷◌, ◌++◌, length, Bool, true, false, max, cond, Some, None, refl, sym, ap, ◌∙◌, arith, subst, inl, inr, append_assoc, length-append}
-use Rattle.std.specs.Prelude.{◌||◌, ◌&&◌, ◌⊎◌, nat_le, nat_lt, Option, option_map, IfSome, is_some, is_none, Result, Ok, Err}
+use Rattle.std.proofs.Common.{◌≡◌, ◌≢◌, ℕ, ◌+◌, ◌-◌, ◌<◌, ◌≤◌, ◌==◌, List, [], ◌∷◌, ◌++◌, length, Bool, true, false, max, cond, Some, None, refl, sym, ap, ◌∙◌, arith, subst, inl, inr, append_assoc, length-append}
+use Rattle.std.specs.Prelude.{◌||◌, ◌&&◌, ◌⊎◌, nat_le, nat_lt, Option, option_map, IfSome, is_some, Result, Ok, Err}
 use Rattle.std.specs.List.{list_all, AllByRecursion}
 use Rattle.std.proofs.lemmas.Bool.Decides.{nat_tests}
 use Rattle.std.specs.declared.cmp.Ordering.{Ordering}
@@ -23,11 +23,11 @@ use Rattle.site_state.specs.declared.answers.Why.{Why}
 use Rattle.site_state.specs.declared.answers.Why.TheVariants as why
 use Rattle.site_state.specs.State.{Arrival, SenderState, SiteState, is_master_site, sender_of, arrived_in, first_in, beside, arrived_at, arrivals, opened_of}
 use Rattle.site_state.specs.Journal.{finished, low_water}
-use Rattle.site_state.specs.Streams.{with_one, queue_of, count_of, queued_behind, stream_in, stream_to, dep_at}
+use Rattle.site_state.specs.Streams.{with_one, queue_of, count_of, queued_behind, stream_in, stream_to}
 use Rattle.site_state.specs.Pasts.{greatest_finished, seen_of, with_seen, past_at, past_of, pasts_of, beside_name}
 use Rattle.site_state.specs.Ready.{number_in, covered, is_covered, is_due, stale_of, is_ready}
 use Rattle.site_state.specs.Steps.{begun}
-use Rattle.site_state.specs.Passes.{effect_here, finished_by, applied_unless, site_apply, apply_each, site_pass}
+use Rattle.site_state.specs.Passes.{effect_here, finished_by, site_apply, apply_each}
 use Rattle.site_state.specs.Joining.{site_open}
 use Rattle.site_state.proofs.LowWater.{low_water-greatest, low_water-below}
 use Rattle.site_state.proofs.Growing.{IsFront, front_none, queued_behind-append, length-queued_behind, queued_behind-none, at_position-append, dep_at-earlier}
@@ -49,7 +49,7 @@ use Rattle.event_laws.proofs.MarkLaws.{becomes_holds, start_holds, arrived_was_s
 use Rattle.event_laws.proofs.PassLaws.{Finishes, apply_finishes}
 use Rattle.event_laws.proofs.PassLaws as passing
 use Rattle.event_laws.proofs.DeclaredSites.{IsSiteOf, becomes_sites_of, start_sites_of}
-use Rattle.event_laws.proofs.Meeting.{PastIs, PacketPast, is_known, EachArrival, HasPast, KnowsPast, SiteMeets, MeetsAt, Meets, AddsIn, AllAdd, all_add_same, at_adds, at_meets, steps_meet, accept_meets, purge_meets, refreshed_meets, sends_meet, marks_meet, still_closed, count_of-adds}
+use Rattle.event_laws.proofs.Meeting.{PastIs, PacketPast, is_known, EachArrival, SiteMeets, MeetsAt, Meets, AddsIn, AllAdd, all_add_same, at_adds, at_meets, steps_meet, accept_meets, purge_meets, refreshed_meets, sends_meet, marks_meet, still_closed, count_of-adds}
 use Rattle.event_laws.proofs.JoinedMeets.{joined_meets, joined_closed}
 
 -- ---- numbers that were queued

@@ -1,6 +1,6 @@
 -- What a packet, a purge, a refresh and an opening leave of a site.
-use Rattle.std.proofs.Common.{◌≡◌, ℕ, ◌+◌, ◌≤◌, List, [], ◌∷◌, Bool, true, false, min, cond, Some, None, refl, sym, ap, ◌∙◌, arith, inl, inr, length-append}
-use Rattle.std.specs.Prelude.{◌≢◌, Option}
+use Rattle.std.proofs.Common.{◌≡◌, ℕ, ◌+◌, ◌≤◌, List, [], ◌∷◌, Bool, true, false, min, cond, Some, None, refl, sym, ◌∙◌, arith, inl, inr, length-append}
+use Rattle.std.specs.Prelude.{Option}
 use Rattle.rep_values.specs.declared.name.SiteName.{SiteName}
 use Rattle.deferred_queue.specs.Streams.{is_same_site}
 use Rattle.packet_code.specs.declared.packet.Packet.{Packet}
@@ -12,7 +12,7 @@ use Rattle.site_state.specs.Packets.{arrived_by, taken_unless, is_foreign, site_
 use Rattle.site_state.specs.Purges.{acknowledged_by, acknowledged_by_all, site_purge}
 use Rattle.site_state.specs.Refreshes.{site_refresh}
 use Rattle.site_state.specs.Joining.{site_open}
-use Rattle.site_state.proofs.Growing.{front_none, queue_after-rebased}
+use Rattle.site_state.proofs.Growing.{queue_after-rebased}
 use Rattle.site_state.proofs.Stepping.{Later, later_same}
 use Rattle.site_state.proofs.Destinations.{opened_in-acknowledged, acked_in-rises, acked_in-opened, IsOpenedFrom, opened_in-opened, opened_from_stays}
 

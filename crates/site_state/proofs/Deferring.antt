@@ -1,6 +1,6 @@
 -- What the queue's crate says of a site's queue is what the site's own words say: its streams, its packets, and what a
 -- purge takes.
-use Rattle.std.proofs.Common.{◌≡◌, ℕ, suc, ◌+◌, ◌<◌, ◌≤◌, ◌==◌, List, [], ◌∷◌, length, map, Bool, true, false, cond, max, min, Some, None, refl, sym, ap, ◌∙◌, arith}
+use Rattle.std.proofs.Common.{◌≡◌, ℕ, suc, ◌+◌, ◌≤◌, ◌==◌, List, [], ◌∷◌, length, map, Bool, true, false, cond, max, min, Some, None, refl, sym, ap, ◌∙◌, arith}
 use Rattle.std.specs.Prelude.{◌&&◌, Option, option_map, nat_lt, nat_le, filter_map}
 use Rattle.std.specs.List.{cons_option, list_all, AllByRecursion}
 use Rattle.std.proofs.lemmas.Bool.Decides.{nat_tests}
@@ -9,7 +9,7 @@ use Rattle.rep_schema.specs.declared.schema.Schema.{Schema}
 use Rattle.rep_calls.specs.declared.call.Txn.{Txn}
 use Rattle.rep_calls.specs.declared.past.Past.{Past}
 use Rattle.packet_code.specs.declared.packet.Packet.{Packet}
-use Rattle.packet_code.specs.declared.packet.Packet.TheVariants.{Carry, Mark}
+use Rattle.packet_code.specs.declared.packet.Packet.TheVariants.{Carry}
 use Rattle.deferred_queue.specs.declared.cargo.Cargo.{Cargo}
 use Rattle.deferred_queue.specs.declared.destination.Destination.{Destination}
 use Rattle.deferred_queue.specs.Streams.{Deferred, InStream, is_same_site, destination_to, stream_to, at_position, unpurged, acked_by, last_position, is_acknowledged, purged}
@@ -85,7 +85,7 @@ length-stream_to schema site opened ds gone pasts (txn ∷ older) apart is =
   where
     by : (b : Bool) → length (stream_to site (deferred_in schema ds gone pasts older)) ≡ length (queued_behind opened older)
         → length (queue.with_one (cond b (Some (record { site = site; dep = dependency_of schema txn (queued_behind opened older) })) None) (length (deferred_in schema ds gone pasts older) + 1)
-            (cargo_kept gone (length older + 1) txn (at_position (length older + 1) pasts)) (stream_to site (deferred_in schema ds gone pasts older)))
+        (cargo_kept gone (length older + 1) txn (at_position (length older + 1) pasts)) (stream_to site (deferred_in schema ds gone pasts older)))
         ≡ length (with_one b txn (queued_behind opened older))
     by true later = ap suc later
     by false later = later
@@ -160,7 +160,7 @@ packet_of-deferred_of site p x apart = go (opened_of site x) refl
   where
     kept : (opened : ℕ) (txn : Txn) → opened_of site x ≡ Some opened → (b : Bool)
         → option_map (packet_with x.here.site site p (in_stream x.schema opened x.purged (pasts_of x) p (queued_behind opened (queue_of x)) txn))
-            (cond b None (Some (record { txn = txn; past = past_in (at_position (opened + p) (pasts_of x)) })))
+        (cond b None (Some (record { txn = txn; past = past_in (at_position (opened + p) (pasts_of x)) })))
         ≡ cond b None (Some (Carry x.here.site site (opened + p) p (dep_at x.schema p (queued_behind opened (queue_of x))) (past_in (at_position (opened + p) (pasts_of x))) txn))
     kept opened txn is true = refl
     kept opened txn is false = refl
@@ -269,7 +269,7 @@ purged-deferred_in schema ds gone pasts count [] apart within = refl
 purged-deferred_in schema ds gone pasts count (txn ∷ older) apart within =
     rw (all_acked schema ds apart gone pasts count txn older (omega (arith, within)) ds (all_found ds apart), purged-deferred_in schema ds gone pasts count older apart (omega (arith, within)))
     (ap (λ (cargo : Option Cargo). record { cargo = cargo; to = filter_map (place_for schema txn older) ds } ∷ deferred_in schema ds (max gone (acknowledged_by_all count ds)) pasts older)
-        (kept (nat_le (length older + 1) (acknowledged_by_all count ds)) refl (nat_le (length older + 1) gone) refl (nat_le (length older + 1) (max gone (acknowledged_by_all count ds))) refl))
+    (kept (nat_le (length older + 1) (acknowledged_by_all count ds)) refl (nat_le (length older + 1) gone) refl (nat_le (length older + 1) (max gone (acknowledged_by_all count ds))) refl))
   where
     cargo : Option Cargo
     cargo = Some (record { txn = txn; past = past_in (at_position (length older + 1) pasts) })

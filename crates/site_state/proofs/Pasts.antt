@@ -39,7 +39,7 @@ find_put a p xs there = go (nat_cmp a.position p) refl
     go Less is = other (λ e. absurd (cc (e, is)))
     go Equal is = λ none.
         let own : find_at (beside p) (put_at (beside a.position) a xs) ≡ Some a =
-            subst (λ q. find_at (beside q) (put_at (beside a.position) a xs) ≡ Some a) (exact_unsigned a.position p is) (find_put_own (λ (a : Arrival). a.position) nat_cmp nat_cmp_total a xs) in
+        subst (λ q. find_at (beside q) (put_at (beside a.position) a xs) ≡ Some a) (exact_unsigned a.position p is) (find_put_own (λ (a : Arrival). a.position) nat_cmp nat_cmp_total a xs) in
         absurd (cc (own, none))
     go Greater is = other (λ e. absurd (cc (e, is)))
 

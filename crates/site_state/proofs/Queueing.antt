@@ -1,6 +1,6 @@
 -- What each call queues, with what past, and which destinations it opens.
-use Rattle.std.proofs.Common.{◌≡◌, ℕ, List, [], ◌∷◌, length, Bool, true, false, cond, Some, None, refl, inl, inr}
-use Rattle.std.specs.Prelude.{◌⊎◌, Option, is_some}
+use Rattle.std.proofs.Common.{◌≡◌, ℕ, List, [], Bool, true, false, Some, None, refl}
+use Rattle.std.specs.Prelude.{◌⊎◌, Option}
 use Rattle.rep_values.specs.declared.name.SiteName.{SiteName}
 use Rattle.rep_schema.specs.declared.schema.Schema.{Schema}
 use Rattle.rep_schema.specs.Tables.{Rows}

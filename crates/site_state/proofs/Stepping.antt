@@ -1,5 +1,5 @@
 -- What a call that only journals leaves of a site, and what a site has later.
-use Rattle.std.proofs.Common.{◌≡◌, ℕ, ◌+◌, ◌≤◌, ◌==◌, List, [], ◌∷◌, ◌++◌, length, Bool, true, false, cond, Some, None, refl, sym, ◌∙◌, arith, append-nil}
+use Rattle.std.proofs.Common.{◌≡◌, ℕ, ◌+◌, ◌≤◌, ◌==◌, List, [], ◌∷◌, length, Bool, true, false, cond, Some, None, refl, sym, ◌∙◌, arith, append-nil}
 use Rattle.std.specs.Prelude.{◌&&◌, ◌≢◌, Option, IfSome, Result, Ok, Err}
 use Rattle.std.proofs.lemmas.Bool.Decides.{nat_tests}
 use Rattle.std.proofs.lemmas.Map.Lookups.{exact_unsigned}
@@ -20,7 +20,6 @@ use Rattle.deferred_queue.proofs.Positions.{found_position}
 use Rattle.site_state.specs.declared.entry.Entry.{Entry}
 use Rattle.site_state.specs.declared.entry.Entry.TheVariants.{Local, Done, Error, Executed, Dropped, Refreshed}
 use Rattle.site_state.specs.declared.entry.ErrorEntry.{ErrorEntry}
-use Rattle.site_state.specs.declared.answers.Why.{Why}
 use Rattle.site_state.specs.declared.answers.Why.TheVariants as why
 use Rattle.site_state.specs.State.{Arrival, SiteState, sender_of, arrived_in, arrived_at, beside, opened_of}
 use Rattle.site_state.specs.Journal.{finished, low_water, error_at, is_position}
@@ -31,7 +30,7 @@ use Rattle.site_state.specs.Commits.{block_at, committed_by, committed, site_com
 use Rattle.site_state.specs.Passes.{effect_here, finished_by, applied_unless, site_apply}
 use Rattle.site_state.specs.Errors.{effect_of_error, executed_by, executed_found, site_execute, dropped_found, site_drop}
 use Rattle.site_state.specs.Purges.{site_purge_log}
-use Rattle.site_state.proofs.LowWater.{low_water-append, finished-append}
+use Rattle.site_state.proofs.LowWater.{low_water-append}
 use Rattle.site_state.proofs.Growing.{IsFront, front_none, queue_after-append, queued_behind-append, at_position-append, dep_at-append}
 
 -- what arrived at a position that is due and isn't finished
