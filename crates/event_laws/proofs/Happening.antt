@@ -35,7 +35,8 @@ no_master : (a b : Bool) → (not a && b) ≡ true → a ≡ false
 no_master true b is = cc
 no_master false b is = refl
 
-refreshed_is : (sites : List SiteState) (x : SiteState) → IsRefreshed sites x (refreshed sites x)
+-- a refresh leaves such a site
+pub refreshed_is : (sites : List SiteState) (x : SiteState) → IsRefreshed sites x (refreshed sites x)
 refreshed_is sites x = go (found_site sites (master_of x.schema x.here.site)) refl
   where
     by : (master : SiteState) → found_site sites (master_of x.schema x.here.site) ≡ Some master → (b : Bool) → (not x.here.is_master && is_all_acked x) ≡ b

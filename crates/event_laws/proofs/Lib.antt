@@ -13,6 +13,9 @@ pub mod Passing
 pub mod Meeting
 pub mod JoinedMeets
 pub mod Waiting
+pub mod QueryTables
+pub mod FittingBlocks
+pub mod FittingSites
 mod WorkedRuns
 mod WorkedDeliveries
 mod WorkedErrors

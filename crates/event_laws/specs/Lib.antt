@@ -10,3 +10,4 @@ pub mod Orders
 pub mod ErrorLaws
 pub mod PassLaws
 pub mod Waiting
+pub mod Fitting

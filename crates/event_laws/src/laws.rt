@@ -1,5 +1,6 @@
 //! Laws over every list of events, and over every site. The functions are empty: their contracts are the laws.
 ghost use Rattle.event_laws.specs.ErrorLaws.{DropsSettle, ErrorsStandWhole, ExecutionsApplyAnew, RefusedExecutionsChangeNothing};
+ghost use Rattle.event_laws.specs.Fitting.{EverySiteFits};
 ghost use Rattle.event_laws.specs.Marks.{AreWellNumbered, MarksAreLow, PurgedIsFinished};
 ghost use Rattle.event_laws.specs.Orders.{AreFinishedOnce, AreSettledOnce, EarlierComesFirst};
 ghost use Rattle.event_laws.specs.PassLaws.{EverySiteCanPass, LowWaterIsThatOfTheFinished, PassesLeaveNothingReady, PurgesTakeWhatIsAcknowledged};
@@ -51,4 +52,10 @@ pub fn purges_take_what_is_acknowledged()
 /// whatever happened before, joins among it.
 pub fn nothing_waits_for_ever()
     ensures { NothingWaitsForEver }
+{}
+
+/// Tables stay tables, and every transaction that is queued, arrived or journalled fits the schema, whatever happens. What
+/// a block changes its transaction changes, when it is applied to the same tables.
+pub fn every_site_fits()
+    ensures { EverySiteFits }
 {}
