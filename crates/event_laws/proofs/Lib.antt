@@ -22,3 +22,4 @@ mod WorkedErrors
 mod WorkedPasts
 mod WorkedSnapshots
 mod WorkedJoins
+mod WorkedStarts
