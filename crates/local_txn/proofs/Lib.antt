@@ -14,8 +14,8 @@ mod ApartGroups
 mod ModifiedRows
 mod StatementRows
 mod StatementSteps
-mod StatementEffects
-mod BlockSteps
+pub mod StatementEffects
+pub mod BlockSteps
 mod RisingStamps
 mod WorkedStatements
 mod WorkedStamps

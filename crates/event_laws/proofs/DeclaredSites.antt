@@ -1,0 +1,191 @@
+-- Sites stay as the schema declares them.
+use Rattle.std.proofs.Common.{◌≡◌, List, [], ◌∷◌, map, Bool, true, false, cond, Some, None, refl, sym, ap, ◌∙◌, subst}
+use Rattle.std.specs.Prelude.{◌||◌, ◌&&◌, Option}
+use Rattle.std.specs.List.{list_any, AllByRecursion}
+use Rattle.rep_values.specs.declared.name.SiteName.{SiteName}
+use Rattle.rep_schema.specs.declared.schema.Schema.{Schema}
+use Rattle.rep_schema.specs.declared.schema.SiteEntry.{SiteEntry}
+use Rattle.rep_schema.specs.Shape.{is_master}
+use Rattle.rep_schema.specs.Named.{is_site}
+use Rattle.rep_schema.specs.Sites.{senders_of, destinations_of}
+use Rattle.rep_calls.specs.declared.past.Past.{Past}
+use Rattle.deferred_queue.specs.Streams.{is_same_site}
+use Rattle.local_txn.specs.declared.local.Here.{Here}
+use Rattle.packet_code.specs.declared.packet.Packet.{Packet}
+use Rattle.packet_code.specs.declared.packet.Packet.TheVariants.{Carry, Mark}
+use Rattle.site_state.specs.State.{Arrival, SenderState, DestinationState, SiteState, is_master_site, at_sender, at_destination, arrived_at}
+use Rattle.site_state.specs.Packets.{with_arrival, arrived_by, acknowledged, taken_unless, is_foreign, site_accept}
+use Rattle.site_state.specs.Streams.{count_of}
+use Rattle.site_state.specs.Purges.{site_purge}
+use Rattle.site_state.specs.Making.{is_late_master, new_destination, master_here}
+use Rattle.site_state.specs.Joining.{opened_at, site_open, sender_from, site_copy}
+use Rattle.site_state.proofs.Stepping.{Steps, steps_later, Later}
+use Rattle.site_state.proofs.Changing.{accept_later, purge_later, open_later}
+use Rattle.event_laws.specs.Quiet.{are_quiet}
+use Rattle.event_laws.specs.Joins.{queue_counts, copied, may_join}
+use Rattle.event_laws.specs.Events.{receiver}
+use Rattle.event_laws.specs.Starts.{IsNewSite}
+use Rattle.event_laws.specs.Declared.{IsDeclared}
+use Rattle.event_laws.proofs.Sites.{found_all, all_at, all_joined}
+use Rattle.event_laws.proofs.Happening.{IsRefreshed, Becomes}
+use Rattle.event_laws.proofs.Happening as happening
+use Rattle.event_laws.proofs.NewSites.{open_to_each_keeps, copied_is_new}
+use Rattle.event_laws.proofs.MarkLaws.{refreshed_later}
+
+-- the names of senders
+abbrev pub origins : List SenderState → List SiteName
+origins ss = map (λ (s : SenderState). s.origin) ss
+
+-- the names of destinations
+abbrev pub sites_in : List DestinationState → List SiteName
+sites_in ds = map (λ (d : DestinationState). d.site) ds
+
+-- a change leaves what a site is, and the names of its senders and destinations
+pub record KeepsNames (x y : SiteState) : Type 0 where
+  pub here : y.here ≡ x.here
+  pub senders : origins y.senders ≡ origins x.senders
+  pub destinations : sites_in y.destinations ≡ sites_in x.destinations
+
+pub names_same : (x : SiteState) → KeepsNames x x
+names_same x = record { here = refl; senders = refl; destinations = refl }
+
+pub steps_names : (x y : SiteState) → Steps x y → KeepsNames x y
+steps_names x y s = record { here = s.here; senders = rw s.senders refl; destinations = rw s.destinations refl }
+
+origins-at_sender : (change : SenderState → SenderState) → ((s : SenderState) → (change s).origin ≡ s.origin) → (origin : SiteName) (ss : List SenderState) → origins (at_sender origin change ss) ≡ origins ss
+origins-at_sender change keeps origin [] = refl
+origins-at_sender change keeps origin (s ∷ ss) = go (is_same_site s.origin origin) (origins-at_sender change keeps origin ss)
+  where
+    go : (b : Bool) → origins (at_sender origin change ss) ≡ origins ss → origins (cond b (change s ∷ ss) (s ∷ at_sender origin change ss)) ≡ s.origin ∷ origins ss
+    go true later = rw (keeps s) refl
+    go false later = ap (λ names. s.origin ∷ names) later
+
+sites_in-at_destination : (change : DestinationState → DestinationState) → ((d : DestinationState) → (change d).site ≡ d.site) → (site : SiteName) (ds : List DestinationState)
+    → sites_in (at_destination site change ds) ≡ sites_in ds
+sites_in-at_destination change keeps site [] = refl
+sites_in-at_destination change keeps site (d ∷ ds) = go (is_same_site d.site site) (sites_in-at_destination change keeps site ds)
+  where
+    go : (b : Bool) → sites_in (at_destination site change ds) ≡ sites_in ds → sites_in (cond b (change d ∷ ds) (d ∷ at_destination site change ds)) ≡ d.site ∷ sites_in ds
+    go true later = rw (keeps d) refl
+    go false later = ap (λ names. d.site ∷ names) later
+
+pub accept_names : (packet : Packet) (x : SiteState) → KeepsNames x (site_accept packet x)
+accept_names packet x = go packet (is_foreign packet x)
+  where
+    by : (found : Option Arrival) (from : SiteName) (a : Arrival) → KeepsNames x (arrived_by found from a x)
+    by None from a = record { here = refl; senders = origins-at_sender (with_arrival a) (λ s. refl) from x.senders; destinations = refl }
+    by (Some before) from a = names_same x
+
+    go : (packet : Packet) (b : Bool) → KeepsNames x (taken_unless b packet x)
+    go packet true = names_same x
+    go (Carry from to number position dep past txn) false = by (arrived_at from position x.senders) from _
+    go (Mark from to mark) false = record { here = refl; senders = refl; destinations = sites_in-at_destination (acknowledged mark) (λ d. refl) from x.destinations }
+
+pub purge_names : (x : SiteState) → KeepsNames x (site_purge x)
+purge_names x = record { here = refl; senders = refl; destinations = refl }
+
+pub refreshed_names : (sites : List SiteState) (x y : SiteState) → IsRefreshed sites x y → KeepsNames x y
+refreshed_names sites x _ happening.Not = names_same x
+refreshed_names sites x _ (happening.From master found is) = record { here = refl; senders = refl; destinations = refl }
+
+pub open_names : (site : SiteName) (x : SiteState) → KeepsNames x (site_open site x)
+open_names site x = record { here = refl; senders = refl; destinations = sites_in-at_destination (opened_at (count_of x)) (λ d. refl) site x.destinations }
+
+-- so a declared site stays declared
+pub still_declared : (schema : Schema) (x y : SiteState) → KeepsNames x y → IsDeclared schema x → IsDeclared schema y
+still_declared schema x y keeps is = record {
+  is_master = rw keeps.here is.is_master;
+  senders = keeps.senders ∙ is.senders ∙ ap (λ (h : Here). senders_of schema h.site) (sym keeps.here);
+  destinations = keeps.destinations ∙ is.destinations ∙ ap (λ (h : Here). destinations_of schema h.site) (sym keeps.here);
+}
+
+-- ---- one that joins
+
+origins-map : (firsts : List Past) (names : List SiteName) → origins (map (sender_from firsts) names) ≡ names
+origins-map firsts [] = refl
+origins-map firsts (name ∷ names) = ap (λ rest. name ∷ rest) (origins-map firsts names)
+
+sites_in-map : (schema : Schema) (names : List SiteName) → sites_in (map (new_destination schema) names) ≡ names
+sites_in-map schema [] = refl
+sites_in-map schema (name ∷ names) = ap (λ rest. name ∷ rest) (sites_in-map schema names)
+
+any_weaker : (p q : SiteEntry → Bool) → ((e : SiteEntry) → p e ≡ true → q e ≡ true) → (es : List SiteEntry) → list_any p es ≡ true → list_any q es ≡ true
+any_weaker p q implies [] any = cc
+any_weaker p q implies (e ∷ es) any = go (p e) refl any (any_weaker p q implies es)
+  where
+    or_true : (b : Bool) → (b || true) ≡ true
+    or_true true = refl
+    or_true false = refl
+
+    go : (b : Bool) → p e ≡ b → (b || list_any p es) ≡ true → (list_any p es ≡ true → list_any q es ≡ true) → (q e || list_any q es) ≡ true
+    go true is any later = rw (implies e is) refl
+    go false is any later = rw (later any) (or_true (q e))
+
+-- a late master is a master
+pub late_is_master : (schema : Schema) (name : SiteName) → is_late_master schema name ≡ true → is_master_site schema name ≡ true
+late_is_master schema name late = any_weaker (λ site. is_site name site && (is_master site && site.late)) (λ site. is_site name site && is_master site) (λ e. weaker (is_site name e) (is_master e) e.late) schema.sites late
+  where
+    weaker : (b c d : Bool) → (b && (c && d)) ≡ true → (b && c) ≡ true
+    weaker true true d is = refl
+    weaker true false d is = cc
+    weaker false c d is = cc
+
+-- a site of a schema, as it declares it
+pub record IsSiteOf (schema : Schema) (x : SiteState) : Type 0 where
+  pub of_schema : x.schema ≡ schema
+  pub declared : IsDeclared schema x
+
+-- a late master that joins is declared
+pub copied_declared : (sites : List SiteState) (source : SiteState) (site : SiteName) → is_late_master source.schema site ≡ true → IsDeclared source.schema (copied sites source site)
+copied_declared sites source site late =
+    open_to_each_keeps (IsDeclared source.schema) (λ s x is. still_declared source.schema x (site_open s x) (open_names s x) is) sites (site_copy source (master_here source.schema site) (queue_counts sites)) (record {
+      is_master = sym (late_is_master source.schema site late);
+      senders = origins-map (queue_counts sites) (senders_of source.schema site);
+      destinations = sites_in-map source.schema (destinations_of source.schema site);
+    })
+
+-- ---- every event
+
+kept : (schema : Schema) (x y : SiteState) → Later x y → KeepsNames x y → IsSiteOf schema x → IsSiteOf schema y
+kept schema x y later keeps is = record { of_schema = later.schema ∙ is.of_schema; declared = still_declared schema x y keeps is.declared }
+
+-- a late master may join
+pub joins_late : (sites : List SiteState) (source : SiteState) (site : SiteName) → may_join sites source site ≡ true → is_late_master source.schema site ≡ true
+joins_late sites source site may = second source.here.is_master (is_late_master source.schema site) (are_quiet sites) may
+  where
+    second : (a b c : Bool) → (a && b && c) ≡ true → b ≡ true
+    second true true c is = refl
+    second true false c is = cc
+    second false b c is = cc
+
+-- as a copy of a master
+pub joins_from_master : (sites : List SiteState) (source : SiteState) (site : SiteName) → may_join sites source site ≡ true → source.here.is_master ≡ true
+joins_from_master sites source site may = first source.here.is_master (is_late_master source.schema site) (are_quiet sites) may
+  where
+    first : (a b c : Bool) → (a && b && c) ≡ true → a ≡ true
+    first true b c is = refl
+    first false b c is = cc
+
+copied_is_site_of : (schema : Schema) (sites : List SiteState) (source : SiteState) (site : SiteName) → is_late_master source.schema site ≡ true → IsSiteOf schema source → IsSiteOf schema (copied sites source site)
+copied_is_site_of schema sites source site late is = record {
+  of_schema = (copied_is_new sites source site).schema_is ∙ is.of_schema;
+  declared = subst (λ s. IsDeclared s (copied sites source site)) is.of_schema (copied_declared sites source site late);
+}
+
+pub becomes_sites_of : (schema : Schema) (xs : List SiteState) (sent : List Packet) (ys : List SiteState) (more : List Packet) → Becomes xs sent ys more
+    → AllByRecursion (IsSiteOf schema) xs → AllByRecursion (IsSiteOf schema) ys
+becomes_sites_of schema xs sent _ _ happening.Stays all = all
+becomes_sites_of schema xs sent _ _ (happening.Journalled name change steps) all = all_at (IsSiteOf schema) name change xs (λ x. kept schema x (change x) (steps_later x (change x) (steps x)) (steps_names x (change x) (steps x))) all
+becomes_sites_of schema xs sent _ _ (happening.Sends from to position) all = all
+becomes_sites_of schema xs sent _ _ (happening.Marks from to) all = all
+becomes_sites_of schema xs sent _ _ (happening.Delivers packet which is) all = all_at (IsSiteOf schema) (receiver packet) _ xs (λ x. kept schema x _ (accept_later packet x) (accept_names packet x)) all
+becomes_sites_of schema xs sent _ _ (happening.Purges name) all = all_at (IsSiteOf schema) name site_purge xs (λ x. kept schema x _ (purge_later x) (purge_names x)) all
+becomes_sites_of schema xs sent _ _ (happening.Refreshes name change refreshed) all =
+    all_at (IsSiteOf schema) name change xs (λ x. kept schema x (change x) (refreshed_later xs x (change x) (refreshed x)) (refreshed_names xs x (change x) (refreshed x))) all
+becomes_sites_of schema xs sent _ _ (happening.Joins site from source absent found may) all =
+    all_joined (IsSiteOf schema) (site_open site) xs (copied xs source site) (λ x. kept schema x _ (open_later site x) (open_names site x))
+    (copied_is_site_of schema xs source site (joins_late xs source site may) (found_all (IsSiteOf schema) from xs source all found)) all
+
+pub start_sites_of : (schema : Schema) (sites : List SiteState) → AllByRecursion (IsNewSite schema) sites → AllByRecursion (IsDeclared schema) sites → AllByRecursion (IsSiteOf schema) sites
+start_sites_of schema [] new declared = tt
+start_sites_of schema (x ∷ xs) new declared = (record { of_schema = new.0.schema_is; declared = declared.0 }, start_sites_of schema xs new.1 declared.1)

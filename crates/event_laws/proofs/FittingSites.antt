@@ -1,0 +1,364 @@
+-- What fits at a site goes on to fit, call by call.
+use Rattle.std.proofs.Common.{◌≡◌, ℕ, List, [], ◌∷◌, map, Bool, true, false, cond, not, Some, None, Ok, Err, refl, sym, ◌∙◌, subst}
+use Rattle.std.specs.Prelude.{◌||◌, Option, is_none, Result, slice_get}
+use Rattle.std.specs.List.{AllByRecursion, list_all}
+use Rattle.std.specs.declared.cmp.Ordering.{Ordering}
+use Rattle.std.specs.declared.cmp.Ordering.TheVariants.{Less, Equal, Greater}
+use Rattle.rep_lists.specs.Rising.{find_at, found_here}
+use Rattle.rep_lists.proofs.Rising.{all_put}
+use Rattle.rep_values.specs.declared.name.SiteName.{SiteName}
+use Rattle.rep_schema.specs.declared.schema.Schema.{Schema}
+use Rattle.rep_schema.specs.declared.change.Change.{Change}
+use Rattle.rep_schema.specs.Tables.{AreTables}
+use Rattle.rep_schema.specs.Sites.{senders_of}
+use Rattle.rep_calls.specs.declared.call.Txn.{Txn}
+use Rattle.rep_calls.specs.declared.past.Past.{Past}
+use Rattle.rep_calls.specs.declared.statement.Statement.{Statement}
+use Rattle.conflict_detect.specs.Fits.{TxnFits}
+use Rattle.conflict_detect.specs.FitTests.{txn_fits}
+use Rattle.conflict_detect.proofs.FitTested.{txn_test}
+use Rattle.unique_resolve.proofs.Settlements.{AreCounters-first}
+use Rattle.txn_effects.specs.Calls.{Effect}
+use Rattle.txn_effects.specs.Transactions.{Failure}
+use Rattle.txn_effects.specs.Contents.{IsContent}
+use Rattle.deferred_queue.specs.Streams.{is_same_site}
+use Rattle.packet_code.specs.declared.packet.Packet.{Packet}
+use Rattle.packet_code.specs.declared.packet.Packet.TheVariants.{Carry, Mark}
+use Rattle.local_txn.specs.declared.local.LocalStop.{LocalStop}
+use Rattle.local_txn.specs.Locals.{BlockEffect}
+use Rattle.snapshot_query.specs.declared.snapshot.Snapshot.{Snapshot}
+use Rattle.rep_laws.specs.Commuting.{IsSound}
+use Rattle.rep_laws.proofs.SoundSchemas.{HasKeys-sound, KeysStandAlone-sound}
+use Rattle.site_state.specs.declared.entry.Entry.{Entry}
+use Rattle.site_state.specs.declared.entry.Entry.TheVariants.{Local, Done, Error, Executed, Dropped, Refreshed}
+use Rattle.site_state.specs.declared.entry.ErrorEntry.{ErrorEntry}
+use Rattle.site_state.specs.declared.answers.Why.{Why}
+use Rattle.site_state.specs.State.{Arrival, SenderState, SiteState, sender_of, at_sender, beside, arrived_in, arrived_at}
+use Rattle.site_state.specs.Journal.{is_position, error_at}
+use Rattle.site_state.specs.Contents.{content_of, tables_of, txn_of}
+use Rattle.site_state.specs.Streams.{with_one, went_onward, queue_of}
+use Rattle.site_state.specs.Notes.{touched_in}
+use Rattle.site_state.specs.Ready.{stale_of}
+use Rattle.site_state.specs.Steps.{is_empty, begun}
+use Rattle.site_state.specs.Commits.{block_at, committed_by, committed, site_commit, site_clock}
+use Rattle.site_state.specs.Packets.{with_arrival, arrived_by, is_known_past, is_foreign, taken_unless, site_accept}
+use Rattle.site_state.specs.Passes.{effect_here, finished_by, applied_unless, site_apply}
+use Rattle.site_state.specs.Errors.{effect_of_error, executed_by, executed_found, site_execute, dropped_found, site_drop}
+use Rattle.site_state.specs.Purges.{site_purge, site_purge_log}
+use Rattle.site_state.specs.Refreshes.{rows_shown, with_tables, renewed}
+use Rattle.site_state.specs.Making.{master_here}
+use Rattle.site_state.specs.Joining.{sender_from, site_open, site_copy}
+use Rattle.site_state.proofs.Growing.{queue_after-rebased}
+use Rattle.site_state.proofs.Stepping.{commit_steps, apply_steps, execute_steps, drop_steps}
+use Rattle.site_state.proofs.Changing.{accept_later}
+use Rattle.event_laws.specs.Core.{Core, site_of, at_site}
+use Rattle.event_laws.specs.Joins.{queue_counts, copied, with_joined, may_join, joined_by, joined}
+use Rattle.event_laws.specs.Events.{Event, Commit, SetClock, Send, SendMark, Deliver, Begin, Apply, Execute, Drop, Purge, PurgeLog, Refresh, Join, receiver, delivered, may_apply, applied_where, master_of, found_site, refreshed, happens, run}
+use Rattle.event_laws.specs.Starts.{IsNewSite}
+use Rattle.event_laws.specs.Fitting.{StartsFit, EntryFits, SendersFit, EverySiteFits}
+use Rattle.event_laws.proofs.Sites.{found_all, all_at, all_joined}
+use Rattle.event_laws.proofs.Happening.{IsRefreshed, refreshed_is}
+use Rattle.event_laws.proofs.Happening as happening
+use Rattle.event_laws.proofs.NewSites.{open_to_each_keeps}
+use Rattle.event_laws.proofs.QueryTables.{AreWithin, AreTables-rows_shown}
+use Rattle.event_laws.proofs.FittingBlocks.{IsKeyed, IsContent-content_after, TxnFits-led, TxnFits-changes_by, block_applied, block_own}
+use Rattle.local_txn.proofs.StatementEffects.{effect_with}
+
+-- ---- what holds
+
+record SiteFits (x : SiteState) : Type 0 where
+  keyed : IsKeyed x.schema
+  content : IsContent x.schema (content_of x)
+  queued : AllByRecursion (TxnFits x.schema) (queue_of x)
+  senders : SendersFit x.schema x.senders
+  journal : AllByRecursion (EntryFits x.schema) x.journal
+  within : AreWithin x.schema x.snapshots
+
+-- a site of the schema fits
+record FitsIn (schema : Schema) (x : SiteState) : Type 0 where
+  same : x.schema ≡ schema
+  fits : SiteFits x
+
+-- ---- what is found fits
+
+find_fits : (P : Arrival → Type 0) (at : Arrival → Ordering) (xs : List Arrival) (a : Arrival) → AllByRecursion P xs → find_at at xs ≡ Some a → P a
+find_fits P at [] a all found = absurd (cc found)
+find_fits P at (y ∷ ys) a all found = go (at y) (find_fits P at ys a all.1) found
+  where
+    go : (o : Ordering) → (find_at at ys ≡ Some a → P a) → found_here o y (find_at at ys) ≡ Some a → P a
+    go Less later found = later found
+    go Equal later found = let same : y ≡ a = cc found in subst P same all.0
+    go Greater later found = absurd (cc found)
+
+arrived_fits : (schema : Schema) (origin : SiteName) (position : ℕ) (ss : List SenderState) (a : Arrival) → SendersFit schema ss → arrived_at origin position ss ≡ Some a → TxnFits schema a.txn
+arrived_fits schema origin position [] a all found = absurd (cc found)
+arrived_fits schema origin position (s ∷ ss) a all found = go (is_same_site s.origin origin) (arrived_fits schema origin position ss a all.1) found
+  where
+    go : (b : Bool) → (arrived_at origin position ss ≡ Some a → TxnFits schema a.txn) → find_at (beside position) (arrived_in (cond b (Some s) (sender_of origin ss))) ≡ Some a → TxnFits schema a.txn
+    go true later found = find_fits (λ (a : Arrival). TxnFits schema a.txn) (beside position) s.arrived a all.0 found
+    go false later found = later found
+
+unless_fits : (schema : Schema) (b : Bool) (o : Option ErrorEntry) (e : ErrorEntry) → (o ≡ Some e → TxnFits schema e.txn) → cond b None o ≡ Some e → TxnFits schema e.txn
+unless_fits schema true o e later found = absurd (cc found)
+unless_fits schema false o e later found = later found
+
+error_fits : (schema : Schema) (origin : SiteName) (position : ℕ) (es : List Entry) (e : ErrorEntry) → AllByRecursion (EntryFits schema) es → error_at origin position es ≡ Some e → TxnFits schema e.txn
+error_fits schema origin position [] e all found = absurd (cc found)
+error_fits schema origin position (Local number txn ∷ es) e all found = error_fits schema origin position es e all.1 found
+error_fits schema origin position (Done o p onward txn ∷ es) e all found = error_fits schema origin position es e all.1 found
+error_fits schema origin position (Error o p call error txn ∷ es) e all found = go (is_position origin position o p) (error_fits schema origin position es e all.1) found
+  where
+    go : (b : Bool) → (error_at origin position es ≡ Some e → TxnFits schema e.txn)
+        → cond b (Some (record { origin = o; position = p; call = call; error = error; txn = txn })) (error_at origin position es) ≡ Some e → TxnFits schema e.txn
+    go true later found = let same : record { origin = o; position = p; call = call; error = error; txn = txn } ≡ e = cc found in subst (λ (e : ErrorEntry). TxnFits schema e.txn) same all.0
+    go false later found = later found
+error_fits schema origin position (Executed o p onward txn ∷ es) e all found = unless_fits schema (is_position origin position o p) (error_at origin position es) e (error_fits schema origin position es e all.1) found
+error_fits schema origin position (Dropped o p ∷ es) e all found = unless_fits schema (is_position origin position o p) (error_at origin position es) e (error_fits schema origin position es e all.1) found
+error_fits schema origin position (Refreshed moment ∷ es) e all found = error_fits schema origin position es e all.1 found
+
+-- ---- calls
+
+one_fits : (schema : Schema) (b : Bool) (txn : Txn) (txns : List Txn) → TxnFits schema txn → AllByRecursion (TxnFits schema) txns → AllByRecursion (TxnFits schema) (with_one b txn txns)
+one_fits schema true txn txns fits all = (fits, all)
+one_fits schema false txn txns fits all = all
+
+within_touched : (schema : Schema) (changes : List Change) (ss : List Snapshot) → AreWithin schema ss → AreWithin schema (map (touched_in schema changes) ss)
+within_touched schema changes [] all = tt
+within_touched schema changes (s ∷ ss) all = (all.0, within_touched schema changes ss all.1)
+
+within_renewed : (schema : Schema) (moment : ℕ) (ss : List Snapshot) → AreWithin schema ss → AreWithin schema (map (renewed moment) ss)
+within_renewed schema moment [] all = tt
+within_renewed schema moment (s ∷ ss) all = (all.0, within_renewed schema moment ss all.1)
+
+commit_fits : (statements : List Statement) (x : SiteState) → SiteFits x → SiteFits (site_commit statements x)
+commit_fits statements x h = go (block_at statements x) refl
+  where
+    fits : (block : BlockEffect) → block_at statements x ≡ Ok block → TxnFits x.schema (txn_of x.schema block.changes)
+    fits block is = TxnFits-led x.schema h.keyed (tables_of x) (effect_with x.schema block.changes) h.content.tables (block_applied x.schema h.keyed x.here x.stamps statements (tables_of x) block h.content.tables is)
+
+    by : (block : BlockEffect) → TxnFits x.schema (txn_of x.schema block.changes) → (e : Bool) → SiteFits (cond e x (committed block x))
+    by block fits true = h
+    by block fits false = record {
+      keyed = h.keyed;
+      content = IsContent-content_after x.schema h.keyed x.here.site (txn_of x.schema block.changes) (content_of x) h.content fits;
+      queued = (fits, h.queued);
+      senders = h.senders;
+      journal = (fits, h.journal);
+      within = within_touched x.schema block.changes x.snapshots h.within;
+    }
+
+    go : (r : Result BlockEffect LocalStop) → block_at statements x ≡ r → SiteFits (committed_by r x)
+    go (Ok block) is = by block (fits block is) (is_empty block.changes)
+    go (Err stop) is = h
+
+apply_fits : (origin : SiteName) (position : ℕ) (x : SiteState) → SiteFits x → SiteFits (site_apply origin position x)
+apply_fits origin position x h = go (stale_of origin position x) (arrived_at origin position x.senders) refl
+  where
+    by : (a : Arrival) → TxnFits x.schema a.txn → (r : Result Effect Failure) → SiteFits (finished_by origin a r x)
+    by a fits (Ok effect) = record {
+      keyed = h.keyed;
+      content = IsContent-content_after x.schema h.keyed origin a.txn (content_of x) h.content fits;
+      queued = one_fits x.schema (went_onward x.here _) _ (queue_of x) (TxnFits-changes_by x.schema h.keyed origin a.txn (content_of x) h.content fits) h.queued;
+      senders = h.senders;
+      journal = (fits, h.journal);
+      within = within_touched x.schema effect.changes x.snapshots h.within;
+    }
+    by a fits (Err failure) = record { keyed = h.keyed; content = h.content; queued = h.queued; senders = h.senders; journal = (fits, h.journal); within = h.within }
+
+    go : (stale : Option Why) (found : Option Arrival) → arrived_at origin position x.senders ≡ found → SiteFits (applied_unless stale origin found x)
+    go (Some why) found is = h
+    go None None is = h
+    go None (Some a) is = by a (arrived_fits x.schema origin position x.senders a h.senders is) (effect_here origin a x)
+
+execute_fits : (origin : SiteName) (position : ℕ) (x : SiteState) → SiteFits x → SiteFits (site_execute origin position x)
+execute_fits origin position x h = go (error_at origin position x.journal) refl
+  where
+    by : (e : ErrorEntry) → TxnFits x.schema e.txn → (r : Result Effect Failure) → SiteFits (executed_by e r x)
+    by e fits (Ok effect) = record {
+      keyed = h.keyed;
+      content = IsContent-content_after x.schema h.keyed e.origin e.txn (content_of x) h.content fits;
+      queued = one_fits x.schema (went_onward x.here _) _ (queue_of x) (TxnFits-changes_by x.schema h.keyed e.origin e.txn (content_of x) h.content fits) h.queued;
+      senders = h.senders;
+      journal = (fits, h.journal);
+      within = within_touched x.schema effect.changes x.snapshots h.within;
+    }
+    by e fits (Err failure) = h
+
+    go : (found : Option ErrorEntry) → error_at origin position x.journal ≡ found → SiteFits (executed_found found x)
+    go None is = h
+    go (Some e) is = by e (error_fits x.schema origin position x.journal e h.journal is) (effect_of_error e x)
+
+drop_fits : (origin : SiteName) (position : ℕ) (x : SiteState) → SiteFits x → SiteFits (site_drop origin position x)
+drop_fits origin position x h = go (error_at origin position x.journal)
+  where
+    go : (found : Option ErrorEntry) → SiteFits (dropped_found found x)
+    go None = h
+    go (Some e) = record { keyed = h.keyed; content = h.content; queued = h.queued; senders = h.senders; journal = (tt, h.journal); within = h.within }
+
+senders_put : (schema : Schema) (from : SiteName) (a : Arrival) (ss : List SenderState) → TxnFits schema a.txn → SendersFit schema ss → SendersFit schema (at_sender from (with_arrival a) ss)
+senders_put schema from a [] fits all = tt
+senders_put schema from a (s ∷ ss) fits all = go (is_same_site s.origin from) (senders_put schema from a ss fits all.1)
+  where
+    go : (b : Bool) → SendersFit schema (at_sender from (with_arrival a) ss) → SendersFit schema (cond b (with_arrival a s ∷ ss) (s ∷ at_sender from (with_arrival a) ss))
+    go true later = (all_put (beside a.position) (λ (a : Arrival). TxnFits schema a.txn) a s.arrived fits all.0, all.1)
+    go false later = (all.0, later)
+
+-- what isn't foreign fits
+third : (a b c d : Bool) → (a || b || not c || d) ≡ false → c ≡ true
+third a b true d is = refl
+third true b false d is = cc
+third false true false d is = cc
+third false false false d is = cc
+
+accept_fits : (packet : Packet) (x : SiteState) → SiteFits x → SiteFits (site_accept packet x)
+accept_fits packet x h = go packet (is_foreign packet x) refl
+  where
+    by : (found : Option Arrival) (from : SiteName) (a : Arrival) → TxnFits x.schema a.txn → SiteFits (arrived_by found from a x)
+    by None from a fits = record { keyed = h.keyed; content = h.content; queued = h.queued; senders = senders_put x.schema from a x.senders fits h.senders; journal = h.journal; within = h.within }
+    by (Some before) from a fits = h
+
+    go : (packet : Packet) (b : Bool) → is_foreign packet x ≡ b → SiteFits (taken_unless b packet x)
+    go packet true is = h
+    go (Carry from to number position dep past txn) false is = by (arrived_at from position x.senders) from (record { position = position; number = number; dep = dep; past = past; txn = txn })
+        ((txn_test x.schema txn).0 (third (not (is_same_site to x.here.site)) (is_none (sender_of from x.senders)) (txn_fits x.schema txn) (not (list_all (is_known_past x) past)) is))
+    go (Mark from to mark) false is = record { keyed = h.keyed; content = h.content; queued = h.queued; senders = h.senders; journal = h.journal; within = h.within }
+
+-- ---- all sites
+
+module _ (schema : Schema) where
+  abbrev AllFit : List SiteState → Type 0
+  AllFit sites = AllByRecursion (FitsIn schema) sites
+
+  -- a call that changes nothing of this
+  plain_fits : (x y : SiteState) → y.schema ≡ x.schema → y.here ≡ x.here → y.base ≡ x.base → y.journal ≡ x.journal → y.senders ≡ x.senders → AreWithin x.schema y.snapshots → FitsIn schema x → FitsIn schema y
+  plain_fits x y same here base journal senders within h = record {
+    same = same ∙ h.same;
+    fits = record {
+      keyed = rw same h.fits.keyed;
+      content = rw (same, here, base, journal) h.fits.content;
+      queued = rw (same, here, base, journal) h.fits.queued;
+      senders = rw (same, senders) h.fits.senders;
+      journal = rw (same, journal) h.fits.journal;
+      within = rw same within;
+    };
+  }
+
+  open_fits : (site : SiteName) (x : SiteState) → FitsIn schema x → FitsIn schema (site_open site x)
+  open_fits site x h = plain_fits x _ refl refl refl refl refl h.fits.within h
+
+  refresh_fits : (sites : List SiteState) → ((name : SiteName) (m : SiteState) → site_of name sites ≡ Some m → FitsIn schema m) → (x y : SiteState) → IsRefreshed sites x y → FitsIn schema x → FitsIn schema y
+  refresh_fits sites found x _ happening.Not h = h
+  refresh_fits sites found x _ (happening.From master there is) h = record {
+    same = h.same;
+    fits = record {
+      keyed = h.fits.keyed;
+      content = record {
+        tables = AreTables-rows_shown x.schema (tables_of master) x.snapshots (tables_of x) (by (master_of x.schema x.here.site) there) h.fits.within h.fits.content.tables;
+        counters = AreCounters-first x.schema;
+      };
+      queued = rw (queue_after-rebased x.schema x.here (with_tables (rows_shown (tables_of master) x.snapshots) (tables_of x)) x.base x.journal is) h.fits.queued;
+      senders = h.fits.senders;
+      journal = (tt, h.fits.journal);
+      within = within_renewed x.schema master.moment x.snapshots h.fits.within;
+    };
+  }
+    where
+      by : (name : Option SiteName) → found_site sites name ≡ Some master → AreTables x.schema (tables_of master)
+      by None there = absurd (cc there)
+      by (Some name) there = let m = found name master there in subst (λ (s : Schema). AreTables s (tables_of master)) (m.same ∙ sym h.same) m.fits.content.tables
+
+  none_arrived : (firsts : List Past) (names : List SiteName) → SendersFit schema (map (sender_from firsts) names)
+  none_arrived firsts [] = tt
+  none_arrived firsts (n ∷ ns) = (tt, none_arrived firsts ns)
+
+  copied_fits : (sites : List SiteState) (source : SiteState) (site : SiteName) → FitsIn schema source → FitsIn schema (copied sites source site)
+  copied_fits sites source site h = open_to_each_keeps (FitsIn schema) open_fits sites (site_copy source (master_here source.schema site) (queue_counts sites)) (record {
+    same = h.same;
+    fits = record {
+      keyed = h.fits.keyed;
+      content = record { tables = h.fits.content.tables; counters = AreCounters-first source.schema };
+      queued = tt;
+      senders = subst (λ (s : Schema). SendersFit s (map (sender_from (queue_counts sites)) (senders_of source.schema site))) (sym h.same) (none_arrived (queue_counts sites) (senders_of source.schema site));
+      journal = tt;
+      within = tt;
+    };
+  })
+
+  joined_fits : (sites : List SiteState) (site from : SiteName) → AllFit sites → AllFit (joined site from sites)
+  joined_fits sites site from all = go (site_of site sites) (site_of from sites) refl
+    where
+      by : (source : SiteState) → FitsIn schema source → (b : Bool) → AllFit (cond b (with_joined sites source site) sites)
+      by source h true = all_joined (FitsIn schema) (site_open site) sites (copied sites source site) (open_fits site) (copied_fits sites source site h) all
+      by source h false = all
+
+      go : (there source : Option SiteState) → site_of from sites ≡ source → AllFit (joined_by sites site there source)
+      go (Some x) source is = all
+      go None None is = all
+      go None (Some source) is = by source (found_all (FitsIn schema) from sites source all is) (may_join sites source site)
+
+  -- ---- every event
+
+  at_fits : (site : SiteName) (change : SiteState → SiteState) (sites : List SiteState) → ((x : SiteState) → (change x).schema ≡ x.schema) → ((x : SiteState) → SiteFits x → SiteFits (change x)) → AllFit sites → AllFit (at_site site change sites)
+  at_fits site change sites same keeps all = all_at (FitsIn schema) site change sites (λ x h. record { same = same x ∙ h.same; fits = keeps x h.fits }) all
+
+  happens_fits : (e : Event) (w : Core) → AllFit w.sites → AllFit (happens e w).sites
+  happens_fits (Commit site statements) w all = at_fits site (site_commit statements) w.sites (λ x. (commit_steps statements x).schema) (commit_fits statements) all
+  happens_fits (SetClock site clock) w all = all_at (FitsIn schema) site (site_clock clock) w.sites (λ x h. plain_fits x _ refl refl refl refl refl h.fits.within h) all
+  happens_fits (Send from to position) w all = all
+  happens_fits (SendMark from to) w all = all
+  happens_fits (Deliver which) w all = go (slice_get w.sent which)
+    where
+      go : (packet : Option Packet) → AllFit (delivered packet w.sites)
+      go None = all
+      go (Some packet) = at_fits (receiver packet) (site_accept packet) w.sites (λ x. (accept_later packet x).schema) (accept_fits packet) all
+  happens_fits (Begin site) w all = all_at (FitsIn schema) site begun w.sites (λ x h. plain_fits x _ refl refl refl refl refl h.fits.within h) all
+  happens_fits (Apply site origin position) w all = go (may_apply site w)
+    where
+      go : (b : Bool) → AllFit (applied_where b site origin position w.sites)
+      go true = at_fits site (site_apply origin position) w.sites (λ x. (apply_steps origin position x).schema) (apply_fits origin position) all
+      go false = all
+  happens_fits (Execute site origin position) w all = at_fits site (site_execute origin position) w.sites (λ x. (execute_steps origin position x).schema) (execute_fits origin position) all
+  happens_fits (Drop site origin position) w all = at_fits site (site_drop origin position) w.sites (λ x. (drop_steps origin position x).schema) (drop_fits origin position) all
+  happens_fits (Purge site) w all = all_at (FitsIn schema) site site_purge w.sites (λ x h. plain_fits x _ refl refl refl refl refl h.fits.within h) all
+  happens_fits (PurgeLog site table) w all = all_at (FitsIn schema) site (site_purge_log table) w.sites (λ x h. plain_fits x _ refl refl refl refl refl h.fits.within h) all
+  happens_fits (Refresh site) w all =
+      all_at (FitsIn schema) site (refreshed w.sites) w.sites (λ x. refresh_fits w.sites (λ name m there. found_all (FitsIn schema) name w.sites m all there) x (refreshed w.sites x) (refreshed_is w.sites x)) all
+  happens_fits (Join site from) w all = joined_fits w.sites site from all
+
+  run_fits : (es : List Event) (w : Core) → AllFit w.sites → AllFit (run es w).sites
+  run_fits [] w all = all
+  run_fits (e ∷ es) w all = happens_fits e (run es w) (run_fits es w all)
+
+  -- ---- the start
+
+  nothing_arrived : (ss : List SenderState) → AllByRecursion (λ (s : SenderState). s.arrived ≡ []) ss → SendersFit schema ss
+  nothing_arrived [] none = tt
+  nothing_arrived (s ∷ ss) none = (rw none.0 tt, nothing_arrived ss none.1)
+
+  new_fits : (x : SiteState) → IsSound schema → IsNewSite schema x → StartsFit schema x → FitsIn schema x
+  new_fits x sound new starts = record {
+    same = new.schema_is;
+    fits = record {
+      keyed = rw new.schema_is (record { shape = sound.shape; keys = HasKeys-sound schema sound.unbroken sound.shape; apart = KeysStandAlone-sound schema sound.unbroken });
+      content = rw (new.schema_is, new.journal) (record { tables = starts.base; counters = AreCounters-first schema });
+      queued = rw new.journal tt;
+      senders = rw new.schema_is (nothing_arrived x.senders new.arrived);
+      journal = rw new.journal tt;
+      within = rw new.schema_is starts.within;
+    };
+  }
+
+  start_fits : (xs : List SiteState) → IsSound schema → AllByRecursion (IsNewSite schema) xs → AllByRecursion (StartsFit schema) xs → AllFit xs
+  start_fits [] sound new starts = tt
+  start_fits (x ∷ xs) sound new starts = (new_fits x sound new.0 starts.0, start_fits xs sound new.1 starts.1)
+
+pub every_site_fits : EverySiteFits
+every_site_fits schema start events is site x found =
+    let fits = (found_all (FitsIn schema) site (run events start).sites x (run_fits schema events start (start_fits schema start.sites is.sound is.start.sites is.sites)) found).fits in
+    record {
+      content = fits.content;
+      queued = fits.queued;
+      arrived = fits.senders;
+      journal = fits.journal;
+      blocks = λ statements block gives. block_own x.schema fits.keyed x.here x.stamps statements (content_of x) block fits.content gives;
+    }

@@ -1,0 +1,25 @@
+-- The lemmas of this crate, from the bottom up.
+pub mod Sites
+pub mod Happening
+pub mod NewSites
+pub mod Holding
+pub mod MarkLaws
+pub mod OrderLaws
+pub mod ErrorLaws
+pub mod PassLaws
+pub mod SchemaSites
+pub mod DeclaredSites
+pub mod Passing
+pub mod Meeting
+pub mod JoinedMeets
+pub mod Waiting
+pub mod QueryTables
+pub mod FittingBlocks
+pub mod FittingSites
+mod WorkedRuns
+mod WorkedDeliveries
+mod WorkedErrors
+mod WorkedPasts
+mod WorkedSnapshots
+mod WorkedJoins
+mod WorkedStarts

@@ -1,0 +1,13 @@
+-- The definitions of this crate.
+pub mod Core
+pub mod Quiet
+pub mod Joins
+pub mod Events
+pub mod Starts
+pub mod Declared
+pub mod Marks
+pub mod Orders
+pub mod ErrorLaws
+pub mod PassLaws
+pub mod Waiting
+pub mod Fitting

@@ -1,0 +1,41 @@
+-- What acknowledged marks, purges and dependency numbers rest on.
+use Rattle.std.specs.Prelude.{◌≡◌, ℕ, ◌<◌, ◌≤◌, ◌-◌, true, List, [], Option, Some, None}
+use Rattle.rep_lists.specs.Rising.{find_at}
+use Rattle.rep_values.specs.declared.name.SiteName.{SiteName}
+use Rattle.rep_schema.specs.declared.schema.Schema.{Schema}
+use Rattle.site_state.specs.declared.entry.Entry.{Entry}
+use Rattle.site_state.specs.State.{Arrival, SiteState, beside, arrivals, opened_of, acked_of}
+use Rattle.site_state.specs.Journal.{finished, low_water}
+use Rattle.site_state.specs.Streams.{shares}
+use Rattle.event_laws.specs.Core.{site_of}
+
+abbrev pub journal_in : Option SiteState → List Entry
+journal_in None = []
+journal_in (Some x) = x.journal
+
+abbrev pub acked_at : SiteName → Option SiteState → ℕ
+acked_at site None = 0
+acked_at site (Some x) = acked_of site x
+
+-- the low-water mark of an origin at a site
+abbrev pub low_at : SiteName → Option SiteState → ℕ
+low_at origin x = low_water origin (journal_in x)
+
+-- what a destination has acknowledged is at most its low-water mark
+abbrev pub MarksAreLow : List SiteState → Type 0
+MarksAreLow sites = (origin site : SiteName) → acked_at site (site_of origin sites) ≤ low_at origin (site_of site sites)
+
+-- what is purged is finished at each destination that has it, at the position that it has there
+abbrev pub PurgedIsFinished : List SiteState → Type 0
+PurgedIsFinished sites = (origin site : SiteName) (x : SiteState) (opened number : ℕ) → site_of origin sites ≡ Some x → opened_of site x ≡ Some opened
+    → opened < number → number ≤ x.purged → finished origin (journal_in (site_of site sites)) (number - opened) ≡ true
+
+-- arrivals are well numbered: of two whose transactions share a token, the later one's dependency number is at least the
+-- earlier position
+abbrev pub IsWellNumbered : Schema → List Arrival → Type 0
+IsWellNumbered schema arrived = (p q : ℕ) (a b : Arrival) → find_at (beside p) arrived ≡ Some a → find_at (beside q) arrived ≡ Some b
+    → p < q → shares schema b.txn a.txn ≡ true → p ≤ b.dep
+
+-- so are those from every sender at every site
+abbrev pub AreWellNumbered : List SiteState → Type 0
+AreWellNumbered sites = (site origin : SiteName) (x : SiteState) → site_of site sites ≡ Some x → IsWellNumbered x.schema (arrivals origin x)

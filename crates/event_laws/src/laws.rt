@@ -1,0 +1,61 @@
+//! Laws over every list of events, and over every site. The functions are empty: their contracts are the laws.
+ghost use Rattle.event_laws.specs.ErrorLaws.{DropsSettle, ErrorsStandWhole, ExecutionsApplyAnew, RefusedExecutionsChangeNothing};
+ghost use Rattle.event_laws.specs.Fitting.{EverySiteFits};
+ghost use Rattle.event_laws.specs.Marks.{AreWellNumbered, MarksAreLow, PurgedIsFinished};
+ghost use Rattle.event_laws.specs.Orders.{AreFinishedOnce, AreSettledOnce, EarlierComesFirst};
+ghost use Rattle.event_laws.specs.PassLaws.{EverySiteCanPass, LowWaterIsThatOfTheFinished, PassesLeaveNothingReady, PurgesTakeWhatIsAcknowledged};
+ghost use Rattle.event_laws.specs.Starts.{InEveryRun};
+ghost use Rattle.event_laws.specs.Waiting.{NothingWaitsForEver};
+
+/// What a destination has acknowledged it has finished, whatever happens; so what is purged is finished wherever it was
+/// sent. And dependency numbers cover all earlier transactions that share a token.
+pub fn marks_are_never_ahead()
+    ensures low { InEveryRun MarksAreLow }
+    ensures purged { InEveryRun PurgedIsFinished }
+    ensures numbered { InEveryRun AreWellNumbered }
+{}
+
+/// Each position is finished at most once and its error settled at most once, whatever happens; and of two transactions
+/// of a stream that share a token the earlier is finished first.
+pub fn earlier_comes_first()
+    ensures once { InEveryRun AreFinishedOnce }
+    ensures settled { InEveryRun AreSettledOnce }
+    ensures order { InEveryRun EarlierComesFirst }
+{}
+
+/// An error leaves tables, counters and queue as they were, and stands with the transaction as it arrived.
+pub fn errors_stand_whole()
+    ensures { ErrorsStandWhole }
+{}
+
+/// An execution that is refused changes nothing; any other one applies the whole transaction to the tables of that
+/// moment. A drop changes no table. After either the error no longer stands.
+pub fn executions_apply_anew()
+    ensures refused { RefusedExecutionsChangeNothing }
+    ensures executed { ExecutionsApplyAnew }
+    ensures dropped { DropsSettle }
+{}
+
+/// After a pass no position of the sender is ready. Every site can make such a pass for every sender, whatever happens.
+pub fn passes_leave_nothing_ready()
+    ensures low { LowWaterIsThatOfTheFinished }
+    ensures passed { PassesLeaveNothingReady }
+    ensures everywhere { EverySiteCanPass }
+{}
+
+/// A purge takes what every destination that has it has acknowledged, and nothing else.
+pub fn purges_take_what_is_acknowledged()
+    ensures { PurgesTakeWhatIsAcknowledged }
+{}
+
+/// Where all that was queued for a site has arrived there and a pass of any sender finishes nothing, nothing waits there,
+/// whatever happened before, joins among it.
+pub fn nothing_waits_for_ever()
+    ensures { NothingWaitsForEver }
+{}
+
+/// Tables stay tables, and every transaction that is queued, arrived or journalled fits the schema, whatever happens. What
+/// a block changes its transaction changes, when it is applied to the same tables.
+pub fn every_site_fits()
+    ensures { EverySiteFits }
+{}

@@ -1,0 +1,135 @@
+-- What a site keeps. All else of a site is computed from it.
+use Rattle.std.specs.Prelude.{ℕ, ◌&&◌, Bool, cond, List, [], ◌∷◌, Option, Some, None}
+use Rattle.std.specs.List.{list_any}
+use Rattle.std.specs.Ordering.{nat_cmp}
+use Rattle.std.specs.declared.cmp.Ordering.{Ordering}
+use Rattle.rep_lists.specs.Rising.{find_at}
+use Rattle.rep_values.specs.declared.name.SiteName.{SiteName}
+use Rattle.rep_schema.specs.declared.schema.Schema.{Schema}
+use Rattle.rep_schema.specs.Tables.{Cells, Rows}
+use Rattle.rep_schema.specs.Shape.{is_master}
+use Rattle.rep_schema.specs.Named.{is_site}
+use Rattle.rep_calls.specs.declared.call.Txn.{Txn}
+use Rattle.rep_calls.specs.declared.past.Past.{Past}
+use Rattle.deferred_queue.specs.Streams.{is_same_site}
+use Rattle.local_txn.specs.declared.local.Here.{Here}
+use Rattle.local_txn.specs.declared.local.Stamps.{Stamps}
+use Rattle.snapshot_query.specs.declared.snapshot.Snapshot.{Snapshot}
+use Rattle.site_state.specs.declared.entry.Entry.{Entry}
+
+-- what came from a sender: its position in the stream, its number in the sender's queue, the position that it depends on,
+-- what the sender had seen of the other masters before it, and the transaction
+pub record Arrival : Type 0 where
+  pub position : ℕ
+  pub number : ℕ
+  pub dep : ℕ
+  pub past : List Past
+  pub txn : Txn
+
+-- a sender: its queue count when this site joined, 0 where the site was there from the start; and what arrived from it, in
+-- rising order of position
+pub record SenderState : Type 0 where
+  pub origin : SiteName
+  pub first : ℕ
+  pub arrived : List Arrival
+
+-- a destination: the queue count at which it was opened, none as long as it isn't open, and how far it has acknowledged
+-- its stream
+pub record DestinationState : Type 0 where
+  pub site : SiteName
+  pub opened : Option ℕ
+  pub acked : ℕ
+
+-- the key of a row that was changed, and the last moment at which it was
+pub record LoggedKey : Type 0 where
+  pub key : Cells
+  pub moment : ℕ
+
+-- the log of a table: its keys in rising order, and the greatest moment up to which it was purged, at first 0
+pub record LogState : Type 0 where
+  pub table : ℕ
+  pub keys : List LoggedKey
+  pub purged : ℕ
+
+-- a site: the journal stands newest first, senders and destinations as declared; the queue's numbers up to `purged` are
+-- purged; the moment counts commits, passes, executions and drops
+pub record SiteState : Type 0 where
+  pub schema : Schema
+  pub here : Here
+  pub base : List Rows
+  pub journal : List Entry
+  pub senders : List SenderState
+  pub destinations : List DestinationState
+  pub purged : ℕ
+  pub stamps : Stamps
+  pub logs : List LogState
+  pub snapshots : List Snapshot
+  pub moment : ℕ
+
+-- a site of this name is a master site of the schema, there from the start or late
+abbrev pub is_master_site : Schema → SiteName → Bool
+is_master_site schema name = list_any (λ site. is_site name site && is_master site) schema.sites
+
+-- ---- senders
+
+-- the sender of a name
+abbrev pub sender_of : SiteName → List SenderState → Option SenderState
+sender_of origin [] = None
+sender_of origin (s ∷ ss) = cond (is_same_site s.origin origin) (Some s) (sender_of origin ss)
+
+-- the sender of a name changes
+abbrev pub at_sender : SiteName → (SenderState → SenderState) → List SenderState → List SenderState
+at_sender origin change [] = []
+at_sender origin change (s ∷ ss) = cond (is_same_site s.origin origin) (change s ∷ ss) (s ∷ at_sender origin change ss)
+
+-- where an arrival stands beside a position
+abbrev pub beside : ℕ → Arrival → Ordering
+beside position a = nat_cmp a.position position
+
+abbrev pub arrived_in : Option SenderState → List Arrival
+arrived_in None = []
+arrived_in (Some s) = s.arrived
+
+abbrev pub first_in : Option SenderState → ℕ
+first_in None = 0
+first_in (Some s) = s.first
+
+-- what arrived from a sender at a position
+abbrev pub arrived_at : SiteName → ℕ → List SenderState → Option Arrival
+arrived_at origin position senders = find_at (beside position) (arrived_in (sender_of origin senders))
+
+-- what arrived from a sender, in rising order of position
+abbrev pub arrivals : SiteName → SiteState → List Arrival
+arrivals origin x = arrived_in (sender_of origin x.senders)
+
+-- the first number of a sender
+abbrev pub first_number : SiteName → SiteState → ℕ
+first_number origin x = first_in (sender_of origin x.senders)
+
+-- ---- destinations
+
+-- the destination of a name
+abbrev pub destination_of : SiteName → List DestinationState → Option DestinationState
+destination_of site [] = None
+destination_of site (d ∷ ds) = cond (is_same_site d.site site) (Some d) (destination_of site ds)
+
+-- the destination of a name changes
+abbrev pub at_destination : SiteName → (DestinationState → DestinationState) → List DestinationState → List DestinationState
+at_destination site change [] = []
+at_destination site change (d ∷ ds) = cond (is_same_site d.site site) (change d ∷ ds) (d ∷ at_destination site change ds)
+
+abbrev pub opened_in : Option DestinationState → Option ℕ
+opened_in None = None
+opened_in (Some d) = d.opened
+
+abbrev pub acked_in : Option DestinationState → ℕ
+acked_in None = 0
+acked_in (Some d) = d.acked
+
+-- the opening count of a destination: the queue count at which it was opened, where it is open
+abbrev pub opened_of : SiteName → SiteState → Option ℕ
+opened_of site x = opened_in (destination_of site x.destinations)
+
+-- how far a destination has acknowledged its stream
+abbrev pub acked_of : SiteName → SiteState → ℕ
+acked_of site x = acked_in (destination_of site x.destinations)
