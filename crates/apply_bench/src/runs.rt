@@ -66,6 +66,33 @@ fn is_applied(store: &mut ListTables, counters: &mut Counters, bench: &Bench, tx
     apply_txn(bench.alloc, store, counters, &bench.origin, txn).is_ok()
 }
 
+/// Whether the transaction whose turn it is is applied: at even numbers the first one.
+fn is_turn_applied(
+    store: &mut ListTables,
+    counters: &mut Counters,
+    bench: &Bench,
+    first: &Txn,
+    second: &Txn,
+    number: u64,
+) -> bool
+    requires shape { HasShape store.old.schema }
+    requires keys { HasKeys store.old.schema }
+    requires apart { KeysStandAlone store.old.schema }
+    requires counters { AreCounters store.old.schema counters.old }
+    requires fits { TxnFits store.old.schema first.now }
+    requires few { length first.now.calls ≤ 1000 }
+    requires second_fits { TxnFits store.old.schema second.now }
+    requires second_few { length second.now.calls ≤ 1000 }
+    ensures schema { store.new.schema ≡ store.old.schema }
+    ensures counted { AreCounters store.old.schema counters.new }
+{
+    if number % 2 == 0 {
+        is_applied(store, counters, bench, first)
+    } else {
+        is_applied(store, counters, bench, second)
+    }
+}
+
 /// Inserts so many rows.
 pub fn filled(
     store: &mut ListTables,
@@ -121,11 +148,7 @@ pub fn updated(
     }
     let mut applied: u64 = 0;
     for number in 0..count {
-        let is_up = number % 2 == 0;
-        if is_up && is_applied(store, counters, bench, &up) {
-            applied = applied.saturating_add(1);
-        }
-        if !is_up && is_applied(store, counters, bench, &down) {
+        if is_turn_applied(store, counters, bench, &up, &down, number) {
             applied = applied.saturating_add(1);
         }
     }
