@@ -16,8 +16,13 @@ pub mod Waiting
 pub mod QueryTables
 pub mod FittingBlocks
 pub mod FittingSites
+pub mod AnyOrder
+pub mod NotesInAnyOrder
+pub mod MasterArrivals
+pub mod Confluence
 mod WorkedRuns
 mod WorkedDeliveries
+mod WorkedOrders
 mod WorkedErrors
 mod WorkedPasts
 mod WorkedSnapshots

@@ -67,7 +67,7 @@ low_water-other origin position x _ (By y e is senders here finishing by) o off 
     rw (is, last) (low_up_to-same (finished o (e ∷ x.journal)) (finished o x.journal) (last_finished o x.journal) (λ p. rw (finishing o p, off) refl))
 
 -- what applying positions from a bound on leaves of a site
-record After (origin : SiteName) (bound : ℕ) (x y : SiteState) : Type 0 where
+pub record After (origin : SiteName) (bound : ℕ) (x y : SiteState) : Type 0 where
   senders : y.senders ≡ x.senders
   here : y.here ≡ x.here
   others : (o : SiteName) → is_same_site origin o ≡ false → covered o y ≡ covered o x
@@ -78,7 +78,7 @@ and_false : (b c : Bool) → c ≡ false → (b && c) ≡ false
 and_false true c is = is
 and_false false c is = refl
 
-after_one : (origin : SiteName) (bound position : ℕ) (x y : SiteState) → bound ≤ position → Finishes origin position x y → After origin bound x y
+pub after_one : (origin : SiteName) (bound position : ℕ) (x y : SiteState) → bound ≤ position → Finishes origin position x y → After origin bound x y
 after_one origin bound position x y above Not = record { senders = refl; here = refl; others = λ o off. refl; older = λ q less. refl; kept = λ q is. is }
 after_one origin bound position x _ above (By y e is senders here finishing by) = record {
   senders = senders;
@@ -114,7 +114,7 @@ other_way origin o off = go (is_same_site origin o) refl
     go false is = refl
     go true is = let same : origin ≡ o = is_same_site-true origin o is in let own : is_same_site o origin ≡ true = rw same (is_same_site-refl o) in absurd (cc (own, off))
 
-past_same : (origin : SiteName) (bound : ℕ) (x y : SiteState) → After origin bound x y → (past : List Past) → NamesOthers origin past → list_all (is_covered y) past ≡ list_all (is_covered x) past
+pub past_same : (origin : SiteName) (bound : ℕ) (x y : SiteState) → After origin bound x y → (past : List Past) → NamesOthers origin past → list_all (is_covered y) past ≡ list_all (is_covered x) past
 past_same origin bound x y after [] off = refl
 past_same origin bound x y after (seen ∷ past) off = go (is_same_site seen.origin origin) refl off (past_same origin bound x y after past)
   where
@@ -125,7 +125,7 @@ past_same origin bound x y after (seen ∷ past) off = go (is_same_site seen.ori
         let same : covered seen.origin y ≡ covered seen.origin x = after.others seen.origin (other_way origin seen.origin (rw is refl)) in
         rw (later off, same, after.here) refl
 
-and_both : (b c : Bool) → (b && c) ≡ true → (b ≡ true) × (c ≡ true)
+pub and_both : (b c : Bool) → (b && c) ≡ true → (b ≡ true) × (c ≡ true)
 and_both true c is = (refl, is)
 and_both false c is = cc
 
@@ -225,7 +225,7 @@ pub each_found : (xs : List Arrival) → RisesBy (λ (a : Arrival). a.position) 
 each_found [] rising = tt
 each_found (x ∷ xs) rising = (rw (own_order x.position) refl, behind_head x xs xs rising.0 (each_found xs rising.1))
 
-found_holds : (P : Arrival → Type 0) (p : ℕ) (xs : List Arrival) (a : Arrival) → AllByRecursion P xs → find_at (beside p) xs ≡ Some a → P a
+pub found_holds : (P : Arrival → Type 0) (p : ℕ) (xs : List Arrival) (a : Arrival) → AllByRecursion P xs → find_at (beside p) xs ≡ Some a → P a
 found_holds P p [] a all found = absurd (cc found)
 found_holds P p (y ∷ ys) a all found = go (beside p y) (found_holds P p ys a all.1) found
   where

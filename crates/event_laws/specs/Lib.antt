@@ -9,5 +9,6 @@ pub mod Marks
 pub mod Orders
 pub mod ErrorLaws
 pub mod PassLaws
+pub mod Confluence
 pub mod Waiting
 pub mod Fitting

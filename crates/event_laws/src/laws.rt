@@ -1,4 +1,5 @@
 //! Laws over every list of events, and over every site. The functions are empty: their contracts are the laws.
+ghost use Rattle.event_laws.specs.Confluence.{EverySiteCanPassInAnyOrder, OneSiteComesOfAnyOrder, PassesTakeSuchAnOrder};
 ghost use Rattle.event_laws.specs.ErrorLaws.{DropsSettle, ErrorsStandWhole, ExecutionsApplyAnew, RefusedExecutionsChangeNothing};
 ghost use Rattle.event_laws.specs.Fitting.{EverySiteFits};
 ghost use Rattle.event_laws.specs.Marks.{AreWellNumbered, MarksAreLow, PurgedIsFinished};
@@ -41,6 +42,14 @@ pub fn passes_leave_nothing_ready()
     ensures low { LowWaterIsThatOfTheFinished }
     ensures passed { PassesLeaveNothingReady }
     ensures everywhere { EverySiteCanPass }
+{}
+
+/// Whatever the order in which all that is ready of a master is applied, one site comes of it, but for the order of the new
+/// entries. A pass takes such an order. Every site is such a site for every master, whatever happens.
+pub fn ready_positions_in_any_order()
+    ensures one { OneSiteComesOfAnyOrder }
+    ensures passes { PassesTakeSuchAnOrder }
+    ensures everywhere { EverySiteCanPassInAnyOrder }
 {}
 
 /// A purge takes what every destination that has it has acknowledged, and nothing else.
