@@ -32,7 +32,8 @@ pub record CanPass (origin : SiteName) (arrived : List Arrival) : Type 0 where
 
 -- after a pass no position of the sender is ready
 abbrev pub PassesLeaveNothingReady : Type 0
-PassesLeaveNothingReady = (origin : SiteName) (x : SiteState) → CanPass origin (arrivals origin x) → (position : ℕ) → is_ready origin position (site_pass origin x) ≡ false
+PassesLeaveNothingReady = (origin : SiteName) (x : SiteState) → CanPass origin (arrivals origin x)
+    → (position : ℕ) → is_ready origin position (site_pass origin x) ≡ false
 
 -- the low-water mark of a sender is that of its finished positions
 abbrev pub LowWaterIsThatOfTheFinished : Type 0

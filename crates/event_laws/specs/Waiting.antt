@@ -46,7 +46,8 @@ pub record AreMeshed (schema : Schema) (sites : List SiteState) : Type 0 where
 
 -- all that was ever queued for a site has arrived there
 abbrev pub IsDelivered : List SiteState → SiteName → SiteState → Type 0
-IsDelivered sites site x = (origin : SiteName) (o : SiteState) (position : ℕ) (txn : Txn) → site_of origin sites ≡ Some o → at_position position (stream_to site o) ≡ Some txn
+IsDelivered sites site x = (origin : SiteName) (o : SiteState) (position : ℕ) (txn : Txn)
+    → site_of origin sites ≡ Some o → at_position position (stream_to site o) ≡ Some txn
     → arrived_at origin position x.senders ≢ None
 
 -- a pass of any sender finishes nothing
@@ -60,4 +61,5 @@ NothingWaits x = (origin : SiteName) (position : ℕ) → arrived_at origin posi
 -- so it is at every site after every list of events
 abbrev pub NothingWaitsForEver : Type 0
 NothingWaitsForEver = (schema : Schema) (start : Core) (events : List Event) → IsStart schema start → AreMeshed schema start.sites
-    → (site : SiteName) (x : SiteState) → site_of site (run events start).sites ≡ Some x → IsDelivered (run events start).sites site x → PassesFinishNothing x → NothingWaits x
+    → (site : SiteName) (x : SiteState) → site_of site (run events start).sites ≡ Some x
+    → IsDelivered (run events start).sites site x → PassesFinishNothing x → NothingWaits x

@@ -36,7 +36,8 @@ past_before number x = past_in (at_position number (pasts_of x))
 
 -- the packet that carries a transaction at a position of the stream to a destination
 abbrev pub carry_of : SiteName → ℕ → SiteState → Txn → Packet
-carry_of to position x txn = Carry x.here.site to (number_at to position x) position (dep_at x.schema position (stream_to to x)) (past_before (number_at to position x) x) txn
+carry_of to position x txn = Carry x.here.site to (number_at to position x) position (dep_at x.schema position (stream_to to x))
+    (past_before (number_at to position x) x) txn
 
 abbrev pub packet_found : SiteName → ℕ → SiteState → Option Txn → Option Packet
 packet_found to position x None = None

@@ -7,7 +7,7 @@ use Rattle.snapshot_query.specs.declared.query.Query.{Query}
 use Rattle.snapshot_query.specs.declared.query.Op.TheVariants.{Eq, Ge, Lt}
 use Rattle.snapshot_query.specs.Queries.{matches, query_rows}
 
--- the rows 1 and 2 are of zone 1, and the row 3 of zone 2
+-- two rows of zone 1, and a third of zone 2
 abbrev first : Cells
 first = Num (pos 1) ∷ Num (pos 1) ∷ Num (pos 10) ∷ []
 
