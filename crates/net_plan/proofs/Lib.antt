@@ -1,0 +1,2 @@
+-- The lemmas of this crate, from the bottom up.
+mod WorkedNets
