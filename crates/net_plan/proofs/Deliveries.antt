@@ -101,7 +101,7 @@ module _ (from to : SiteName) (P : Packet → Type 0) where
   delivered_in_holds (call ∷ calls) net carry sent =
       let parts = each_parts P (sent_by from to call) (sent_in from to calls) sent in
       each_append P (delivered_by from to call net) (delivered_in from to calls (after call net)) (delivered_holds call net carry)
-          (delivered_in_holds calls (after call net) (after_carries call net carry parts.0) parts.1)
+      (delivered_in_holds calls (after call net) (after_carries call net carry parts.0) parts.1)
 
   -- a new net carries nothing
   net_of_carries : (pairs : List (SiteName × SiteName)) → AllByRecursion Carries (net_of pairs)

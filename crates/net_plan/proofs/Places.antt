@@ -1,5 +1,5 @@
 -- The place of a direction among several, and what a change there is.
-use Rattle.std.proofs.Common.{◌≡◌, ◌≢◌, ℕ, suc, ◌<◌, Bool, true, false, cond, List, [], ◌∷◌, length, get_or, set, Option, Some, None, refl, sym, ap, ◌∙◌, arith}
+use Rattle.std.proofs.Common.{◌≡◌, ◌≢◌, ℕ, suc, ◌<◌, Bool, true, false, cond, List, [], ◌∷◌, length, get_or, set, Some, None, refl, sym, ap, ◌∙◌, arith}
 use Rattle.rep_values.specs.declared.name.SiteName.{SiteName}
 use Rattle.net_plan.specs.Directions.{Direction, HasDirection, is_between, direction_of, at_direction, place_between}
 

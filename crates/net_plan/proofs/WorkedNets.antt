@@ -1,12 +1,12 @@
 -- Calls of a net, worked out by hand.
-use Rattle.std.proofs.Common.{◌≡◌, ℕ, zero, suc, Bool, true, false, List, [], ◌∷◌, ◌++◌, Some, None, refl}
+use Rattle.std.proofs.Common.{◌≡◌, ℕ, zero, suc, true, false, List, [], ◌∷◌, ◌++◌, refl}
 use Rattle.std.specs.Prelude.{codes}
 use Rattle.rep_values.specs.declared.name.SiteName.{SiteName}
 use Rattle.packet_code.specs.declared.packet.Packet.{Packet}
 use Rattle.packet_code.specs.declared.packet.Packet.TheVariants.{Mark}
 use Rattle.net_plan.specs.declared.fate.Fate.TheVariants.{Pass, Lose, Twice, Late}
-use Rattle.net_plan.specs.Directions.{Direction, net_of, new_direction, direction_of, is_up}
-use Rattle.net_plan.specs.Calls.{NetCall, SetLink, AddFates, ClearFates, Release, Send, Deliver, after_each, sent_in, delivered_in}
+use Rattle.net_plan.specs.Directions.{Direction, net_of, new_direction, is_up}
+use Rattle.net_plan.specs.Calls.{NetCall, SetLink, AddFates, ClearFates, Release, Send, Deliver, after_each, delivered_in}
 
 -- the site A
 abbrev site_a : SiteName
