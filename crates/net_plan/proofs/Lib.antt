@@ -3,3 +3,5 @@ mod WorkedNets
 mod Places
 mod Pairs
 mod Deliveries
+mod Stays
+mod InOrder

@@ -1,5 +1,5 @@
 -- Calls of a net, one after another, and what they send and deliver.
-use Rattle.std.specs.Prelude.{Bool, ◌&&◌, cond, List, [], ◌∷◌, ◌++◌, option_to_list}
+use Rattle.std.specs.Prelude.{Bool, false, ◌&&◌, cond, List, [], ◌∷◌, ◌++◌, option_to_list}
 use Rattle.rep_values.specs.declared.name.SiteName.{SiteName}
 use Rattle.rep_values.specs.Name.{same_bytes}
 use Rattle.packet_code.specs.declared.packet.Packet.{Packet}
@@ -32,6 +32,24 @@ after_each (call ∷ calls) net = after_each calls (after call net)
 -- two pairs of sites are the same
 abbrev pub is_same_pair : SiteName → SiteName → SiteName → SiteName → Bool
 is_same_pair from to from' to' = same_bytes from.0 from'.0 && same_bytes to.0 to'.0
+
+-- a call is on the direction from one site to another
+abbrev pub is_call_between : SiteName → SiteName → NetCall → Bool
+is_call_between from to (SetLink from' to' up) = is_same_pair from' to' from to
+is_call_between from to (AddFates from' to' fates) = is_same_pair from' to' from to
+is_call_between from to (ClearFates from' to') = is_same_pair from' to' from to
+is_call_between from to (Release from' to') = is_same_pair from' to' from to
+is_call_between from to (Send from' to' packet) = is_same_pair from' to' from to
+is_call_between from to (Deliver from' to') = is_same_pair from' to' from to
+
+-- a call gives fates to the packets from one site to another
+abbrev pub gives_fates : SiteName → SiteName → NetCall → Bool
+gives_fates from to (SetLink from' to' up) = false
+gives_fates from to (AddFates from' to' fates) = is_same_pair from' to' from to
+gives_fates from to (ClearFates from' to') = false
+gives_fates from to (Release from' to') = false
+gives_fates from to (Send from' to' packet) = false
+gives_fates from to (Deliver from' to') = false
 
 -- what a call sends from one site to another
 abbrev pub sent_by : SiteName → SiteName → NetCall → List Packet

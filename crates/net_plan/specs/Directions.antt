@@ -23,7 +23,7 @@ pub record Direction : Type 0 where
 abbrev pub new_direction : SiteName → SiteName → Direction
 new_direction from to = record { from = from; to = to; up = true; fates = []; held = []; on_way = [] }
 
--- its word is set
+-- the word up or down is set
 abbrev pub with_link : Bool → Direction → Direction
 with_link up d = record d { up = up }
 
@@ -40,11 +40,11 @@ abbrev pub next_fate : List Fate → Fate
 next_fate [] = Pass
 next_fate (fate ∷ fates) = fate
 
--- it is taken
+-- the next fate is taken, where one is left
 abbrev pub with_fate_taken : Direction → Direction
 with_fate_taken d = record d { fates = drop 1 d.fates }
 
--- a packet is on the way once, nowhere, on the way twice, or held
+-- a packet is on the way once, nowhere, on the way twice, or held, as its fate says
 abbrev pub with_packet : Fate → Packet → Direction → Direction
 with_packet Pass packet d = record d { on_way = d.on_way ++ packet ∷ [] }
 with_packet Lose packet d = d
@@ -64,41 +64,41 @@ abbrev pub first_of : List Packet → Option Packet
 first_of [] = None
 first_of (packet ∷ packets) = Some packet
 
--- the packet that is delivered next
+-- the packet that is delivered next, if there is one
 abbrev pub first_on_way : Direction → Option Packet
 first_on_way d = first_of d.on_way
 
--- it is delivered
+-- the first packet on the way is delivered
 abbrev pub delivered : Direction → Direction
 delivered d = record d { on_way = drop 1 d.on_way }
 
 -- ---- one direction of several
 
--- it is the direction between two sites
+-- whether this is the direction from one site to another
 abbrev pub is_between : SiteName → SiteName → Direction → Bool
 is_between from to d = same_bytes d.from.0 from.0 && same_bytes d.to.0 to.0
 
--- the direction between two sites
+-- the direction from one site to another, the first one where there are two
 abbrev pub direction_of : SiteName → SiteName → List Direction → Option Direction
 direction_of from to net = find (is_between from to) net
 
--- it changes, and the others stay
+-- that direction changes, and the others stay
 abbrev pub at_direction : SiteName → SiteName → (Direction → Direction) → List Direction → List Direction
 at_direction from to change [] = []
 at_direction from to change (d ∷ ds) = cond (is_between from to d) (change d ∷ ds) (d ∷ at_direction from to change ds)
 
--- its place among the directions, from 0
+-- its place among the directions, from 0; their end where it isn't there
 abbrev pub place_between : SiteName → SiteName → List Direction → ℕ
 place_between from to [] = 0
 place_between from to (d ∷ ds) = cond (is_between from to d) 0 (suc (place_between from to ds))
 
 -- ---- a net
 
--- every direction is new
+-- a new direction for each pair of sites
 abbrev pub net_of : List (SiteName × SiteName) → List Direction
 net_of pairs = map (λ (pair : SiteName × SiteName). new_direction pair.0 pair.1) pairs
 
--- there is a direction between two sites
+-- there is a direction from one site to another
 abbrev pub HasDirection : List Direction → SiteName → SiteName → Type 0
 HasDirection net from to = direction_of from to net ≢ None
 
@@ -106,7 +106,7 @@ abbrev pub is_up_in : Option Direction → Bool
 is_up_in None = false
 is_up_in (Some d) = d.up
 
--- the direction between two sites is up
+-- the direction from one site to another is up
 abbrev pub is_up : SiteName → SiteName → List Direction → Bool
 is_up from to net = is_up_in (direction_of from to net)
 
@@ -114,6 +114,14 @@ abbrev pub first_in : Option Direction → Option Packet
 first_in None = None
 first_in (Some d) = first_on_way d
 
--- the packet that is delivered next between two sites
+-- the packet that is delivered next from one site to another, if there is one
 abbrev pub first_between : SiteName → SiteName → List Direction → Option Packet
 first_between from to net = first_in (direction_of from to net)
+
+abbrev pub on_way_in : Option Direction → List Packet
+on_way_in None = []
+on_way_in (Some d) = d.on_way
+
+-- the packets on the way from one site to another
+abbrev pub on_way_between : SiteName → SiteName → List Direction → List Packet
+on_way_between from to net = on_way_in (direction_of from to net)

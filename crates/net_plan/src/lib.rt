@@ -7,5 +7,5 @@ mod laws;
 mod net;
 
 pub use fate::Fate;
-pub use laws::deliveries_were_sent;
+pub use laws::{deliveries_were_sent, directions_stay};
 pub use net::Net;
