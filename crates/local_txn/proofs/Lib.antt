@@ -17,8 +17,6 @@ mod StatementSteps
 pub mod StatementEffects
 pub mod BlockSteps
 mod RisingStamps
-mod WorkedStatements
-mod WorkedStamps
 mod BaseRefusals
 mod BaseFilling
 mod BaseTables

@@ -1,1 +1,3 @@
--- This crate has no lemmas of its own.
+-- Blocks worked out by hand, over the definitions of local transactions.
+mod WorkedStatements
+mod WorkedStamps
