@@ -13,13 +13,16 @@ DeliveredWasSent = (pairs : List (SiteName × SiteName)) (calls : List NetCall) 
 
 -- where no fates are given, what was delivered and then what is on the way is what was sent, in its order
 abbrev pub PassesInOrder : Type 0
-PassesInOrder = (pairs : List (SiteName × SiteName)) (calls : List NetCall) (from to : SiteName) → HasDirection (net_of pairs) from to → AllByRecursion (λ call. gives_fates from to call ≡ false) calls
+PassesInOrder = (pairs : List (SiteName × SiteName)) (calls : List NetCall) (from to : SiteName)
+    → HasDirection (net_of pairs) from to → AllByRecursion (λ call. gives_fates from to call ≡ false) calls
     → delivered_in from to calls (net_of pairs) ++ on_way_between from to (after_each calls (net_of pairs)) ≡ sent_in from to calls
 
 -- a pair that was given keeps its direction
 abbrev pub GivenPairsStay : Type 0
-GivenPairsStay = (pairs : List (SiteName × SiteName)) (calls : List NetCall) (from to : SiteName) → Contains pairs (from, to) → HasDirection (after_each calls (net_of pairs)) from to
+GivenPairsStay = (pairs : List (SiteName × SiteName)) (calls : List NetCall) (from to : SiteName)
+    → Contains pairs (from, to) → HasDirection (after_each calls (net_of pairs)) from to
 
 -- a call changes its own direction alone
 abbrev pub OtherDirectionsStay : Type 0
-OtherDirectionsStay = (net : List Direction) (call : NetCall) (from to : SiteName) → is_call_between from to call ≡ false → direction_of from to (after call net) ≡ direction_of from to net
+OtherDirectionsStay = (net : List Direction) (call : NetCall) (from to : SiteName)
+    → is_call_between from to call ≡ false → direction_of from to (after call net) ≡ direction_of from to net
