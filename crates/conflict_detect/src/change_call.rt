@@ -1,5 +1,6 @@
-//! The call that a changed row is sent as.
-ghost use Rattle.std.specs.Prelude.{◌≡◌, ◌<◌, length, IfOk};
+//! The calls that changed rows are sent as.
+ghost use Rattle.std.specs.Prelude.{◌≡◌, ◌<◌, length, map, IfOk};
+ghost use Rattle.std.specs.List.{AllByRecursion};
 ghost use Rattle.rep_schema.specs.Tables.{columns_of, key_of, RowFits, IsKeyed};
 ghost use Rattle.rep_schema.specs.Shape.{HasShape};
 ghost use Rattle.rep_schema.specs.Changes.{ChangeFits};
@@ -7,7 +8,7 @@ ghost use Rattle.rep_calls.specs.declared.call.Call.TheVariants.{Update};
 ghost use Rattle.conflict_detect.specs.ChangeCalls.{part_between, parts_between, call_of};
 
 use crate::detection::differing_groups;
-use rep_calls::{Call, Part};
+use rep_calls::{Call, Part, Txn};
 use rep_lists::{Copies, Items, NoMemory};
 use rep_schema::{Change, Schema, columns_of, group_columns, key_of, values_at};
 use rep_values::{Row, Value};
@@ -98,4 +99,17 @@ pub fn call_of(alloc: Global, schema: &Schema, change: &Change) -> Result<Call, 
         }),
         (None, None) => unreachable!(),
     }
+}
+
+/// The transaction of changed rows: the call of each, in order. It may want memory.
+pub fn txn_of(alloc: Global, schema: &Schema, changes: &[Change]) -> Result<Txn, NoMemory>
+    requires shape { HasShape schema.now }
+    requires fits { AllByRecursion (ChangeFits schema.now) changes.now }
+    ensures { IfOk result (λ txn. txn.calls ≡ map (call_of schema.now) changes.now) }
+{
+    let mut calls = Items::with_capacity(alloc, changes.len())?;
+    for change in changes {
+        calls.push(call_of(alloc, schema, change)?)?;
+    }
+    Txn::of(alloc, calls)
 }

@@ -1,5 +1,5 @@
-//! Whether a transaction fits a schema, in which groups a call's old values differ from a row, and the call of a
-//! changed row.
+//! Whether a transaction fits a schema, in which groups a call's old values differ from a row, and the calls of changed
+//! rows.
 #![tactic(auto)]
 
 mod change_call;
@@ -8,7 +8,7 @@ mod fitting;
 mod group_set;
 mod laws;
 
-pub use change_call::call_of;
+pub use change_call::{call_of, txn_of};
 pub use detection::{Found, detect, has_old_values};
 pub use fitting::{call_fits, fits, table_of};
 pub use group_set::GroupSet;

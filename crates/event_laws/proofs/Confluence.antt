@@ -18,7 +18,8 @@ use Rattle.rep_laws.proofs.EitherOrder.{commute_by_tokens}
 use Rattle.site_state.specs.declared.entry.Entry.{Entry}
 use Rattle.site_state.specs.declared.entry.Entry.TheVariants.{Refreshed}
 use Rattle.site_state.specs.declared.answers.Why.{Why}
-use Rattle.site_state.specs.State.{Arrival, SenderState, SiteState, is_master_site, sender_of, arrived_in, arrived_at, arrivals}
+use Rattle.site_state.specs.declared.arrival.Arrival.{Arrival}
+use Rattle.site_state.specs.State.{SenderState, SiteState, is_master_site, sender_of, arrived_in, arrived_at, arrivals}
 use Rattle.site_state.specs.Journal.{finished, low_water, error_at}
 use Rattle.site_state.specs.Contents.{changes_by}
 use Rattle.site_state.specs.Streams.{queue_of, shares}
@@ -30,7 +31,7 @@ use Rattle.site_state.specs.Passes.{effect_here, finished_by, applied_unless, si
 use Rattle.site_state.proofs.LowWater.{low_water-below, low_water-greatest}
 use Rattle.site_state.proofs.Stepping.{arrived_has}
 use Rattle.event_laws.specs.Events.{run}
-use Rattle.event_laws.specs.Fitting.{SendersFit}
+use Rattle.site_state.specs.Fits.{SendersFit}
 use Rattle.event_laws.specs.PassLaws.{NamesOthers}
 use Rattle.event_laws.specs.Confluence.{applied_in_turn, AreReadyInTurn, CanPassInAnyOrder, OneSiteComesOfAnyOrder, PassesTakeSuchAnOrder, EverySiteCanPassInAnyOrder}
 use Rattle.event_laws.proofs.Sites.{found_all}

@@ -6,10 +6,11 @@ use Rattle.txn_effects.specs.Calls.{Effect}
 use Rattle.txn_effects.specs.Transactions.{Failure}
 use Rattle.deferred_queue.proofs.Sites.{is_same_site-refl, eq_true}
 use Rattle.rep_values.specs.declared.refusal.Refusal.TheVariants as refusal
-use Rattle.site_state.specs.declared.entry.ErrorEntry.{ErrorEntry}
+use Rattle.error_queue.specs.declared.entry.ErrorEntry.{ErrorEntry}
 use Rattle.site_state.specs.declared.answers.Applied.TheVariants as applied
 use Rattle.site_state.specs.declared.answers.Why.{Why}
-use Rattle.site_state.specs.State.{Arrival, arrived_at}
+use Rattle.site_state.specs.declared.arrival.Arrival.{Arrival}
+use Rattle.site_state.specs.State.{arrived_at}
 use Rattle.site_state.specs.Journal.{error_at, is_position}
 use Rattle.site_state.specs.Ready.{stale_of}
 use Rattle.site_state.specs.Passes.{effect_here, finished_by, applied_unless, apply_answer_by, apply_answer_unless}

@@ -31,9 +31,10 @@ use Rattle.rep_laws.specs.Commuting.{IsSound}
 use Rattle.rep_laws.proofs.SoundSchemas.{HasKeys-sound, KeysStandAlone-sound}
 use Rattle.site_state.specs.declared.entry.Entry.{Entry}
 use Rattle.site_state.specs.declared.entry.Entry.TheVariants.{Local, Done, Error, Executed, Dropped, Refreshed}
-use Rattle.site_state.specs.declared.entry.ErrorEntry.{ErrorEntry}
+use Rattle.error_queue.specs.declared.entry.ErrorEntry.{ErrorEntry}
 use Rattle.site_state.specs.declared.answers.Why.{Why}
-use Rattle.site_state.specs.State.{Arrival, SenderState, SiteState, sender_of, at_sender, beside, arrived_in, arrived_at}
+use Rattle.site_state.specs.declared.arrival.Arrival.{Arrival}
+use Rattle.site_state.specs.State.{SenderState, SiteState, sender_of, at_sender, beside, arrived_in, arrived_at}
 use Rattle.site_state.specs.Journal.{is_position, error_at}
 use Rattle.site_state.specs.Contents.{content_of, tables_of, txn_of}
 use Rattle.site_state.specs.Streams.{with_one, went_onward, queue_of}
@@ -55,173 +56,21 @@ use Rattle.event_laws.specs.Core.{Core, site_of, at_site}
 use Rattle.event_laws.specs.Joins.{queue_counts, copied, with_joined, may_join, joined_by, joined}
 use Rattle.event_laws.specs.Events.{Event, Commit, SetClock, Send, SendMark, Deliver, Begin, Apply, Execute, Drop, Purge, PurgeLog, Refresh, Join, receiver, delivered, may_apply, applied_where, master_of, found_site, refreshed, happens, run}
 use Rattle.event_laws.specs.Starts.{IsNewSite}
-use Rattle.event_laws.specs.Fitting.{StartsFit, EntryFits, SendersFit, EverySiteFits}
+use Rattle.event_laws.specs.Fitting.{StartsFit, EverySiteFits}
 use Rattle.event_laws.proofs.Sites.{found_all, all_at, all_joined}
 use Rattle.event_laws.proofs.Happening.{IsRefreshed, refreshed_is}
 use Rattle.event_laws.proofs.Happening as happening
 use Rattle.event_laws.proofs.NewSites.{open_to_each_keeps}
-use Rattle.event_laws.proofs.QueryTables.{AreWithin, AreTables-rows_shown}
-use Rattle.event_laws.proofs.FittingBlocks.{IsKeyed, IsContent-content_after, TxnFits-led, TxnFits-changes_by, block_applied, block_own}
+use Rattle.event_laws.proofs.QueryTables.{AreTables-rows_shown}
+use Rattle.site_state.specs.Fits.{SendersFit, AreWithin, SiteFits}
+use Rattle.site_state.proofs.FittingBlocks.{block_own}
+use Rattle.site_state.proofs.FittingSites.{within_renewed, commit_fits, apply_fits, execute_fits, drop_fits, accept_fits}
 use Rattle.local_txn.proofs.StatementEffects.{effect_with}
-
--- ---- what holds
-
-record SiteFits (x : SiteState) : Type 0 where
-  keyed : IsKeyed x.schema
-  content : IsContent x.schema (content_of x)
-  queued : AllByRecursion (TxnFits x.schema) (queue_of x)
-  senders : SendersFit x.schema x.senders
-  journal : AllByRecursion (EntryFits x.schema) x.journal
-  within : AreWithin x.schema x.snapshots
 
 -- a site of the schema fits
 record FitsIn (schema : Schema) (x : SiteState) : Type 0 where
   same : x.schema ≡ schema
   fits : SiteFits x
-
--- ---- what is found fits
-
-find_fits : (P : Arrival → Type 0) (at : Arrival → Ordering) (xs : List Arrival) (a : Arrival) → AllByRecursion P xs → find_at at xs ≡ Some a → P a
-find_fits P at [] a all found = absurd (cc found)
-find_fits P at (y ∷ ys) a all found = go (at y) (find_fits P at ys a all.1) found
-  where
-    go : (o : Ordering) → (find_at at ys ≡ Some a → P a) → found_here o y (find_at at ys) ≡ Some a → P a
-    go Less later found = later found
-    go Equal later found = let same : y ≡ a = cc found in subst P same all.0
-    go Greater later found = absurd (cc found)
-
-arrived_fits : (schema : Schema) (origin : SiteName) (position : ℕ) (ss : List SenderState) (a : Arrival) → SendersFit schema ss → arrived_at origin position ss ≡ Some a → TxnFits schema a.txn
-arrived_fits schema origin position [] a all found = absurd (cc found)
-arrived_fits schema origin position (s ∷ ss) a all found = go (is_same_site s.origin origin) (arrived_fits schema origin position ss a all.1) found
-  where
-    go : (b : Bool) → (arrived_at origin position ss ≡ Some a → TxnFits schema a.txn) → find_at (beside position) (arrived_in (cond b (Some s) (sender_of origin ss))) ≡ Some a → TxnFits schema a.txn
-    go true later found = find_fits (λ (a : Arrival). TxnFits schema a.txn) (beside position) s.arrived a all.0 found
-    go false later found = later found
-
-unless_fits : (schema : Schema) (b : Bool) (o : Option ErrorEntry) (e : ErrorEntry) → (o ≡ Some e → TxnFits schema e.txn) → cond b None o ≡ Some e → TxnFits schema e.txn
-unless_fits schema true o e later found = absurd (cc found)
-unless_fits schema false o e later found = later found
-
-error_fits : (schema : Schema) (origin : SiteName) (position : ℕ) (es : List Entry) (e : ErrorEntry) → AllByRecursion (EntryFits schema) es → error_at origin position es ≡ Some e → TxnFits schema e.txn
-error_fits schema origin position [] e all found = absurd (cc found)
-error_fits schema origin position (Local number txn ∷ es) e all found = error_fits schema origin position es e all.1 found
-error_fits schema origin position (Done o p onward txn ∷ es) e all found = error_fits schema origin position es e all.1 found
-error_fits schema origin position (Error o p call error txn ∷ es) e all found = go (is_position origin position o p) (error_fits schema origin position es e all.1) found
-  where
-    go : (b : Bool) → (error_at origin position es ≡ Some e → TxnFits schema e.txn)
-        → cond b (Some (record { origin = o; position = p; call = call; error = error; txn = txn })) (error_at origin position es) ≡ Some e → TxnFits schema e.txn
-    go true later found = let same : record { origin = o; position = p; call = call; error = error; txn = txn } ≡ e = cc found in subst (λ (e : ErrorEntry). TxnFits schema e.txn) same all.0
-    go false later found = later found
-error_fits schema origin position (Executed o p onward txn ∷ es) e all found = unless_fits schema (is_position origin position o p) (error_at origin position es) e (error_fits schema origin position es e all.1) found
-error_fits schema origin position (Dropped o p ∷ es) e all found = unless_fits schema (is_position origin position o p) (error_at origin position es) e (error_fits schema origin position es e all.1) found
-error_fits schema origin position (Refreshed moment ∷ es) e all found = error_fits schema origin position es e all.1 found
-
--- ---- calls
-
-one_fits : (schema : Schema) (b : Bool) (txn : Txn) (txns : List Txn) → TxnFits schema txn → AllByRecursion (TxnFits schema) txns → AllByRecursion (TxnFits schema) (with_one b txn txns)
-one_fits schema true txn txns fits all = (fits, all)
-one_fits schema false txn txns fits all = all
-
-within_touched : (schema : Schema) (changes : List Change) (ss : List Snapshot) → AreWithin schema ss → AreWithin schema (map (touched_in schema changes) ss)
-within_touched schema changes [] all = tt
-within_touched schema changes (s ∷ ss) all = (all.0, within_touched schema changes ss all.1)
-
-within_renewed : (schema : Schema) (moment : ℕ) (ss : List Snapshot) → AreWithin schema ss → AreWithin schema (map (renewed moment) ss)
-within_renewed schema moment [] all = tt
-within_renewed schema moment (s ∷ ss) all = (all.0, within_renewed schema moment ss all.1)
-
-commit_fits : (statements : List Statement) (x : SiteState) → SiteFits x → SiteFits (site_commit statements x)
-commit_fits statements x h = go (block_at statements x) refl
-  where
-    fits : (block : BlockEffect) → block_at statements x ≡ Ok block → TxnFits x.schema (txn_of x.schema block.changes)
-    fits block is = TxnFits-led x.schema h.keyed (tables_of x) (effect_with x.schema block.changes) h.content.tables (block_applied x.schema h.keyed x.here x.stamps statements (tables_of x) block h.content.tables is)
-
-    by : (block : BlockEffect) → TxnFits x.schema (txn_of x.schema block.changes) → (e : Bool) → SiteFits (cond e x (committed block x))
-    by block fits true = h
-    by block fits false = record {
-      keyed = h.keyed;
-      content = IsContent-content_after x.schema h.keyed x.here.site (txn_of x.schema block.changes) (content_of x) h.content fits;
-      queued = (fits, h.queued);
-      senders = h.senders;
-      journal = (fits, h.journal);
-      within = within_touched x.schema block.changes x.snapshots h.within;
-    }
-
-    go : (r : Result BlockEffect LocalStop) → block_at statements x ≡ r → SiteFits (committed_by r x)
-    go (Ok block) is = by block (fits block is) (is_empty block.changes)
-    go (Err stop) is = h
-
-apply_fits : (origin : SiteName) (position : ℕ) (x : SiteState) → SiteFits x → SiteFits (site_apply origin position x)
-apply_fits origin position x h = go (stale_of origin position x) (arrived_at origin position x.senders) refl
-  where
-    by : (a : Arrival) → TxnFits x.schema a.txn → (r : Result Effect Failure) → SiteFits (finished_by origin a r x)
-    by a fits (Ok effect) = record {
-      keyed = h.keyed;
-      content = IsContent-content_after x.schema h.keyed origin a.txn (content_of x) h.content fits;
-      queued = one_fits x.schema (went_onward x.here _) _ (queue_of x) (TxnFits-changes_by x.schema h.keyed origin a.txn (content_of x) h.content fits) h.queued;
-      senders = h.senders;
-      journal = (fits, h.journal);
-      within = within_touched x.schema effect.changes x.snapshots h.within;
-    }
-    by a fits (Err failure) = record { keyed = h.keyed; content = h.content; queued = h.queued; senders = h.senders; journal = (fits, h.journal); within = h.within }
-
-    go : (stale : Option Why) (found : Option Arrival) → arrived_at origin position x.senders ≡ found → SiteFits (applied_unless stale origin found x)
-    go (Some why) found is = h
-    go None None is = h
-    go None (Some a) is = by a (arrived_fits x.schema origin position x.senders a h.senders is) (effect_here origin a x)
-
-execute_fits : (origin : SiteName) (position : ℕ) (x : SiteState) → SiteFits x → SiteFits (site_execute origin position x)
-execute_fits origin position x h = go (error_at origin position x.journal) refl
-  where
-    by : (e : ErrorEntry) → TxnFits x.schema e.txn → (r : Result Effect Failure) → SiteFits (executed_by e r x)
-    by e fits (Ok effect) = record {
-      keyed = h.keyed;
-      content = IsContent-content_after x.schema h.keyed e.origin e.txn (content_of x) h.content fits;
-      queued = one_fits x.schema (went_onward x.here _) _ (queue_of x) (TxnFits-changes_by x.schema h.keyed e.origin e.txn (content_of x) h.content fits) h.queued;
-      senders = h.senders;
-      journal = (fits, h.journal);
-      within = within_touched x.schema effect.changes x.snapshots h.within;
-    }
-    by e fits (Err failure) = h
-
-    go : (found : Option ErrorEntry) → error_at origin position x.journal ≡ found → SiteFits (executed_found found x)
-    go None is = h
-    go (Some e) is = by e (error_fits x.schema origin position x.journal e h.journal is) (effect_of_error e x)
-
-drop_fits : (origin : SiteName) (position : ℕ) (x : SiteState) → SiteFits x → SiteFits (site_drop origin position x)
-drop_fits origin position x h = go (error_at origin position x.journal)
-  where
-    go : (found : Option ErrorEntry) → SiteFits (dropped_found found x)
-    go None = h
-    go (Some e) = record { keyed = h.keyed; content = h.content; queued = h.queued; senders = h.senders; journal = (tt, h.journal); within = h.within }
-
-senders_put : (schema : Schema) (from : SiteName) (a : Arrival) (ss : List SenderState) → TxnFits schema a.txn → SendersFit schema ss → SendersFit schema (at_sender from (with_arrival a) ss)
-senders_put schema from a [] fits all = tt
-senders_put schema from a (s ∷ ss) fits all = go (is_same_site s.origin from) (senders_put schema from a ss fits all.1)
-  where
-    go : (b : Bool) → SendersFit schema (at_sender from (with_arrival a) ss) → SendersFit schema (cond b (with_arrival a s ∷ ss) (s ∷ at_sender from (with_arrival a) ss))
-    go true later = (all_put (beside a.position) (λ (a : Arrival). TxnFits schema a.txn) a s.arrived fits all.0, all.1)
-    go false later = (all.0, later)
-
--- what isn't foreign fits
-third : (a b c d : Bool) → (a || b || not c || d) ≡ false → c ≡ true
-third a b true d is = refl
-third true b false d is = cc
-third false true false d is = cc
-third false false false d is = cc
-
-accept_fits : (packet : Packet) (x : SiteState) → SiteFits x → SiteFits (site_accept packet x)
-accept_fits packet x h = go packet (is_foreign packet x) refl
-  where
-    by : (found : Option Arrival) (from : SiteName) (a : Arrival) → TxnFits x.schema a.txn → SiteFits (arrived_by found from a x)
-    by None from a fits = record { keyed = h.keyed; content = h.content; queued = h.queued; senders = senders_put x.schema from a x.senders fits h.senders; journal = h.journal; within = h.within }
-    by (Some before) from a fits = h
-
-    go : (packet : Packet) (b : Bool) → is_foreign packet x ≡ b → SiteFits (taken_unless b packet x)
-    go packet true is = h
-    go (Carry from to number position dep past txn) false is = by (arrived_at from position x.senders) from (record { position = position; number = number; dep = dep; past = past; txn = txn })
-        ((txn_test x.schema txn).0 (third (not (is_same_site to x.here.site)) (is_none (sender_of from x.senders)) (txn_fits x.schema txn) (not (list_all (is_known_past x) past)) is))
-    go (Mark from to mark) false is = record { keyed = h.keyed; content = h.content; queued = h.queued; senders = h.senders; journal = h.journal; within = h.within }
 
 -- ---- all sites
 

@@ -9,7 +9,8 @@ use Rattle.deferred_queue.specs.Streams.{is_same_site}
 use Rattle.deferred_queue.proofs.Sites.{is_same_site-true}
 use Rattle.packet_code.specs.declared.packet.Packet.{Packet}
 use Rattle.packet_code.specs.declared.packet.Packet.TheVariants.{Carry, Mark}
-use Rattle.site_state.specs.State.{Arrival, SenderState, SiteState, at_sender, beside, arrived_at, acked_of}
+use Rattle.site_state.specs.declared.arrival.Arrival.{Arrival}
+use Rattle.site_state.specs.State.{SenderState, SiteState, at_sender, beside, arrived_at, acked_of}
 use Rattle.site_state.specs.Packets.{with_arrival, arrived_by, taken_unless, is_foreign, site_accept}
 use Rattle.site_state.specs.Purges.{site_purge}
 use Rattle.site_state.proofs.Stepping.{Later, later_same, Steps, steps_later, IsSent, sent_later, low_water-later}

@@ -12,7 +12,8 @@ use Rattle.deferred_queue.specs.Streams.{is_same_site}
 use Rattle.deferred_queue.proofs.Sites.{is_same_site-true, is_same_site-refl}
 use Rattle.packet_code.specs.declared.packet.Packet.{Packet}
 use Rattle.site_state.specs.declared.entry.Entry.{Entry}
-use Rattle.site_state.specs.State.{Arrival, SenderState, DestinationState, SiteState, is_master_site, destination_of, opened_in, opened_of}
+use Rattle.site_state.specs.declared.arrival.Arrival.{Arrival}
+use Rattle.site_state.specs.State.{SenderState, DestinationState, SiteState, is_master_site, destination_of, opened_in, opened_of}
 use Rattle.site_state.specs.Streams.{count_of}
 use Rattle.site_state.specs.Journal.{finished}
 use Rattle.site_state.specs.Making.{is_late_master, new_destination, master_here}
@@ -20,12 +21,13 @@ use Rattle.site_state.specs.Joining.{opened_from, site_open, number_for, sender_
 use Rattle.site_state.proofs.Destinations.{opened_in-opened, opened_from_stays, opened_in-other, opened_in-own}
 use Rattle.event_laws.specs.Core.{site_of}
 use Rattle.event_laws.specs.Joins.{count_at, queue_counts, open_to_each, copied, with_joined, may_join}
-use Rattle.event_laws.specs.Events.{is_among}
+use Rattle.site_state.specs.State.{is_among}
 use Rattle.event_laws.specs.Waiting.{IsFirst, AbsentAreClosed}
 use Rattle.event_laws.proofs.Sites.{found_or, site_of-joined, found_name, found_all}
 use Rattle.event_laws.proofs.NewSites.{open_to_each_keeps, copied_is_new, copied_here}
-use Rattle.event_laws.proofs.SchemaSites.{sender_has_destination, own_is_no_sender, late_has_masters}
-use Rattle.event_laws.proofs.DeclaredSites.{origins, sites_in, open_names, IsSiteOf, joins_late}
+use Rattle.site_state.proofs.SchemaSites.{sender_has_destination, own_is_no_sender, late_has_masters}
+use Rattle.site_state.proofs.DeclaredSites.{origins, sites_in, open_names}
+use Rattle.event_laws.proofs.DeclaredSites.{IsSiteOf, joins_late}
 use Rattle.event_laws.proofs.Meeting.{PastIs, EachArrival, HasPast, SiteMeets, MeetsAt, Meets, packets_past, each_map}
 
 -- ---- destinations of one that joins

@@ -7,14 +7,12 @@ pub mod MarkLaws
 pub mod OrderLaws
 pub mod ErrorLaws
 pub mod PassLaws
-pub mod SchemaSites
 pub mod DeclaredSites
 pub mod Passing
 pub mod Meeting
 pub mod JoinedMeets
 pub mod Waiting
 pub mod QueryTables
-pub mod FittingBlocks
 pub mod FittingSites
 pub mod AnyOrder
 pub mod NotesInAnyOrder

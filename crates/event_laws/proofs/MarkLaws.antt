@@ -11,7 +11,8 @@ use Rattle.rep_calls.specs.declared.call.Txn.{Txn}
 use Rattle.deferred_queue.specs.Streams.{is_same_site, at_position}
 use Rattle.deferred_queue.proofs.Sites.{is_same_site-true}
 use Rattle.packet_code.specs.declared.packet.Packet.{Packet}
-use Rattle.site_state.specs.State.{Arrival, SenderState, SiteState, sender_of, arrived_in, arrived_at, arrivals, beside, opened_of, acked_of}
+use Rattle.site_state.specs.declared.arrival.Arrival.{Arrival}
+use Rattle.site_state.specs.State.{SenderState, SiteState, sender_of, arrived_in, arrived_at, arrivals, beside, opened_of, acked_of}
 use Rattle.site_state.specs.Journal.{finished, low_water}
 use Rattle.site_state.specs.Streams.{queue_of, stream_in, stream_to, dep_at, shares}
 use Rattle.site_state.specs.Packets.{count_opened, number_at, carry_of, packet_found}

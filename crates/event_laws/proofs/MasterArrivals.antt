@@ -14,9 +14,10 @@ use Rattle.snapshot_query.specs.declared.snapshot.Snapshot.{Snapshot}
 use Rattle.rep_laws.specs.Commuting.{EndAlike, Commute}
 use Rattle.site_state.specs.declared.entry.Entry.{Entry}
 use Rattle.site_state.specs.declared.entry.Entry.TheVariants.{Local, Done, Error, Executed, Dropped, Refreshed}
-use Rattle.site_state.specs.declared.entry.ErrorEntry.{ErrorEntry}
+use Rattle.error_queue.specs.declared.entry.ErrorEntry.{ErrorEntry}
 use Rattle.site_state.specs.declared.answers.Why.TheVariants as why
-use Rattle.site_state.specs.State.{Arrival, LogState, SiteState, is_master_site, arrived_at}
+use Rattle.site_state.specs.declared.arrival.Arrival.{Arrival}
+use Rattle.site_state.specs.State.{LogState, SiteState, is_master_site, arrived_at}
 use Rattle.site_state.specs.Journal.{is_position, finishes, finished, error_at}
 use Rattle.site_state.specs.Contents.{content_of, changes_by}
 use Rattle.site_state.specs.Streams.{went_onward, queue_of, count_of}

@@ -14,7 +14,8 @@ use Rattle.deferred_queue.proofs.Sites.{is_same_site-true}
 use Rattle.deferred_queue.proofs.Positions.{at_position-within, found_position}
 use Rattle.packet_code.specs.declared.packet.Packet.{Packet}
 use Rattle.packet_code.specs.declared.packet.Packet.TheVariants.{Carry, Mark}
-use Rattle.site_state.specs.State.{Arrival, SenderState, SiteState, is_master_site, sender_of, at_sender, beside, arrived_at, opened_of}
+use Rattle.site_state.specs.declared.arrival.Arrival.{Arrival}
+use Rattle.site_state.specs.State.{SenderState, SiteState, is_master_site, sender_of, at_sender, beside, arrived_at, opened_of}
 use Rattle.site_state.specs.Streams.{with_one, queue_of, count_of, stream_to, stream_in}
 use Rattle.site_state.specs.Pasts.{pasts_of}
 use Rattle.site_state.specs.Packets.{past_in, count_opened, number_at, past_before, carry_of, packet_found, is_known_past, with_arrival, arrived_by, taken_unless, is_foreign, site_accept}
@@ -22,7 +23,8 @@ use Rattle.site_state.specs.Purges.{site_purge}
 use Rattle.site_state.proofs.Growing.{length-queued_behind, queued_behind-none, at_position-append}
 use Rattle.site_state.proofs.Stepping.{Steps}
 use Rattle.site_state.proofs.Changing.{accept_later}
-use Rattle.site_state.proofs.Pasts.{FinishedHaveArrived, arrived_at-put, finished_have_arrived, length-pasts_after}
+use Rattle.site_state.specs.Fits.{FinishedHaveArrived}
+use Rattle.site_state.proofs.Pasts.{arrived_at-put, finished_have_arrived, length-pasts_after}
 use Rattle.site_state.proofs.Queueing.{Adds, adds_nothing, steps_add, accept_adds, purge_adds, refresh_adds}
 use Rattle.site_state.specs.Contents.{tables_of}
 use Rattle.site_state.specs.Refreshes.{rows_shown}

@@ -12,8 +12,9 @@ use Rattle.packet_code.specs.declared.packet.Packet.{Packet}
 use Rattle.packet_code.specs.declared.packet.Packet.TheVariants.{Carry, Mark}
 use Rattle.site_state.specs.declared.entry.Entry.{Entry}
 use Rattle.site_state.specs.declared.entry.Entry.TheVariants.{Local, Done, Error, Executed, Dropped, Refreshed}
-use Rattle.site_state.specs.declared.entry.ErrorEntry.{ErrorEntry}
-use Rattle.site_state.specs.State.{Arrival, SiteState, arrived_at}
+use Rattle.error_queue.specs.declared.entry.ErrorEntry.{ErrorEntry}
+use Rattle.site_state.specs.declared.arrival.Arrival.{Arrival}
+use Rattle.site_state.specs.State.{SiteState, arrived_at}
 use Rattle.site_state.specs.Journal.{finishes, settles, is_position, low_water, error_at}
 use Rattle.site_state.specs.Streams.{stream_to, shares}
 use Rattle.site_state.specs.Ready.{is_due, is_covered}

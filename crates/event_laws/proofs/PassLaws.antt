@@ -19,7 +19,8 @@ use Rattle.origin_marks.specs.Marks.{low_up_to}
 use Rattle.site_state.specs.declared.entry.Entry.{Entry}
 use Rattle.site_state.specs.declared.entry.Entry.TheVariants.{Done, Error}
 use Rattle.site_state.specs.declared.answers.Why.{Why}
-use Rattle.site_state.specs.State.{Arrival, DestinationState, SiteState, sender_of, arrived_at, arrivals, beside}
+use Rattle.site_state.specs.declared.arrival.Arrival.{Arrival}
+use Rattle.site_state.specs.State.{DestinationState, SiteState, sender_of, arrived_at, arrivals, beside}
 use Rattle.site_state.specs.Journal.{finishes, finished, position_by, last_finished, low_water, is_position}
 use Rattle.site_state.specs.Streams.{count_of}
 use Rattle.site_state.specs.Ready.{covered_at, covered, is_covered, is_due, stale_of, is_ready}

@@ -21,7 +21,8 @@ use Rattle.packet_code.specs.declared.packet.Packet.{Packet}
 use Rattle.packet_code.specs.declared.packet.Packet.TheVariants.{Carry, Mark}
 use Rattle.site_state.specs.declared.entry.Entry.{Entry}
 use Rattle.site_state.specs.declared.entry.Entry.TheVariants.{Local, Done, Error, Executed, Dropped, Refreshed}
-use Rattle.site_state.specs.State.{Arrival, SenderState, SiteState, is_master_site, sender_of, at_sender, arrived_in, arrived_at, beside}
+use Rattle.site_state.specs.declared.arrival.Arrival.{Arrival}
+use Rattle.site_state.specs.State.{SenderState, SiteState, is_master_site, sender_of, at_sender, arrived_in, arrived_at, beside}
 use Rattle.site_state.specs.Streams.{with_one, went_onward, stream_to}
 use Rattle.site_state.specs.Pasts.{beside_name, seen_of, with_seen, past_at, pasts_after, pasts_of}
 use Rattle.site_state.specs.Packets.{past_in, number_at, carry_of, packet_found, with_arrival, arrived_by, taken_unless, is_foreign, site_accept}
@@ -33,7 +34,8 @@ use Rattle.event_laws.specs.Core.{Core, site_of}
 use Rattle.event_laws.specs.Joins.{copied}
 use Rattle.event_laws.specs.Events.{Event, with_packet, packet_from, mark_from, receiver, run}
 use Rattle.event_laws.specs.Starts.{IsNewSite, IsStart}
-use Rattle.event_laws.specs.Declared.{IsDeclared, AreDeclared}
+use Rattle.site_state.specs.DeclaredSites.{IsDeclared}
+use Rattle.event_laws.specs.Declared.{AreDeclared}
 use Rattle.event_laws.specs.PassLaws.{NamesOthers, EverySiteCanPass}
 use Rattle.event_laws.proofs.Sites.{found_all, all_at, all_joined, all_at_place}
 use Rattle.event_laws.proofs.Happening.{IsRefreshed, Becomes, run_keeps}
@@ -41,8 +43,9 @@ use Rattle.event_laws.proofs.Happening as happening
 use Rattle.event_laws.proofs.NewSites.{copied_is_new}
 use Rattle.event_laws.proofs.Holding.{SentBy, ArrivalHolds, SendersHold, HoldsAt}
 use Rattle.event_laws.proofs.MarkLaws.{run_holds}
-use Rattle.event_laws.proofs.SchemaSites.{senders_of-others}
-use Rattle.event_laws.proofs.DeclaredSites.{origins, IsSiteOf, becomes_sites_of, start_sites_of}
+use Rattle.site_state.proofs.SchemaSites.{senders_of-others}
+use Rattle.site_state.proofs.DeclaredSites.{origins}
+use Rattle.event_laws.proofs.DeclaredSites.{IsSiteOf, becomes_sites_of, start_sites_of}
 
 -- ---- what holds of each site, and of each packet
 

@@ -14,6 +14,7 @@ use Rattle.snapshot_query.specs.declared.query.Query.{Query}
 use Rattle.snapshot_query.specs.declared.snapshot.Snapshot.{Snapshot}
 use Rattle.snapshot_query.specs.Queries.{matches, query_rows}
 use Rattle.site_state.specs.Refreshes.{rows_shown, with_tables}
+use Rattle.site_state.specs.Fits.{AreWithin}
 
 -- what holds of each holds of those that are picked
 all_filter : {X : Type 0} (P : X → Type 0) (test : X → Bool) (xs : List X) → AllByRecursion P xs → AllByRecursion P (filter test xs)
@@ -56,10 +57,6 @@ query_table schema table query rows is = record {
     each : (ys : Rows) → AllByRecursion (λ row. IsUniqueRow schema table row rows) ys → AllByRecursion (λ row. IsUniqueRow schema table row (query_rows query rows)) ys
     each [] all = tt
     each (y ∷ ys) all = (unique_query schema table query y rows all.0, each ys all.1)
-
--- each snapshot is of a table of the schema
-abbrev pub AreWithin : Schema → List Snapshot → Type 0
-AreWithin schema ss = AllByRecursion (λ (s : Snapshot). s.table < length schema.tables) ss
 
 -- tables with what snapshots show of other tables are tables
 pub AreTables-rows_shown : (schema : Schema) (shows : List Rows) (ss : List Snapshot) (tables : List Rows) → AreTables schema shows → AreWithin schema ss → AreTables schema tables

@@ -21,7 +21,8 @@ use Rattle.packet_code.specs.declared.packet.Packet.{Packet}
 use Rattle.site_state.specs.declared.entry.Entry.{Entry}
 use Rattle.site_state.specs.declared.answers.Why.{Why}
 use Rattle.site_state.specs.declared.answers.Why.TheVariants as why
-use Rattle.site_state.specs.State.{Arrival, SenderState, SiteState, is_master_site, sender_of, arrived_in, first_in, beside, arrived_at, arrivals, opened_of}
+use Rattle.site_state.specs.declared.arrival.Arrival.{Arrival}
+use Rattle.site_state.specs.State.{SenderState, SiteState, is_master_site, sender_of, arrived_in, first_in, beside, arrived_at, arrivals, opened_of}
 use Rattle.site_state.specs.Journal.{finished, low_water}
 use Rattle.site_state.specs.Streams.{with_one, queue_of, count_of, queued_behind, stream_in, stream_to}
 use Rattle.site_state.specs.Pasts.{greatest_finished, seen_of, with_seen, past_at, past_of, pasts_of, beside_name}

@@ -8,7 +8,8 @@ use Rattle.conflict_detect.specs.Fits.{TxnFits}
 use Rattle.txn_effects.specs.Contents.{IsContent}
 use Rattle.rep_laws.specs.Commuting.{IsSound}
 use Rattle.site_state.specs.declared.entry.Entry.{Entry}
-use Rattle.site_state.specs.State.{Arrival, SiteState, is_master_site, arrivals}
+use Rattle.site_state.specs.declared.arrival.Arrival.{Arrival}
+use Rattle.site_state.specs.State.{SiteState, is_master_site, arrivals}
 use Rattle.site_state.specs.Journal.{finished, low_water, error_at}
 use Rattle.site_state.specs.Contents.{content_of}
 use Rattle.site_state.specs.Streams.{queue_of}

@@ -5,8 +5,9 @@ use Rattle.rep_values.specs.declared.refusal.ApplyError.{ApplyError}
 use Rattle.rep_values.specs.declared.refusal.Refusal.{Refusal}
 use Rattle.txn_effects.specs.Contents.{content_after}
 use Rattle.site_state.specs.declared.answers.Applied.TheVariants as applied
-use Rattle.site_state.specs.declared.entry.ErrorEntry.{ErrorEntry}
-use Rattle.site_state.specs.State.{Arrival, SiteState, arrived_at}
+use Rattle.error_queue.specs.declared.entry.ErrorEntry.{ErrorEntry}
+use Rattle.site_state.specs.declared.arrival.Arrival.{Arrival}
+use Rattle.site_state.specs.State.{SiteState, arrived_at}
 use Rattle.site_state.specs.Journal.{error_at}
 use Rattle.site_state.specs.Contents.{content_of}
 use Rattle.site_state.specs.Streams.{queue_of}

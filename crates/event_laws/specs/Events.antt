@@ -10,7 +10,7 @@ use Rattle.rep_calls.specs.declared.statement.Statement.{Statement}
 use Rattle.deferred_queue.specs.Streams.{is_same_site}
 use Rattle.packet_code.specs.declared.packet.Packet.{Packet}
 use Rattle.packet_code.specs.declared.packet.Packet.TheVariants.{Carry, Mark}
-use Rattle.site_state.specs.State.{DestinationState, SiteState}
+use Rattle.site_state.specs.State.{DestinationState, SiteState, is_among}
 use Rattle.site_state.specs.Contents.{tables_of}
 use Rattle.site_state.specs.Streams.{stream_to}
 use Rattle.site_state.specs.Steps.{begun}
@@ -64,10 +64,6 @@ delivered None sites = sites
 delivered (Some packet) sites = at_site (receiver packet) (site_accept packet) sites
 
 -- ---- at a master a pass is begun before anything is applied
-
--- a name is among these
-abbrev pub is_among : List SiteName → SiteName → Bool
-is_among names name = list_any (λ (n : SiteName). is_same_site n name) names
 
 -- these names without one
 abbrev pub without : SiteName → List SiteName → List SiteName

@@ -9,13 +9,11 @@ use Rattle.rep_laws.specs.Commuting.{IsSound}
 use Rattle.conflict_detect.specs.Fits.{TxnFits}
 use Rattle.txn_effects.specs.Contents.{effect_on, IsContent}
 use Rattle.local_txn.specs.Locals.{BlockEffect}
-use Rattle.snapshot_query.specs.declared.snapshot.Snapshot.{Snapshot}
-use Rattle.site_state.specs.declared.entry.Entry.{Entry}
-use Rattle.site_state.specs.declared.entry.Entry.TheVariants.{Local, Done, Error, Executed, Dropped, Refreshed}
-use Rattle.site_state.specs.State.{Arrival, SenderState, SiteState}
+use Rattle.site_state.specs.State.{SiteState}
 use Rattle.site_state.specs.Contents.{content_of, txn_of}
 use Rattle.site_state.specs.Streams.{queue_of}
 use Rattle.site_state.specs.Commits.{block_at}
+use Rattle.site_state.specs.Fits.{EntryFits, SendersFit, AreWithin}
 use Rattle.event_laws.specs.Core.{Core, site_of}
 use Rattle.event_laws.specs.Events.{Event, run}
 use Rattle.event_laws.specs.Starts.{IsStart}
@@ -23,26 +21,13 @@ use Rattle.event_laws.specs.Starts.{IsStart}
 -- the base rows are tables of the schema, and the snapshots are of its tables
 pub record StartsFit (schema : Schema) (x : SiteState) : Type 0 where
   pub base : AreTables schema x.base
-  pub within : AllByRecursion (λ (s : Snapshot). s.table < length schema.tables) x.snapshots
+  pub within : AreWithin schema x.snapshots
 
 -- new sites of a sound schema, each with tables as base rows
 pub record IsFitStart (schema : Schema) (w : Core) : Type 0 where
   pub sound : IsSound schema
   pub start : IsStart schema w
   pub sites : AllByRecursion (StartsFit schema) w.sites
-
--- the transaction of an entry, if it has one, fits
-abbrev pub EntryFits : Schema → Entry → Type 0
-EntryFits schema (Local number txn) = TxnFits schema txn
-EntryFits schema (Done origin position onward txn) = TxnFits schema txn
-EntryFits schema (Error origin position call error txn) = TxnFits schema txn
-EntryFits schema (Executed origin position onward txn) = TxnFits schema txn
-EntryFits schema (Dropped origin position) = Unit {0}
-EntryFits schema (Refreshed moment) = Unit {0}
-
--- each transaction that arrived fits
-abbrev pub SendersFit : Schema → List SenderState → Type 0
-SendersFit schema senders = AllByRecursion (λ (s : SenderState). AllByRecursion (λ (a : Arrival). TxnFits schema a.txn) s.arrived) senders
 
 -- the tables are tables; what is queued, arrived or journalled fits; and the transaction that a block makes, applied to the
 -- tables, changes the rows that the block changed

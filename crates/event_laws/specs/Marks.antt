@@ -4,7 +4,8 @@ use Rattle.rep_lists.specs.Rising.{find_at}
 use Rattle.rep_values.specs.declared.name.SiteName.{SiteName}
 use Rattle.rep_schema.specs.declared.schema.Schema.{Schema}
 use Rattle.site_state.specs.declared.entry.Entry.{Entry}
-use Rattle.site_state.specs.State.{Arrival, SiteState, beside, arrivals, opened_of, acked_of}
+use Rattle.site_state.specs.declared.arrival.Arrival.{Arrival}
+use Rattle.site_state.specs.State.{SiteState, beside, arrivals, opened_of, acked_of}
 use Rattle.site_state.specs.Journal.{finished, low_water}
 use Rattle.site_state.specs.Streams.{shares}
 use Rattle.event_laws.specs.Core.{site_of}

@@ -9,7 +9,8 @@ use Rattle.rep_calls.specs.declared.past.Past.{Past}
 use Rattle.deferred_queue.specs.Streams.{is_same_site}
 use Rattle.origin_marks.specs.Marks.{IsLowWater}
 use Rattle.site_state.specs.declared.entry.Entry.{Entry}
-use Rattle.site_state.specs.State.{Arrival, DestinationState, SiteState, arrivals}
+use Rattle.site_state.specs.declared.arrival.Arrival.{Arrival}
+use Rattle.site_state.specs.State.{DestinationState, SiteState, arrivals}
 use Rattle.site_state.specs.Journal.{finished, low_water}
 use Rattle.site_state.specs.Streams.{count_of}
 use Rattle.site_state.specs.Ready.{is_ready}

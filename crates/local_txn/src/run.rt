@@ -4,7 +4,7 @@ ghost use Rattle.std.specs.List.{AllByRecursion};
 ghost use Rattle.rep_values.specs.declared.name.SiteName.{SiteName as SiteNameValue};
 ghost use Rattle.rep_schema.specs.Shape.{HasShape};
 ghost use Rattle.rep_schema.specs.Tables.{AreTables};
-ghost use Rattle.rep_schema.specs.Changes.{ChangeFits, LeadsTo, room_for};
+ghost use Rattle.rep_schema.specs.Changes.{LeadsTo, room_for};
 ghost use Rattle.rep_schema.specs.Putting.{made_all, changes_of};
 ghost use Rattle.conflict_detect.specs.Fits.{TxnFits};
 ghost use Rattle.conflict_detect.specs.ChangeCalls.{call_of};
@@ -21,10 +21,10 @@ use crate::held::held_table;
 use crate::statement::run_in;
 use crate::stop::{Stop, stop_at};
 use crate::{Here, Local, LocalStop, Stamps};
-use conflict_detect::call_of;
-use rep_calls::{Statement, Txn};
-use rep_lists::{Items, NoMemory};
-use rep_schema::{Change, Changes, RowStore, Schema, holds_tables, push_change, undo};
+use conflict_detect::txn_of;
+use rep_calls::Statement;
+use rep_lists::Items;
+use rep_schema::{Change, Changes, RowStore, holds_tables, push_change, undo};
 use rep_values::{Limit, Refusal};
 use std::alloc::Global;
 
@@ -99,19 +99,6 @@ fn run_statements<R: RowStore>(
     Ok(Changes {
         rows: Items::from_vec(done),
     })
-}
-
-/// The transaction of changed rows: a call for each.
-fn txn_of(alloc: Global, schema: &Schema, changes: &[Change]) -> Result<Txn, NoMemory>
-    requires shape { HasShape schema.now }
-    requires fits { AllByRecursion (ChangeFits schema.now) changes.now }
-    ensures { IfOk result (λ txn. txn.calls ≡ map (call_of schema.now) changes.now) }
-{
-    let mut calls = Items::with_capacity(alloc, changes.len())?;
-    for change in changes {
-        calls.push(call_of(alloc, schema, change)?)?;
-    }
-    Txn::of(alloc, calls)
 }
 
 /// Runs the statements of a block at a site as one local transaction: all of them, or none. It answers the

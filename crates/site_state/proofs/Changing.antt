@@ -6,7 +6,8 @@ use Rattle.deferred_queue.specs.Streams.{is_same_site}
 use Rattle.packet_code.specs.declared.packet.Packet.{Packet}
 use Rattle.packet_code.specs.declared.packet.Packet.TheVariants.{Carry, Mark}
 use Rattle.site_state.specs.declared.rows.TableRows.{TableRows}
-use Rattle.site_state.specs.State.{Arrival, DestinationState, SiteState, arrived_at, destination_of, opened_in, acked_in, opened_of, acked_of}
+use Rattle.site_state.specs.declared.arrival.Arrival.{Arrival}
+use Rattle.site_state.specs.State.{DestinationState, SiteState, arrived_at, destination_of, opened_in, acked_in, opened_of, acked_of}
 use Rattle.site_state.specs.Streams.{queue_of, count_of}
 use Rattle.site_state.specs.Packets.{arrived_by, taken_unless, is_foreign, site_accept}
 use Rattle.site_state.specs.Purges.{acknowledged_by, acknowledged_by_all, site_purge}

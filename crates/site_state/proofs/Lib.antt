@@ -7,5 +7,10 @@ pub mod Changing
 pub mod Pasts
 pub mod Queueing
 pub mod Deferring
+pub mod SchemaSites
+pub mod DeclaredSites
+pub mod PastLimits
+pub mod FittingBlocks
+pub mod FittingSites
 pub mod WorkedSites
 mod WorkedAnswers

@@ -17,11 +17,13 @@ use Rattle.deferred_queue.specs.Streams.{is_same_site}
 use Rattle.deferred_queue.proofs.Sites.{is_same_site-true}
 use Rattle.site_state.specs.declared.entry.Entry.{Entry}
 use Rattle.site_state.specs.declared.entry.Entry.TheVariants.{Local, Done, Error, Executed, Dropped, Refreshed}
-use Rattle.site_state.specs.State.{Arrival, SenderState, SiteState, is_master_site, sender_of, at_sender, arrived_in, arrived_at, beside}
+use Rattle.site_state.specs.declared.arrival.Arrival.{Arrival}
+use Rattle.site_state.specs.State.{SenderState, SiteState, is_master_site, sender_of, at_sender, arrived_in, arrived_at, beside}
 use Rattle.site_state.specs.Journal.{finished, is_position}
 use Rattle.site_state.specs.Streams.{with_one, went_onward, onward_txn, queue_after}
 use Rattle.site_state.specs.Pasts.{greatest_finished, seen_of, with_seen, past_at, pasts_after}
 use Rattle.site_state.specs.Packets.{with_arrival}
+use Rattle.site_state.specs.Fits.{FinishedHaveArrived}
 use Rattle.site_state.proofs.Stepping.{MayFollow, IsTaken, with_entry, is_position-true}
 
 -- ---- what is finished has arrived
@@ -55,10 +57,6 @@ arrived_at-put origin from p a (s ∷ ss) there = go (is_same_site s.origin from
     go true false is later there = rw is (rw is at there)
     go false true is later there = rw is (rw is at there)
     go false false is later there = rw is (later (rw is at there))
-
--- each finished position of a sender has arrived
-abbrev pub FinishedHaveArrived : List Entry → List SenderState → Type 0
-FinishedHaveArrived journal senders = (origin : SiteName) (p : ℕ) → finished origin journal p ≡ true → arrived_at origin p senders ≢ None
 
 taken_arrived : (x : SiteState) (o origin : SiteName) (q p : ℕ) (txn : Txn) → IsTaken x o q txn → FinishedHaveArrived x.journal x.senders
     → (is_position origin p o q || finished origin x.journal p) ≡ true → arrived_at origin p x.senders ≢ None

@@ -11,7 +11,8 @@ use Rattle.packet_code.specs.declared.packet.Packet.TheVariants.{Carry, Mark}
 use Rattle.site_state.specs.declared.entry.Entry.{Entry}
 use Rattle.site_state.specs.declared.entry.Entry.TheVariants.{Local, Done, Error, Executed, Dropped, Refreshed}
 use Rattle.site_state.specs.declared.rows.TableRows.{TableRows}
-use Rattle.site_state.specs.State.{Arrival, SenderState, SiteState, arrived_at, opened_of}
+use Rattle.site_state.specs.declared.arrival.Arrival.{Arrival}
+use Rattle.site_state.specs.State.{SenderState, SiteState, arrived_at, opened_of}
 use Rattle.site_state.specs.Journal.{finished}
 use Rattle.site_state.specs.Streams.{with_one, went_onward, onward_txn, queue_after, queue_of, count_of}
 use Rattle.site_state.specs.Pasts.{past_at, past_of, pasts_after, pasts_of}
@@ -22,7 +23,8 @@ use Rattle.site_state.specs.Joining.{site_open}
 use Rattle.site_state.proofs.Growing.{queue_after-rebased}
 use Rattle.site_state.proofs.Stepping.{with_entry, Steps}
 use Rattle.site_state.proofs.Destinations.{opened_in-acknowledged, IsOpenedFrom, opened_in-opened}
-use Rattle.site_state.proofs.Pasts.{FinishedHaveArrived, pasts_after-put}
+use Rattle.site_state.specs.Fits.{FinishedHaveArrived}
+use Rattle.site_state.proofs.Pasts.{pasts_after-put}
 
 -- at most one transaction is queued, with what the site had seen before it, and destinations are open as they were
 pub record Adds (x y : SiteState) : Type 0 where

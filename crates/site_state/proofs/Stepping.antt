@@ -19,9 +19,10 @@ use Rattle.deferred_queue.proofs.Sites.{is_same_site-true}
 use Rattle.deferred_queue.proofs.Positions.{found_position}
 use Rattle.site_state.specs.declared.entry.Entry.{Entry}
 use Rattle.site_state.specs.declared.entry.Entry.TheVariants.{Local, Done, Error, Executed, Dropped, Refreshed}
-use Rattle.site_state.specs.declared.entry.ErrorEntry.{ErrorEntry}
+use Rattle.error_queue.specs.declared.entry.ErrorEntry.{ErrorEntry}
 use Rattle.site_state.specs.declared.answers.Why.TheVariants as why
-use Rattle.site_state.specs.State.{Arrival, SiteState, sender_of, arrived_in, arrived_at, beside, opened_of}
+use Rattle.site_state.specs.declared.arrival.Arrival.{Arrival}
+use Rattle.site_state.specs.State.{SiteState, sender_of, arrived_in, arrived_at, beside, opened_of}
 use Rattle.site_state.specs.Journal.{finished, low_water, error_at, is_position}
 use Rattle.site_state.specs.Streams.{queue_after, queue_of, stream_in, stream_to, dep_at}
 use Rattle.site_state.specs.Ready.{is_due, stale_found}

@@ -8,8 +8,9 @@ use Rattle.txn_effects.specs.Transactions.{Failure}
 use Rattle.txn_effects.specs.Contents.{effect_on}
 use Rattle.site_state.specs.declared.entry.Entry.{Entry}
 use Rattle.site_state.specs.declared.entry.Entry.TheVariants.{Executed, Dropped}
-use Rattle.site_state.specs.declared.entry.ErrorEntry.{ErrorEntry}
-use Rattle.site_state.specs.State.{Arrival, SenderState, SiteState}
+use Rattle.error_queue.specs.declared.entry.ErrorEntry.{ErrorEntry}
+use Rattle.site_state.specs.declared.arrival.Arrival.{Arrival}
+use Rattle.site_state.specs.State.{SenderState, SiteState}
 use Rattle.site_state.specs.Journal.{error_at}
 use Rattle.site_state.specs.Contents.{content_of}
 use Rattle.site_state.specs.Notes.{noted}

@@ -6,7 +6,7 @@ use Rattle.rep_schema.specs.Sites.{senders_of}
 use Rattle.rep_calls.specs.declared.past.Past.{Past}
 use Rattle.deferred_queue.specs.Streams.{is_same_site}
 use Rattle.local_txn.specs.declared.local.Here.{Here}
-use Rattle.site_state.specs.declared.entry.ErrorEntry.{ErrorEntry}
+use Rattle.error_queue.specs.declared.entry.ErrorEntry.{ErrorEntry}
 use Rattle.site_state.specs.State.{SenderState, DestinationState, SiteState, is_master_site, at_sender, at_destination}
 use Rattle.site_state.specs.Journal.{finished}
 use Rattle.site_state.specs.Contents.{tables_of}

@@ -6,7 +6,7 @@ use Rattle.deferred_queue.specs.Streams.{is_same_site}
 use Rattle.origin_marks.specs.Marks.{low_up_to}
 use Rattle.site_state.specs.declared.entry.Entry.{Entry}
 use Rattle.site_state.specs.declared.entry.Entry.TheVariants.{Local, Done, Error, Executed, Dropped, Refreshed}
-use Rattle.site_state.specs.declared.entry.ErrorEntry.{ErrorEntry}
+use Rattle.error_queue.specs.declared.entry.ErrorEntry.{ErrorEntry}
 
 -- the same sender and position
 abbrev pub is_position : SiteName → ℕ → SiteName → ℕ → Bool

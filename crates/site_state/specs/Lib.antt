@@ -16,3 +16,5 @@ pub mod Refreshes
 pub mod Making
 pub mod Joining
 pub mod Deferrals
+pub mod DeclaredSites
+pub mod Fits

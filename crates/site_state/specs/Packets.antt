@@ -11,7 +11,8 @@ use Rattle.packet_code.specs.declared.packet.Packet.{Packet}
 use Rattle.packet_code.specs.declared.packet.Packet.TheVariants.{Carry, Mark}
 use Rattle.site_state.specs.declared.answers.Accepted.{Accepted}
 use Rattle.site_state.specs.declared.answers.Accepted.TheVariants as accepted
-use Rattle.site_state.specs.State.{Arrival, SenderState, DestinationState, SiteState, is_master_site, sender_of, at_sender, beside, arrived_at, destination_of, at_destination, opened_of}
+use Rattle.site_state.specs.declared.arrival.Arrival.{Arrival}
+use Rattle.site_state.specs.State.{SenderState, DestinationState, SiteState, is_master_site, sender_of, at_sender, beside, arrived_at, destination_of, at_destination, opened_of}
 use Rattle.site_state.specs.Journal.{low_water}
 use Rattle.site_state.specs.Streams.{stream_to, dep_at}
 use Rattle.site_state.specs.Pasts.{pasts_of}

@@ -11,7 +11,8 @@ use Rattle.site_state.specs.declared.answers.Applied.{Applied}
 use Rattle.site_state.specs.declared.answers.Applied.TheVariants as applied
 use Rattle.site_state.specs.declared.answers.Why.{Why}
 use Rattle.site_state.specs.declared.answers.Why.TheVariants as why
-use Rattle.site_state.specs.State.{Arrival, SiteState, arrived_at, arrivals}
+use Rattle.site_state.specs.declared.arrival.Arrival.{Arrival}
+use Rattle.site_state.specs.State.{SiteState, arrived_at, arrivals}
 use Rattle.site_state.specs.Contents.{content_of}
 use Rattle.site_state.specs.Ready.{stale_of}
 use Rattle.site_state.specs.Notes.{noted}

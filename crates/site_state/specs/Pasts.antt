@@ -9,7 +9,8 @@ use Rattle.rep_calls.specs.declared.past.Past.{Past}
 use Rattle.local_txn.specs.declared.local.Here.{Here}
 use Rattle.site_state.specs.declared.entry.Entry.{Entry}
 use Rattle.site_state.specs.declared.entry.Entry.TheVariants.{Local, Done, Error, Executed, Dropped, Refreshed}
-use Rattle.site_state.specs.State.{Arrival, SenderState, SiteState, is_master_site}
+use Rattle.site_state.specs.declared.arrival.Arrival.{Arrival}
+use Rattle.site_state.specs.State.{SenderState, SiteState, is_master_site}
 use Rattle.site_state.specs.Journal.{finished}
 use Rattle.site_state.specs.Streams.{with_one, went_onward}
 

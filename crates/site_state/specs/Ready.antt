@@ -7,7 +7,8 @@ use Rattle.rep_calls.specs.declared.past.Past.{Past}
 use Rattle.deferred_queue.specs.Streams.{is_same_site}
 use Rattle.site_state.specs.declared.answers.Why.{Why}
 use Rattle.site_state.specs.declared.answers.Why.TheVariants as why
-use Rattle.site_state.specs.State.{Arrival, SenderState, SiteState, sender_of, beside, arrived_in, first_in, arrived_at}
+use Rattle.site_state.specs.declared.arrival.Arrival.{Arrival}
+use Rattle.site_state.specs.State.{SenderState, SiteState, sender_of, beside, arrived_in, first_in, arrived_at}
 use Rattle.site_state.specs.Journal.{finished, low_water}
 
 abbrev pub number_in : Option Arrival → ℕ

@@ -9,22 +9,12 @@ use Rattle.rep_schema.specs.declared.schema.Schema.{Schema}
 use Rattle.rep_schema.specs.Tables.{Cells, Rows}
 use Rattle.rep_schema.specs.Shape.{is_master}
 use Rattle.rep_schema.specs.Named.{is_site}
-use Rattle.rep_calls.specs.declared.call.Txn.{Txn}
-use Rattle.rep_calls.specs.declared.past.Past.{Past}
 use Rattle.deferred_queue.specs.Streams.{is_same_site}
 use Rattle.local_txn.specs.declared.local.Here.{Here}
 use Rattle.local_txn.specs.declared.local.Stamps.{Stamps}
 use Rattle.snapshot_query.specs.declared.snapshot.Snapshot.{Snapshot}
+use Rattle.site_state.specs.declared.arrival.Arrival.{Arrival}
 use Rattle.site_state.specs.declared.entry.Entry.{Entry}
-
--- what came from a sender: its position in the stream, its number in the sender's queue, the position that it depends on,
--- what the sender had seen of the other masters before it, and the transaction
-pub record Arrival : Type 0 where
-  pub position : ℕ
-  pub number : ℕ
-  pub dep : ℕ
-  pub past : List Past
-  pub txn : Txn
 
 -- a sender: its queue count when this site joined, 0 where the site was there from the start; and what arrived from it, in
 -- rising order of position
@@ -69,6 +59,10 @@ pub record SiteState : Type 0 where
 -- a site of this name is a master site of the schema, there from the start or late
 abbrev pub is_master_site : Schema → SiteName → Bool
 is_master_site schema name = list_any (λ site. is_site name site && is_master site) schema.sites
+
+-- a name is among these
+abbrev pub is_among : List SiteName → SiteName → Bool
+is_among names name = list_any (λ (n : SiteName). is_same_site n name) names
 
 -- ---- senders
 

@@ -1,4 +1,4 @@
-//! What a site's journal and its error queue hold.
+//! What a site's journal holds.
 
 use rep_calls::Txn;
 use rep_values::{ApplyError, SiteName};
@@ -43,14 +43,4 @@ pub enum Entry {
     Refreshed {
         moment: u64,
     },
-}
-
-/// An error that stands: the call that failed, from 1, why, and the whole transaction.
-#[derive(Drop)]
-pub struct ErrorEntry {
-    pub origin: SiteName,
-    pub position: u64,
-    pub call: u32,
-    pub error: ApplyError,
-    pub txn: Txn,
 }

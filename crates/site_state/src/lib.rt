@@ -2,9 +2,11 @@
 #![tactic(auto)]
 
 mod answers;
+mod arrival;
 mod entry;
 mod rows;
 
 pub use answers::{Accepted, Applied, PassCount, RefreshCount, Why};
-pub use entry::{Entry, ErrorEntry};
+pub use arrival::Arrival;
+pub use entry::Entry;
 pub use rows::TableRows;

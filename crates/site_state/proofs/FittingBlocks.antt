@@ -31,12 +31,7 @@ use Rattle.local_txn.proofs.StatementEffects.{effect_with}
 use Rattle.local_txn.proofs.BlockSteps.{IsApplied-one}
 use Rattle.rep_schema.specs.Named.{table_place}
 use Rattle.site_state.specs.Contents.{txn_of, changes_by}
-
--- what a schema that breaks no rule has
-pub record IsKeyed (schema : Schema) : Type 0 where
-  pub shape : HasShape schema
-  pub keys : HasKeys schema
-  pub apart : KeysStandAlone schema
+use Rattle.site_state.specs.Fits.{IsKeyed}
 
 module _ (schema : Schema) (keyed : IsKeyed schema) where
   -- ---- a transaction that fits

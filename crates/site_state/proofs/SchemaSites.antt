@@ -12,14 +12,13 @@ use Rattle.rep_schema.specs.Named.{is_site, site_named}
 use Rattle.rep_schema.specs.Sites.{addresses, sends_to, names_of, senders_to, senders_of, destinations_of}
 use Rattle.deferred_queue.specs.Streams.{is_same_site}
 use Rattle.deferred_queue.proofs.Sites.{is_same_site-true, is_same_site-refl}
-use Rattle.site_state.specs.State.{is_master_site}
+use Rattle.site_state.specs.State.{is_master_site, is_among}
 use Rattle.site_state.specs.Making.{is_late_master}
-use Rattle.event_laws.specs.Events.{is_among}
 
 -- ---- entries by name
 
 -- no two entries have the same name
-abbrev AreApart : List SiteEntry → Type 0
+abbrev pub AreApart : List SiteEntry → Type 0
 AreApart [] = Unit {0}
 AreApart (e ∷ es) = AllByRecursion (λ (u : SiteEntry). e.name ≢ u.name) es × AreApart es
 
@@ -27,14 +26,14 @@ of_entries : (name : SiteName) (es : List SiteEntry) → AllByRecursion (λ (n :
 of_entries name [] all = tt
 of_entries name (e ∷ es) all = (all.0, of_entries name es all.1)
 
-are_apart : (es : List SiteEntry) → AreDistinct (map (λ (s : SiteEntry). s.name) es) → AreApart es
+pub are_apart : (es : List SiteEntry) → AreDistinct (map (λ (s : SiteEntry). s.name) es) → AreApart es
 are_apart [] distinct = tt
 are_apart (e ∷ es) distinct = (
   of_entries e.name es (recursion_from_All (λ (n : SiteName). e.name ≢ n) (map (λ (s : SiteEntry). s.name) es) (λ k d within. distinct 0 (suc k) d (omega arith) (omega (arith, within)))),
   are_apart es (λ i j d less within. distinct (suc i) (suc j) d (omega (arith, less)) (omega (arith, within))),
 )
 
-find_holds : (P : SiteEntry → Type 0) (test : SiteEntry → Bool) (es : List SiteEntry) (s : SiteEntry) → AllByRecursion P es → find test es ≡ Some s → P s
+pub find_holds : (P : SiteEntry → Type 0) (test : SiteEntry → Bool) (es : List SiteEntry) (s : SiteEntry) → AllByRecursion P es → find test es ≡ Some s → P s
 find_holds P test [] s all found = absurd (cc found)
 find_holds P test (e ∷ es) s all found = go (test e) (find_holds P test es s all.1) found
   where
@@ -90,7 +89,7 @@ found_among test name (e ∷ es) s found passes = go (test e) refl (is_site name
     go false own false is found later = later found passes
 
 -- some entry of a name passes a test where the one that is found does
-found_any : (test : SiteEntry → Bool) (name : SiteName) (es : List SiteEntry) (s : SiteEntry) → find (is_site name) es ≡ Some s → test s ≡ true → list_any (λ e. is_site name e && test e) es ≡ true
+pub found_any : (test : SiteEntry → Bool) (name : SiteName) (es : List SiteEntry) (s : SiteEntry) → find (is_site name) es ≡ Some s → test s ≡ true → list_any (λ e. is_site name e && test e) es ≡ true
 found_any test name [] s found passes = absurd (cc found)
 found_any test name (e ∷ es) s found passes = go (is_site name e) refl found (found_any test name es s)
   where
@@ -108,7 +107,7 @@ none_later test name (e ∷ es) apart = go (is_site name e) refl (none_later tes
     go false is later = rw is later
 
 -- and only there
-any_found : (test : SiteEntry → Bool) (name : SiteName) (es : List SiteEntry) (s : SiteEntry) → AreApart es → find (is_site name) es ≡ Some s → list_any (λ e. is_site name e && test e) es ≡ true → test s ≡ true
+pub any_found : (test : SiteEntry → Bool) (name : SiteName) (es : List SiteEntry) (s : SiteEntry) → AreApart es → find (is_site name) es ≡ Some s → list_any (λ e. is_site name e && test e) es ≡ true → test s ≡ true
 any_found test name [] s apart found any = absurd (cc found)
 any_found test name (e ∷ es) s apart found any = go (is_site name e) refl (test e) refl found any (any_found test name es s apart.1)
   where
@@ -122,7 +121,7 @@ any_found test name (e ∷ es) s apart found any = go (is_site name e) refl (tes
     go false is c own found any later = later found (rw is at any)
 
 -- an entry at a place is the one that is found by its name
-place_found : (es : List SiteEntry) (k : ℕ) (u : SiteEntry) → AreApart es → k < length es → slice_index_or es k u ≡ u → find (is_site u.name) es ≡ Some u
+pub place_found : (es : List SiteEntry) (k : ℕ) (u : SiteEntry) → AreApart es → k < length es → slice_index_or es k u ≡ u → find (is_site u.name) es ≡ Some u
 place_found [] k u apart within is = absurd (omega (arith, within))
 place_found (e ∷ es) zero u apart within is = let same : e ≡ u = is in rw (same, is_same_site-refl u.name) refl
 place_found (e ∷ es) (suc k) u apart within is = go (is_site u.name e) refl (place_found es k u apart.1 (omega (arith, within)) is)
@@ -164,7 +163,7 @@ module _ (schema : Schema) (shape : HasShape schema) where
   both true c is = (refl, is)
   both false c is = cc
 
-  to_itself : (s : SiteEntry) → sends_to s s ≡ true → ⊥
+  pub to_itself : (s : SiteEntry) → sends_to s s ≡ true → ⊥
   to_itself s sends = go s.master refl (both (is_master s) (addresses s s.master s) sends)
     where
       go : (m : Option SiteName) → s.master ≡ m → (is_none s.master ≡ true) × (addresses s s.master s ≡ true) → ⊥
