@@ -1,1 +1,4 @@
--- The lemmas of this crate, from the bottom up.
+-- The lemmas of this crate.
+mod FirstLists
+mod Counts
+mod Room

@@ -2,5 +2,8 @@
 #![tactic(auto)]
 
 mod entry;
+mod errors;
+mod origin_errors;
 
 pub use entry::ErrorEntry;
+pub use errors::Errors;

@@ -1,6 +1,6 @@
 -- Sites stay as the schema declares them.
-use Rattle.std.proofs.Common.{◌≡◌, List, [], ◌∷◌, map, Bool, true, false, cond, Some, None, refl, sym, ap, ◌∙◌, subst}
-use Rattle.std.specs.Prelude.{◌||◌, ◌&&◌, Option}
+use Rattle.std.proofs.Common.{◌≡◌, List, [], ◌∷◌, map, Bool, true, false, refl, sym, ap, ◌∙◌, subst}
+use Rattle.std.specs.Prelude.{◌||◌, ◌&&◌}
 use Rattle.std.specs.List.{list_any, AllByRecursion}
 use Rattle.rep_values.specs.declared.name.SiteName.{SiteName}
 use Rattle.rep_schema.specs.declared.schema.Schema.{Schema}
@@ -9,25 +9,19 @@ use Rattle.rep_schema.specs.Shape.{is_master}
 use Rattle.rep_schema.specs.Named.{is_site}
 use Rattle.rep_schema.specs.Sites.{senders_of, destinations_of}
 use Rattle.rep_calls.specs.declared.past.Past.{Past}
-use Rattle.deferred_queue.specs.Streams.{is_same_site}
-use Rattle.local_txn.specs.declared.local.Here.{Here}
 use Rattle.packet_code.specs.declared.packet.Packet.{Packet}
-use Rattle.packet_code.specs.declared.packet.Packet.TheVariants.{Carry, Mark}
-use Rattle.site_state.specs.declared.arrival.Arrival.{Arrival}
-use Rattle.site_state.specs.State.{SenderState, DestinationState, SiteState, is_master_site, at_sender, at_destination, arrived_at}
-use Rattle.site_state.specs.Packets.{with_arrival, arrived_by, acknowledged, taken_unless, is_foreign, site_accept}
-use Rattle.site_state.specs.Streams.{count_of}
+use Rattle.site_state.specs.State.{SiteState, is_master_site}
 use Rattle.site_state.specs.Purges.{site_purge}
 use Rattle.site_state.specs.Making.{is_late_master, new_destination, master_here}
-use Rattle.site_state.specs.Joining.{opened_at, site_open, sender_from, site_copy}
-use Rattle.site_state.proofs.Stepping.{Steps, steps_later, Later}
+use Rattle.site_state.specs.Joining.{site_open, sender_from, site_copy}
+use Rattle.site_state.proofs.Stepping.{steps_later, Later}
 use Rattle.site_state.proofs.Changing.{accept_later, purge_later, open_later}
 use Rattle.event_laws.specs.Quiet.{are_quiet}
 use Rattle.event_laws.specs.Joins.{queue_counts, copied, may_join}
 use Rattle.event_laws.specs.Events.{receiver}
 use Rattle.event_laws.specs.Starts.{IsNewSite}
 use Rattle.site_state.specs.DeclaredSites.{IsDeclared}
-use Rattle.site_state.proofs.DeclaredSites.{origins, sites_in, KeepsNames, names_same, steps_names, accept_names, purge_names, open_names, still_declared, origins-at_sender, sites_in-at_destination}
+use Rattle.site_state.proofs.DeclaredSites.{origins, sites_in, KeepsNames, names_same, steps_names, accept_names, purge_names, open_names, still_declared}
 use Rattle.event_laws.proofs.Sites.{found_all, all_at, all_joined}
 use Rattle.event_laws.proofs.Happening.{IsRefreshed, Becomes}
 use Rattle.event_laws.proofs.Happening as happening

@@ -1,52 +1,25 @@
 -- What fits at a site goes on to fit, call by call.
-use Rattle.std.proofs.Common.{◌≡◌, ℕ, List, [], ◌∷◌, map, Bool, true, false, cond, not, Some, None, Ok, Err, refl, sym, ◌∙◌, subst}
-use Rattle.std.specs.Prelude.{◌||◌, Option, is_none, Result, slice_get}
-use Rattle.std.specs.List.{AllByRecursion, list_all}
-use Rattle.std.specs.declared.cmp.Ordering.{Ordering}
-use Rattle.std.specs.declared.cmp.Ordering.TheVariants.{Less, Equal, Greater}
-use Rattle.rep_lists.specs.Rising.{find_at, found_here}
-use Rattle.rep_lists.proofs.Rising.{all_put}
+use Rattle.std.proofs.Common.{◌≡◌, List, [], ◌∷◌, map, Bool, true, false, cond, Some, None, refl, sym, ◌∙◌, subst}
+use Rattle.std.specs.Prelude.{Option, slice_get}
+use Rattle.std.specs.List.{AllByRecursion}
 use Rattle.rep_values.specs.declared.name.SiteName.{SiteName}
 use Rattle.rep_schema.specs.declared.schema.Schema.{Schema}
-use Rattle.rep_schema.specs.declared.change.Change.{Change}
 use Rattle.rep_schema.specs.Tables.{AreTables}
 use Rattle.rep_schema.specs.Sites.{senders_of}
-use Rattle.rep_calls.specs.declared.call.Txn.{Txn}
 use Rattle.rep_calls.specs.declared.past.Past.{Past}
-use Rattle.rep_calls.specs.declared.statement.Statement.{Statement}
-use Rattle.conflict_detect.specs.Fits.{TxnFits}
-use Rattle.conflict_detect.specs.FitTests.{txn_fits}
-use Rattle.conflict_detect.proofs.FitTested.{txn_test}
 use Rattle.unique_resolve.proofs.Settlements.{AreCounters-first}
-use Rattle.txn_effects.specs.Calls.{Effect}
-use Rattle.txn_effects.specs.Transactions.{Failure}
-use Rattle.txn_effects.specs.Contents.{IsContent}
-use Rattle.deferred_queue.specs.Streams.{is_same_site}
 use Rattle.packet_code.specs.declared.packet.Packet.{Packet}
-use Rattle.packet_code.specs.declared.packet.Packet.TheVariants.{Carry, Mark}
-use Rattle.local_txn.specs.declared.local.LocalStop.{LocalStop}
-use Rattle.local_txn.specs.Locals.{BlockEffect}
-use Rattle.snapshot_query.specs.declared.snapshot.Snapshot.{Snapshot}
 use Rattle.rep_laws.specs.Commuting.{IsSound}
 use Rattle.rep_laws.proofs.SoundSchemas.{HasKeys-sound, KeysStandAlone-sound}
-use Rattle.site_state.specs.declared.entry.Entry.{Entry}
-use Rattle.site_state.specs.declared.entry.Entry.TheVariants.{Local, Done, Error, Executed, Dropped, Refreshed}
-use Rattle.error_queue.specs.declared.entry.ErrorEntry.{ErrorEntry}
-use Rattle.site_state.specs.declared.answers.Why.{Why}
-use Rattle.site_state.specs.declared.arrival.Arrival.{Arrival}
-use Rattle.site_state.specs.State.{SenderState, SiteState, sender_of, at_sender, beside, arrived_in, arrived_at}
-use Rattle.site_state.specs.Journal.{is_position, error_at}
-use Rattle.site_state.specs.Contents.{content_of, tables_of, txn_of}
-use Rattle.site_state.specs.Streams.{with_one, went_onward, queue_of}
-use Rattle.site_state.specs.Notes.{touched_in}
-use Rattle.site_state.specs.Ready.{stale_of}
-use Rattle.site_state.specs.Steps.{is_empty, begun}
-use Rattle.site_state.specs.Commits.{block_at, committed_by, committed, site_commit, site_clock}
-use Rattle.site_state.specs.Packets.{with_arrival, arrived_by, is_known_past, is_foreign, taken_unless, site_accept}
-use Rattle.site_state.specs.Passes.{effect_here, finished_by, applied_unless, site_apply}
-use Rattle.site_state.specs.Errors.{effect_of_error, executed_by, executed_found, site_execute, dropped_found, site_drop}
+use Rattle.site_state.specs.State.{SenderState, SiteState}
+use Rattle.site_state.specs.Contents.{content_of, tables_of}
+use Rattle.site_state.specs.Steps.{begun}
+use Rattle.site_state.specs.Commits.{site_commit, site_clock}
+use Rattle.site_state.specs.Packets.{site_accept}
+use Rattle.site_state.specs.Passes.{site_apply}
+use Rattle.site_state.specs.Errors.{site_execute, site_drop}
 use Rattle.site_state.specs.Purges.{site_purge, site_purge_log}
-use Rattle.site_state.specs.Refreshes.{rows_shown, with_tables, renewed}
+use Rattle.site_state.specs.Refreshes.{rows_shown, with_tables}
 use Rattle.site_state.specs.Making.{master_here}
 use Rattle.site_state.specs.Joining.{sender_from, site_open, site_copy}
 use Rattle.site_state.proofs.Growing.{queue_after-rebased}
@@ -65,7 +38,6 @@ use Rattle.event_laws.proofs.QueryTables.{AreTables-rows_shown}
 use Rattle.site_state.specs.Fits.{SendersFit, AreWithin, SiteFits}
 use Rattle.site_state.proofs.FittingBlocks.{block_own}
 use Rattle.site_state.proofs.FittingSites.{within_renewed, commit_fits, apply_fits, execute_fits, drop_fits, accept_fits}
-use Rattle.local_txn.proofs.StatementEffects.{effect_with}
 
 -- a site of the schema fits
 record FitsIn (schema : Schema) (x : SiteState) : Type 0 where

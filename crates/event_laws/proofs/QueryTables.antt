@@ -1,6 +1,6 @@
 -- The rows that a query picks of a table are a table.
-use Rattle.std.proofs.Common.{◌≡◌, ◌≢◌, ℕ, ◌<◌, List, [], ◌∷◌, get_or, set, Bool, true, false, cond}
-use Rattle.std.specs.Prelude.{filter, Any, length}
+use Rattle.std.proofs.Common.{◌≡◌, ◌≢◌, ℕ, List, [], ◌∷◌, get_or, set, Bool, true, false, cond}
+use Rattle.std.specs.Prelude.{filter, Any}
 use Rattle.std.specs.List.{AllByRecursion}
 use Rattle.std.proofs.lemmas.List.{get_or_default}
 use Rattle.std.proofs.lemmas.List.Elements.{recursion_from_All}

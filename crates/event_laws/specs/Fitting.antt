@@ -1,5 +1,5 @@
 -- What fits at every site, whatever happens.
-use Rattle.std.specs.Prelude.{◌≡◌, ◌<◌, List, length, Some, Ok}
+use Rattle.std.specs.Prelude.{◌≡◌, List, Some, Ok}
 use Rattle.std.specs.List.{AllByRecursion}
 use Rattle.rep_values.specs.declared.name.SiteName.{SiteName}
 use Rattle.rep_schema.specs.declared.schema.Schema.{Schema}

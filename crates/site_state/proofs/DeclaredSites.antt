@@ -1,28 +1,21 @@
 -- Each call leaves a site as the schema declares it.
-use Rattle.std.proofs.Common.{◌≡◌, List, [], ◌∷◌, map, Bool, true, false, cond, Some, None, refl, sym, ap, ◌∙◌, subst}
-use Rattle.std.specs.Prelude.{◌||◌, ◌&&◌, Option}
-use Rattle.std.specs.List.{list_any, AllByRecursion}
+use Rattle.std.proofs.Common.{◌≡◌, List, [], ◌∷◌, map, Bool, true, false, cond, Some, None, refl, sym, ap, ◌∙◌}
+use Rattle.std.specs.Prelude.{Option}
 use Rattle.rep_values.specs.declared.name.SiteName.{SiteName}
 use Rattle.rep_schema.specs.declared.schema.Schema.{Schema}
-use Rattle.rep_schema.specs.declared.schema.SiteEntry.{SiteEntry}
-use Rattle.rep_schema.specs.Shape.{is_master}
-use Rattle.rep_schema.specs.Named.{is_site}
 use Rattle.rep_schema.specs.Sites.{senders_of, destinations_of}
-use Rattle.rep_calls.specs.declared.past.Past.{Past}
 use Rattle.deferred_queue.specs.Streams.{is_same_site}
 use Rattle.local_txn.specs.declared.local.Here.{Here}
 use Rattle.packet_code.specs.declared.packet.Packet.{Packet}
 use Rattle.packet_code.specs.declared.packet.Packet.TheVariants.{Carry, Mark}
 use Rattle.site_state.specs.declared.arrival.Arrival.{Arrival}
-use Rattle.site_state.specs.State.{SenderState, DestinationState, SiteState, is_master_site, at_sender, at_destination, arrived_at}
+use Rattle.site_state.specs.State.{SenderState, DestinationState, SiteState, at_sender, at_destination, arrived_at}
 use Rattle.site_state.specs.Packets.{with_arrival, arrived_by, acknowledged, taken_unless, is_foreign, site_accept}
 use Rattle.site_state.specs.Streams.{count_of}
 use Rattle.site_state.specs.Purges.{site_purge}
-use Rattle.site_state.specs.Making.{is_late_master, new_destination, master_here}
-use Rattle.site_state.specs.Joining.{opened_at, site_open, sender_from, site_copy}
+use Rattle.site_state.specs.Joining.{opened_at, site_open}
 use Rattle.site_state.specs.DeclaredSites.{IsDeclared}
-use Rattle.site_state.proofs.Stepping.{Steps, steps_later, Later}
-use Rattle.site_state.proofs.Changing.{accept_later, purge_later, open_later}
+use Rattle.site_state.proofs.Stepping.{Steps}
 
 -- the names of senders
 abbrev pub origins : List SenderState → List SiteName

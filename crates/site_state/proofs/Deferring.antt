@@ -77,7 +77,8 @@ pub stream_to-closed : (schema : Schema) (site : SiteName) (ds : List Destinatio
 stream_to-closed schema site ds gone pasts [] apart is = refl
 stream_to-closed schema site ds gone pasts (txn ∷ older) apart is = rw (destination_to-places schema txn older site ds apart, is) (stream_to-closed schema site ds gone pasts older apart is)
 
-length-stream_to : (schema : Schema) (site : SiteName) (opened : ℕ) (ds : List DestinationState) (gone : ℕ) (pasts : List (List Past)) (txns : List Txn) → StandApart ds → opened_in (destination_of site ds) ≡ Some opened
+-- a stream to an open destination is as long
+pub length-stream_to : (schema : Schema) (site : SiteName) (opened : ℕ) (ds : List DestinationState) (gone : ℕ) (pasts : List (List Past)) (txns : List Txn) → StandApart ds → opened_in (destination_of site ds) ≡ Some opened
     → length (stream_to site (deferred_in schema ds gone pasts txns)) ≡ length (queued_behind opened txns)
 length-stream_to schema site opened ds gone pasts [] apart is = refl
 length-stream_to schema site opened ds gone pasts (txn ∷ older) apart is =
@@ -189,14 +190,15 @@ packet_of-deferred_of site p x apart = go (opened_of site x) refl
 -- ---- a purge
 
 -- each of these is the site's destination of its name
-abbrev AreFound : List DestinationState → List DestinationState → Type 0
+abbrev pub AreFound : List DestinationState → List DestinationState → Type 0
 AreFound all ds = AllByRecursion (λ (d : DestinationState). destination_of d.site all ≡ Some d) ds
 
 found_behind : (d : DestinationState) (all ds : List DestinationState) → AreFound all ds → AllByRecursion (λ (e : DestinationState). is_same_site d.site e.site ≡ false) ds → AreFound (d ∷ all) ds
 found_behind d all [] found off = tt
 found_behind d all (e ∷ ds) found off = (rw off.0 found.0, found_behind d all ds found.1 off.1)
 
-apart_names : (d : DestinationState) (ds : List DestinationState) → destination_of d.site ds ≡ None → AllByRecursion (λ (e : DestinationState). is_same_site d.site e.site ≡ false) ds
+-- another destination than the first is another site
+pub apart_names : (d : DestinationState) (ds : List DestinationState) → destination_of d.site ds ≡ None → AllByRecursion (λ (e : DestinationState). is_same_site d.site e.site ≡ false) ds
 apart_names d [] none = tt
 apart_names d (e ∷ ds) none = go (is_same_site e.site d.site) refl (is_same_site d.site e.site) refl none (apart_names d ds)
   where
@@ -209,11 +211,13 @@ apart_names d (e ∷ ds) none = go (is_same_site e.site d.site) refl (is_same_si
         let same : is_same_site e.site d.site ≡ true = rw names (is_same_site-refl e.site) in absurd (cc (same, is))
     go false is false other none later = (other, later none)
 
-all_found : (ds : List DestinationState) → StandApart ds → AreFound ds ds
+-- each of the destinations is the one of its name
+pub all_found : (ds : List DestinationState) → StandApart ds → AreFound ds ds
 all_found [] apart = tt
 all_found (d ∷ ds) apart = (rw (is_same_site-refl d.site) refl, found_behind d ds ds (all_found ds apart.1) (apart_names d ds apart.0))
 
-acked_by-marks : (site : SiteName) (ds : List DestinationState) → acked_by site (map (λ (d : DestinationState). record { site = d.site; acked = d.acked }) ds) ≡ acked_in (destination_of site ds)
+-- how far a site has acknowledged its stream is what its destination has
+pub acked_by-marks : (site : SiteName) (ds : List DestinationState) → acked_by site (map (λ (d : DestinationState). record { site = d.site; acked = d.acked }) ds) ≡ acked_in (destination_of site ds)
 acked_by-marks site [] = refl
 acked_by-marks site (d ∷ ds) = go (is_same_site d.site site) (acked_by-marks site ds)
   where
@@ -263,7 +267,8 @@ module _ (schema : Schema) (all : List DestinationState) (apart : StandApart all
       ∙ ap (λ b. nat_le (length older + 1) (acknowledged_by count d.acked d.opened) && b) (all_acked ds found.1)
       ∙ sym (two_tests (acknowledged_by count d.acked d.opened) (length older + 1) (acknowledged_by_all count ds))
 
-purged-deferred_in : (schema : Schema) (ds : List DestinationState) (gone : ℕ) (pasts : List (List Past)) (count : ℕ) (txns : List Txn) → StandApart ds → length txns ≤ count
+-- a purge of the queue's crate takes what each destination has acknowledged of what it has
+pub purged-deferred_in : (schema : Schema) (ds : List DestinationState) (gone : ℕ) (pasts : List (List Past)) (count : ℕ) (txns : List Txn) → StandApart ds → length txns ≤ count
     → purged (map (λ (d : DestinationState). record { site = d.site; acked = d.acked }) ds) (deferred_in schema ds gone pasts txns) ≡ deferred_in schema ds (max gone (acknowledged_by_all count ds)) pasts txns
 purged-deferred_in schema ds gone pasts count [] apart within = refl
 purged-deferred_in schema ds gone pasts count (txn ∷ older) apart within =

@@ -6,7 +6,6 @@ use Rattle.rep_values.specs.declared.refusal.Refusal.{Refusal}
 use Rattle.rep_values.specs.declared.refusal.Refusal.TheVariants as refusal
 use Rattle.rep_values.specs.declared.refusal.Limit.TheVariants as limit
 use Rattle.rep_schema.specs.declared.schema.Schema.{Schema}
-use Rattle.rep_schema.specs.Shape.{HasShape}
 use Rattle.rep_schema.specs.Tables.{Rows, AreTables}
 use Rattle.rep_schema.specs.Putting.{made_all}
 use Rattle.rep_calls.specs.declared.call.Txn.{Txn}
@@ -15,7 +14,7 @@ use Rattle.conflict_detect.specs.Fits.{TxnFits}
 use Rattle.conflict_detect.proofs.LedCalls.{ChangeFits-led, CallFits-led}
 use Rattle.unique_resolve.specs.Numbers.{first_numbers}
 use Rattle.unique_resolve.proofs.Settlements.{AreCounters-first}
-use Rattle.txn_effects.specs.Calls.{Effect, HasKeys, KeysStandAlone}
+use Rattle.txn_effects.specs.Calls.{Effect}
 use Rattle.txn_effects.specs.Transactions.{Failure, tables_by, numbers_by}
 use Rattle.txn_effects.specs.Contents.{Content, effect_on, content_after, IsContent}
 use Rattle.txn_effects.specs.Laws.{IsApplied}

@@ -1,6 +1,6 @@
 -- What fits at a site goes on to fit, call by call.
-use Rattle.std.proofs.Common.{◌≡◌, ℕ, List, [], ◌∷◌, map, Bool, true, false, cond, not, Some, None, Ok, Err, refl, sym, ◌∙◌, subst}
-use Rattle.std.specs.Prelude.{◌||◌, Option, is_none, Result, slice_get}
+use Rattle.std.proofs.Common.{◌≡◌, ℕ, List, [], ◌∷◌, map, Bool, true, false, cond, not, Some, None, Ok, Err, refl, subst}
+use Rattle.std.specs.Prelude.{◌||◌, Option, is_none, Result}
 use Rattle.std.specs.List.{AllByRecursion, list_all}
 use Rattle.std.specs.declared.cmp.Ordering.{Ordering}
 use Rattle.std.specs.declared.cmp.Ordering.TheVariants.{Less, Equal, Greater}
@@ -9,18 +9,13 @@ use Rattle.rep_lists.proofs.Rising.{all_put}
 use Rattle.rep_values.specs.declared.name.SiteName.{SiteName}
 use Rattle.rep_schema.specs.declared.schema.Schema.{Schema}
 use Rattle.rep_schema.specs.declared.change.Change.{Change}
-use Rattle.rep_schema.specs.Tables.{AreTables}
-use Rattle.rep_schema.specs.Sites.{senders_of}
 use Rattle.rep_calls.specs.declared.call.Txn.{Txn}
-use Rattle.rep_calls.specs.declared.past.Past.{Past}
 use Rattle.rep_calls.specs.declared.statement.Statement.{Statement}
 use Rattle.conflict_detect.specs.Fits.{TxnFits}
 use Rattle.conflict_detect.specs.FitTests.{txn_fits}
 use Rattle.conflict_detect.proofs.FitTested.{txn_test}
-use Rattle.unique_resolve.proofs.Settlements.{AreCounters-first}
 use Rattle.txn_effects.specs.Calls.{Effect}
 use Rattle.txn_effects.specs.Transactions.{Failure}
-use Rattle.txn_effects.specs.Contents.{IsContent}
 use Rattle.deferred_queue.specs.Streams.{is_same_site}
 use Rattle.packet_code.specs.declared.packet.Packet.{Packet}
 use Rattle.packet_code.specs.declared.packet.Packet.TheVariants.{Carry, Mark}
@@ -38,18 +33,12 @@ use Rattle.site_state.specs.Contents.{content_of, tables_of, txn_of}
 use Rattle.site_state.specs.Streams.{with_one, went_onward, queue_of}
 use Rattle.site_state.specs.Notes.{touched_in}
 use Rattle.site_state.specs.Ready.{stale_of}
-use Rattle.site_state.specs.Steps.{is_empty, begun}
-use Rattle.site_state.specs.Commits.{block_at, committed_by, committed, site_commit, site_clock}
+use Rattle.site_state.specs.Steps.{is_empty}
+use Rattle.site_state.specs.Commits.{block_at, committed_by, committed, site_commit}
 use Rattle.site_state.specs.Packets.{with_arrival, arrived_by, is_known_past, is_foreign, taken_unless, site_accept}
 use Rattle.site_state.specs.Passes.{effect_here, finished_by, applied_unless, site_apply}
 use Rattle.site_state.specs.Errors.{effect_of_error, executed_by, executed_found, site_execute, dropped_found, site_drop}
-use Rattle.site_state.specs.Purges.{site_purge, site_purge_log}
-use Rattle.site_state.specs.Refreshes.{rows_shown, with_tables, renewed}
-use Rattle.site_state.specs.Making.{master_here}
-use Rattle.site_state.specs.Joining.{sender_from, site_open, site_copy}
-use Rattle.site_state.proofs.Growing.{queue_after-rebased}
-use Rattle.site_state.proofs.Stepping.{commit_steps, apply_steps, execute_steps, drop_steps}
-use Rattle.site_state.proofs.Changing.{accept_later}
+use Rattle.site_state.specs.Refreshes.{renewed}
 use Rattle.local_txn.proofs.StatementEffects.{effect_with}
 use Rattle.site_state.specs.Fits.{EntryHas, SendersHave, AreWithin, SiteFits}
 use Rattle.site_state.proofs.FittingBlocks.{IsContent-content_after, TxnFits-led, TxnFits-changes_by, block_applied}

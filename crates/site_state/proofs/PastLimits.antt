@@ -1,7 +1,7 @@
 -- What a site had seen of other masters is within the limits of a packet.
-use Rattle.std.proofs.Common.{◌≡◌, ◌≢◌, ℕ, ◌+◌, ◌<◌, ◌≤◌, List, [], ◌∷◌, length, get_or, map, Bool, true, false, cond, Some, None, refl, sym, ap, ◌∙◌, arith, subst}
+use Rattle.std.proofs.Common.{◌≡◌, ◌≢◌, ℕ, ◌+◌, ◌≤◌, List, [], ◌∷◌, length, get_or, Bool, true, false, cond, Some, None, refl, sym, ap, ◌∙◌, arith, subst}
 use Rattle.std.specs.Prelude.{◌&&◌, Option, filter, nat_lt}
-use Rattle.std.specs.List.{find, list_any, count_by, AllByRecursion}
+use Rattle.std.specs.List.{find, count_by, AllByRecursion}
 use Rattle.std.specs.declared.cmp.Ordering.{Ordering}
 use Rattle.std.specs.declared.cmp.Ordering.TheVariants.{Less, Equal, Greater}
 use Rattle.std.proofs.lemmas.Bool.Decides.{nat_tests}
@@ -18,20 +18,20 @@ use Rattle.rep_schema.specs.declared.schema.Schema.{Schema}
 use Rattle.rep_schema.specs.declared.schema.SiteEntry.{SiteEntry}
 use Rattle.rep_schema.specs.Shape.{is_master, HasShape}
 use Rattle.rep_schema.specs.Named.{is_site, site_named}
-use Rattle.rep_schema.specs.Sites.{addresses, sends_to, names_of, senders_to, senders_of}
+use Rattle.rep_schema.specs.Sites.{sends_to, names_of, senders_to, senders_of}
 use Rattle.rep_calls.specs.declared.past.Past.{Past}
 use Rattle.deferred_queue.specs.Streams.{is_same_site}
 use Rattle.deferred_queue.proofs.Sites.{is_same_site-refl}
 use Rattle.local_txn.specs.declared.local.Here.{Here}
 use Rattle.packet_code.specs.Limits.{IsSeen, IsPast}
-use Rattle.packet_code.specs.Texts.{SeenHasForm, PastHasForm}
+use Rattle.packet_code.specs.Texts.{PastHasForm}
 use Rattle.site_state.specs.declared.entry.Entry.{Entry}
 use Rattle.site_state.specs.declared.entry.Entry.TheVariants.{Local, Done, Error, Executed, Dropped, Refreshed}
 use Rattle.site_state.specs.State.{SenderState, is_master_site}
 use Rattle.site_state.specs.Streams.{with_one, went_onward}
 use Rattle.site_state.specs.Pasts.{beside_name, with_seen, seen_of, past_at, pasts_after}
 use Rattle.site_state.proofs.DeclaredSites.{origins}
-use Rattle.site_state.proofs.SchemaSites.{AreApart, are_apart, find_holds, found_any, any_found, place_found, to_itself, senders_of-others}
+use Rattle.site_state.proofs.SchemaSites.{AreApart, are_apart, found_any, any_found, place_found, to_itself, senders_of-others}
 
 -- ---- at most 7 masters
 

@@ -1,0 +1,34 @@
+-- How an error queue keeps its errors: one rising list for each origin, with room.
+use Rattle.std.specs.Prelude.{ℕ, Bool, min, List, [], ◌∷◌, map}
+use Rattle.std.specs.Ordering.{nat_cmp}
+use Rattle.std.specs.declared.cmp.Ordering.{Ordering}
+use Rattle.rep_values.specs.declared.name.SiteName.{SiteName}
+use Rattle.rep_values.specs.Name.{same_bytes}
+use Rattle.error_queue.specs.declared.entry.ErrorEntry.{ErrorEntry}
+use Rattle.error_queue.specs.ErrorLists.{ErrorList}
+
+-- the errors of one origin, and how many more can be added without memory
+pub record Held : Type 0 where
+  pub list : ErrorList
+  pub room : ℕ
+
+-- the errors of each origin
+abbrev pub lists_of : List Held → List ErrorList
+lists_of helds = map (λ (h : Held). h.list) helds
+
+-- the room of each list
+abbrev pub rooms_of : List Held → List ℕ
+rooms_of helds = map (λ (h : Held). h.room) helds
+
+-- the least of a number and a list of numbers
+abbrev pub least : ℕ → List ℕ → ℕ
+least number [] = number
+least number (n ∷ ns) = min n (least number ns)
+
+-- two errors compared by position
+abbrev pub by_position : ErrorEntry → ErrorEntry → Ordering
+by_position a b = nat_cmp a.position b.position
+
+-- whether this is the list of an origin
+abbrev pub is_list_of : SiteName → Held → Bool
+is_list_of origin h = same_bytes h.list.origin.0 origin.0

@@ -1,0 +1,150 @@
+//! The errors of one origin.
+ghost use Rattle.std.specs.Prelude.{◌≡◌, ◌+◌, ◌≤◌, [], None, length, option_copied, slice_get, IfOk, IfErr, OnOk};
+ghost use Rattle.rep_lists.specs.Rising.{IsRising, IsThere, IsGap, find_at, put_at, take_at};
+ghost use Rattle.error_queue.specs.ErrorLists.{beside, no_errors};
+ghost use Rattle.error_queue.specs.Kept.{by_position, is_list_of};
+
+use crate::ErrorEntry;
+use rep_lists::{NoMemory, RoomyList};
+use rep_values::SiteName;
+use std::alloc::Global;
+use std::cmp::Ordering;
+use std::marker::Model;
+
+/// The errors of one origin, in rising order of position.
+#[derive(Drop)]
+pub(crate) struct OriginErrors {
+    origin: SiteName,
+    entries: RoomyList<ErrorEntry>,
+}
+
+impl Model for OriginErrors {
+    ghost use Rattle.rep_lists.specs.Rising.{IsRising};
+    ghost use Rattle.error_queue.specs.Kept.{Held, by_position};
+
+    ghost Value = { Held };
+
+    ghost view = { λ o. record { list = record { origin = o.origin; entries = o.entries.items }; room = o.entries.spare } };
+
+    ghost invariant = { λ o. IsRising by_position o.entries.items };
+}
+
+/// The place of a position, or else the place where it would stand.
+fn search(entries: &[ErrorEntry], position: u64) -> Result<usize, usize>
+    requires { IsRising by_position entries.now }
+    ensures found { IfOk result (IsThere (beside position) entries.now) }
+    ensures absent { IfErr result (IsGap (beside position) entries.now) }
+{
+    entries.binary_search_by(
+        |entry: &ErrorEntry| -> Ordering
+            ensures { result ≡ beside position entry.now }
+        { entry.position.cmp(&position) },
+    )
+}
+
+fn find(entries: &[ErrorEntry], position: u64) -> Option<&ErrorEntry>
+    requires { IsRising by_position entries.now }
+    ensures { option_copied result ≡ find_at (beside position) entries.now }
+{
+    match search(entries, position) {
+        Ok(place) => Some(&entries[place]),
+        Err(_) => None,
+    }
+}
+
+fn take_out(entries: &mut RoomyList<ErrorEntry>, position: u64) -> Option<ErrorEntry>
+    requires { IsRising by_position entries.old.items }
+    ensures taken { result ≡ find_at (beside position) entries.old.items }
+    ensures entries { entries.new.items ≡ take_at (beside position) entries.old.items }
+    ensures room { entries.old.spare ≤ entries.new.spare }
+{
+    match search(entries.as_slice(), position) {
+        Ok(place) => Some(entries.remove(place)),
+        Err(_) => None,
+    }
+}
+
+/// Puts an error in its place, where none stands.
+fn put_in(entries: &mut RoomyList<ErrorEntry>, error: ErrorEntry)
+    requires rising { IsRising by_position entries.old.items }
+    requires absent { find_at (beside error.position) entries.old.items ≡ None }
+    requires room { 1 ≤ entries.old.spare }
+    ensures entries { entries.new.items ≡ put_at (beside error.position) error entries.old.items }
+    ensures room { entries.old.spare ≤ entries.new.spare + 1 }
+{
+    match search(entries.as_slice(), error.position) {
+        Ok(_) => unreachable!(),
+        Err(place) => entries.insert(place, error),
+    }
+}
+
+impl OriginErrors {
+    /// No error, which takes no memory.
+    pub(crate) fn new(alloc: Global, origin: SiteName) -> OriginErrors
+        ensures { result.list ≡ no_errors origin }
+    {
+        OriginErrors {
+            origin,
+            entries: RoomyList::new(alloc),
+        }
+    }
+
+    /// Whether these are the errors of an origin.
+    pub(crate) fn is_of(&self, origin: &SiteName) -> bool
+        ensures { result ≡ is_list_of origin.now self.now }
+    {
+        self.origin.0.is_same(&origin.0)
+    }
+
+    /// How many errors stand.
+    pub(crate) fn len(&self) -> u64
+        ensures { result ≡ length self.now.list.entries }
+    {
+        self.entries.len() as u64
+    }
+
+    /// The error at a place in rising order, from 0.
+    pub(crate) fn at(&self, place: u64) -> Option<&ErrorEntry>
+        ensures { option_copied result ≡ slice_get self.now.list.entries place }
+    {
+        self.entries.as_slice().get(place as usize)
+    }
+
+    /// The error of a position.
+    pub(crate) fn get(&self, position: u64) -> Option<&ErrorEntry>
+        ensures { option_copied result ≡ find_at (beside position) self.now.list.entries }
+    {
+        find(self.entries.as_slice(), position)
+    }
+
+    /// Takes the room for one more error.
+    pub(crate) fn reserve(&mut self) -> Result<(), NoMemory>
+        ensures ok { OnOk result (1 ≤ self.new.room) }
+        ensures list { self.new.list ≡ self.old.list }
+        ensures room { self.old.room ≤ self.new.room }
+    {
+        self.entries.reserve(1)?;
+        Ok(())
+    }
+
+    /// Adds an error of a position that has none. It takes no memory.
+    pub(crate) fn add(&mut self, error: ErrorEntry)
+        requires absent { find_at (beside error.position) self.old.list.entries ≡ None }
+        requires room { 1 ≤ self.old.room }
+        ensures origin { self.new.list.origin ≡ self.old.list.origin }
+        ensures entries { self.new.list.entries ≡ put_at (beside error.position) error self.old.list.entries }
+        ensures room { self.old.room ≤ self.new.room + 1 }
+    {
+        put_in(&mut self.entries, error);
+    }
+
+    /// Takes the error of a position out, if it stands, and keeps its room.
+    pub(crate) fn take(&mut self, position: u64) -> Option<ErrorEntry>
+        ensures error { result ≡ find_at (beside position) self.old.list.entries }
+        ensures origin { self.new.list.origin ≡ self.old.list.origin }
+        ensures entries { self.new.list.entries ≡ take_at (beside position) self.old.list.entries }
+        ensures room { self.old.room ≤ self.new.room }
+    {
+        take_out(&mut self.entries, position)
+    }
+}
