@@ -1,0 +1,37 @@
+use Rattle.std.proofs.Common.{◌≡◌, ◌∙◌, ◌+◌, Ok, ap, subst, reverse, arith}
+use Rattle.site_state.specs.Commits.{site_commit, commit_answer}
+use Rattle.site_core.specs.Keeping.{state_of}
+use Rattle.site_core.proofs.Taking.{reverse_push, one_entry_more}
+use Rattle.site_core.proofs.Holding.{count_is, commit_state_is, commit_answer_is, commit_holds}
+use Rattle.site_core.proofs.site.Site.commit.Goals as goal
+
+pub invariant_of-self-2 : goal.invariant_of-self-2
+invariant_of-self-2 g c =
+    let h = c.self.invariant in
+    let q = rw c.in-Some.is at c.in_ok-block.ensures.queued in
+    let gives = rw h.tables_are at c.in_ok-block.ensures.ok in
+    let seen = rw (← c.self.view_is) at c.in-Ok.ensures in
+    let number = q.number ∙ ap (λ n. n + 1) (count_is _ _ _ _ _ _ _ _ _ _ _ _ h) in
+    let room = c.in-Ok-reserve_beside.ensures.ok in
+    rw (c.run_block.ensures.schema, c.push.ensures.items, c.in-Ok-reserve_beside.ensures.items, reverse_push)
+    (commit_holds _ _ _ _ _ _ _ _ _ _ _ _ h c.args.statements.now _ gives q.some _ number _ q.calls c.run_block.new.outbox c.run_block.ensures.destinations c.run_block.ensures.purged _ _
+    c.in_ok-block.ensures.tables (q.applies _) q.few (rw seen at (q.keeps _ _ h.keeps)) (omega (arith, room, c.push.ensures.spare)))
+
+pub returns-clause-ok : goal.returns-clause-ok
+returns-clause-ok g c =
+    let h = c.self.invariant in
+    let q = rw c.in-Some.is at c.in_ok-block.ensures.queued in
+    let gives = rw h.tables_are at c.in_ok-block.ensures.ok in
+    let number = q.number ∙ ap (λ n. n + 1) (count_is _ _ _ _ _ _ _ _ _ _ _ _ h) in
+    let journal = one_entry_more _ _ _ _ c.push.ensures.items c.in-Ok-reserve_beside.ensures.items in
+    let new = state_of (g.R.RowStore.schema c.run_block.new.store) c.self.inside.here c.self.inside.base (reverse c.push.new.self.items) c.self.inside.inboxes.items c.run_block.new.outbox c.in_ok-block.block.stamps (c.self.inside.moment + 1) in
+    subst (λ y. new ≡ site_commit c.args.statements.now y) c.self.view_is
+    (commit_state_is _ _ _ _ _ _ _ _ _ _ _ _ h c.args.statements.now _ gives q.some _ number _ q.calls c.run_block.new.outbox c.run_block.ensures.destinations c.run_block.ensures.purged _ _ c.run_block.ensures.schema journal)
+
+pub returns-clause-number : goal.returns-clause-number
+returns-clause-number g c =
+    let h = c.self.invariant in
+    let q = rw c.in-Some.is at c.in_ok-block.ensures.queued in
+    let gives = rw h.tables_are at c.in_ok-block.ensures.ok in
+    let number = q.number ∙ ap (λ n. n + 1) (count_is _ _ _ _ _ _ _ _ _ _ _ _ h) in
+    subst (λ y. commit_answer c.args.statements.now y ≡ Ok c.in-Some.queued.number) c.self.view_is (commit_answer_is _ _ _ _ _ _ _ _ _ _ _ _ h c.args.statements.now _ gives q.some _ number)

@@ -1,0 +1,83 @@
+-- What the fields of a site mean, and that what it keeps beside its state is what the state says.
+use Rattle.std.specs.Prelude.{◌≡◌, ℕ, ◌≤◌, List, [], length, map, Option}
+use Rattle.std.specs.List.{find, AllByRecursion}
+use Rattle.rep_values.specs.declared.name.SiteName.{SiteName}
+use Rattle.rep_schema.specs.declared.schema.Schema.{Schema}
+use Rattle.rep_schema.specs.Tables.{Rows}
+use Rattle.rep_calls.specs.declared.call.Txn.{Txn}
+use Rattle.unique_resolve.specs.Numbers.{Numbers}
+use Rattle.deferred_queue.specs.Streams.{is_same_site}
+use Rattle.local_txn.specs.declared.local.Here.{Here}
+use Rattle.local_txn.specs.declared.local.Stamps.{Stamps}
+use Rattle.origin_marks.specs.Marks as marks
+use Rattle.error_queue.specs.ErrorLists.{ErrorList, in_order}
+use Rattle.site_state.specs.declared.entry.Entry.{Entry}
+use Rattle.site_state.specs.State.{SenderState, SiteState}
+use Rattle.site_state.specs.Journal.{finished}
+use Rattle.site_state.specs.Contents.{content_of, tables_of}
+use Rattle.site_state.specs.Streams.{queue_of}
+use Rattle.site_state.specs.Pasts.{pasts_of}
+use Rattle.site_state.specs.Errors.{errors_from}
+use Rattle.site_state.specs.DeclaredSites.{IsDeclared}
+use Rattle.site_state.specs.Fits.{EntryHas, SendersHave, FinishedHaveArrived, SiteFits}
+use Rattle.sender_inbox.specs.Incoming.{Incoming}
+use Rattle.site_outbox.specs.Outgoing.{Outgoing, Keeps}
+
+abbrev pub senders_in : List Incoming → List SenderState
+senders_in inboxes = map (λ (i : Incoming). i.sender) inboxes
+
+-- the inbox of a sender
+abbrev pub inbox_of : SiteName → List Incoming → Option Incoming
+inbox_of origin inboxes = find (λ (i : Incoming). is_same_site i.sender.origin origin) inboxes
+
+abbrev pub sender_in : Incoming → SenderState
+sender_in i = i.sender
+
+-- the site that the fields mean
+abbrev pub state_of : Schema → Here → List Rows → List Entry → List Incoming → Outgoing → Stamps → ℕ → SiteState
+state_of schema here base journal inboxes out stamps moment = record {
+  schema = schema;
+  here = here;
+  base = base;
+  journal = journal;
+  senders = senders_in inboxes;
+  destinations = out.destinations;
+  purged = out.purged;
+  stamps = stamps;
+  logs = [];
+  snapshots = [];
+  moment = moment;
+}
+
+-- a transaction of 1 to 1,000 calls
+pub record IsSized (txn : Txn) : Type 0 where
+  pub some : 1 ≤ length txn.calls
+  pub most : length txn.calls ≤ 1000
+
+-- each transaction of a site has 1 to 1,000 calls
+pub record AreSized (x : SiteState) : Type 0 where
+  pub queued : AllByRecursion IsSized (queue_of x)
+  pub arrived : SendersHave IsSized x.senders
+  pub journal : AllByRecursion (EntryHas IsSized) x.journal
+
+-- an inbox has the positions as finished that a journal finishes
+abbrev pub Follows : List Entry → Incoming → Type 0
+Follows journal i = (position : ℕ) → marks.finished i.marked position ≡ finished i.sender.origin journal position
+
+-- the errors of a sender that stand
+abbrev pub error_list : List Entry → SenderState → ErrorList
+error_list journal s = record { origin = s.origin; entries = errors_from journal s }
+
+-- what a site keeps beside its state: the tables and counters of its store, its inboxes, its outbox, its error queue, and so
+-- much room in its journal that each error can be dropped
+pub record Holds (x : SiteState) (rows : List Rows) (numbers : Numbers) (inboxes : List Incoming) (out : Outgoing) (lists : List ErrorList) (room : ℕ) : Type 0 where
+  pub fits : SiteFits x
+  pub sized : AreSized x
+  pub declared : IsDeclared x.schema x
+  pub arrived : FinishedHaveArrived x.journal x.senders
+  pub tables_are : rows ≡ tables_of x
+  pub numbers_are : numbers ≡ (content_of x).numbers
+  pub follow : AllByRecursion (Follows x.journal) inboxes
+  pub keeps : Keeps x.schema (pasts_of x) (queue_of x) out
+  pub errors_are : lists ≡ map (error_list x.journal) x.senders
+  pub droppable : length (in_order lists) ≤ room

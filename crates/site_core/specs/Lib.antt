@@ -1,0 +1,5 @@
+-- The definitions of this crate.
+pub mod Keeping
+pub mod Seen
+pub mod Applying
+pub mod Committing

@@ -1,0 +1,219 @@
+//! A transaction that another site sent, applied to what a site keeps of its rows.
+ghost use Rattle.std.specs.Prelude.{◌≡◌, List, ◌≤◌, length, IfOk, IfErr, OnOk, OnErr, Ok, Some, None};
+ghost use Rattle.std.specs.List.{AllByRecursion};
+ghost use Rattle.rep_schema.specs.Shape.{HasShape};
+ghost use Rattle.rep_schema.specs.Changes.{ChangeFits};
+ghost use Rattle.rep_schema.specs.Putting.{made_all};
+ghost use Rattle.rep_calls.specs.declared.call.Txn.{Txn as TxnValue};
+ghost use Rattle.rep_calls.specs.declared.past.Past.{Past as PastValue};
+ghost use Rattle.conflict_detect.specs.Fits.{TxnFits};
+ghost use Rattle.unique_resolve.specs.Numbers.{AreCounters};
+ghost use Rattle.txn_effects.specs.Transactions.{txn_effect, tables_by, numbers_by};
+ghost use Rattle.txn_apply.specs.Stops.{StopsAs};
+ghost use Rattle.site_state.specs.declared.entry.Entry.TheVariants as entry;
+ghost use Rattle.site_state.specs.declared.answers.Applied.TheVariants as applied;
+ghost use Rattle.site_state.specs.Contents.{txn_of, changes_by};
+ghost use Rattle.site_state.specs.Streams.{with_one};
+ghost use Rattle.site_state.specs.Packets.{past_in};
+ghost use Rattle.site_state.specs.Passes.{apply_answer_by};
+ghost use Rattle.site_state.specs.Fits.{IsKeyed};
+ghost use Rattle.site_outbox.specs.Outgoing.{Keeps};
+ghost use Rattle.site_core.specs.Applying.{goes_on, onward_of, entry_by, error_by};
+
+use conflict_detect::txn_of;
+use error_queue::ErrorEntry;
+use rep_calls::{Past, Txn};
+use rep_lists::{Items, NoMemory};
+use rep_schema::{Change, Changes, RowStore, Schema};
+use rep_values::{ApplyError, SiteName};
+use site_outbox::Outbox;
+use site_state::{Applied, Arrival, Entry};
+use std::alloc::Global;
+use txn_apply::{ApplyStop, apply_txn, take_back};
+use unique_resolve::Counters;
+
+/// The rows that a transaction changed, and the number under which they were queued onward, 0 where they weren't.
+#[derive(Drop)]
+pub(crate) struct Done {
+    pub(crate) changes: Changes,
+    pub(crate) onward: u64,
+}
+
+/// What a position adds to a site: its entry, its answer, and its error where it has one.
+#[derive(Drop)]
+pub(crate) struct Step {
+    pub(crate) entry: Entry,
+    pub(crate) answer: Applied,
+    pub(crate) error: Option<ErrorEntry>,
+}
+
+/// What an arrival adds that is done.
+fn done_step(origin: &SiteName, arrival: &Arrival, onward: u64, txn: Txn) -> Step
+    ensures entry { result.entry ≡ entry.Done origin.now arrival.now.position onward txn }
+    ensures answer { result.answer ≡ applied.Done }
+    ensures error { result.error ≡ None }
+{
+    Step {
+        entry: Entry::Done {
+            origin: *origin,
+            position: arrival.position,
+            onward,
+            txn,
+        },
+        answer: Applied::Done,
+        error: None,
+    }
+}
+
+/// What an arrival adds that fails.
+fn failed_step(
+    origin: &SiteName,
+    arrival: &Arrival,
+    call: u32,
+    error: &ApplyError,
+    txn: Txn,
+    kept: Txn,
+) -> Step
+    ensures entry { result.entry ≡ entry.Error origin.now arrival.now.position call error.now txn }
+    ensures answer { result.answer ≡ applied.Error error.now }
+    ensures error { result.error ≡ Some (record { origin = origin.now; position = arrival.now.position; call = call; error = error.now; txn = kept }) }
+{
+    Step {
+        entry: Entry::Error {
+            origin: *origin,
+            position: arrival.position,
+            call,
+            error: *error,
+            txn,
+        },
+        answer: Applied::Error(*error),
+        error: Some(ErrorEntry {
+            origin: *origin,
+            position: arrival.position,
+            call,
+            error: *error,
+            txn: kept,
+        }),
+    }
+}
+
+/// Queues changed rows onward, where there are some and where there is a past to send with them, and answers their number,
+/// 0 where they aren't queued.
+fn send_onward(
+    alloc: Global,
+    schema: &Schema,
+    outbox: &mut Outbox,
+    past: Option<Items<Past>>,
+    changes: &[Change],
+) -> Result<u64, NoMemory>
+    requires keyed { IsKeyed schema.now }
+    requires fits { AllByRecursion (ChangeFits schema.now) changes.now }
+    ensures number { IfOk result (λ onward. onward ≡ onward_of past changes.now (length outbox.old.deferred)) }
+    ensures ok { OnOk result ((pasts : List (List PastValue)) (txns : List TxnValue) → Keeps schema.now pasts txns outbox.old
+        → Keeps schema.now (with_one (goes_on past changes.now) (past_in past) pasts) (with_one (goes_on past changes.now) (txn_of schema.now changes.now) txns) outbox.new) }
+    ensures err { OnErr result ((pasts : List (List PastValue)) (txns : List TxnValue) → Keeps schema.now pasts txns outbox.old → Keeps schema.now pasts txns outbox.new) }
+    ensures destinations { outbox.new.destinations ≡ outbox.old.destinations }
+    ensures purged { outbox.new.purged ≡ outbox.old.purged }
+{
+    let Some(past) = past else {
+        return Ok(0);
+    };
+    if changes.is_empty() {
+        return Ok(0);
+    }
+    let txn = txn_of(alloc, schema, changes)?;
+    let number = outbox.push(alloc, schema, past, txn)?;
+    Ok(number)
+}
+
+/// Applies a transaction from an origin, and queues its changed rows onward where there is a past to send with them.
+pub(crate) fn apply_onward<R: RowStore>(
+    alloc: Global,
+    store: &mut R,
+    counters: &mut Counters,
+    outbox: &mut Outbox,
+    past: Option<Items<Past>>,
+    origin: &SiteName,
+    txn: &Txn,
+) -> Result<Done, ApplyStop>
+    requires keyed { IsKeyed (R.schema store.old) }
+    requires counters { AreCounters (R.schema store.old) counters.old }
+    requires fits { TxnFits (R.schema store.old) txn.now }
+    requires few { length txn.now.calls ≤ 1000 }
+    ensures ok { IfOk result (λ done. txn_effect (R.schema store.old) origin.now txn.now (R.tables store.old) counters.old
+        ≡ Ok (record { changes = done.changes.rows; numbers = counters.new })) }
+    ensures tables { IfOk result (λ done. R.tables store.new ≡ made_all (R.schema store.old) done.changes.rows (R.tables store.old)) }
+    ensures onward { IfOk result (λ done. done.onward ≡ onward_of past done.changes.rows (length outbox.old.deferred)) }
+    ensures few { IfOk result (λ done. length done.changes.rows ≤ length txn.now.calls) }
+    ensures queue { IfOk result (λ done. (pasts : List (List PastValue)) (txns : List TxnValue) → Keeps (R.schema store.old) pasts txns outbox.old
+        → Keeps (R.schema store.old) (with_one (goes_on past done.changes.rows) (past_in past) pasts) (with_one (goes_on past done.changes.rows) (txn_of (R.schema store.old) done.changes.rows) txns) outbox.new) }
+    ensures err { IfErr result (StopsAs (txn_effect (R.schema store.old) origin.now txn.now (R.tables store.old) counters.old)) }
+    ensures kept { OnErr result (R.tables store.new ≡ R.tables store.old) }
+    ensures counters_kept { OnErr result (counters.new ≡ counters.old) }
+    ensures queue_kept { OnErr result ((pasts : List (List PastValue)) (txns : List TxnValue) → Keeps (R.schema store.old) pasts txns outbox.old → Keeps (R.schema store.old) pasts txns outbox.new) }
+    ensures destinations { outbox.new.destinations ≡ outbox.old.destinations }
+    ensures purged { outbox.new.purged ≡ outbox.old.purged }
+    ensures schema { R.schema store.new ≡ R.schema store.old }
+{
+    let applied = apply_txn(alloc, store, counters, origin, txn)?;
+    match send_onward(
+        alloc,
+        store.schema(),
+        outbox,
+        past,
+        applied.changes.rows.as_slice(),
+    ) {
+        Ok(onward) => Ok(Done {
+            changes: applied.changes,
+            onward,
+        }),
+        Err(_) => {
+            take_back(store, counters, applied);
+            Err(ApplyStop::Memory)
+        }
+    }
+}
+
+/// Applies what arrived, and says what it adds to the site.
+pub(crate) fn apply_arrival<R: RowStore>(
+    alloc: Global,
+    store: &mut R,
+    counters: &mut Counters,
+    outbox: &mut Outbox,
+    past: Option<Items<Past>>,
+    origin: &SiteName,
+    arrival: &Arrival,
+) -> Result<Step, NoMemory>
+    requires keyed { IsKeyed (R.schema store.old) }
+    requires counters { AreCounters (R.schema store.old) counters.old }
+    requires fits { TxnFits (R.schema store.old) arrival.now.txn }
+    requires few { length arrival.now.txn.calls ≤ 1000 }
+    ensures entry { IfOk result (λ step. step.entry ≡ entry_by past origin.now arrival.now (length outbox.old.deferred)
+        (txn_effect (R.schema store.old) origin.now arrival.now.txn (R.tables store.old) counters.old)) }
+    ensures answer { IfOk result (λ step. step.answer ≡ apply_answer_by (txn_effect (R.schema store.old) origin.now arrival.now.txn (R.tables store.old) counters.old)) }
+    ensures error { IfOk result (λ step. step.error ≡ error_by origin.now arrival.now (txn_effect (R.schema store.old) origin.now arrival.now.txn (R.tables store.old) counters.old)) }
+    ensures tables { OnOk result (R.tables store.new ≡ tables_by (R.schema store.old) (txn_effect (R.schema store.old) origin.now arrival.now.txn (R.tables store.old) counters.old) (R.tables store.old)) }
+    ensures numbers { OnOk result (counters.new ≡ numbers_by (txn_effect (R.schema store.old) origin.now arrival.now.txn (R.tables store.old) counters.old) counters.old) }
+    ensures queue { OnOk result ((pasts : List (List PastValue)) (txns : List TxnValue) → Keeps (R.schema store.old) pasts txns outbox.old
+        → Keeps (R.schema store.old) (with_one (goes_on past (changes_by (txn_effect (R.schema store.old) origin.now arrival.now.txn (R.tables store.old) counters.old))) (past_in past) pasts)
+        (with_one (goes_on past (changes_by (txn_effect (R.schema store.old) origin.now arrival.now.txn (R.tables store.old) counters.old)))
+        (txn_of (R.schema store.old) (changes_by (txn_effect (R.schema store.old) origin.now arrival.now.txn (R.tables store.old) counters.old))) txns) outbox.new) }
+    ensures few { OnOk result (length (changes_by (txn_effect (R.schema store.old) origin.now arrival.now.txn (R.tables store.old) counters.old)) ≤ length arrival.now.txn.calls) }
+    ensures kept { OnErr result (R.tables store.new ≡ R.tables store.old) }
+    ensures counters_kept { OnErr result (counters.new ≡ counters.old) }
+    ensures queue_kept { OnErr result ((pasts : List (List PastValue)) (txns : List TxnValue) → Keeps (R.schema store.old) pasts txns outbox.old → Keeps (R.schema store.old) pasts txns outbox.new) }
+    ensures destinations { outbox.new.destinations ≡ outbox.old.destinations }
+    ensures purged { outbox.new.purged ≡ outbox.old.purged }
+    ensures schema { R.schema store.new ≡ R.schema store.old }
+{
+    // One for the journal, and one for the error queue.
+    let txn = arrival.txn.share()?;
+    let failed = arrival.txn.share()?;
+    match apply_onward(alloc, store, counters, outbox, past, origin, &arrival.txn) {
+        Ok(done) => Ok(done_step(origin, arrival, done.onward, txn)),
+        Err(ApplyStop::Failed { call, error }) => {
+            Ok(failed_step(origin, arrival, call, &error, txn, failed))
+        }
+        Err(ApplyStop::Memory) => Err(NoMemory),
+    }
+}

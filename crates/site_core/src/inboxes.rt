@@ -1,0 +1,38 @@
+//! The inboxes of a site, one for each sender.
+ghost use Rattle.std.specs.Prelude.{◌≡◌, ℕ, map, false, option_copied, IfOk};
+ghost use Rattle.std.specs.List.{position, AllByRecursion};
+ghost use Rattle.deferred_queue.specs.Streams.{is_same_site};
+ghost use Rattle.origin_marks.specs.Marks.{finished};
+ghost use Rattle.site_state.specs.Making.{new_sender};
+ghost use Rattle.site_core.specs.Keeping.{senders_in, inbox_of};
+
+use rep_lists::NoMemory;
+use rep_values::SiteName;
+use sender_inbox::Inbox;
+use std::alloc::Global;
+
+/// An inbox for each of these senders, in which nothing arrived.
+pub(crate) fn new_inboxes(alloc: Global, senders: &[SiteName]) -> Result<Vec<Inbox>, NoMemory>
+    ensures senders { IfOk result (λ inboxes. senders_in inboxes.items ≡ map new_sender senders.now) }
+    ensures unfinished { IfOk result (λ inboxes. AllByRecursion (λ i. (p : ℕ) → finished i.marked p ≡ false) inboxes.items) }
+{
+    let mut inboxes = Vec::with_capacity(alloc, senders.len())?;
+    for sender in senders {
+        inboxes.push(Inbox::make(alloc, sender))?;
+    }
+    Ok(inboxes)
+}
+
+/// The inbox of a sender; None exactly where the site is no sender.
+pub(crate) fn inbox_from<'a>(inboxes: &'a [Inbox], origin: &SiteName) -> Option<&'a Inbox>
+    ensures { option_copied result ≡ inbox_of origin.now inboxes.now }
+{
+    inboxes.iter().find(|inbox| inbox.is_from(origin))
+}
+
+/// The place of the inbox of a sender.
+pub(crate) fn place_from(inboxes: &[Inbox], origin: &SiteName) -> Option<usize>
+    ensures { result ≡ position (λ i. is_same_site i.sender.origin origin.now) inboxes.now }
+{
+    inboxes.iter().position(|inbox| inbox.is_from(origin))
+}

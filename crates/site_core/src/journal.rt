@@ -1,0 +1,37 @@
+//! The journal of a site beside its error queue.
+ghost use Rattle.std.specs.Prelude.{◌≡◌, ◌+◌, ◌≤◌, length, None, IfSome, OnOk};
+ghost use Rattle.error_queue.specs.ErrorLists.{IsOrigin, error_in, in_order};
+ghost use Rattle.site_core.specs.Applying.{with_error};
+
+use error_queue::{ErrorEntry, Errors};
+use rep_lists::{NoMemory, RoomyList};
+use site_state::Entry;
+
+/// Takes room in a journal for so many entries beside those that drop the errors that stand.
+pub(crate) fn reserve_beside(
+    journal: &mut RoomyList<Entry>,
+    errors: &Errors,
+    entries: usize,
+) -> Result<(), NoMemory>
+    ensures ok { OnOk result (length (in_order errors.now.lists) + entries ≤ journal.new.spare) }
+    ensures items { journal.new.items ≡ journal.old.items }
+    ensures spare { journal.old.spare ≤ journal.new.spare }
+{
+    let Some(room) = (errors.len() as usize).checked_add(entries) else {
+        return Err(NoMemory);
+    };
+    journal.reserve(room)?;
+    Ok(())
+}
+
+/// Adds an error, where there is one, for which there is room.
+pub(crate) fn add_error(errors: &mut Errors, error: Option<ErrorEntry>)
+    requires origin { IfSome error (λ e. IsOrigin errors.old.lists e.origin) }
+    requires absent { IfSome error (λ e. error_in e.origin e.position errors.old.lists ≡ None) }
+    requires room { 1 ≤ errors.old.spare }
+    ensures { errors.new.lists ≡ with_error error errors.old.lists }
+{
+    if let Some(error) = error {
+        errors.add(error);
+    }
+}

@@ -1,0 +1,173 @@
+//! One site over a store of rows.
+ghost use Rattle.std.specs.Prelude.{◌≡◌, ◌+◌, ◌<◌, ◌^◌, [], length, reverse, slice_get, option_copied, IfOk};
+ghost use Rattle.rep_schema.specs.Sites.{senders_of, destinations_of};
+ghost use Rattle.error_queue.specs.ErrorLists.{in_order};
+ghost use Rattle.site_state.specs.State.{is_master_site};
+ghost use Rattle.site_state.specs.Contents.{tables_of};
+ghost use Rattle.site_state.specs.Commits.{site_clock};
+ghost use Rattle.site_state.specs.Deferrals.{deferred_of, marks_of};
+ghost use Rattle.site_state.specs.Errors.{errors_of};
+ghost use Rattle.site_state.specs.Making.{new_site};
+ghost use Rattle.site_state.specs.Steps.{begun};
+ghost use Rattle.site_state.specs.Fits.{IsKeyed};
+
+mod commit;
+mod errors;
+mod passes;
+mod ready;
+mod receive;
+mod send;
+
+use crate::inboxes::new_inboxes;
+use crate::rows::all_rows;
+use deferred_queue::Queue;
+use error_queue::Errors;
+use local_txn::{Here, Stamps};
+use rep_lists::{Items, NoMemory, RoomyList};
+use rep_schema::RowStore;
+use rep_values::{Row, SiteName};
+use sender_inbox::Inbox;
+use site_outbox::Outbox;
+use site_state::Entry;
+use std::alloc::Global;
+use std::marker::Model;
+use unique_resolve::Counters;
+
+/// A site: a store of rows with its counters, the rows that it began with, the journal of what led from them to these, what
+/// arrived from each sender, what it sends to its destinations, and the errors that stand.
+#[derive(Drop)]
+pub struct Site<R: RowStore> {
+    store: R,
+    counters: Counters,
+    here: Here,
+    base: Items<Items<Row>>,
+    // The oldest entry comes first. There is room to drop each error that stands.
+    journal: RoomyList<Entry>,
+    inboxes: Vec<Inbox>,
+    outbox: Outbox,
+    errors: Errors,
+    stamps: Stamps,
+    moment: u64,
+}
+
+impl<R: RowStore> Model for Site<R> {
+    ghost use Rattle.std.specs.Prelude.{reverse};
+    ghost use Rattle.site_state.specs.State.{SiteState};
+    ghost use Rattle.site_core.specs.Keeping.{state_of, Holds};
+
+    ghost Value = { SiteState };
+
+    ghost view = { λ s. state_of (R.schema s.store) s.here s.base (reverse s.journal.items) s.inboxes.items s.outbox s.stamps s.moment };
+
+    ghost invariant = { λ s. Holds (state_of (R.schema s.store) s.here s.base (reverse s.journal.items) s.inboxes.items s.outbox s.stamps s.moment)
+        (R.tables s.store) s.counters s.inboxes.items s.outbox s.errors.lists s.journal.spare };
+}
+
+/// The entry at a place.
+fn entry_at(journal: &[Entry], place: u64) -> Option<&Entry>
+    ensures { option_copied result ≡ slice_get journal.now place }
+{
+    journal.get(place as usize)
+}
+
+impl<R: RowStore> Site<R> {
+    /// A site of the store's schema whose rows are the store's, and at which nothing happened yet. Senders and destinations
+    /// are those that the schema gives the site, in declared order.
+    pub fn make(
+        alloc: Global,
+        store: R,
+        here: Here,
+        senders: &[SiteName],
+        destinations: &[SiteName],
+    ) -> Result<Site<R>, NoMemory>
+        requires keyed { IsKeyed (R.schema store) }
+        requires master { here.is_master ≡ is_master_site (R.schema store) here.site }
+        requires senders { senders.now ≡ senders_of (R.schema store) here.site }
+        requires destinations { destinations.now ≡ destinations_of (R.schema store) here.site }
+        ensures { IfOk result (λ site. site ≡ new_site (R.schema store) here [] [] (R.tables store)) }
+    {
+        let base = all_rows(alloc, &store)?;
+        let counters = Counters::make(alloc, store.schema())?;
+        let inboxes = new_inboxes(alloc, senders)?;
+        let outbox = Outbox::make(alloc, store.schema(), destinations)?;
+        let errors = Errors::make(alloc, senders)?;
+        Ok(Site {
+            store,
+            counters,
+            here,
+            base,
+            journal: RoomyList::new(alloc),
+            inboxes,
+            outbox,
+            errors,
+            stamps: Stamps { clock: 0, last: 0 },
+            moment: 0,
+        })
+    }
+
+    /// The store of rows.
+    pub fn store(&self) -> &R
+        ensures tables { R.tables result.now ≡ tables_of self.now }
+        ensures schema { R.schema result.now ≡ self.now.schema }
+    {
+        &self.store
+    }
+
+    /// The queue.
+    pub fn queue(&self) -> &Queue
+        ensures deferred { result.now.deferred ≡ deferred_of self.now }
+        ensures marks { result.now.marks ≡ marks_of self.now }
+    {
+        self.outbox.queue()
+    }
+
+    /// The errors that stand.
+    pub fn errors(&self) -> &Errors
+        ensures { in_order result.now.lists ≡ errors_of self.now }
+    {
+        &self.errors
+    }
+
+    /// The number of commits with calls, passes begun, executions and drops so far.
+    pub fn moment(&self) -> u64
+        ensures { result ≡ self.now.moment }
+    {
+        self.moment
+    }
+
+    /// The clock, and the last stamp that was given.
+    pub fn stamps(&self) -> Stamps
+        ensures { result ≡ self.now.stamps }
+    {
+        self.stamps
+    }
+
+    /// How many entries the journal has.
+    pub fn journal_len(&self) -> u64
+        ensures { result ≡ length self.now.journal }
+    {
+        self.journal.len() as u64
+    }
+
+    /// The entry at a place of the journal, the oldest at 0; None exactly where the place is at or behind its end.
+    pub fn journal(&self, place: u64) -> Option<&Entry>
+        ensures { option_copied result ≡ slice_get (reverse self.now.journal) place }
+    {
+        entry_at(self.journal.as_slice(), place)
+    }
+
+    /// Sets the clock.
+    pub fn set_clock(&mut self, clock: u64)
+        ensures { self.new ≡ site_clock clock self.old }
+    {
+        self.stamps.clock = clock;
+    }
+
+    /// Begins a pass: the moment rises.
+    pub fn begin_pass(&mut self)
+        requires { self.old.moment + 1 < 2 ^ 64 }
+        ensures { self.new ≡ begun self.old }
+    {
+        self.moment += 1;
+    }
+}

@@ -1,0 +1,197 @@
+//! What arrived is applied.
+ghost use Rattle.std.specs.Prelude.{◌≡◌, ℕ, ◌+◌, ◌<◌, ◌≤◌, ◌^◌, length, slice_get, take, None, Some, IfOk, OnOk, OnErr};
+ghost use Rattle.std.specs.List.{AllByRecursion};
+ghost use Rattle.rep_lists.specs.Rising.{IsRising};
+ghost use Rattle.site_state.specs.declared.arrival.Arrival.{Arrival as ArrivalValue};
+ghost use Rattle.site_state.specs.State.{SenderState, sender_of, arrivals};
+ghost use Rattle.site_state.specs.Ready.{stale_of, first_ready};
+ghost use Rattle.site_state.specs.Steps.{begun};
+ghost use Rattle.site_state.specs.Passes.{site_apply, apply_answer, apply_each, site_pass, pass_answer};
+ghost use Rattle.sender_inbox.specs.Incoming.{by_position, IsFirstAbove};
+ghost use Rattle.site_core.specs.Applying.{onward_past, done_by, errors_by};
+
+use super::Site;
+use crate::applying::{Step, apply_arrival};
+use crate::inboxes::{inbox_from, place_from};
+use crate::journal::{add_error, reserve_beside};
+use crate::masters::is_master_site;
+use rep_calls::Past;
+use rep_lists::{Items, NoMemory};
+use rep_schema::RowStore;
+use rep_values::SiteName;
+use site_state::{Applied, PassCount};
+use std::alloc::Global;
+
+/// The count with what became of one position more.
+fn counted(count: PassCount, applied: &Applied) -> PassCount
+    requires { count.done + count.errors + 1 < 2 ^ 64 }
+    ensures done { result.done ≡ count.done + done_by applied.now }
+    ensures errors { result.errors ≡ count.errors + errors_by applied.now }
+{
+    match applied {
+        Applied::Done => PassCount {
+            done: count.done + 1,
+            errors: count.errors,
+        },
+        Applied::Error(_) => PassCount {
+            done: count.done,
+            errors: count.errors + 1,
+        },
+        Applied::Stale(_) => count,
+    }
+}
+
+impl<R: RowStore> Site<R> {
+    /// What the site had seen, where it sends on what came from an origin; else None.
+    pub(super) fn past_onward(
+        &self,
+        alloc: Global,
+        origin: &SiteName,
+    ) -> Result<Option<Items<Past>>, NoMemory>
+        ensures { IfOk result (λ past. past ≡ onward_past origin.now self.now) }
+    {
+        if !self.here.is_master
+            || is_master_site(self.store.schema(), origin)
+            || !self.outbox.has_open()
+        {
+            return Ok(None);
+        }
+        let past = self.past(alloc)?;
+        Ok(Some(past))
+    }
+
+    /// What arrived from a sender stands in rising order of position.
+    pub(super) fn arrivals_rise(&self, origin: &SiteName)
+        ensures { (s : SenderState) → sender_of origin.now self.now.senders ≡ Some s → IsRising by_position s.arrived }
+    {
+        if let Some(inbox) = inbox_from(&self.inboxes, origin) {
+            inbox.laws();
+        }
+    }
+
+    /// Applies a position that is ready.
+    fn apply_ready(
+        &mut self,
+        alloc: Global,
+        origin: &SiteName,
+        position: u64,
+    ) -> Result<Applied, NoMemory>
+        requires { stale_of origin.now position self.old ≡ None }
+        ensures ok { OnOk result (self.new ≡ site_apply origin.now position self.old) }
+        ensures answer { IfOk result (λ answer. answer ≡ apply_answer origin.now position self.old) }
+        ensures err { OnErr result (self.new ≡ self.old) }
+    {
+        self.arrivals_rise(origin);
+        let past = self.past_onward(alloc, origin)?;
+        let Some(place) = place_from(&self.inboxes, origin) else {
+            unreachable!()
+        };
+        // The room comes first, so that what follows the transaction can't fail: for its entry, and for one that drops its
+        // error.
+        reserve_beside(&mut self.journal, &self.errors, 2)?;
+        self.errors.reserve()?;
+        let inbox = &mut self.inboxes[place];
+        inbox.reserve()?;
+        let Some(arrival) = inbox.find(position) else {
+            unreachable!()
+        };
+        let step = apply_arrival(
+            alloc,
+            &mut self.store,
+            &mut self.counters,
+            &mut self.outbox,
+            past,
+            origin,
+            arrival,
+        )?;
+        let Step {
+            entry,
+            answer,
+            error,
+        } = step;
+        inbox.finish(position);
+        self.journal.push(entry);
+        add_error(&mut self.errors, error);
+        Ok(answer)
+    }
+
+    /// Applies a position of a sender, where it is ready. It is then finished, as done or in error, and journalled; an error
+    /// holds the whole transaction, and nothing of it is applied. Where there is no memory, all is as before.
+    pub fn apply_one(
+        &mut self,
+        alloc: Global,
+        origin: &SiteName,
+        position: u64,
+    ) -> Result<Applied, NoMemory>
+        ensures ok { OnOk result (self.new ≡ site_apply origin.now position self.old) }
+        ensures answer { IfOk result (λ answer. answer ≡ apply_answer origin.now position self.old) }
+        ensures err { OnErr result (self.new ≡ self.old) }
+    {
+        if let Some(why) = self.stale(origin, position) {
+            return Ok(Applied::Stale(why));
+        }
+        let applied = self.apply_ready(alloc, origin, position)?;
+        Ok(applied)
+    }
+
+    /// The place of a sender's first position above a number, in rising order; the end where there is none.
+    fn arrivals_above(&self, origin: &SiteName, number: u64) -> usize
+        ensures place { IsFirstAbove number (arrivals origin.now self.now) result }
+        ensures from_one { AllByRecursion (λ a. 1 ≤ a.position) (arrivals origin.now self.now) }
+    {
+        match inbox_from(&self.inboxes, origin) {
+            Some(inbox) => {
+                inbox.laws();
+                inbox.first_above(number)
+            }
+            None => 0,
+        }
+    }
+
+    /// The position of a sender at a place in rising order.
+    fn position_at(&self, origin: &SiteName, place: usize) -> u64
+        requires { place < length (arrivals origin.now self.now) }
+        ensures { (a : ArrivalValue) → slice_get (arrivals origin.now self.now) place ≡ Some a → result ≡ a.position }
+    {
+        let Some(inbox) = inbox_from(&self.inboxes, origin) else {
+            unreachable!()
+        };
+        inbox.position_at(place)
+    }
+
+    /// The least ready position of a sender above a number; None exactly where there is none.
+    pub fn lowest_ready(&self, origin: &SiteName, above: u64) -> Option<u64>
+        ensures { result ≡ first_ready origin.now above self.now }
+    {
+        // What isn't above the low-water mark is finished.
+        let start = self.arrivals_above(origin, above.max(self.mark(origin)));
+        for place in start..self.arrived(origin) as usize {
+            let position = self.position_at(origin, place);
+            let Some(_) = self.stale(origin, position) else {
+                return Some(position);
+            };
+        }
+        None
+    }
+
+    /// A pass for a sender: the moment rises, then each position that arrived is applied in rising order, where it is ready
+    /// then. It answers how many transactions it finished. Where there is no memory, the positions up to some place are
+    /// applied, each whole and journalled, and no later one.
+    pub fn apply_pass(&mut self, alloc: Global, origin: &SiteName) -> Result<PassCount, NoMemory>
+        requires { self.old.moment + 1 < 2 ^ 64 }
+        ensures ok { OnOk result (self.new ≡ site_pass origin.now self.old) }
+        ensures count { IfOk result (λ count. count ≡ pass_answer origin.now self.old) }
+        ensures err { OnErr result ((k : ℕ) × (self.new ≡ apply_each origin.now (take k (arrivals origin.now self.old)) (begun self.old))) }
+    {
+        self.begin_pass();
+        let mut count = PassCount { done: 0, errors: 0 };
+        // What isn't above the low-water mark is finished.
+        let start = self.arrivals_above(origin, self.mark(origin));
+        for place in start..self.arrived(origin) as usize {
+            let position = self.position_at(origin, place);
+            let applied = self.apply_one(alloc, origin, position)?;
+            count = counted(count, &applied);
+        }
+        Ok(count)
+    }
+}

@@ -1,0 +1,97 @@
+//! What a site has of its senders, and what of it is ready.
+ghost use Rattle.std.specs.Prelude.{◌≡◌, length, IfOk};
+ghost use Rattle.std.specs.List.{list_all};
+ghost use Rattle.site_state.specs.State.{arrivals};
+ghost use Rattle.site_state.specs.Journal.{low_water};
+ghost use Rattle.site_state.specs.Ready.{covered, is_covered, is_due, stale_of};
+ghost use Rattle.site_state.specs.Pasts.{past_of};
+
+use super::Site;
+use crate::inboxes::inbox_from;
+use crate::seen::past_seen;
+use rep_calls::Past;
+use rep_lists::{Items, NoMemory};
+use rep_schema::RowStore;
+use rep_values::SiteName;
+use site_state::{Arrival, Why};
+use std::alloc::Global;
+
+impl<R: RowStore> Site<R> {
+    /// The low-water mark of a sender: the greatest number with all of its positions from 1 up to it finished.
+    pub fn mark(&self, origin: &SiteName) -> u64
+        ensures { result ≡ low_water origin.now self.now.journal }
+    {
+        match inbox_from(&self.inboxes, origin) {
+            Some(inbox) => inbox.low_water(),
+            None => 0,
+        }
+    }
+
+    /// How many positions of a sender arrived.
+    pub fn arrived(&self, origin: &SiteName) -> u64
+        ensures { result ≡ length (arrivals origin.now self.now) }
+    {
+        match inbox_from(&self.inboxes, origin) {
+            Some(inbox) => inbox.len() as u64,
+            None => 0,
+        }
+    }
+
+    /// The covered number of a sender: the queue number of its transaction at the low-water mark, or its first number where
+    /// that mark is 0.
+    pub fn covered(&self, origin: &SiteName) -> u64
+        ensures { result ≡ covered origin.now self.now }
+    {
+        match inbox_from(&self.inboxes, origin) {
+            Some(inbox) => inbox.covered(),
+            None => 0,
+        }
+    }
+
+    /// What the site has seen of the masters among its senders, in rising order of names.
+    pub fn past(&self, alloc: Global) -> Result<Items<Past>, NoMemory>
+        ensures { IfOk result (λ past. past ≡ past_of self.now) }
+    {
+        past_seen(alloc, self.store.schema(), &self.inboxes)
+    }
+
+    /// Whether what was seen of a master is covered here.
+    fn is_covered(&self, seen: &Past) -> bool
+        ensures { result ≡ is_covered self.now seen.now }
+    {
+        seen.origin.0.is_same(&self.here.site.0) || seen.number <= self.covered(&seen.origin)
+    }
+
+    /// Whether all that was seen is covered here.
+    fn is_past_covered(&self, past: &[Past]) -> bool
+        ensures { result ≡ list_all (is_covered self.now) past.now }
+    {
+        past.iter().all(|seen| self.is_covered(seen))
+    }
+
+    /// Whether what an arrival depends on and what its site had seen are finished here.
+    fn is_due(&self, origin: &SiteName, arrival: &Arrival) -> bool
+        ensures { result ≡ is_due origin.now self.now arrival.now }
+    {
+        arrival.dep <= self.mark(origin) && self.is_past_covered(arrival.past.as_slice())
+    }
+
+    /// Why a position isn't ready; None where it is.
+    pub fn stale(&self, origin: &SiteName, position: u64) -> Option<Why>
+        ensures { result ≡ stale_of origin.now position self.now }
+    {
+        let Some(inbox) = inbox_from(&self.inboxes, origin) else {
+            return Some(Why::NotArrived);
+        };
+        if inbox.is_finished(position) {
+            return Some(Why::Finished);
+        }
+        let Some(arrival) = inbox.find(position) else {
+            return Some(Why::NotArrived);
+        };
+        if !self.is_due(origin, arrival) {
+            return Some(Why::NotReady);
+        }
+        None
+    }
+}
