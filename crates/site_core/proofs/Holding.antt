@@ -73,6 +73,7 @@ use Rattle.site_core.proofs.SenderInboxes.{sender_of-inboxes}
 use Rattle.site_core.proofs.Reading.{stale_none, sender_is, stale_finished, stale_absent, finished_is}
 use Rattle.site_core.proofs.Sending.{last_is, no_packet, packet_is, sent_has}
 use Rattle.site_core.proofs.ChangedInbox.{is_from, inbox_of-place, inbox_of-none, senders_in-same, senders_in-changed, Finishes, follow_same, follow_finished}
+use Rattle.site_core.proofs.FinishedOnce.{once_more, no_onward, entry_stays}
 use Rattle.site_core.proofs.Onward.{onward_is, went_is, pasts_with, sized_changes}
 
 -- what a call that only journals leaves of what holds
@@ -122,6 +123,8 @@ module _ (schema : Schema) (here : Here) (base : List Rows) (journal : List Entr
           sized = record { queued = (sized, h.sized.queued); arrived = h.sized.arrived; journal = (sized, h.sized.journal) };
           declared = after.declared;
           arrived = after.arrived;
+          once = h.once;
+          stays = (tt, h.stays);
           tables_are = made ∙ ap (λ (r : Result Effect Failure). tables_by schema r rows) (sym applies) ∙ rw (← h.tables_are, ← h.numbers_are) refl;
           numbers_are = ap (λ (r : Result Effect Failure). numbers_by r numbers) (sym applies) ∙ rw (← h.tables_are, ← h.numbers_are) refl;
           follow = h.follow;
@@ -202,6 +205,8 @@ module _ (schema : Schema) (here : Here) (base : List Rows) (journal : List Entr
           sized = record { queued = queued effect effect_is (omega (arith, few, sized.most)) h.sized.queued; arrived = rw senders h.sized.arrived; journal = (own_sized effect, h.sized.journal) };
           declared = after.declared;
           arrived = after.arrived;
+          once = once_more entry origin position journal entry_finishes unfinished h.once;
+          stays = (entry_stays origin x past past_is a count count_is effect, h.stays);
           tables_are = rows_are ∙ tables effect effect_is;
           numbers_are = numbers_are ∙ counters effect effect_is;
           follow = follow;
@@ -321,6 +326,8 @@ module _ (schema : Schema) (here : Here) (base : List Rows) (journal : List Entr
             };
             declared = after.declared;
             arrived = after.arrived;
+            once = h.once;
+            stays = (no_onward origin x past past_is count count_is done.changes, h.stays);
             tables_are = rows_are ∙ rw (now, ← h.tables_are) refl;
             numbers_are = numbers_are ∙ rw now refl;
             follow = h.follow;
@@ -372,6 +379,8 @@ module _ (schema : Schema) (here : Here) (base : List Rows) (journal : List Entr
           sized = record { queued = h.sized.queued; arrived = h.sized.arrived; journal = (tt, h.sized.journal) };
           declared = after.declared;
           arrived = after.arrived;
+          once = h.once;
+          stays = (tt, h.stays);
           tables_are = h.tables_are;
           numbers_are = h.numbers_are;
           follow = h.follow;
@@ -408,6 +417,8 @@ module _ (schema : Schema) (here : Here) (base : List Rows) (journal : List Entr
     sized = record { queued = h.sized.queued; arrived = rw senders h.sized.arrived; journal = h.sized.journal };
     declared = record { is_master = h.declared.is_master; senders = rw senders h.declared.senders; destinations = sites ∙ h.declared.destinations };
     arrived = rw senders h.arrived;
+    once = h.once;
+    stays = h.stays;
     tables_are = h.tables_are;
     numbers_are = h.numbers_are;
     follow = follow;
@@ -415,6 +426,13 @@ module _ (schema : Schema) (here : Here) (base : List Rows) (journal : List Entr
     errors_are = rw senders h.errors_are;
     droppable = droppable;
   }
+
+  -- the same, with what a call hands back known by equations
+  pub kept_holds_is : (schema' : Schema) (journal' : List Entry) (out' : Outgoing) (rows' : List Rows) (numbers' : Numbers) (lists' : List ErrorList) (stamps' : Stamps) (room' : ℕ) → schema' ≡ schema → journal' ≡ journal → rows' ≡ rows → numbers' ≡ numbers → lists' ≡ lists
+      → out'.destinations ≡ out.destinations → Keeps schema (pasts_of x) (queue_of x) out' → length (in_order lists) ≤ room'
+      → Holds (state_of schema' here base journal' inboxes out' stamps' moment) rows' numbers' inboxes out' lists' room'
+  kept_holds_is schema' journal' out' rows' numbers' lists' stamps' room' schema_is journal_is rows_are numbers_are lists_are same keeps droppable =
+      rw (schema_is, journal_is, rows_are, numbers_are, lists_are) (same_holds inboxes out' stamps' moment room' refl h.follow (ap sites_in same) keeps droppable)
 
   -- as many are queued as the outbox has
   pub count_is : length out.deferred ≡ count_of x
@@ -456,6 +474,8 @@ module _ (schema : Schema) (here : Here) (base : List Rows) (journal : List Entr
             sized = record { queued = h.sized.queued; arrived = rw senders (fitting.senders_put IsSized from arrival (senders_in inboxes) sized h.sized.arrived); journal = h.sized.journal };
             declared = rw accept_state names;
             arrived = rw senders (λ origin p f. arrived_at-put origin from p arrival x.senders (h.arrived origin p f));
+            once = h.once;
+            stays = h.stays;
             tables_are = h.tables_are;
             numbers_are = h.numbers_are;
             follow = follow_same from journal inboxes place i new found is h.follow (ap (λ (s : SenderState). s.origin) changed) (λ q. ap (λ (m : marks.Marked). marks.finished m q) marked);

@@ -10,5 +10,6 @@ pub mod Reading
 pub mod Foreign
 pub mod Sending
 pub mod Onward
+pub mod FinishedOnce
 pub mod Holding
 pub mod Passing

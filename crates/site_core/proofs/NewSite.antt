@@ -59,6 +59,8 @@ new_holds schema here rows base inboxes out numbers lists room keyed are same ma
   sized = record { queued = tt; arrived = rw senders (none_arrived _ (senders_of schema here.site)); journal = tt };
   declared = record { is_master = master; senders = rw senders (origins-new (senders_of schema here.site)); destinations = rw destinations (sites_in-new schema (destinations_of schema here.site)) };
   arrived = λ origin p is. absurd (cc is);
+  once = λ origin p. omega arith;
+  stays = tt;
   tables_are = sym same;
   numbers_are = first;
   follow = follow_nothing inboxes unfinished;

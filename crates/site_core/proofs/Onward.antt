@@ -6,6 +6,8 @@ use Rattle.std.proofs.lemmas.Bool.Decides.{nat_tests}
 use Rattle.rep_values.specs.declared.name.SiteName.{SiteName}
 use Rattle.rep_schema.specs.declared.schema.Schema.{Schema}
 use Rattle.rep_schema.specs.declared.change.Change.{Change}
+use Rattle.rep_schema.specs.Tables.{Rows}
+use Rattle.rep_schema.specs.Putting.{made_all}
 use Rattle.rep_calls.specs.declared.call.Txn.{Txn}
 use Rattle.rep_calls.specs.declared.past.Past.{Past}
 use Rattle.conflict_detect.specs.ChangeCalls.{call_of}
@@ -72,3 +74,8 @@ sized_changes schema past (c ∷ cs) txns few sized = one_has IsSized (is_some p
     long : (changes : List Change) → length (map (call_of schema) changes) ≡ length changes
     long [] = refl
     long (d ∷ ds) = ap ℕ.suc (long ds)
+
+-- where no row changed the rows are as before
+pub nothing_made : (schema : Schema) (changes : List Change) (rows : List Rows) → is_empty changes ≡ true → made_all schema changes rows ≡ rows
+nothing_made schema [] rows none = refl
+nothing_made schema (c ∷ cs) rows none = absurd (cc none)

@@ -1,5 +1,5 @@
 -- What the fields of a site mean, and that what it keeps beside its state is what the state says.
-use Rattle.std.specs.Prelude.{◌≡◌, ℕ, ◌≤◌, List, [], length, map, Option}
+use Rattle.std.specs.Prelude.{◌≡◌, ℕ, ◌≤◌, true, List, [], length, map, Option}
 use Rattle.std.specs.List.{find, AllByRecursion}
 use Rattle.rep_values.specs.declared.name.SiteName.{SiteName}
 use Rattle.rep_schema.specs.declared.schema.Schema.{Schema}
@@ -12,8 +12,10 @@ use Rattle.local_txn.specs.declared.local.Stamps.{Stamps}
 use Rattle.origin_marks.specs.Marks as marks
 use Rattle.error_queue.specs.ErrorLists.{ErrorList, in_order}
 use Rattle.site_state.specs.declared.entry.Entry.{Entry}
-use Rattle.site_state.specs.State.{SenderState, SiteState}
-use Rattle.site_state.specs.Journal.{finished}
+use Rattle.site_state.specs.declared.entry.Entry.TheVariants.{Local, Done, Error, Executed, Dropped, Refreshed}
+use Rattle.site_state.specs.State.{SenderState, SiteState, is_master_site}
+use Rattle.site_state.specs.Journal.{finishes, finished}
+use Rattle.site_state.specs.Steps.{count_where}
 use Rattle.site_state.specs.Contents.{content_of, tables_of}
 use Rattle.site_state.specs.Streams.{queue_of}
 use Rattle.site_state.specs.Pasts.{pasts_of}
@@ -68,6 +70,19 @@ Follows journal i = (position : ℕ) → marks.finished i.marked position ≡ fi
 abbrev pub error_list : List Entry → SenderState → ErrorList
 error_list journal s = record { origin = s.origin; entries = errors_from journal s }
 
+-- each position of each sender is finished at most once
+abbrev pub IsFinishedOnce : List Entry → Type 0
+IsFinishedOnce journal = (origin : SiteName) (position : ℕ) → count_where (finishes origin position) journal ≤ 1
+
+-- the changed rows of what came from a master don't go onward
+abbrev pub StaysWithMasters : Schema → Entry → Type 0
+StaysWithMasters schema (Local number txn) = Unit {0}
+StaysWithMasters schema (Done origin position onward txn) = is_master_site schema origin ≡ true → onward ≡ 0
+StaysWithMasters schema (Error origin position call error txn) = Unit {0}
+StaysWithMasters schema (Executed origin position onward txn) = is_master_site schema origin ≡ true → onward ≡ 0
+StaysWithMasters schema (Dropped origin position) = Unit {0}
+StaysWithMasters schema (Refreshed moment) = Unit {0}
+
 -- what a site keeps beside its state: the tables and counters of its store, its inboxes, its outbox, its error queue, and so
 -- much room in its journal that each error can be dropped
 pub record Holds (x : SiteState) (rows : List Rows) (numbers : Numbers) (inboxes : List Incoming) (out : Outgoing) (lists : List ErrorList) (room : ℕ) : Type 0 where
@@ -75,6 +90,8 @@ pub record Holds (x : SiteState) (rows : List Rows) (numbers : Numbers) (inboxes
   pub sized : AreSized x
   pub declared : IsDeclared x.schema x
   pub arrived : FinishedHaveArrived x.journal x.senders
+  pub once : IsFinishedOnce x.journal
+  pub stays : AllByRecursion (StaysWithMasters x.schema) x.journal
   pub tables_are : rows ≡ tables_of x
   pub numbers_are : numbers ≡ (content_of x).numbers
   pub follow : AllByRecursion (Follows x.journal) inboxes

@@ -6,7 +6,7 @@ use Rattle.site_state.specs.Passes.{site_apply, apply_answer}
 use Rattle.site_core.specs.Keeping.{state_of, sender_in}
 use Rattle.site_core.proofs.ChangedInbox.{senders_in-same}
 use Rattle.site_core.proofs.Taking.{one_entry_more}
-use Rattle.site_core.proofs.Holding.{count_is, room_state_is, room_holds_is, ready_known, ready_unfinished, ready_arrived, ready_there, ready_fits, ready_sized, error_origin, error_absent, ready_follow, apply_state_is, apply_answer_is, apply_holds_is, droppable_with}
+use Rattle.site_core.proofs.Holding.{kept_holds_is, count_is, room_state_is, room_holds_is, ready_known, ready_unfinished, ready_arrived, ready_there, ready_fits, ready_sized, error_origin, error_absent, ready_follow, apply_state_is, apply_answer_is, apply_holds_is, droppable_with}
 use Rattle.site_core.proofs.site.Site.apply_ready.Goals as goal
 
 pub unreachable-requires : goal.unreachable-requires
@@ -195,3 +195,13 @@ returns-clause-answer g c =
     let answer = c.in_ok-step.ensures.answer ∙ apply_answer_is _ _ _ _ _ _ _ _ _ _ _ _ h c.args.origin.now c.args.position a stale arrived c.in_ok-past.past seen _ count c.apply_arrival.new.outbox c.apply_arrival.ensures.destinations c.apply_arrival.ensures.purged
     (set s.inboxes.items c.in-Some.place c.finish.new.self) senders in
     subst (λ y. c.in_ok-step.step.answer ≡ apply_answer c.args.origin.now c.args.position y) c.self.view_is answer
+
+pub invariant_of-self : goal.invariant_of-self
+invariant_of-self g c =
+    let h = c.self.invariant in
+    kept_holds_is _ _ _ _ _ _ _ _ _ _ _ _ h _ _ c.self.inside.outbox _ _ _ c.self.inside.stamps _ refl (ap reverse c.reserve_beside.ensures.items) refl refl refl refl h.keeps (omega (arith, h.droppable, c.reserve_beside.ensures.spare))
+
+pub invariant_of-self-in_err-reserve : goal.invariant_of-self-in_err-reserve
+invariant_of-self-in_err-reserve g c =
+    let h = c.self.invariant in
+    kept_holds_is _ _ _ _ _ _ _ _ _ _ _ _ h _ _ c.self.inside.outbox _ _ _ c.self.inside.stamps _ refl (ap reverse c.reserve_beside.ensures.items) refl refl c.reserve.ensures.lists refl h.keeps (omega (arith, h.droppable, c.reserve_beside.ensures.spare))

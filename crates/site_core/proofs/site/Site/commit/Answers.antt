@@ -1,8 +1,9 @@
-use Rattle.std.proofs.Common.{◌≡◌, ◌∙◌, ◌+◌, Ok, ap, subst, reverse, arith}
+use Rattle.std.proofs.Common.{◌≡◌, refl, ◌∙◌, ◌+◌, Ok, ap, subst, reverse, arith}
 use Rattle.site_state.specs.Commits.{site_commit, commit_answer}
 use Rattle.site_core.specs.Keeping.{state_of}
 use Rattle.site_core.proofs.Taking.{reverse_push, one_entry_more}
-use Rattle.site_core.proofs.Holding.{count_is, commit_state_is, commit_answer_is, commit_holds}
+use Rattle.site_core.proofs.Onward.{nothing_made}
+use Rattle.site_core.proofs.Holding.{kept_holds_is, count_is, commit_state_is, commit_answer_is, commit_holds}
 use Rattle.site_core.proofs.site.Site.commit.Goals as goal
 
 pub invariant_of-self-2 : goal.invariant_of-self-2
@@ -35,3 +36,23 @@ returns-clause-number g c =
     let gives = rw h.tables_are at c.in_ok-block.ensures.ok in
     let number = q.number ∙ ap (λ n. n + 1) (count_is _ _ _ _ _ _ _ _ _ _ _ _ h) in
     subst (λ y. commit_answer c.args.statements.now y ≡ Ok c.in-Some.queued.number) c.self.view_is (commit_answer_is _ _ _ _ _ _ _ _ _ _ _ _ h c.args.statements.now _ gives q.some _ number)
+
+pub invariant_of-self : goal.invariant_of-self
+invariant_of-self g c =
+    let h = c.self.invariant in
+    kept_holds_is _ _ _ _ _ _ _ _ _ _ _ _ h _ _ c.self.inside.outbox _ _ _ c.self.inside.stamps _ refl (ap reverse c.reserve_beside.ensures.items) refl refl refl refl h.keeps (omega (arith, h.droppable, c.reserve_beside.ensures.spare))
+
+pub invariant_of-self-in_err-block : goal.invariant_of-self-in_err-block
+invariant_of-self-in_err-block g c =
+    let h = c.self.invariant in
+    let r = c.run_block.ensures in
+    let e = c.in_err-block.ensures in
+    kept_holds_is _ _ _ _ _ _ _ _ _ _ _ _ h _ _ c.run_block.new.outbox _ _ _ c.self.inside.stamps _ r.schema (ap reverse c.reserve_beside.ensures.items) e.kept refl refl r.destinations (e.queue_kept _ _ h.keeps) (omega (arith, h.droppable, c.reserve_beside.ensures.spare))
+
+pub invariant_of-self-in_default-queued : goal.invariant_of-self-in_default-queued
+invariant_of-self-in_default-queued g c =
+    let h = c.self.invariant in
+    let r = c.run_block.ensures in
+    let none = c.in_ok-block.ensures.none c.in_default-queued.is in
+    let rows = c.in_ok-block.ensures.tables ∙ nothing_made (g.R.RowStore.schema c.self.inside.store) c.in_ok-block.block.changes.rows (g.R.RowStore.tables c.self.inside.store) none.0 in
+    kept_holds_is _ _ _ _ _ _ _ _ _ _ _ _ h _ _ c.run_block.new.outbox _ _ _ c.self.inside.stamps _ r.schema (ap reverse c.reserve_beside.ensures.items) rows refl refl r.destinations (rw none.1 h.keeps) (omega (arith, h.droppable, c.reserve_beside.ensures.spare))

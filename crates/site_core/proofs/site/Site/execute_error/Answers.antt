@@ -1,8 +1,8 @@
-use Rattle.std.proofs.Common.{◌≡◌, ◌+◌, None, arith, inr, refl, reverse, subst}
+use Rattle.std.proofs.Common.{◌≡◌, ◌+◌, None, ap, arith, inr, refl, reverse, subst}
 use Rattle.site_state.specs.Errors.{site_execute, execute_refusal}
 use Rattle.site_core.specs.Keeping.{state_of}
 use Rattle.site_core.proofs.Taking.{one_entry_more}
-use Rattle.site_core.proofs.Holding.{count_is, error_is, none_to_execute, error_fits, error_sized, stops_as, execute_state_is, execute_refusal_is, execute_holds_is}
+use Rattle.site_core.proofs.Holding.{kept_holds_is, count_is, error_is, none_to_execute, error_fits, error_sized, stops_as, execute_state_is, execute_refusal_is, execute_holds_is}
 use Rattle.site_core.proofs.site.Site.execute_error.Goals as goal
 
 pub returns-in_default-clause-err : goal.returns-in_default-clause-err
@@ -79,3 +79,15 @@ returns-clause-executes g c =
     subst (λ y. execute_refusal c.args.origin.now c.args.position y ≡ None) c.self.view_is
     (execute_refusal_is _ _ _ _ _ _ _ _ _ _ _ _ h c.args.origin.now c.args.position e stands rising c.in_ok-past.past seen _ count c.apply_onward.new.outbox c.apply_onward.ensures.destinations c.apply_onward.ensures.purged
     _ gives)
+
+pub invariant_of-self : goal.invariant_of-self
+invariant_of-self g c =
+    let h = c.self.invariant in
+    kept_holds_is _ _ _ _ _ _ _ _ _ _ _ _ h _ _ c.self.inside.outbox _ _ _ c.self.inside.stamps _ refl (ap reverse c.reserve_beside.ensures.items) refl refl refl refl h.keeps (omega (arith, h.droppable, c.reserve_beside.ensures.spare))
+
+pub invariant_of-self-in-Err : goal.invariant_of-self-in-Err
+invariant_of-self-in-Err g c =
+    let h = c.self.invariant in
+    let a = c.apply_onward.ensures in
+    let e = c.in-Err.ensures in
+    kept_holds_is _ _ _ _ _ _ _ _ _ _ _ _ h _ _ c.apply_onward.new.outbox _ _ _ c.self.inside.stamps _ a.schema (ap reverse c.reserve_beside.ensures.items) e.kept e.counters_kept refl a.destinations (e.queue_kept _ _ h.keeps) (omega (arith, h.droppable, c.reserve_beside.ensures.spare))
