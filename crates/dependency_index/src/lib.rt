@@ -11,4 +11,4 @@ mod touched;
 pub use index::Index;
 pub use laws::dependency_laws;
 pub use token::{Token, Tokens};
-pub use touched::{has_unique_token, tokens_of};
+pub use touched::{has_unique_token, key_named, tokens_of};

@@ -16,7 +16,7 @@ use schema_names::is_taken;
 use std::alloc::Global;
 
 /// The key of the row that a call names.
-fn key_named(schema: &Schema, call: &Call) -> Key
+pub fn key_named(schema: &Schema, call: &Call) -> Key
     requires keys { HasKeys schema.now }
     requires fits { CallFits schema.now call.now }
     ensures { result ≡ key_named schema.now call.now }

@@ -69,6 +69,13 @@ impl Inbox {
         self.origin.0.is_same(&site.0)
     }
 
+    /// Its queue count when this site joined, 0 where this site was there from the start.
+    pub fn first(&self) -> u64
+        ensures { result ≡ self.now.sender.first }
+    {
+        self.first
+    }
+
     /// How many positions arrived.
     pub fn len(&self) -> usize
         ensures { result ≡ length self.now.sender.arrived }

@@ -10,6 +10,8 @@ pub mod Reading
 pub mod Foreign
 pub mod Sending
 pub mod Onward
+pub mod Installing
 pub mod FinishedOnce
 pub mod Holding
 pub mod Passing
+pub mod Beginning

@@ -1,5 +1,5 @@
 -- What is read of a site's inboxes is what the site's state says of its senders.
-use Rattle.std.proofs.Common.{◌≡◌, ℕ, List, true, false, Some, None, refl, sym, ◌∙◌}
+use Rattle.std.proofs.Common.{◌≡◌, ℕ, List, Bool, true, false, Some, None, refl, sym, ◌∙◌}
 use Rattle.rep_lists.specs.Rising.{IsRising, find_at}
 use Rattle.rep_values.specs.declared.name.SiteName.{SiteName}
 use Rattle.rep_schema.specs.Tables.{Rows}
@@ -9,7 +9,7 @@ use Rattle.origin_marks.specs.Marks as marks
 use Rattle.error_queue.specs.ErrorLists.{ErrorList}
 use Rattle.site_state.specs.declared.arrival.Arrival.{Arrival}
 use Rattle.site_state.specs.declared.answers.Why.TheVariants as why
-use Rattle.site_state.specs.State.{SenderState, SiteState, sender_of, beside, arrivals}
+use Rattle.site_state.specs.State.{SenderState, SiteState, sender_of, beside, arrived_at, arrivals, first_number}
 use Rattle.site_state.specs.Journal.{finished, low_water}
 use Rattle.site_state.specs.Pasts.{past_of}
 use Rattle.site_state.specs.Ready.{covered_at, covered, is_due, stale_of}
@@ -41,6 +41,12 @@ module _ (x : SiteState) (rows : List Rows) (numbers : Numbers) (inboxes : List 
       pub stale_none : (position : ℕ) → Some why.NotArrived ≡ stale_of origin position x
       stale_none position = rw (unfinished_none x.journal x.senders h.arrived origin no_sender position, no_sender) refl
 
+      pub first_none : 0 ≡ first_number origin x
+      first_none = rw no_sender refl
+
+      pub nothing_arrived : (position : ℕ) → arrived_at origin position x.senders ≡ None
+      nothing_arrived position = rw no_sender refl
+
       pub rising_none : (s : SenderState) → sender_of origin x.senders ≡ Some s → IsRising by_position s.arrived
       rising_none s there = absurd (cc (there, no_sender))
 
@@ -49,6 +55,12 @@ module _ (x : SiteState) (rows : List Rows) (numbers : Numbers) (inboxes : List 
     module _ (i : Incoming) (found : inbox_of origin inboxes ≡ Some i) where
       pub sender_is : sender_of origin x.senders ≡ Some i.sender
       sender_is = rw (senders, sender_of-inboxes origin inboxes, found) refl
+
+      pub first_is : i.sender.first ≡ first_number origin x
+      first_is = rw sender_is refl
+
+      pub arrived_is : (position : ℕ) → find_at (beside position) i.sender.arrived ≡ arrived_at origin position x.senders
+      arrived_is position = rw sender_is refl
 
       -- its arrivals rise where the inbox's do
       pub rising_found : IsRising by_position i.sender.arrived → (s : SenderState) → sender_of origin x.senders ≡ Some s → IsRising by_position s.arrived
@@ -82,3 +94,11 @@ module _ (x : SiteState) (rows : List Rows) (numbers : Numbers) (inboxes : List 
 
           pub stale_ready : (a : Arrival) → find_at (beside position) i.sender.arrived ≡ Some a → is_due origin x a ≡ true → None ≡ stale_of origin position x
           stale_ready a there due = rw (not_yet, sender_is, there, due) refl
+
+        -- what is ready arrived
+        pub ready_arrives : find_at (beside position) i.sender.arrived ≡ None → stale_of origin position x ≡ None → ⊥
+        ready_arrives none ready = go (marks.finished i.marked position) refl
+          where
+            go : (b : Bool) → marks.finished i.marked position ≡ b → ⊥
+            go true is = let why_not = stale_finished is in absurd (cc (why_not, ready))
+            go false is = let why_not = stale_absent is none in absurd (cc (why_not, ready))

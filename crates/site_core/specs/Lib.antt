@@ -3,3 +3,4 @@ pub mod Keeping
 pub mod Seen
 pub mod Applying
 pub mod Committing
+pub mod Working

@@ -1,8 +1,8 @@
 //! A transaction that another site sent, applied to what a site keeps of its rows.
-ghost use Rattle.std.specs.Prelude.{◌≡◌, List, ◌≤◌, length, IfOk, IfErr, OnOk, OnErr, Ok, Some, None};
+ghost use Rattle.std.specs.Prelude.{◌≡◌, ◌≢◌, List, ◌≤◌, length, IfOk, IfErr, IfSome, OnOk, OnErr, Ok, Some, None};
 ghost use Rattle.std.specs.List.{AllByRecursion};
 ghost use Rattle.rep_schema.specs.Shape.{HasShape};
-ghost use Rattle.rep_schema.specs.Changes.{ChangeFits};
+ghost use Rattle.rep_schema.specs.Changes.{ChangeFits, LeadsTo};
 ghost use Rattle.rep_schema.specs.Putting.{made_all};
 ghost use Rattle.rep_calls.specs.declared.call.Txn.{Txn as TxnValue};
 ghost use Rattle.rep_calls.specs.declared.past.Past.{Past as PastValue};
@@ -18,18 +18,20 @@ ghost use Rattle.site_state.specs.Packets.{past_in};
 ghost use Rattle.site_state.specs.Passes.{apply_answer_by};
 ghost use Rattle.site_state.specs.Fits.{IsKeyed};
 ghost use Rattle.site_outbox.specs.Outgoing.{Keeps};
+ghost use Rattle.txn_work.specs.Endings.{effect_of};
 ghost use Rattle.site_core.specs.Applying.{goes_on, onward_of, entry_by, error_by};
 
 use conflict_detect::txn_of;
 use error_queue::ErrorEntry;
 use rep_calls::{Past, Txn};
 use rep_lists::{Items, NoMemory};
-use rep_schema::{Change, Changes, RowStore, Schema};
+use rep_schema::{Change, Changes, RowStore, Schema, holds_tables};
 use rep_values::{ApplyError, SiteName};
 use site_outbox::Outbox;
 use site_state::{Applied, Arrival, Entry};
 use std::alloc::Global;
 use txn_apply::{ApplyStop, apply_txn, take_back};
+use txn_work::{Ending, make_changes, make_room};
 use unique_resolve::Counters;
 
 /// The rows that a transaction changed, and the number under which they were queued onward, 0 where they weren't.
@@ -174,7 +176,43 @@ pub(crate) fn apply_onward<R: RowStore>(
     }
 }
 
-/// Applies what arrived, and says what it adds to the site.
+/// Makes changed rows that were evaluated before, and queues them onward where there is a past to send with them. It
+/// answers their number, 0 where they aren't queued.
+fn install_onward<R: RowStore>(
+    alloc: Global,
+    store: &mut R,
+    outbox: &mut Outbox,
+    past: Option<Items<Past>>,
+    changes: Changes,
+) -> Result<u64, NoMemory>
+    requires keyed { IsKeyed (R.schema store.old) }
+    requires leads { LeadsTo (R.schema store.old) changes.rows (R.tables store.old) (made_all (R.schema store.old) changes.rows (R.tables store.old)) }
+    requires differ { AllByRecursion (λ change. change.before ≢ change.after) changes.rows }
+    ensures tables { OnOk result (R.tables store.new ≡ made_all (R.schema store.old) changes.rows (R.tables store.old)) }
+    ensures onward { IfOk result (λ onward. onward ≡ onward_of past changes.rows (length outbox.old.deferred)) }
+    ensures queue { OnOk result ((pasts : List (List PastValue)) (txns : List TxnValue) → Keeps (R.schema store.old) pasts txns outbox.old
+        → Keeps (R.schema store.old) (with_one (goes_on past changes.rows) (past_in past) pasts) (with_one (goes_on past changes.rows) (txn_of (R.schema store.old) changes.rows) txns) outbox.new) }
+    ensures kept { OnErr result (R.tables store.new ≡ R.tables store.old) }
+    ensures queue_kept { OnErr result ((pasts : List (List PastValue)) (txns : List TxnValue) → Keeps (R.schema store.old) pasts txns outbox.old → Keeps (R.schema store.old) pasts txns outbox.new) }
+    ensures destinations { outbox.new.destinations ≡ outbox.old.destinations }
+    ensures purged { outbox.new.purged ≡ outbox.old.purged }
+    ensures schema { R.schema store.new ≡ R.schema store.old }
+{
+    holds_tables(store);
+    // The room comes first, so that what follows the queue can't fail.
+    make_room(store, &changes)?;
+    let onward = send_onward(
+        alloc,
+        store.schema(),
+        outbox,
+        past,
+        changes.rows.as_slice(),
+    )?;
+    make_changes(store, changes);
+    Ok(onward)
+}
+
+/// Applies what arrived, which ends as it was evaluated before where it was, and says what it adds to the site.
 pub(crate) fn apply_arrival<R: RowStore>(
     alloc: Global,
     store: &mut R,
@@ -183,11 +221,13 @@ pub(crate) fn apply_arrival<R: RowStore>(
     past: Option<Items<Past>>,
     origin: &SiteName,
     arrival: &Arrival,
+    ending: Option<Ending>,
 ) -> Result<Step, NoMemory>
     requires keyed { IsKeyed (R.schema store.old) }
     requires counters { AreCounters (R.schema store.old) counters.old }
     requires fits { TxnFits (R.schema store.old) arrival.now.txn }
     requires few { length arrival.now.txn.calls ≤ 1000 }
+    requires ending { IfSome ending (λ e. txn_effect (R.schema store.old) origin.now arrival.now.txn (R.tables store.old) counters.old ≡ effect_of e counters.old) }
     ensures entry { IfOk result (λ step. step.entry ≡ entry_by past origin.now arrival.now (length outbox.old.deferred)
         (txn_effect (R.schema store.old) origin.now arrival.now.txn (R.tables store.old) counters.old)) }
     ensures answer { IfOk result (λ step. step.answer ≡ apply_answer_by (txn_effect (R.schema store.old) origin.now arrival.now.txn (R.tables store.old) counters.old)) }
@@ -206,14 +246,24 @@ pub(crate) fn apply_arrival<R: RowStore>(
     ensures purged { outbox.new.purged ≡ outbox.old.purged }
     ensures schema { R.schema store.new ≡ R.schema store.old }
 {
+    holds_tables(store);
     // One for the journal, and one for the error queue.
     let txn = arrival.txn.share()?;
     let failed = arrival.txn.share()?;
-    match apply_onward(alloc, store, counters, outbox, past, origin, &arrival.txn) {
-        Ok(done) => Ok(done_step(origin, arrival, done.onward, txn)),
-        Err(ApplyStop::Failed { call, error }) => {
+    match ending {
+        Some(Ending::Changed(changes)) => {
+            let onward = install_onward(alloc, store, outbox, past, changes)?;
+            Ok(done_step(origin, arrival, onward, txn))
+        }
+        Some(Ending::Failed { call, error }) => {
             Ok(failed_step(origin, arrival, call, &error, txn, failed))
         }
-        Err(ApplyStop::Memory) => Err(NoMemory),
+        None => match apply_onward(alloc, store, counters, outbox, past, origin, &arrival.txn) {
+            Ok(done) => Ok(done_step(origin, arrival, done.onward, txn)),
+            Err(ApplyStop::Failed { call, error }) => {
+                Ok(failed_step(origin, arrival, call, &error, txn, failed))
+            }
+            Err(ApplyStop::Memory) => Err(NoMemory),
+        },
     }
 }

@@ -1,5 +1,5 @@
 //! What arrived is applied.
-ghost use Rattle.std.specs.Prelude.{◌≡◌, ℕ, ◌+◌, ◌<◌, ◌≤◌, ◌^◌, length, slice_get, take, None, Some, IfOk, OnOk, OnErr};
+ghost use Rattle.std.specs.Prelude.{◌≡◌, ℕ, ◌+◌, ◌<◌, ◌≤◌, ◌^◌, length, slice_get, take, None, Some, IfOk, IfSome, OnOk, OnErr};
 ghost use Rattle.std.specs.List.{AllByRecursion};
 ghost use Rattle.rep_lists.specs.Rising.{IsRising};
 ghost use Rattle.site_state.specs.declared.arrival.Arrival.{Arrival as ArrivalValue};
@@ -9,6 +9,7 @@ ghost use Rattle.site_state.specs.Steps.{begun};
 ghost use Rattle.site_state.specs.Passes.{site_apply, apply_answer, apply_each, site_pass, pass_answer};
 ghost use Rattle.sender_inbox.specs.Incoming.{by_position, IsFirstAbove};
 ghost use Rattle.site_core.specs.Applying.{onward_past, done_by, errors_by};
+ghost use Rattle.site_core.specs.Working.{EndsHere};
 
 use super::Site;
 use crate::applying::{Step, apply_arrival};
@@ -21,6 +22,7 @@ use rep_schema::RowStore;
 use rep_values::SiteName;
 use site_state::{Applied, PassCount};
 use std::alloc::Global;
+use txn_work::Ending;
 
 /// The count with what became of one position more.
 fn counted(count: PassCount, applied: &Applied) -> PassCount
@@ -69,14 +71,16 @@ impl<R: RowStore> Site<R> {
         }
     }
 
-    /// Applies a position that is ready.
-    fn apply_ready(
+    /// Applies a position that is ready, which ends as it was evaluated before where it was.
+    pub(super) fn apply_ready(
         &mut self,
         alloc: Global,
         origin: &SiteName,
         position: u64,
+        ending: Option<Ending>,
     ) -> Result<Applied, NoMemory>
-        requires { stale_of origin.now position self.old ≡ None }
+        requires ready { stale_of origin.now position self.old ≡ None }
+        requires ending { IfSome ending (EndsHere origin.now position self.old) }
         ensures ok { OnOk result (self.new ≡ site_apply origin.now position self.old) }
         ensures answer { IfOk result (λ answer. answer ≡ apply_answer origin.now position self.old) }
         ensures err { OnErr result (self.new ≡ self.old) }
@@ -103,6 +107,7 @@ impl<R: RowStore> Site<R> {
             past,
             origin,
             arrival,
+            ending,
         )?;
         let Step {
             entry,
@@ -130,7 +135,7 @@ impl<R: RowStore> Site<R> {
         if let Some(why) = self.stale(origin, position) {
             return Ok(Applied::Stale(why));
         }
-        let applied = self.apply_ready(alloc, origin, position)?;
+        let applied = self.apply_ready(alloc, origin, position, None)?;
         Ok(applied)
     }
 

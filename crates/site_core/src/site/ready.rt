@@ -1,7 +1,7 @@
 //! What a site has of its senders, and what of it is ready.
 ghost use Rattle.std.specs.Prelude.{◌≡◌, length, IfOk};
 ghost use Rattle.std.specs.List.{list_all};
-ghost use Rattle.site_state.specs.State.{arrivals};
+ghost use Rattle.site_state.specs.State.{arrivals, first_number};
 ghost use Rattle.site_state.specs.Journal.{low_water};
 ghost use Rattle.site_state.specs.Ready.{covered, is_covered, is_due, stale_of};
 ghost use Rattle.site_state.specs.Pasts.{past_of};
@@ -33,6 +33,16 @@ impl<R: RowStore> Site<R> {
     {
         match inbox_from(&self.inboxes, origin) {
             Some(inbox) => inbox.len() as u64,
+            None => 0,
+        }
+    }
+
+    /// The first number of a sender: its queue count when this site joined, 0 where this site was there from the start.
+    pub fn first_number(&self, origin: &SiteName) -> u64
+        ensures { result ≡ first_number origin.now self.now }
+    {
+        match inbox_from(&self.inboxes, origin) {
+            Some(inbox) => inbox.first(),
             None => 0,
         }
     }

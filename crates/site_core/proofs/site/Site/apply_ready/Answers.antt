@@ -6,12 +6,13 @@ use Rattle.site_state.specs.Passes.{site_apply, apply_answer}
 use Rattle.site_core.specs.Keeping.{state_of, sender_in}
 use Rattle.site_core.proofs.ChangedInbox.{senders_in-same}
 use Rattle.site_core.proofs.Taking.{one_entry_more}
+use Rattle.site_core.proofs.Beginning.{ends_on_rows}
 use Rattle.site_core.proofs.Holding.{kept_holds_is, count_is, room_state_is, room_holds_is, ready_known, ready_unfinished, ready_arrived, ready_there, ready_fits, ready_sized, error_origin, error_absent, ready_follow, apply_state_is, apply_answer_is, apply_holds_is, droppable_with}
 use Rattle.site_core.proofs.site.Site.apply_ready.Goals as goal
 
 pub unreachable-requires : goal.unreachable-requires
 unreachable-requires g c =
-    let stale = rw (← c.self.view_is) at c.requires in
+    let stale = rw (← c.self.view_is) at c.requires.ready in
     ready_known _ _ _ _ _ _ _ _ _ _ _ _ c.self.invariant c.args.origin.now c.args.position stale (rw c.deref.ensures.value at c.in_default.ensures)
 
 pub invariant_of-self-in_err-reserve-2 : goal.invariant_of-self-in_err-reserve-2
@@ -39,7 +40,7 @@ returns-in_err-reserve-2-clause-err g c =
 
 pub unreachable-requires-in_default-find : goal.unreachable-requires-in_default-find
 unreachable-requires-in_default-find g c =
-    let stale = rw (← c.self.view_is) at c.requires in
+    let stale = rw (← c.self.view_is) at c.requires.ready in
     let found = rw c.deref.ensures.value at c.in-Some.ensures in
     ready_arrived _ _ _ _ _ _ _ _ _ _ _ _ c.self.invariant c.args.origin.now c.args.position stale c.in-Some.place c.index_mut-inbox.result.now found c.index_mut-inbox.ensures.value (rw c.reserve-2.ensures.sender at c.in_default-find.ensures)
 
@@ -50,7 +51,7 @@ apply_arrival-requires-clause-fits g c = λ κs lives.
     let found = rw c.deref.ensures.value at c.in-Some.ensures in
     let i = c.index_mut-inbox.result.now in
     let is = c.index_mut-inbox.ensures.value in
-    let stale = rw (← c.self.view_is) at c.requires in
+    let stale = rw (← c.self.view_is) at c.requires.ready in
     let a = c.in-Some-find.arrival.now in
     let there = rw c.reserve-2.ensures.sender at c.in-Some-find.ensures in
     ready_fits _ _ _ _ _ _ _ _ _ _ _ _ h c.args.origin.now c.args.position stale c.in-Some.place i found is a there
@@ -62,10 +63,24 @@ apply_arrival-requires-clause-few g c = λ κs lives.
     let found = rw c.deref.ensures.value at c.in-Some.ensures in
     let i = c.index_mut-inbox.result.now in
     let is = c.index_mut-inbox.ensures.value in
-    let stale = rw (← c.self.view_is) at c.requires in
+    let stale = rw (← c.self.view_is) at c.requires.ready in
     let a = c.in-Some-find.arrival.now in
     let there = rw c.reserve-2.ensures.sender at c.in-Some-find.ensures in
     (ready_sized _ _ _ _ _ _ _ _ _ _ _ _ h c.args.origin.now c.args.position stale c.in-Some.place i found is a there).most
+
+pub apply_arrival-requires-clause-ending : goal.apply_arrival-requires-clause-ending
+apply_arrival-requires-clause-ending g c = λ κs lives.
+    let s = c.self.inside in
+    let h = c.self.invariant in
+    let found = rw c.deref.ensures.value at c.in-Some.ensures in
+    let i = c.index_mut-inbox.result.now in
+    let is = c.index_mut-inbox.ensures.value in
+    let stale = rw (← c.self.view_is) at c.requires.ready in
+    let ends = rw (← c.self.view_is) at c.requires.ending in
+    let a = c.in-Some-find.arrival.now in
+    let there = rw c.reserve-2.ensures.sender at c.in-Some-find.ensures in
+    let arrived = ready_there _ _ _ _ _ _ _ _ _ _ _ _ h c.args.origin.now c.args.position stale c.in-Some.place i found is a there in
+    ends_on_rows _ _ _ _ _ _ _ h c.args.origin.now c.args.position a arrived c.args.ending ends
 
 pub invariant_of-self-in_err-step : goal.invariant_of-self-in_err-step
 invariant_of-self-in_err-step g c =
@@ -99,7 +114,7 @@ finish-requires-clause-unfinished g c =
     let found = rw c.deref.ensures.value at c.in-Some.ensures in
     let i = c.index_mut-inbox.result.now in
     let is = c.index_mut-inbox.ensures.value in
-    let stale = rw (← c.self.view_is) at c.requires in
+    let stale = rw (← c.self.view_is) at c.requires.ready in
     ap (λ edges. is_between edges c.args.position) c.reserve-2.ensures.finished
     ∙ ready_unfinished _ _ _ _ _ _ _ _ _ _ _ _ h c.args.origin.now c.args.position stale c.in-Some.place i found is
 
@@ -110,7 +125,7 @@ add_error-requires-clause-origin g c =
     let found = rw c.deref.ensures.value at c.in-Some.ensures in
     let i = c.index_mut-inbox.result.now in
     let is = c.index_mut-inbox.ensures.value in
-    let stale = rw (← c.self.view_is) at c.requires in
+    let stale = rw (← c.self.view_is) at c.requires.ready in
     let a = c.in-Some-find.arrival.now in
     let there = rw c.reserve-2.ensures.sender at c.in-Some-find.ensures in
     rw (c.reserve.ensures.lists, c.in_ok-step.ensures.error)
@@ -123,7 +138,7 @@ add_error-requires-clause-absent g c =
     let found = rw c.deref.ensures.value at c.in-Some.ensures in
     let i = c.index_mut-inbox.result.now in
     let is = c.index_mut-inbox.ensures.value in
-    let stale = rw (← c.self.view_is) at c.requires in
+    let stale = rw (← c.self.view_is) at c.requires.ready in
     let a = c.in-Some-find.arrival.now in
     let there = rw c.reserve-2.ensures.sender at c.in-Some-find.ensures in
     let rising = rw (← c.self.view_is) at c.arrivals_rise.ensures in
@@ -137,7 +152,7 @@ invariant_of-self-2 g c =
     let found = rw c.deref.ensures.value at c.in-Some.ensures in
     let i = c.index_mut-inbox.result.now in
     let is = c.index_mut-inbox.ensures.value in
-    let stale = rw (← c.self.view_is) at c.requires in
+    let stale = rw (← c.self.view_is) at c.requires.ready in
     let a = c.in-Some-find.arrival.now in
     let there = rw c.reserve-2.ensures.sender at c.in-Some-find.ensures in
     let arrived = ready_there _ _ _ _ _ _ _ _ _ _ _ _ h c.args.origin.now c.args.position stale c.in-Some.place i found is a there in
@@ -162,7 +177,7 @@ returns-clause-ok g c =
     let found = rw c.deref.ensures.value at c.in-Some.ensures in
     let i = c.index_mut-inbox.result.now in
     let is = c.index_mut-inbox.ensures.value in
-    let stale = rw (← c.self.view_is) at c.requires in
+    let stale = rw (← c.self.view_is) at c.requires.ready in
     let a = c.in-Some-find.arrival.now in
     let there = rw c.reserve-2.ensures.sender at c.in-Some-find.ensures in
     let arrived = ready_there _ _ _ _ _ _ _ _ _ _ _ _ h c.args.origin.now c.args.position stale c.in-Some.place i found is a there in
@@ -183,7 +198,7 @@ returns-clause-answer g c =
     let found = rw c.deref.ensures.value at c.in-Some.ensures in
     let i = c.index_mut-inbox.result.now in
     let is = c.index_mut-inbox.ensures.value in
-    let stale = rw (← c.self.view_is) at c.requires in
+    let stale = rw (← c.self.view_is) at c.requires.ready in
     let a = c.in-Some-find.arrival.now in
     let there = rw c.reserve-2.ensures.sender at c.in-Some-find.ensures in
     let arrived = ready_there _ _ _ _ _ _ _ _ _ _ _ _ h c.args.origin.now c.args.position stale c.in-Some.place i found is a there in

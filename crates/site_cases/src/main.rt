@@ -1,0 +1,48 @@
+//! Calls of sites as cases: each line is one, and what the call answers is printed.
+//!
+//! `new` forgets all. A declaration has the form that scripts have, `row TABLE VALUE..` is a base row of each site, and
+//! `resume` opens the sites; a refusal is printed behind `!`. A snapshot site holds all tables, too.
+//!
+//! `txn SITE`, the statements and `commit` are a block; where one is refused, its number stands behind the `!`. `packet
+//! FROM TO POSITION` keeps the packet of a position, and `send FROM TO POSITION` delivers it at once. `acknowledge FROM
+//! TO` delivers the mark that a site has for another at once. `call CALL` keeps a call, `carry FROM TO NUMBER POSITION
+//! DEP [past ORIGIN NUMBER ..]` keeps the packet of the calls that are kept, and `mark FROM TO MARK` one of a mark.
+//! `deliver SITE NUMBER` delivers the packet that is kept under this number, counted from 1.
+//!
+//! `begin SITE`, `pass SITE ORIGIN`, `apply SITE ORIGIN POSITION`, `stale SITE ORIGIN POSITION`, `lowest SITE ORIGIN
+//! ABOVE`, `execute SITE ORIGIN POSITION`, `drop-error SITE ORIGIN POSITION`, `purge SITE`, `clock SITE NUMBER`, `seen
+//! SITE` and `covered SITE ORIGIN` are calls of a site. `show tables|queue|errors|marks|journal|site SITE` shows what it
+//! keeps. An empty line and one that begins with `#` is printed as it is.
+#![tactic(auto)]
+
+mod cases;
+mod declared;
+mod events;
+mod member;
+mod neighbours;
+mod packets;
+mod shown;
+mod told;
+
+use anyhow::Result;
+use case_lines::CaseStop;
+use cases::Cases;
+
+fn main(rt: HostRuntime) -> Result<()> {
+    let alloc = rt.alloc();
+    let mut cases = Cases::new(alloc);
+    for line in rt.lines(alloc) {
+        let line = line?;
+        if line.is_empty() || line.starts_with('#') {
+            println!(rt; "{line}")?;
+            continue;
+        }
+        match cases.outcome(alloc, &line) {
+            Ok(Some(outcome)) => println!(rt; "{outcome}")?,
+            Ok(None) => {}
+            Err(CaseStop::NoCase) => println!(rt; "no case")?,
+            Err(CaseStop::Memory) => println!(rt; "no memory")?,
+        }
+    }
+    Ok(())
+}

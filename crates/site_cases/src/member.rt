@@ -1,0 +1,126 @@
+//! A site of the cases.
+ghost use Rattle.std.specs.Prelude.{◌≡◌, IfOk};
+ghost use Rattle.rep_schema.specs.Shape.{HasShape};
+ghost use Rattle.site_state.specs.State.{is_master_site};
+ghost use Rattle.site_state.specs.Fits.{IsKeyed};
+
+use crate::neighbours::{destinations_of, is_master, senders_of};
+use case_lines::CaseStop;
+use local_txn::{Here, fill_base_rows, put_base_row, sound_schemas_fill_freely};
+use rep_laws::sound_schemas_have_keys;
+use rep_lists::{Copies, Items};
+use rep_schema::{Schema, TableSet};
+use rep_values::{Literal, Refusal, SiteName, TableName};
+use row_tables::ListTables;
+use schema_rules::check;
+use site_core::Site;
+use std::alloc::Global;
+
+/// A row that each site has when it is opened.
+#[derive(Drop)]
+pub struct BaseRow {
+    pub table: TableName,
+    pub values: Items<Literal>,
+}
+
+/// A site, and those with which it exchanges packets.
+#[derive(Drop)]
+pub struct Member {
+    pub name: SiteName,
+    pub senders: Vec<SiteName>,
+    pub destinations: Vec<SiteName>,
+    pub site: Site<ListTables>,
+}
+
+fn put_row(alloc: Global, store: &mut ListTables, row: &BaseRow) -> Result<(), CaseStop>
+    requires { HasShape store.old.schema }
+    ensures { store.new.schema ≡ store.old.schema }
+{
+    match put_base_row(alloc, store, &row.table, row.values.as_slice()) {
+        Ok(()) => Ok(()),
+        Err(Refusal::Memory) => Err(CaseStop::Memory),
+        Err(_) => Err(CaseStop::NoCase),
+    }
+}
+
+fn put_rows(alloc: Global, store: &mut ListTables, rows: &[BaseRow]) -> Result<(), CaseStop>
+    requires { HasShape store.old.schema }
+    ensures { store.new.schema ≡ store.old.schema }
+{
+    for row in rows {
+        put_row(alloc, store, row)?;
+    }
+    Ok(())
+}
+
+/// The first declared master.
+fn first_master(schema: &Schema) -> Option<SiteName> {
+    for entry in schema.sites.as_slice() {
+        if entry.master.is_none() {
+            return Some(entry.name);
+        }
+    }
+    None
+}
+
+/// All of the first four tables.
+fn here_of(schema: &Schema, name: SiteName) -> Here
+    ensures site { result.site ≡ name }
+    ensures master { result.is_master ≡ is_master_site schema.now name }
+{
+    Here {
+        site: name,
+        is_master: is_master(schema, &name),
+        tables: TableSet::of(&[0, 1, 2, 3]),
+    }
+}
+
+/// A store with the base rows, or the rule that the schema breaks.
+fn base_store(
+    alloc: Global,
+    schema: &Schema,
+    rows: &[BaseRow],
+) -> Result<Result<ListTables, u8>, CaseStop>
+    requires { HasShape schema.now }
+    ensures keyed { IfOk result (λ found. IfOk found (λ store. IsKeyed store.schema)) }
+    ensures schema { IfOk result (λ found. IfOk found (λ store. store.schema ≡ schema.now)) }
+{
+    if let Err(rule) = check(schema) {
+        return Ok(Err(rule));
+    }
+    sound_schemas_have_keys();
+    sound_schemas_fill_freely();
+    let mut store = ListTables::make(alloc, schema.copy(alloc)?)?;
+    put_rows(alloc, &mut store, rows)?;
+    if let Some(master) = first_master(schema) {
+        fill_base_rows(&mut store, &master)?;
+    }
+    Ok(Ok(store))
+}
+
+impl Member {
+    /// The site of this name, with these rows, or the rule that the schema breaks.
+    pub fn open(
+        alloc: Global,
+        schema: &Schema,
+        rows: &[BaseRow],
+        name: SiteName,
+    ) -> Result<Result<Member, u8>, CaseStop>
+        requires { HasShape schema.now }
+    {
+        let store = match base_store(alloc, schema, rows)? {
+            Ok(store) => store,
+            Err(rule) => return Ok(Err(rule)),
+        };
+        let here = here_of(schema, name);
+        let senders = senders_of(alloc, schema, &name)?;
+        let destinations = destinations_of(alloc, schema, &name)?;
+        let site = Site::make(alloc, store, here, &senders, &destinations)?;
+        Ok(Ok(Member {
+            name,
+            senders,
+            destinations,
+            site,
+        }))
+    }
+}

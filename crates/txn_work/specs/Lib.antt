@@ -1,0 +1,6 @@
+-- The definitions of this crate.
+pub mod Naming
+pub mod Works
+pub mod Endings
+pub mod Making
+pub mod Laws
