@@ -19,7 +19,6 @@ mod cases;
 mod declared;
 mod events;
 mod member;
-mod neighbours;
 mod packets;
 mod shown;
 mod told;

@@ -4,7 +4,6 @@ ghost use Rattle.rep_schema.specs.Shape.{HasShape};
 ghost use Rattle.site_state.specs.State.{is_master_site};
 ghost use Rattle.site_state.specs.Fits.{IsKeyed};
 
-use crate::neighbours::{destinations_of, is_master, senders_of};
 use case_lines::CaseStop;
 use local_txn::{Here, fill_base_rows, put_base_row, sound_schemas_fill_freely};
 use rep_laws::sound_schemas_have_keys;
@@ -13,7 +12,7 @@ use rep_schema::{Schema, TableSet};
 use rep_values::{Literal, Refusal, SiteName, TableName};
 use row_tables::ListTables;
 use schema_rules::check;
-use site_core::Site;
+use site_core::{Site, destinations_of, first_master, is_master_site, senders_of};
 use std::alloc::Global;
 
 /// A row that each site has when it is opened.
@@ -53,16 +52,6 @@ fn put_rows(alloc: Global, store: &mut ListTables, rows: &[BaseRow]) -> Result<(
     Ok(())
 }
 
-/// The first declared master.
-fn first_master(schema: &Schema) -> Option<SiteName> {
-    for entry in schema.sites.as_slice() {
-        if entry.master.is_none() {
-            return Some(entry.name);
-        }
-    }
-    None
-}
-
 /// All of the first four tables.
 fn here_of(schema: &Schema, name: SiteName) -> Here
     ensures site { result.site ≡ name }
@@ -70,7 +59,7 @@ fn here_of(schema: &Schema, name: SiteName) -> Here
 {
     Here {
         site: name,
-        is_master: is_master(schema, &name),
+        is_master: is_master_site(schema, &name),
         tables: TableSet::of(&[0, 1, 2, 3]),
     }
 }
@@ -93,7 +82,7 @@ fn base_store(
     let mut store = ListTables::make(alloc, schema.copy(alloc)?)?;
     put_rows(alloc, &mut store, rows)?;
     if let Some(master) = first_master(schema) {
-        fill_base_rows(&mut store, &master)?;
+        fill_base_rows(&mut store, &master.name)?;
     }
     Ok(Ok(store))
 }

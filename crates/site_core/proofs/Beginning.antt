@@ -1,5 +1,5 @@
 -- A transaction that is evaluated away from its site, on copies of what is there.
-use Rattle.std.proofs.Common.{◌≡◌, ℕ, List, length, Bool, false, None, Some, refl, sym, ap, ◌∙◌, subst}
+use Rattle.std.proofs.Common.{◌≡◌, ℕ, List, false, None, Some, sym, ap, ◌∙◌}
 use Rattle.std.specs.Prelude.{Option, IfSome}
 use Rattle.std.specs.List.{list_any}
 use Rattle.rep_values.specs.declared.name.SiteName.{SiteName}
@@ -7,7 +7,6 @@ use Rattle.rep_schema.specs.Tables.{Rows}
 use Rattle.conflict_detect.specs.Fits.{TxnFits}
 use Rattle.unique_resolve.specs.Numbers.{Numbers}
 use Rattle.txn_effects.specs.Transactions.{txn_effect}
-use Rattle.txn_effects.specs.Contents.{IsContent}
 use Rattle.dependency_index.specs.Tokens.{txn_tokens, is_unique_token}
 use Rattle.error_queue.specs.ErrorLists.{ErrorList}
 use Rattle.rep_laws.specs.Commuting.{IsSound, AgreeOn}

@@ -1,5 +1,5 @@
 -- Positions are finished once, and what came from a master stays here.
-use Rattle.std.proofs.Common.{◌≡◌, ℕ, ◌+◌, ◌≤◌, ◌==◌, List, [], ◌∷◌, Bool, true, false, cond, not, refl, sym, ap, ◌∙◌, arith, subst}
+use Rattle.std.proofs.Common.{◌≡◌, ℕ, ◌+◌, ◌≤◌, ◌==◌, List, [], ◌∷◌, Bool, true, false, cond, not, refl, ap, ◌∙◌, arith}
 use Rattle.std.specs.Prelude.{◌||◌, ◌&&◌, Option, Result, Ok, Err}
 use Rattle.std.specs.List.{list_any}
 use Rattle.std.proofs.lemmas.Bool.Decides.{nat_tests}
@@ -13,10 +13,10 @@ use Rattle.deferred_queue.proofs.Sites.{is_same_site-true}
 use Rattle.site_state.specs.declared.entry.Entry.{Entry}
 use Rattle.site_state.specs.declared.arrival.Arrival.{Arrival}
 use Rattle.site_state.specs.State.{SiteState, is_master_site}
-use Rattle.site_state.specs.Journal.{is_position, finishes, finished}
+use Rattle.site_state.specs.Journal.{finishes, finished}
 use Rattle.site_state.specs.Streams.{count_of}
-use Rattle.site_state.specs.Steps.{count_where, is_empty, is_open, onward_number}
-use Rattle.site_core.specs.Keeping.{IsFinishedOnce, StaysWithMasters}
+use Rattle.site_state.specs.Steps.{count_where, is_empty, is_open}
+use Rattle.journal_order.specs.Settling.{IsFinishedOnce, StaysWithMasters}
 use Rattle.site_core.specs.Applying.{onward_of, entry_by, onward_past}
 use Rattle.site_core.proofs.ChangedInbox.{Finishes}
 use Rattle.site_core.proofs.Onward.{onward_is}

@@ -119,6 +119,7 @@ module _ (schema : Schema) (here : Here) (base : List Rows) (journal : List Entr
         let still = still_holds x _ (commit_steps statements x) (commit_fits statements x h.fits) h.declared h.arrived in
         let after = subst (StillHolds x) (sym commit_state) still in
         record {
+          based = h.based;
           fits = after.fits;
           sized = record { queued = (sized, h.sized.queued); arrived = h.sized.arrived; journal = (sized, h.sized.journal) };
           declared = after.declared;
@@ -201,6 +202,7 @@ module _ (schema : Schema) (here : Here) (base : List Rows) (journal : List Entr
         let still = still_holds x _ (apply_steps origin position x) (apply_fits origin position x h.fits) h.declared h.arrived in
         let after = subst (StillHolds x) (sym apply_state) still in
         record {
+          based = h.based;
           fits = after.fits;
           sized = record { queued = queued effect effect_is (omega (arith, few, sized.most)) h.sized.queued; arrived = rw senders h.sized.arrived; journal = (own_sized effect, h.sized.journal) };
           declared = after.declared;
@@ -318,6 +320,7 @@ module _ (schema : Schema) (here : Here) (base : List Rows) (journal : List Entr
           let after = subst (StillHolds x) (sym execute_state) still in
           let now : txn_effect schema origin e.txn (tables_of x) (content_of x).numbers ≡ Ok done = rw (← h.tables_are, ← h.numbers_are) gives in
           record {
+            based = h.based;
             fits = after.fits;
             sized = record {
               queued = rw (went_is origin x past past_is count count_is done.changes, now) (sized_changes schema past done.changes (queue_of x) few h.sized.queued);
@@ -375,6 +378,7 @@ module _ (schema : Schema) (here : Here) (base : List Rows) (journal : List Entr
         let still = still_holds x _ (drop_steps origin position x) (drop_fits origin position x h.fits) h.declared h.arrived in
         let after = subst (StillHolds x) (sym drop_state) still in
         record {
+          based = h.based;
           fits = after.fits;
           sized = record { queued = h.sized.queued; arrived = h.sized.arrived; journal = (tt, h.sized.journal) };
           declared = after.declared;
@@ -413,6 +417,7 @@ module _ (schema : Schema) (here : Here) (base : List Rows) (journal : List Entr
       → sites_in out'.destinations ≡ sites_in out.destinations → Keeps schema (pasts_of x) (queue_of x) out' → length (in_order lists) ≤ room'
       → Holds (state_of schema here base journal inboxes' out' stamps' moment') rows numbers inboxes' out' lists room'
   same_holds inboxes' out' stamps' moment' room' senders follow sites keeps droppable = record {
+    based = h.based;
     fits = record { keyed = h.fits.keyed; content = h.fits.content; queued = h.fits.queued; senders = rw senders h.fits.senders; journal = h.fits.journal; within = tt };
     sized = record { queued = h.sized.queued; arrived = rw senders h.sized.arrived; journal = h.sized.journal };
     declared = record { is_master = h.declared.is_master; senders = rw senders h.declared.senders; destinations = sites ∙ h.declared.destinations };
@@ -470,6 +475,7 @@ module _ (schema : Schema) (here : Here) (base : List Rows) (journal : List Entr
           let packet : Packet = Carry from to number position dep seen txn in
           let names = still_declared schema x (site_accept packet x) (accept_names packet x) h.declared in
           record {
+            based = h.based;
             fits = rw accept_state (accept_fits packet x h.fits);
             sized = record { queued = h.sized.queued; arrived = rw senders (fitting.senders_put IsSized from arrival (senders_in inboxes) sized h.sized.arrived); journal = h.sized.journal };
             declared = rw accept_state names;

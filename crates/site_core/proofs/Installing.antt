@@ -1,5 +1,5 @@
 -- What was evaluated before can be made, where the transaction does so now.
-use Rattle.std.proofs.Common.{◌≡◌, ◌≤◌, List, length, Ok, ap, subst, sym}
+use Rattle.std.proofs.Common.{◌≡◌, ◌≤◌, List, length, Ok, subst, sym}
 use Rattle.std.specs.Prelude.{Result}
 use Rattle.rep_values.specs.declared.name.SiteName.{SiteName}
 use Rattle.rep_schema.specs.declared.schema.Schema.{Schema}

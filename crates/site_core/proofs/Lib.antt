@@ -15,3 +15,4 @@ pub mod FinishedOnce
 pub mod Holding
 pub mod Passing
 pub mod Beginning
+pub mod SettledSite

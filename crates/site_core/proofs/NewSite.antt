@@ -55,6 +55,7 @@ pub new_holds : (schema : Schema) (here : Here) (rows base : List Rows) (inboxes
     → out.destinations ≡ map (new_destination schema) (destinations_of schema here.site) → Keeps schema [] [] out → numbers ≡ first_numbers schema → lists ≡ map no_errors (senders_of schema here.site)
     → Holds (state_of schema here base [] inboxes out (record { clock = 0; last = 0 }) 0) rows numbers inboxes out lists room
 new_holds schema here rows base inboxes out numbers lists room keyed are same master senders unfinished destinations keeps first none = record {
+  based = rw same are;
   fits = record { keyed = keyed; content = record { tables = rw same are; counters = AreCounters-first schema }; queued = tt; senders = rw senders (none_arrived _ (senders_of schema here.site)); journal = tt; within = tt };
   sized = record { queued = tt; arrived = rw senders (none_arrived _ (senders_of schema here.site)); journal = tt };
   declared = record { is_master = master; senders = rw senders (origins-new (senders_of schema here.site)); destinations = rw destinations (sites_in-new schema (destinations_of schema here.site)) };

@@ -1,9 +1,9 @@
 -- What the fields of a site mean, and that what it keeps beside its state is what the state says.
-use Rattle.std.specs.Prelude.{◌≡◌, ℕ, ◌≤◌, true, List, [], length, map, Option}
+use Rattle.std.specs.Prelude.{◌≡◌, ℕ, ◌≤◌, List, [], length, map, Option}
 use Rattle.std.specs.List.{find, AllByRecursion}
 use Rattle.rep_values.specs.declared.name.SiteName.{SiteName}
 use Rattle.rep_schema.specs.declared.schema.Schema.{Schema}
-use Rattle.rep_schema.specs.Tables.{Rows}
+use Rattle.rep_schema.specs.Tables.{Rows, AreTables}
 use Rattle.rep_calls.specs.declared.call.Txn.{Txn}
 use Rattle.unique_resolve.specs.Numbers.{Numbers}
 use Rattle.deferred_queue.specs.Streams.{is_same_site}
@@ -12,10 +12,8 @@ use Rattle.local_txn.specs.declared.local.Stamps.{Stamps}
 use Rattle.origin_marks.specs.Marks as marks
 use Rattle.error_queue.specs.ErrorLists.{ErrorList, in_order}
 use Rattle.site_state.specs.declared.entry.Entry.{Entry}
-use Rattle.site_state.specs.declared.entry.Entry.TheVariants.{Local, Done, Error, Executed, Dropped, Refreshed}
-use Rattle.site_state.specs.State.{SenderState, SiteState, is_master_site}
-use Rattle.site_state.specs.Journal.{finishes, finished}
-use Rattle.site_state.specs.Steps.{count_where}
+use Rattle.site_state.specs.State.{SenderState, SiteState}
+use Rattle.site_state.specs.Journal.{finished}
 use Rattle.site_state.specs.Contents.{content_of, tables_of}
 use Rattle.site_state.specs.Streams.{queue_of}
 use Rattle.site_state.specs.Pasts.{pasts_of}
@@ -24,6 +22,7 @@ use Rattle.site_state.specs.DeclaredSites.{IsDeclared}
 use Rattle.site_state.specs.Fits.{EntryHas, SendersHave, FinishedHaveArrived, SiteFits}
 use Rattle.sender_inbox.specs.Incoming.{Incoming}
 use Rattle.site_outbox.specs.Outgoing.{Outgoing, Keeps}
+use Rattle.journal_order.specs.Settling.{IsFinishedOnce, StaysWithMasters}
 
 abbrev pub senders_in : List Incoming → List SenderState
 senders_in inboxes = map (λ (i : Incoming). i.sender) inboxes
@@ -70,22 +69,10 @@ Follows journal i = (position : ℕ) → marks.finished i.marked position ≡ fi
 abbrev pub error_list : List Entry → SenderState → ErrorList
 error_list journal s = record { origin = s.origin; entries = errors_from journal s }
 
--- each position of each sender is finished at most once
-abbrev pub IsFinishedOnce : List Entry → Type 0
-IsFinishedOnce journal = (origin : SiteName) (position : ℕ) → count_where (finishes origin position) journal ≤ 1
-
--- the changed rows of what came from a master don't go onward
-abbrev pub StaysWithMasters : Schema → Entry → Type 0
-StaysWithMasters schema (Local number txn) = Unit {0}
-StaysWithMasters schema (Done origin position onward txn) = is_master_site schema origin ≡ true → onward ≡ 0
-StaysWithMasters schema (Error origin position call error txn) = Unit {0}
-StaysWithMasters schema (Executed origin position onward txn) = is_master_site schema origin ≡ true → onward ≡ 0
-StaysWithMasters schema (Dropped origin position) = Unit {0}
-StaysWithMasters schema (Refreshed moment) = Unit {0}
-
--- what a site keeps beside its state: the tables and counters of its store, its inboxes, its outbox, its error queue, and so
--- much room in its journal that each error can be dropped
+-- what a site keeps: base rows that are tables, and beside its state the tables and counters of its store, its inboxes, its
+-- outbox, its error queue, and so much room in its journal that each error can be dropped
 pub record Holds (x : SiteState) (rows : List Rows) (numbers : Numbers) (inboxes : List Incoming) (out : Outgoing) (lists : List ErrorList) (room : ℕ) : Type 0 where
+  pub based : AreTables x.schema x.base
   pub fits : SiteFits x
   pub sized : AreSized x
   pub declared : IsDeclared x.schema x

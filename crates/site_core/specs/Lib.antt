@@ -4,3 +4,4 @@ pub mod Seen
 pub mod Applying
 pub mod Committing
 pub mod Working
+pub mod Ordering

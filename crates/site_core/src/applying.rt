@@ -201,13 +201,7 @@ fn install_onward<R: RowStore>(
     holds_tables(store);
     // The room comes first, so that what follows the queue can't fail.
     make_room(store, &changes)?;
-    let onward = send_onward(
-        alloc,
-        store.schema(),
-        outbox,
-        past,
-        changes.rows.as_slice(),
-    )?;
+    let onward = send_onward(alloc, store.schema(), outbox, past, changes.rows.as_slice())?;
     make_changes(store, changes);
     Ok(onward)
 }

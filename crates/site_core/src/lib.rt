@@ -5,9 +5,10 @@ mod applying;
 mod committing;
 mod inboxes;
 mod journal;
-mod masters;
+mod neighbours;
 mod rows;
 mod seen;
 mod site;
 
+pub use neighbours::{destinations_of, first_master, is_master_site, senders_of};
 pub use site::Site;

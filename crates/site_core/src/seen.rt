@@ -5,7 +5,7 @@ ghost use Rattle.rep_lists.specs.Rising.{IsRising, IsThere, IsGap, put_at};
 ghost use Rattle.site_state.specs.Pasts.{beside_name};
 ghost use Rattle.site_core.specs.Seen.{by_name, seen_from, past_from};
 
-use crate::masters::is_master_site;
+use crate::neighbours::is_master_site;
 use rep_calls::Past;
 use rep_lists::{Items, NoMemory};
 use rep_schema::Schema;

@@ -17,6 +17,7 @@ mod passes;
 mod ready;
 mod receive;
 mod send;
+mod settle;
 mod work;
 
 use crate::inboxes::new_inboxes;

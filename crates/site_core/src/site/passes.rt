@@ -15,7 +15,7 @@ use super::Site;
 use crate::applying::{Step, apply_arrival};
 use crate::inboxes::{inbox_from, place_from};
 use crate::journal::{add_error, reserve_beside};
-use crate::masters::is_master_site;
+use crate::neighbours::is_master_site;
 use rep_calls::Past;
 use rep_lists::{Items, NoMemory};
 use rep_schema::RowStore;

@@ -10,7 +10,7 @@ ghost use Rattle.site_core.specs.Keeping.{IsSized};
 
 use super::Site;
 use crate::inboxes::{inbox_from, place_from};
-use crate::masters::is_master_site;
+use crate::neighbours::is_master_site;
 use conflict_detect::fits;
 use packet_code::Packet;
 use rep_calls::{Past, Txn};

@@ -31,12 +31,7 @@ impl<R: RowStore> Site<R> {
 
     /// The work of a position that is ready and touches no constraint of a table: its transaction, with copies of the rows
     /// that it names, so that it can be evaluated while the site goes on.
-    pub fn begin(
-        &self,
-        alloc: Global,
-        origin: &SiteName,
-        position: u64,
-    ) -> Result<Work, NoMemory>
+    pub fn begin(&self, alloc: Global, origin: &SiteName, position: u64) -> Result<Work, NoMemory>
         requires sound { IsSound self.now.schema }
         requires ready { stale_of origin.now position self.now ≡ None }
         requires plain { has_unique origin.now position self.now ≡ false }
