@@ -49,7 +49,7 @@ fn parts_between(
     ensures { IfOk result (λ parts. parts ≡ parts_between schema.now table before.now after.now) }
 {
     let groups = differing_groups(schema, table, before, after);
-    let mut parts = Items::new(alloc);
+    let mut parts = Items::with_capacity(alloc, groups.as_slice().len())?;
     for group in groups.as_slice() {
         parts.push(part_between(alloc, schema, table, before, after, *group)?)?;
     }

@@ -107,7 +107,7 @@ pub fn tokens_of(alloc: Global, schema: &Schema, txn: &Txn) -> Result<Tokens, No
     requires fits { TxnFits schema.now txn.now }
     ensures { IfOk result (λ tokens. tokens.list ≡ txn_tokens schema.now txn.now) }
 {
-    let mut list = Items::new(alloc);
+    let mut list = Items::with_capacity(alloc, txn.calls.as_slice().len())?;
     for call in txn.calls.as_slice() {
         add_call(&mut list, schema, call)?;
     }

@@ -13,7 +13,7 @@ ghost use Rattle.local_txn.specs.ByColumn.{row_by};
 
 use crate::sets::{SetsByColumn, order_after};
 use crate::side::Side;
-use rep_schema::{Column, Group, Schema, columns_of, groups_of};
+use rep_schema::{Column, Group, Schema, columns_of, groups_of, value_at};
 use rep_values::{Refusal, SiteName, Value};
 use schema_rules::{Form, form_of};
 use std::cmp::Ordering;
@@ -98,12 +98,6 @@ pub(crate) fn own_key_refusal(
         return Some(Refusal::KeyNotOwn);
     }
     None
-}
-
-fn value_at(row: &[Value], place: u32) -> Option<&Value>
-    ensures { option_copied result ≡ slice_get row.now place }
-{
-    row.get(place as usize)
 }
 
 /// How the value of a column after what is set of it stands to the value before.

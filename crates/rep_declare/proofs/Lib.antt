@@ -7,6 +7,7 @@ mod SiteShapes
 mod TableShapes
 mod PriorityShapes
 mod PlacesNamed
+mod LinesOfColumns
 mod GroupShapes
 mod MethodShapes
 mod UniqueMethodShapes

@@ -16,11 +16,12 @@ use Rattle.rep_schema.specs.Named.{is_column, column_named, column_place, places
 use Rattle.rep_values.specs.RefusalSteps.{unknown}
 use Rattle.rep_declare.specs.Refusals.{column_step, columns_step}
 use Rattle.rep_declare.specs.Additions.{place_or_zero, column_number}
+use Rattle.rep_declare.specs.Laws.{IsFree}
 use Rattle.rep_values.proofs.RefusalSteps.{or_then-None, refused-None}
 use Rattle.rep_declare.proofs.ListNames.{same_bytes-true, same_bytes-same, list_any-false, place-AreDistinct}
 
 -- what holds of the place of each column that is named holds of the places
-All-places_from : (names : List (List ℕ)) (P : ℕ → Type 0) (n : ℕ) (cs : List Column) (d : Column)
+pub All-places_from : (names : List (List ℕ)) (P : ℕ → Type 0) (n : ℕ) (cs : List Column) (d : Column)
     → ((k : ℕ) → k < length cs → list_any (same_bytes (get_or cs k d).name) names ≡ true → P (n + k)) → All P (places_from names n cs)
 All-places_from names P n [] d holds = All-nil P
 All-places_from names P n (c ∷ cs) d holds = at (list_any (same_bytes c.name) names) refl (All-places_from names P (n + 1) cs d next)
@@ -37,7 +38,7 @@ IsStrictlyIncreasing-cons : (x : ℕ) (xs : List ℕ) → All (λ y. x < y) xs �
 IsStrictlyIncreasing-cons x xs above rising zero within = above 0 0 (omega (arith, within))
 IsStrictlyIncreasing-cons x xs above rising (suc k) within = let next : suc k + 1 ≡ suc (k + 1) = omega arith in rw next (rising k (omega (arith, within)))
 
-IsStrictlyIncreasing-places_from : (names : List (List ℕ)) (n : ℕ) (cs : List Column) → IsStrictlyIncreasing (places_from names n cs)
+pub IsStrictlyIncreasing-places_from : (names : List (List ℕ)) (n : ℕ) (cs : List Column) → IsStrictlyIncreasing (places_from names n cs)
 IsStrictlyIncreasing-places_from names n [] = λ k within. absurd (omega (arith, within))
 IsStrictlyIncreasing-places_from names n (c ∷ cs) = at (list_any (same_bytes c.name) names) (IsStrictlyIncreasing-places_from names (n + 1) cs)
   where
@@ -56,11 +57,8 @@ some-places_from names n (c ∷ cs) (suc k) d within named = at (list_any (same_
     at true later = omega arith
     at false later = later
 
--- the column of a name is there and isn't taken
-abbrev IsFree : List Column → (ℕ → Bool) → List ℕ → Type 0
-IsFree columns is_taken name = (place : ℕ) × (column_place columns name ≡ Some place) × (is_taken place ≡ false)
-
-columns_step-None : (columns : List Column) (is_taken : ℕ → Bool) (before names : List (List ℕ)) → columns_step columns is_taken before names ≡ None
+-- columns of a line that isn't refused are free
+pub columns_step-None : (columns : List Column) (is_taken : ℕ → Bool) (before names : List (List ℕ)) → columns_step columns is_taken before names ≡ None
     → All (IsFree columns is_taken) names
 unfolding columns_step
 columns_step-None columns is_taken before [] passed = All-nil (IsFree columns is_taken)
@@ -74,7 +72,7 @@ columns_step-None columns is_taken before (name ∷ names) passed =
     at None is free = cc
     at (Some place) is free = (place, is, (or_parts (is_taken place) (list_any (same_bytes name) before) (refused-None _ refusal.NameTaken free)).0)
 
-abbrev no_column : Column
+abbrev pub no_column : Column
 no_column = record { name = []; kind = kind.Number; key = false }
 
 -- the place of a name is one of the columns, and has the name

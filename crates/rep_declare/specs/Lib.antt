@@ -1,3 +1,4 @@
 -- The definitions of this crate.
 pub mod Refusals
 pub mod Additions
+pub mod Laws

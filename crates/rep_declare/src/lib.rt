@@ -5,6 +5,7 @@ mod additions;
 mod changes;
 mod check_refusals;
 mod declaration;
+mod laws;
 mod method_changes;
 mod places;
 mod priority_changes;
@@ -14,4 +15,5 @@ mod table_changes;
 
 pub use additions::add_declaration;
 pub use declaration::{Declare, MethodWords, UniqueWords};
+pub use laws::{lines_pass_that_name_free_columns, places_are_those_of_named_columns};
 pub use refusals::refusal_of;

@@ -60,7 +60,7 @@ pub fn places_named(
 ) -> Result<Items<u32>, NoMemory>
     ensures { IfOk result (λ places. places ≡ places_named columns.now names.now) }
 {
-    let mut places = Items::new(alloc);
+    let mut places = Items::with_capacity(alloc, names.len())?;
     for i in 0..columns.len() {
         if is_among(names, &columns[i].name) {
             places.push(place(Some(i))?)?;

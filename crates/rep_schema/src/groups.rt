@@ -165,7 +165,8 @@ pub fn group_columns(schema: &Schema, table: u32, group: u8) -> GroupColumns<'_>
     }
 }
 
-fn cell(row: &[Value], place: u32) -> Option<&Value>
+/// The value at a place of a row, or none where the row ends before it.
+pub fn value_at(row: &[Value], place: u32) -> Option<&Value>
     ensures { option_copied result ≡ slice_get row.now place }
 {
     row.get(place as usize)
@@ -177,7 +178,7 @@ pub fn values_at(alloc: Global, places: &[u32], row: &[Value]) -> Result<Items<V
 {
     let mut values = Items::with_capacity(alloc, places.len())?;
     for place in places {
-        if let Some(value) = cell(row, *place) {
+        if let Some(value) = value_at(row, *place) {
             values.push(*value)?;
         }
     }
@@ -200,7 +201,7 @@ pub fn has_values(places: &[u32], values: &[Value], row: &[Value]) -> bool
 {
     let mut read = 0;
     for place in places {
-        if let Some(value) = cell(row, *place) {
+        if let Some(value) = value_at(row, *place) {
             if !is_at(values, read, value) {
                 return false;
             }

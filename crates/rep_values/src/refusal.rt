@@ -5,8 +5,8 @@ ghost use Rattle.rep_values.specs.declared.refusal.Refusal.TheVariants.{Memory};
 
 use crate::{Name, NoMemory, SiteName};
 
-/// Why a transaction that came from another site is not applied. A column group in no named group is called
-/// `shadow`, and the primary key's constraint is called `key`.
+/// Why a transaction that came from another site is not applied. The group of the columns that are in no named
+/// group is called `shadow`, and the primary key's constraint is called `key`.
 #[derive(Clone, Copy, PartialEq, Eq)]
 pub enum ApplyError {
     /// The row that the call names isn't there.

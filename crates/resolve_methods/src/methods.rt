@@ -9,12 +9,12 @@ ghost use Rattle.resolve_methods.specs.Decide.{greater_stays, only, by_order, ad
 ghost use Rattle.resolve_methods.specs.OrderCases.{decided_at};
 
 use crate::Decision;
-use crate::new_values::{value_at, value_with};
+use crate::new_values::value_with;
 use crate::numbers::{added, averaged, only, only_at};
 use crate::order_cases::{OrderMethod, by_order, decided_at};
 use crate::ranks::{level_of, number_of, site_level_of};
 use rep_calls::Part;
-use rep_schema::{Method, SHADOW, Schema, group_columns, groups_of};
+use rep_schema::{Method, SHADOW, Schema, group_columns, groups_of, value_at};
 use rep_values::{Row, Value};
 use std::cmp::Ordering;
 

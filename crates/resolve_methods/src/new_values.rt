@@ -3,14 +3,8 @@ ghost use Rattle.std.specs.Prelude.{◌≡◌, slice_get, option_copied};
 ghost use Rattle.rep_schema.specs.Groups.{with_values};
 ghost use Rattle.resolve_methods.specs.Written.{written};
 
+use rep_schema::value_at;
 use rep_values::Value;
-
-/// The value in a column of a row.
-pub(crate) fn value_at(row: &[Value], column: u32) -> Option<&Value>
-    ensures { option_copied result ≡ slice_get row.now column }
-{
-    row.get(column as usize)
-}
 
 fn written<'a>(here: bool, before: Option<&'a Value>, value: &'a Value) -> Option<&'a Value>
     ensures { option_copied result ≡ written here (option_copied before.entry) value.now }

@@ -6,8 +6,7 @@ ghost use Rattle.rep_schema.specs.Groups.{values_at};
 ghost use Rattle.resolve_methods.specs.Decide.{only, taken_in_range, added, averaged};
 
 use crate::Decision;
-use crate::new_values::value_at;
-use rep_schema::is_in_range;
+use rep_schema::{is_in_range, value_at};
 use rep_values::Value;
 
 /// The one value of a group of one column.

@@ -8,6 +8,7 @@ pub struct Draws {
 }
 
 impl Draws {
+    /// The numbers that follow from this seed.
     pub fn seeded(seed: u64) -> Draws {
         Draws { state: seed }
     }

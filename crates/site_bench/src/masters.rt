@@ -53,6 +53,7 @@ fn round(alloc: Global, master: &mut Master) -> Result<PassCount, CaseStop> {
 }
 
 impl Masters {
+    /// The three masters, at which nothing has happened. It may want memory.
     pub fn open(alloc: Global, names: &Stock) -> Result<Masters, CaseStop> {
         Ok(Masters {
             all: [

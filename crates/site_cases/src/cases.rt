@@ -2,7 +2,7 @@
 ghost use Rattle.std.specs.Prelude.{◌<◌, length, IfOk};
 
 use crate::declared::Declared;
-use crate::events::{begin, commit, from_origin, purge, seen, set_clock};
+use crate::events::{begin, commit, from_origin, purge, seen, set_clock, settle};
 use crate::member::Member;
 use crate::packets::{carried, delivered, mark_of, told};
 use crate::shown::shown;
@@ -37,6 +37,7 @@ fn place_of(members: &[Member], name: &SiteName) -> Result<usize, CaseStop>
 }
 
 impl Cases {
+    /// Nothing is declared, and nothing is kept.
     pub fn new(alloc: Global) -> Cases {
         Cases {
             declared: Declared::new(alloc),
@@ -222,6 +223,7 @@ impl Cases {
             b"clock" => set_clock(site, words),
             b"begin" => begin(site, words),
             b"purge" => purge(alloc, site, words),
+            b"settle" => settle(alloc, site, words),
             b"seen" => seen(alloc, site, words),
             _ => from_origin(alloc, site, kind, words),
         }

@@ -1,6 +1,7 @@
 //! The calls of a site that an origin or a position names, and those of a site alone.
 
 use crate::told::{push_error, push_seen, refused, refused_statement};
+use crate::works::{WorkAnswer, apply_by_work, settle_newest};
 use case_lines::{CaseStop, Words, push_name};
 use rep_calls::Statement;
 use rep_values::SiteName;
@@ -55,6 +56,21 @@ pub fn begin(site: &mut Site<ListTables>, words: &mut Words) -> Result<Option<St
     Ok(None)
 }
 
+/// Whether the newest entry is one that can be settled.
+pub fn settle(
+    alloc: Global,
+    site: &mut Site<ListTables>,
+    words: &mut Words,
+) -> Result<Option<String>, CaseStop> {
+    words.end()?;
+    let word = if settle_newest(alloc, site)? {
+        "settled"
+    } else {
+        "not settled"
+    };
+    Ok(Some(format!(in alloc; "{word}")?))
+}
+
 /// How many transactions are let go of.
 pub fn purge(
     alloc: Global,
@@ -100,25 +116,43 @@ fn word_of(why: Why) -> &'static str {
     }
 }
 
+/// What became of a position.
+fn told_applied(alloc: Global, applied: &Applied) -> Result<String, CaseStop> {
+    let mut out = String::new(alloc);
+    match applied {
+        Applied::Done => out.push_str("Done")?,
+        Applied::Error(error) => {
+            out.push_str("Error")?;
+            push_error(&mut out, error)?;
+        }
+        Applied::Stale(why) => {
+            out.push_str("Stale ")?;
+            out.push_str(word_of(*why))?;
+        }
+    }
+    Ok(out)
+}
+
 fn apply(
     alloc: Global,
     site: &mut Site<ListTables>,
     origin: &SiteName,
     position: u64,
 ) -> Result<String, CaseStop> {
-    let mut out = String::new(alloc);
-    match site.apply_one(alloc, origin, position)? {
-        Applied::Done => out.push_str("Done")?,
-        Applied::Error(error) => {
-            out.push_str("Error")?;
-            push_error(&mut out, &error)?;
-        }
-        Applied::Stale(why) => {
-            out.push_str("Stale ")?;
-            out.push_str(word_of(why))?;
-        }
+    let applied = site.apply_one(alloc, origin, position)?;
+    told_applied(alloc, &applied)
+}
+
+fn work(
+    alloc: Global,
+    site: &mut Site<ListTables>,
+    origin: &SiteName,
+    position: u64,
+) -> Result<String, CaseStop> {
+    match apply_by_work(alloc, site, origin, position)? {
+        WorkAnswer::Applied(applied) => told_applied(alloc, &applied),
+        WorkAnswer::Unique => Ok(format!(in alloc; "Unique")?),
     }
-    Ok(out)
 }
 
 fn stale(
@@ -188,6 +222,7 @@ fn at_position(
     words.end()?;
     match kind {
         b"apply" => apply(alloc, site, origin, position),
+        b"work" => work(alloc, site, origin, position),
         b"stale" => stale(alloc, site, origin, position),
         b"lowest" => lowest(alloc, site, origin, position),
         b"execute" => execute(alloc, site, origin, position),

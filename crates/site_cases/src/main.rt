@@ -11,8 +11,10 @@
 //!
 //! `begin SITE`, `pass SITE ORIGIN`, `apply SITE ORIGIN POSITION`, `stale SITE ORIGIN POSITION`, `lowest SITE ORIGIN
 //! ABOVE`, `execute SITE ORIGIN POSITION`, `drop-error SITE ORIGIN POSITION`, `purge SITE`, `clock SITE NUMBER`, `seen
-//! SITE` and `covered SITE ORIGIN` are calls of a site. `show tables|queue|errors|marks|journal|site SITE` shows what it
-//! keeps. An empty line and one that begins with `#` is printed as it is.
+//! SITE` and `covered SITE ORIGIN` are calls of a site. `work SITE ORIGIN POSITION` is an `apply` of which the transaction
+//! is evaluated on copies of the rows that it names; it isn't, and `Unique` is told, where it touches a constraint. `settle
+//! SITE` settles the journal's newest entry. `show tables|queue|errors|marks|journal|site SITE` shows what a site keeps. An
+//! empty line and one that begins with `#` is printed as it is.
 #![tactic(auto)]
 
 mod cases;
@@ -22,6 +24,7 @@ mod member;
 mod packets;
 mod shown;
 mod told;
+mod works;
 
 use anyhow::Result;
 use case_lines::CaseStop;

@@ -1,12 +1,15 @@
 -- A transaction that is evaluated away from its site, on copies of what is there.
-use Rattle.std.proofs.Common.{◌≡◌, ℕ, List, false, None, Some, sym, ap, ◌∙◌}
+use Rattle.std.proofs.Common.{◌≡◌, ℕ, List, false, None, Some, sym, ap, ◌∙◌, subst}
 use Rattle.std.specs.Prelude.{Option, IfSome}
 use Rattle.std.specs.List.{list_any}
 use Rattle.rep_values.specs.declared.name.SiteName.{SiteName}
+use Rattle.rep_schema.specs.declared.schema.Schema.{Schema}
 use Rattle.rep_schema.specs.Tables.{Rows}
+use Rattle.rep_calls.specs.declared.call.Txn.{Txn}
 use Rattle.conflict_detect.specs.Fits.{TxnFits}
 use Rattle.unique_resolve.specs.Numbers.{Numbers}
 use Rattle.txn_effects.specs.Transactions.{txn_effect}
+use Rattle.txn_effects.specs.Contents.{effect_on}
 use Rattle.dependency_index.specs.Tokens.{txn_tokens, is_unique_token}
 use Rattle.error_queue.specs.ErrorLists.{ErrorList}
 use Rattle.rep_laws.specs.Commuting.{IsSound, AgreeOn}
@@ -20,7 +23,7 @@ use Rattle.txn_work.specs.declared.outcome.Ending.{Ending}
 use Rattle.txn_work.specs.Works.{WorkState, CanStandAlone}
 use Rattle.txn_work.specs.Endings.{effect_of}
 use Rattle.site_core.specs.Keeping.{IsSized, Holds}
-use Rattle.site_core.specs.Working.{touches_unique, has_unique, IsWorkOf, EndsHere}
+use Rattle.site_core.specs.Working.{touches_unique, has_unique, IsWorkOf, EndsHere, OutcomesHoldWhereRowsAreAsTheyWere}
 
 module _ (x : SiteState) (rows : List Rows) (numbers : Numbers) (inboxes : List Incoming) (out : Outgoing) (lists : List ErrorList) (room : ℕ) (h : Holds x rows numbers inboxes out lists room)
     (origin : SiteName) (position : ℕ) (a : Arrival) (there : arrived_at origin position x.senders ≡ Some a) where
@@ -55,3 +58,12 @@ module _ (x : SiteState) (rows : List Rows) (numbers : Numbers) (inboxes : List 
   pub ends_on_rows : (ending : Option Ending) → IfSome ending (EndsHere origin position x) → IfSome ending (λ e. txn_effect x.schema origin a.txn rows numbers ≡ effect_of e numbers)
   ends_on_rows None ends = tt
   ends_on_rows (Some e) ends = rw (h.tables_are, h.numbers_are) (ends a there)
+
+-- as a work ended, so it ends where its rows are as they were
+pub outcomes_hold : OutcomesHoldWhereRowsAreAsTheyWere
+outcomes_hold origin position x y work ending is alike schema arrived supports a there =
+    let here = content_of y in
+    let ends = (alike here supports).effect in
+    subst (λ (schema : Schema). effect_on schema origin a.txn here ≡ effect_of ending here.numbers) (is.schema_is ∙ sym schema)
+    (subst (λ (o : SiteName). effect_on work.schema o a.txn here ≡ effect_of ending here.numbers) is.origin_is
+    (subst (λ (t : Txn). effect_on work.schema work.origin t here ≡ effect_of ending here.numbers) (is.txn_is a (sym arrived ∙ there)) ends))

@@ -61,7 +61,7 @@ pub(crate) fn past_seen(
 ) -> Result<Items<Past>, NoMemory>
     ensures { IfOk result (λ past. past ≡ past_from schema.now inboxes.now) }
 {
-    let mut past = Vec::new(alloc);
+    let mut past = Vec::with_capacity(alloc, inboxes.len())?;
     for place in (0..inboxes.len()).rev() {
         if let Some(seen) = seen_from(schema, &inboxes[place]) {
             put_seen(&mut past, seen)?;

@@ -111,6 +111,7 @@ impl<R: RowStore> Site<R> {
     pub fn store(&self) -> &R
         ensures tables { R.tables result.now ≡ tables_of self.now }
         ensures schema { R.schema result.now ≡ self.now.schema }
+        ensures keyed { IsKeyed self.now.schema }
     {
         &self.store
     }

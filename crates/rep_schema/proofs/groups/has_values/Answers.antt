@@ -16,7 +16,7 @@ returns-then-not-is_at c = (
 )
 
 pub loop-place-preserved : goal.loop-place-preserved
-loop-place-preserved c = elim c.match-cell.branch [
+loop-place-preserved c = elim c.match-value_at.branch [
   | in-Some+else-not-is_at w ↦
       let there : slice_get c.args.values.now c.loop-place.read ≡ Some w.in-Some.value.now = w.is_at.ensures.0 w.if-not-is_at.false in
       let behind = rest_same c.args.places.now c.args.row.now c.args.values.now c.loop-place.place-index c.loop-place.read w.in-Some.value.now c.loop-place-test.true (sym w.in-Some.ensures) there in
