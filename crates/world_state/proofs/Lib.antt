@@ -1,1 +1,8 @@
 -- Worked worlds.
+pub mod WorkedScripts
+mod WorkedPushes
+mod WorkedRounds
+mod WorkedErrors
+mod WorkedRefusals
+mod WorkedSnapshots
+mod WorkedJoins
