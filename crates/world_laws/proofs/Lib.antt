@@ -1,0 +1,12 @@
+-- The lemmas of this crate, from the bottom up.
+pub mod Finding
+pub mod Links
+pub mod SiteSteps
+pub mod Pieces
+pub mod RoundsEnd
+pub mod Pushes
+pub mod Sending
+pub mod Starting
+pub mod WorldLaws
+pub mod Calling
+pub mod Reached

@@ -1,0 +1,4 @@
+-- The definitions of this crate.
+pub mod Simulation
+pub mod Worlds
+pub mod Reached
