@@ -10,3 +10,6 @@ pub mod Starting
 pub mod WorldLaws
 pub mod Calling
 pub mod Reached
+pub mod RefusedLines
+pub mod Scripts
+pub mod FittingWorlds

@@ -29,9 +29,9 @@ pub lines_lead : (number : ℕ) (lines : List WorldCommand) → AreEvents (world
 lines_lead number [] = none_lead
 lines_lead number (c ∷ more) = then_lead (world_step number c) (world_steps (suc number) more) (steps_are_events number c) (lines_lead (suc number) more)
 
--- what holds of the sites in every run holds of a world that events lead to
-pub in_world : (Holds : List SiteState → Type 0) → InEveryRun Holds → (w : WorldState) (schema : Schema) (start : Core) → IsStart schema start → Leads w start → Holds w.sites
-in_world Holds law w schema start is a = subst Holds (sym a.simulates.sites) (law schema start a.events is)
+-- what holds of the sites in every run holds of a world that has such sites
+in_world : (Holds : List SiteState → Type 0) → InEveryRun Holds → (w : WorldState) (schema : Schema) (start : Core) (events : List Event) → IsStart schema start → w.sites ≡ (run events start).sites → Holds w.sites
+in_world Holds law w schema start events is same = subst Holds (sym same) (law schema start events is)
 
 packets_are_sent : InEveryRun EachIsSent
 packets_are_sent schema start events is = holds_packets _ _ (run_holds schema start events is)
@@ -39,19 +39,23 @@ packets_are_sent schema start events is = holds_packets _ _ (run_holds schema st
 arrivals_are_from_1 : InEveryRun AreFrom1
 arrivals_are_from_1 schema start events is = holds_from_1 _ _ (run_holds schema start events is)
 
--- each law, of a world that events lead to
-pub world_holds : (w : WorldState) (schema : Schema) (start : Core) → IsStart schema start → AreDeclared schema start.sites → Leads w start → WorldHolds w
-world_holds w schema start is declared a = record {
-  low = in_world MarksAreLow marks_are_low w schema start is a;
-  purged = in_world PurgedIsFinished purged_is_finished w schema start is a;
-  numbered = in_world AreWellNumbered arrivals_are_well_numbered w schema start is a;
-  once = in_world AreFinishedOnce are_finished_once w schema start is a;
-  settled = in_world AreSettledOnce are_settled_once w schema start is a;
-  order = in_world EarlierComesFirst earlier_comes_first w schema start is a;
-  passes = subst EachCanPass (sym a.simulates.sites) (λ site origin x found. every_site_can_pass schema start a.events is declared site origin x found);
-  packets = in_world EachIsSent packets_are_sent w schema start is a;
-  from_1 = in_world AreFrom1 arrivals_are_from_1 w schema start is a;
+-- each law, of a world that has the sites of a run
+pub holds_as_run : (w : WorldState) (schema : Schema) (start : Core) (events : List Event) → IsStart schema start → AreDeclared schema start.sites → w.sites ≡ (run events start).sites → WorldHolds w
+holds_as_run w schema start events is declared same = record {
+  low = in_world MarksAreLow marks_are_low w schema start events is same;
+  purged = in_world PurgedIsFinished purged_is_finished w schema start events is same;
+  numbered = in_world AreWellNumbered arrivals_are_well_numbered w schema start events is same;
+  once = in_world AreFinishedOnce are_finished_once w schema start events is same;
+  settled = in_world AreSettledOnce are_settled_once w schema start events is same;
+  order = in_world EarlierComesFirst earlier_comes_first w schema start events is same;
+  passes = subst EachCanPass (sym same) (λ site origin x found. every_site_can_pass schema start events is declared site origin x found);
+  packets = in_world EachIsSent packets_are_sent w schema start events is same;
+  from_1 = in_world AreFrom1 arrivals_are_from_1 w schema start events is same;
 }
+
+-- and of a world that events lead to
+pub world_holds : (w : WorldState) (schema : Schema) (start : Core) → IsStart schema start → AreDeclared schema start.sites → Leads w start → WorldHolds w
+world_holds w schema start is declared a = holds_as_run w schema start a.events is declared a.simulates.sites
 
 -- the law of waiting, of a world that events lead to
 pub world_waits_for_nothing : (w : WorldState) (schema : Schema) (start : Core) → IsStart schema start → AreMeshed schema start.sites → Leads w start

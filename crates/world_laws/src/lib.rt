@@ -4,5 +4,6 @@
 mod laws;
 
 pub use laws::{
-    nothing_waits_in_worlds, pushes_leave_nothing_ready, steps_are_events, worlds_hold,
+    nothing_waits_in_worlds, pushes_leave_nothing_ready, refused_lines_leave_the_world,
+    sites_of_worlds_fit, steps_are_events, worlds_hold,
 };

@@ -14,6 +14,7 @@ use Rattle.world_state.specs.declared.commands.WorldCommand.TheVariants as line
 use Rattle.world_state.specs.World.{WorldState}
 use Rattle.world_state.specs.PushAnswers.{push_count}
 use Rattle.world_state.specs.Refusals.{world_refusal}
+use Rattle.world_state.specs.Answers.{join_count}
 use Rattle.world_state.proofs.WorkedScripts.{master_line, late_line, id_and_q, added_up, row_line, resume, suspend, block, push, after, then_lines, told, counted, rows_at}
 
 abbrev at_line : ℕ → Refusal → Refused
@@ -31,6 +32,10 @@ queued = then_lines (block a (add 1 5 ∷ []) ++ suspend ∷ []) (after with_lat
 join_waits_for_quiet : told 13 (join d a ∷ push a b ∷ join d a ∷ resume ∷ block b (add 1 2 ∷ [])) queued ≡ at_line 13 (refusal.NotQuiet b 1) ∷ []
 unfolding group_columns_of columns_step broken_rule
 join_waits_for_quiet = refl
+
+join_takes_over_one_row : join_count a queued ≡ 1
+unfolding group_columns_of columns_step broken_rule
+join_takes_over_one_row = refl
 
 abbrev joined : WorldState
 joined = then_lines (push a b ∷ join d a ∷ resume ∷ block b (add 1 2 ∷ [])) queued

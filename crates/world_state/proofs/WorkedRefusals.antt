@@ -18,6 +18,7 @@ use Rattle.world_state.specs.declared.commands.WorldCommand.{WorldCommand}
 use Rattle.world_state.specs.declared.commands.WorldCommand.TheVariants as line
 use Rattle.world_state.specs.World.{WorldState, first_world}
 use Rattle.world_state.specs.Refusals.{world_refusal}
+use Rattle.world_state.specs.Answers.{commit_number}
 use Rattle.world_state.proofs.WorkedScripts.{t, master_line, table_line, id_and_q, row_line, resume, suspend, txn, commit, statement, push, execute, link_down, after, then_lines, stepped, told}
 
 abbrev at_line : ℕ → Refusal → Refused
@@ -67,6 +68,16 @@ site_is_as_before = refl
 refused_statement_is_told : told 6 (txn a ∷ statement (add 1 1) ∷ statement (add 9 1) ∷ commit ∷ commit ∷ []) two ≡ at_line 8 refusal.NoRow ∷ at_line 10 refusal.WrongPhase ∷ []
 unfolding group_columns_of columns_step broken_rule
 refused_statement_is_told = refl
+
+-- ---- what a commit tells
+
+block_that_changes_nothing_has_no_number : commit_number (then_lines (txn a ∷ statement (add 1 0) ∷ []) two) ≡ 0
+unfolding group_columns_of columns_step broken_rule
+block_that_changes_nothing_has_no_number = refl
+
+block_that_changes_a_row_has_one : commit_number (then_lines (txn a ∷ statement (add 1 1) ∷ []) two) ≡ 1
+unfolding group_columns_of columns_step broken_rule
+block_that_changes_a_row_has_one = refl
 
 -- ---- phases
 

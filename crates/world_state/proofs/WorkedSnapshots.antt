@@ -1,5 +1,5 @@
 -- A snapshot site and its master: what it shows, when it may be refreshed, and what goes onward.
-use Rattle.std.specs.Prelude.{◌≡◌, refl, ℕ, codes, pos, ◌++◌, List, [], ◌∷◌, Some, None}
+use Rattle.std.specs.Prelude.{◌≡◌, refl, ℕ, true, false, codes, pos, ◌++◌, List, [], ◌∷◌, Some, None}
 use Rattle.rep_values.specs.declared.refusal.Refusal.{Refusal}
 use Rattle.rep_values.specs.declared.refusal.Refusal.TheVariants as refusal
 use Rattle.rep_values.specs.declared.literal.Literal.{Literal}
@@ -19,6 +19,7 @@ use Rattle.world_state.specs.declared.commands.WorldCommand.TheVariants as line
 use Rattle.world_state.specs.World.{WorldState}
 use Rattle.world_state.specs.PushAnswers.{push_count}
 use Rattle.world_state.specs.Refusals.{world_refusal}
+use Rattle.world_state.specs.Answers.{refresh_answer, log_purge_count}
 use Rattle.world_state.proofs.WorkedScripts.{t, master_line, snapshot_site_line, id_and_q, row_line, resume, block, push, link, link_down, after, then_lines, stepped, told, counted, shown, rows_at}
 
 -- rows whose Q is above a number
@@ -55,6 +56,18 @@ refreshed_at_the_masters_moment : shown [] (λ x. x.snapshots) s (stepped 12 ref
 unfolding group_columns_of columns_step broken_rule
 refreshed_at_the_masters_moment = refl
 
+abbrev log_purged : WorldState
+log_purged = then_lines (push s a ∷ line.Run (run.PurgeLog a t) ∷ []) changed
+
+-- the log doesn't reach back, so that a refresh that is forced goes by all rows
+forced_goes_by_all_rows : refresh_answer s mode.Force log_purged ≡ Some (record { by_logs = false; count = record { keys = 0; rows = 2 } })
+unfolding group_columns_of columns_step broken_rule
+forced_goes_by_all_rows = refl
+
+one_key_was_logged : log_purge_count a 0 (then_lines (push s a ∷ []) changed) ≡ 1
+unfolding group_columns_of columns_step broken_rule
+one_key_was_logged = refl
+
 -- a row that the master takes out of the query, and one that conflicts
 abbrev conflict : WorldState
 conflict = then_lines (block a (set_to 1 4 ∷ []) ++ block s (set_to 1 11 ∷ set_to 2 21 ∷ []) ++ push s a ∷ []) (after declared_lines)
@@ -66,6 +79,11 @@ conflict_at_the_master = refl
 refresh_shows_the_query : rows_at s (then_lines (refresh mode.Fast ∷ []) conflict) ≡ (row 2 20 ∷ []) ∷ []
 unfolding group_columns_of columns_step broken_rule
 refresh_shows_the_query = refl
+
+-- by the logs it looks up two keys, of which the master changed one and the site itself both
+fast_counts_keys : refresh_answer s mode.Fast conflict ≡ Some (record { by_logs = true; count = record { keys = 2; rows = 1 } })
+unfolding group_columns_of columns_step broken_rule
+fast_counts_keys = refl
 
 -- what comes from a snapshot site goes on to the other masters
 abbrev onward : WorldState

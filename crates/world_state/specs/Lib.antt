@@ -8,4 +8,5 @@ pub mod PushAnswers
 pub mod Blocks
 pub mod Phases
 pub mod Refusals
+pub mod Answers
 pub mod Steps

@@ -32,7 +32,7 @@ use Rattle.world_state.specs.declared.commands.RunCommand.TheVariants as run
 use Rattle.world_state.specs.declared.commands.TestWords.{TestWords}
 use Rattle.world_state.specs.declared.commands.WorldCommand.{WorldCommand}
 use Rattle.world_state.specs.declared.commands.WorldCommand.TheVariants as line
-use Rattle.world_state.specs.World.{WorldState, is_there, sends, gets_from}
+use Rattle.world_state.specs.World.{WorldState, is_there, gets_from}
 use Rattle.world_state.specs.Declaring.{has_snapshot}
 use Rattle.world_state.specs.Blocks.{commit_refusal}
 use Rattle.world_state.specs.Phases.{setup_step, declare_step, phase_step}
@@ -42,17 +42,13 @@ use Rattle.world_state.specs.Phases.{setup_step, declare_step, phase_step}
 abbrev pub are_there : WorldState → SiteName → SiteName → Bool
 are_there w a b = is_there w a && is_there w b
 
--- a site pushes to another one: both are there, and the one sends to the other
-abbrev pub pushes_to : WorldState → SiteName → SiteName → Bool
-pushes_to w from to = are_there w from to && sends w from to
-
--- there is a link between two sites: both are there, and one of them sends to the other
-abbrev pub has_link : WorldState → SiteName → SiteName → Bool
-has_link w from to = are_there w from to && (sends w from to || sends w to from)
-
--- a site has an origin as a sender that is there
+-- a site has another one as a sender, and both are there
 abbrev pub has_sender : WorldState → SiteName → SiteName → Bool
-has_sender w site origin = is_there w origin && gets_from w site origin
+has_sender w site origin = are_there w site origin && gets_from w site origin
+
+-- there is a link between two sites: one of them has the other as a sender
+abbrev pub has_link : WorldState → SiteName → SiteName → Bool
+has_link w a b = has_sender w a b || has_sender w b a
 
 -- ---- links, queues and logs
 
@@ -122,7 +118,7 @@ run_steps (run.Txn site) w = unknown (site_of site w.sites) ∷ []
 run_steps (run.Statement statement) w = []
 run_steps run.Commit w = commit_refusal w ∷ []
 run_steps run.Abandon w = []
-run_steps (run.Push from to count) w = refused (not (pushes_to w from to)) refusal.UnknownName ∷ refused (not (is_up from to w.net)) refusal.LinkDown ∷ []
+run_steps (run.Push from to count) w = refused (not (has_sender w to from)) refusal.UnknownName ∷ refused (not (is_up from to w.net)) refusal.LinkDown ∷ []
 run_steps (run.AddFates from to fates) w = refused (not (has_link w from to)) refusal.UnknownName ∷ []
 run_steps (run.ClearFates from to) w = refused (not (has_link w from to)) refusal.UnknownName ∷ []
 run_steps (run.Link from to up) w = refused (not (has_link w from to)) refusal.UnknownName ∷ []

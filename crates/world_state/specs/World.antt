@@ -4,7 +4,7 @@ use Rattle.rep_values.specs.declared.name.SiteName.{SiteName}
 use Rattle.rep_schema.specs.declared.schema.Schema.{Schema}
 use Rattle.rep_schema.specs.Shape.{no_schema}
 use Rattle.rep_schema.specs.Tables.{Rows}
-use Rattle.rep_schema.specs.Sites.{senders_of, destinations_of}
+use Rattle.rep_schema.specs.Sites.{senders_of}
 use Rattle.net_plan.specs.Directions.{Direction}
 use Rattle.site_state.specs.State.{SiteState, is_among}
 use Rattle.event_laws.specs.Core.{site_of, at_site}
@@ -37,10 +37,6 @@ is_there w site = is_some (site_of site w.sites)
 -- a site of the world changes
 abbrev pub with_site : SiteName → (SiteState → SiteState) → WorldState → WorldState
 with_site site change w = record w { sites = at_site site change w.sites }
-
--- the schema gives a site another one as a destination
-abbrev pub sends : WorldState → SiteName → SiteName → Bool
-sends w from to = is_among (destinations_of w.schema from) to
 
 -- the schema gives a site another one as a sender
 abbrev pub gets_from : WorldState → SiteName → SiteName → Bool
