@@ -1,5 +1,5 @@
 -- The sites that Setup's end makes of what is well declared fit, and so do those of each later world.
-use Rattle.std.proofs.Common.{◌≡◌, ℕ, ◌<◌, List, [], ◌∷◌, length, map, replicate, Bool, true, false, cond, Some, None, sym, ap, ◌∙◌}
+use Rattle.std.proofs.Common.{◌<◌, List, [], ◌∷◌, length, map, replicate, Bool, true, false, cond, Some, None, sym, ap, ◌∙◌}
 use Rattle.std.specs.Prelude.{filter, Option}
 use Rattle.std.specs.List.{AllByRecursion}
 use Rattle.rep_values.specs.declared.name.SiteName.{SiteName}
@@ -8,7 +8,6 @@ use Rattle.rep_schema.specs.declared.schema.SiteEntry.{SiteEntry}
 use Rattle.rep_schema.specs.Tables.{Rows, AreTables}
 use Rattle.rep_schema.proofs.KeptTables.{AreTables-empty}
 use Rattle.deferred_queue.specs.Streams.{is_same_site}
-use Rattle.snapshot_query.specs.declared.snapshot.Snapshot.{Snapshot}
 use Rattle.site_state.specs.Fits.{AreWithin}
 use Rattle.event_laws.specs.Core.{site_of}
 use Rattle.event_laws.specs.Fitting.{StartsFit, IsFitStart}
@@ -18,7 +17,6 @@ use Rattle.event_laws.proofs.Confluence.{every_site_can_pass_in_any_order}
 use Rattle.world_state.specs.declared.declared_snapshot.DeclaredSnapshot.{DeclaredSnapshot}
 use Rattle.world_state.specs.World.{WorldState}
 use Rattle.world_state.specs.Making.{rows_made, snapshots_at, site_made, entry_made, is_early, world_made}
-use Rattle.world_state.specs.Steps.{world_steps}
 use Rattle.world_laws.specs.Fitting.{IsWellDeclared, EachFitsInWorlds, EachCanPassInAnyOrder}
 use Rattle.world_laws.proofs.Starting.{core_of, made_start, made_simulates, made_declared}
 use Rattle.world_laws.proofs.WorldLaws.{lines_lead}

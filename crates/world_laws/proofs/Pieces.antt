@@ -3,7 +3,6 @@ use Rattle.std.proofs.Common.{◌≡◌, ℕ, List, [], ◌∷◌, ◌++◌, Boo
 use Rattle.std.specs.Prelude.{Option, nat_le}
 use Rattle.std.specs.List.{AllByRecursion}
 use Rattle.rep_values.specs.declared.name.SiteName.{SiteName}
-use Rattle.rep_values.specs.declared.refusal.Refusal.{Refusal}
 use Rattle.rep_calls.specs.declared.call.Txn.{Txn}
 use Rattle.rep_schema.specs.Named.{table_place}
 use Rattle.deferred_queue.specs.Streams.{at_position}
@@ -31,7 +30,7 @@ use Rattle.world_state.specs.Pushes.{world_release, sent_on, world_send, world_s
 use Rattle.world_state.specs.Blocks.{closed, statements_of, committed_block, world_commit}
 use Rattle.world_state.specs.Phases.{is_setup}
 use Rattle.world_state.specs.Refusals.{world_refusal}
-use Rattle.world_state.specs.Steps.{resumed, world_refresh, log_purged_at, run_done, world_done, run_refused, world_refused, world_step}
+use Rattle.world_state.specs.Steps.{resumed, world_refresh, log_purged_at, run_done, world_done, run_refused, world_refused}
 use Rattle.world_laws.specs.Simulation.{CarriesSent, Simulates, Leads, AreEvents, StepsAreEvents, StepsAreEventsHoweverRefused}
 use Rattle.world_laws.proofs.Links.{net_more, at_carries, way_sent, released_carries, emptied_carries, sent_carries}
 use Rattle.world_laws.proofs.SiteSteps.{run-append, Runs, taken_runs, SiteRuns, does_runs, settle_does}

@@ -1,5 +1,5 @@
 -- What lines that are refused leave.
-use Rattle.std.proofs.Common.{◌≡◌, ℕ, Some, None, refl, sym, subst}
+use Rattle.std.proofs.Common.{◌≡◌, None, refl, sym, subst}
 use Rattle.std.specs.Prelude.{Option}
 use Rattle.rep_values.specs.declared.refusal.Refusal.{Refusal}
 use Rattle.world_state.specs.declared.commands.RunCommand.{RunCommand}
@@ -7,8 +7,6 @@ use Rattle.world_state.specs.declared.commands.RunCommand.TheVariants as command
 use Rattle.world_state.specs.declared.commands.WorldCommand.{WorldCommand}
 use Rattle.world_state.specs.declared.commands.WorldCommand.TheVariants as line
 use Rattle.world_state.specs.World.{WorldState}
-use Rattle.world_state.specs.Blocks.{closed}
-use Rattle.world_state.specs.Refusals.{world_refusal}
 use Rattle.world_state.specs.Steps.{run_refused, world_refused, step_by}
 use Rattle.world_laws.specs.Scripts.{LeavesAllButTheBlock, RefusedLinesLeaveAllButTheBlock, RefusedCommitsCloseTheBlock}
 

@@ -1,12 +1,12 @@
 -- The laws hold of the world of every script: while in Setup it has no site, and behind it events lead to it from a start.
 use Rattle.std.proofs.Common.{◌≡◌, ◌≢◌, ℕ, suc, List, [], ◌∷◌, ◌++◌, Bool, true, false, Some, None, refl, sym, ap, ◌∙◌, arith, subst}
-use Rattle.std.specs.Prelude.{◌&&◌, ◌||◌, Option, is_none}
-use Rattle.std.specs.List.{All, AllPairs, AllByRecursion}
+use Rattle.std.specs.Prelude.{◌&&◌, Option}
+use Rattle.std.specs.List.{AllPairs, AllByRecursion}
 use Rattle.std.proofs.lemmas.List.Elements.{All-from_recursion}
 use Rattle.rep_values.specs.declared.name.SiteName.{SiteName}
 use Rattle.rep_values.specs.declared.refusal.Refusal.{Refusal}
 use Rattle.rep_values.specs.declared.refusal.Refusal.TheVariants as refusal
-use Rattle.rep_values.specs.RefusalSteps.{refused, or_then, first_refusal}
+use Rattle.rep_values.specs.RefusalSteps.{refused, first_refusal}
 use Rattle.rep_values.proofs.RefusalSteps.{or_then-None, refused_not-None}
 use Rattle.rep_schema.specs.Shape.{HasShape, no_schema}
 use Rattle.rep_schema.specs.Named.{table_place}
@@ -24,10 +24,10 @@ use Rattle.world_state.specs.declared.commands.RunCommand.TheVariants as command
 use Rattle.world_state.specs.declared.commands.TestWords.{TestWords}
 use Rattle.world_state.specs.declared.commands.WorldCommand.{WorldCommand}
 use Rattle.world_state.specs.declared.commands.WorldCommand.TheVariants as line
-use Rattle.world_state.specs.World.{WorldState, first_world, is_there, gets_from}
+use Rattle.world_state.specs.World.{WorldState, first_world, gets_from}
 use Rattle.world_state.specs.Declaring.{with_snapshot_at}
 use Rattle.world_state.specs.Making.{world_made}
-use Rattle.world_state.specs.Phases.{is_setup, is_running, is_suspended, has_block, declare_step, block_step, behind_setup_step, phase_step}
+use Rattle.world_state.specs.Phases.{is_setup, declare_step, block_step, behind_setup_step, phase_step}
 use Rattle.world_state.specs.Refusals.{has_sender, are_there, run_steps, world_refusal}
 use Rattle.world_state.specs.Steps.{resumed, run_done, world_done, step_by, world_step, world_steps}
 use Rattle.world_laws.specs.Simulation.{Simulates}

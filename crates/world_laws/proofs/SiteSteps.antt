@@ -66,7 +66,7 @@ apply_runs : (site origin : SiteName) (arrived : List Arrival) (v : Core) → is
 apply_runs site origin [] v is = record { events = []; sites = sym (at_same site (apply_each origin []) v.sites (λ x. refl)); sent = refl }
 apply_runs site origin (a ∷ arrived) v is =
     let one : (happens (event.Apply site origin a.position) v).sites ≡ at_site site (site_apply origin a.position) v.sites
-          = ap (λ (b : Bool). applied_where (b || not (is_master_in (site_of site v.sites))) site origin a.position v.sites) is in
+    = ap (λ (b : Bool). applied_where (b || not (is_master_in (site_of site v.sites))) site origin a.position v.sites) is in
     runs_behind (event.Apply site origin a.position) v _ _ refl (apply_runs site origin arrived (happens (event.Apply site origin a.position) v) is)
     (ap (at_site site (apply_each origin arrived)) one ∙ at_twice site (site_apply origin a.position) (apply_each origin arrived) v.sites (λ x. (apply_steps origin a.position x).here))
 

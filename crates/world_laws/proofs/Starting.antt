@@ -1,7 +1,7 @@
 -- The world that Setup's end makes is a start: its sites are new and as the schema declares them, and agree on where streams
 -- begin.
 use Rattle.std.proofs.Common.{◌≡◌, ℕ, List, [], ◌∷◌, map, Bool, true, false, cond, Some, None, refl, sym, ap, ◌∙◌, arith, subst}
-use Rattle.std.specs.Prelude.{◌≢◌, ◌&&◌, ◌||◌, not, is_none, filter, Option}
+use Rattle.std.specs.Prelude.{◌≢◌, ◌||◌, not, is_none, filter, Option}
 use Rattle.std.specs.List.{AllByRecursion, find}
 use Rattle.rep_values.specs.declared.name.SiteName.{SiteName}
 use Rattle.rep_schema.specs.declared.schema.Schema.{Schema}
@@ -203,7 +203,7 @@ module _ (w : WorldState) (shape : HasShape w.schema) where
   opened_by site o origin found =
       let m = made_of origin o found in
       let same : o.destinations ≡ map (new_destination w.schema) (destinations_of w.schema origin)
-          = ap (λ (y : SiteState). y.destinations) (sym m.made) ∙ made_destinations w.schema rows w.snapshots m.entry.name m.entry.master ∙ ap (λ (n : SiteName). map (new_destination w.schema) (destinations_of w.schema n)) m.named in
+      = ap (λ (y : SiteState). y.destinations) (sym m.made) ∙ made_destinations w.schema rows w.snapshots m.entry.name m.entry.master ∙ ap (λ (n : SiteName). map (new_destination w.schema) (destinations_of w.schema n)) m.named in
       ap (λ (ds : List DestinationState). opened_in (destination_of site ds)) same ∙ opened_in-new w.schema (destinations_of w.schema origin) site
 
   first_of_sender : (site origin : SiteName) → is_late_master w.schema site ≡ false → is_among (senders_of w.schema site) origin ≡ true → (o : Option SiteState) → site_of origin sites ≡ o → IsFirst o site 0
@@ -227,7 +227,7 @@ module _ (w : WorldState) (shape : HasShape w.schema) where
       go (Some x) found =
           let m = made_of site x found in
           let same : x.senders ≡ map new_sender (senders_of w.schema site)
-              = ap (λ (y : SiteState). y.senders) (sym m.made) ∙ made_senders w.schema rows w.snapshots m.entry.name m.entry.master ∙ ap (λ (n : SiteName). map new_sender (senders_of w.schema n)) m.named in
+          = ap (λ (y : SiteState). y.senders) (sym m.made) ∙ made_senders w.schema rows w.snapshots m.entry.name m.entry.master ∙ ap (λ (n : SiteName). map new_sender (senders_of w.schema n)) m.named in
           subst (λ (ss : List SenderState). AllByRecursion (λ (s : SenderState). IsFirst (site_of s.origin sites) site s.first) ss) (sym same) (firsts site m.early (senders_of w.schema site) (among_themselves (senders_of w.schema site)))
 
   pub made_absent_closed : AbsentAreClosed w.schema sites

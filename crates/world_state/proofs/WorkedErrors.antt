@@ -1,5 +1,5 @@
 -- A transaction in error, executed and dropped, and the lines that are told.
-use Rattle.std.specs.Prelude.{◌≡◌, refl, codes, ◌++◌, List, [], ◌∷◌, Some, None}
+use Rattle.std.specs.Prelude.{◌≡◌, refl, codes, ◌++◌, List, [], ◌∷◌, None}
 use Rattle.rep_values.specs.declared.refusal.ApplyError.TheVariants as error
 use Rattle.rep_values.specs.declared.refusal.Refusal.TheVariants as refusal
 use Rattle.rep_schema.specs.Groups.{group_columns_of}

@@ -1,5 +1,5 @@
 -- Pushes over links that lose, repeat and hold packets.
-use Rattle.std.specs.Prelude.{◌≡◌, refl, ◌++◌, List, [], ◌∷◌, Some, None}
+use Rattle.std.specs.Prelude.{◌≡◌, refl, ◌++◌, List, [], ◌∷◌, None}
 use Rattle.rep_schema.specs.Groups.{group_columns_of}
 use Rattle.rep_declare.specs.Refusals.{columns_step}
 use Rattle.schema_rules.specs.Rules.{broken_rule}
@@ -14,7 +14,7 @@ use Rattle.world_state.specs.declared.commands.WorldCommand.{WorldCommand}
 use Rattle.world_state.specs.declared.commands.WorldCommand.TheVariants as line
 use Rattle.world_state.specs.World.{WorldState}
 use Rattle.world_state.specs.PushAnswers.{push_count}
-use Rattle.world_state.proofs.WorkedScripts.{master_line, id_and_q, added_up, row_line, resume, block, push, link, link_down, after, then_lines, told, counted, shown, journal_at, rows_at}
+use Rattle.world_state.proofs.WorkedScripts.{master_line, id_and_q, added_up, row_line, resume, block, push, link, link_down, after, then_lines, counted, shown, journal_at, rows_at}
 
 abbrev fates : SiteName → SiteName → List Fate → WorldCommand
 fates from to more = line.Run (run.AddFates from to more)

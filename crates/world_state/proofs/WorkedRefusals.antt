@@ -1,5 +1,5 @@
 -- Lines that are refused, each for the first reason that applies.
-use Rattle.std.specs.Prelude.{◌≡◌, refl, ℕ, false, codes, pos, ◌++◌, List, [], ◌∷◌, Some, None}
+use Rattle.std.specs.Prelude.{◌≡◌, refl, ℕ, false, codes, pos, List, [], ◌∷◌, Some, None}
 use Rattle.rep_values.specs.declared.refusal.Refusal.{Refusal}
 use Rattle.rep_values.specs.declared.refusal.Refusal.TheVariants as refusal
 use Rattle.rep_values.specs.declared.refusal.Limit.TheVariants as limit

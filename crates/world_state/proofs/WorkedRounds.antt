@@ -12,7 +12,7 @@ use Rattle.world_state.specs.declared.commands.WorldCommand.TheVariants as line
 use Rattle.world_state.specs.World.{WorldState}
 use Rattle.world_state.specs.PushAnswers.{push_count}
 use Rattle.world_state.specs.Refusals.{world_refusal}
-use Rattle.world_state.proofs.WorkedScripts.{master_line, id_and_q, added_up, resume, block, push, push_some, execute, after, then_lines, counted, shown, rows_at}
+use Rattle.world_state.proofs.WorkedScripts.{master_line, id_and_q, added_up, resume, block, push, push_some, execute, after, then_lines, counted, rows_at}
 
 abbrev three_masters : List WorldCommand
 three_masters = master_line a ∷ master_line b ∷ master_line c ∷ id_and_q ∷ added_up ++ resume ∷ []

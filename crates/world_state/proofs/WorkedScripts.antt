@@ -5,7 +5,6 @@ use Rattle.rep_values.specs.declared.name.TableName.{TableName}
 use Rattle.rep_values.specs.declared.literal.Literal.TheVariants as literal
 use Rattle.rep_schema.specs.declared.schema.Column.{Column}
 use Rattle.rep_schema.specs.Tables.{Rows}
-use Rattle.rep_declare.specs.declared.declaration.Declare.{Declare}
 use Rattle.rep_declare.specs.declared.declaration.Declare.TheVariants as declare
 use Rattle.rep_declare.specs.declared.declaration.MethodWords.TheVariants as words
 use Rattle.rep_calls.specs.declared.statement.Statement.{Statement}
@@ -16,7 +15,6 @@ use Rattle.site_state.proofs.WorkedSites.{key_column, number_column}
 use Rattle.event_laws.specs.Core.{site_of}
 use Rattle.world_state.specs.declared.push_count.PushCount.{PushCount}
 use Rattle.world_state.specs.declared.refused.Refused.{Refused}
-use Rattle.world_state.specs.declared.commands.RunCommand.{RunCommand}
 use Rattle.world_state.specs.declared.commands.RunCommand.TheVariants as run
 use Rattle.world_state.specs.declared.commands.WorldCommand.{WorldCommand}
 use Rattle.world_state.specs.declared.commands.WorldCommand.TheVariants as line

@@ -3,7 +3,7 @@ use Rattle.std.specs.Prelude.{ℕ, ◌+◌, ◌-◌, min, cond, List, [], ◌∷
 use Rattle.std.specs.List.{range_with_len}
 use Rattle.rep_values.specs.declared.name.SiteName.{SiteName}
 use Rattle.packet_code.specs.declared.packet.Packet.{Packet}
-use Rattle.net_plan.specs.Directions.{Direction, direction_of, at_direction, is_up, first_between, on_way_between, released, with_sent, delivered}
+use Rattle.net_plan.specs.Directions.{Direction, at_direction, is_up, first_between, on_way_between, released, with_sent, delivered}
 use Rattle.site_state.specs.State.{SiteState, acked_of}
 use Rattle.site_state.specs.Streams.{stream_to}
 use Rattle.site_state.specs.Packets.{site_accept}

@@ -7,7 +7,6 @@ use Rattle.net_plan.specs.Directions.{at_direction, with_link, with_fates, witho
 use Rattle.site_state.specs.Commits.{site_clock}
 use Rattle.site_state.specs.Errors.{site_execute, site_drop}
 use Rattle.site_state.specs.Purges.{site_purge, site_purge_log}
-use Rattle.event_laws.specs.Core.{at_site}
 use Rattle.event_laws.specs.Joins.{joined}
 use Rattle.event_laws.specs.Events.{refreshed}
 use Rattle.world_state.specs.declared.phase.Phase.{Phase}
