@@ -1,6 +1,6 @@
 -- What loops over packets and positions need: one packet at a time, one position at a time, and the test whether something is
 -- ready; and the place of a site among the others.
-use Rattle.std.proofs.Common.{◌≡◌, ℕ, suc, ◌+◌, ◌<◌, List, [], ◌∷◌, ◌++◌, drop, Bool, true, false, cond, Some, None, refl, sym, ap, arith, subst}
+use Rattle.std.proofs.Common.{◌≡◌, ℕ, zero, suc, ◌+◌, ◌<◌, List, [], ◌∷◌, ◌++◌, drop, Bool, true, false, cond, Some, None, refl, sym, ap, arith, subst}
 use Rattle.std.specs.Prelude.{◌&&◌, ◌||◌, not, nat_lt, is_some, slice_get, slice_set, Option}
 use Rattle.std.specs.List.{list_any, AllByRecursion, position_or_len}
 use Rattle.std.proofs.lemmas.Bool.Decides.{nat_tests}
@@ -13,7 +13,7 @@ use Rattle.site_state.specs.State.{SiteState}
 use Rattle.site_state.specs.Ready.{is_ready, first_ready_in}
 use Rattle.event_laws.specs.Core.{site_of, at_site}
 use Rattle.world_state.specs.World.{WorldState}
-use Rattle.world_state.specs.Rounds.{is_ready_here}
+use Rattle.world_state.specs.Rounds.{is_ready_here, passed_where_ready, round, rounds}
 use Rattle.world_state.specs.Pushes.{taken_each, taken_one, emptied, world_take, world_deliver, world_send, world_send_each}
 use Rattle.world_laws.specs.Simulation.{WasSent, AreEvents}
 use Rattle.world_laws.proofs.Links.{at_carries, way_sent, delivered_carries}
@@ -96,6 +96,16 @@ lose_leads from to w v s = links_lead w (at_direction from to delivered w.net) v
 pub send_more : (from to : SiteName) (position : ℕ) (positions : List ℕ) (w : WorldState) → world_send_each from to (positions ++ position ∷ []) w ≡ world_send from to position (world_send_each from to positions w)
 send_more from to position [] w = refl
 send_more from to position (one ∷ more) w = send_more from to position more (world_send from to one w)
+
+-- ---- senders and rounds, one by one
+
+pub round_more : (origin : SiteName) (origins : List SiteName) (x : SiteState) → round (origins ++ origin ∷ []) x ≡ passed_where_ready origin (round origins x)
+round_more origin [] x = refl
+round_more origin (one ∷ more) x = round_more origin more (passed_where_ready one x)
+
+pub rounds_more : (n : ℕ) (origins : List SiteName) (x : SiteState) → rounds (suc n) origins x ≡ round origins (rounds n origins x)
+rounds_more zero origins x = refl
+rounds_more (suc n) origins x = rounds_more n origins (round origins x)
 
 -- ---- is something ready
 

@@ -8,6 +8,7 @@ pub mod Pushes
 pub mod Sending
 pub mod Starting
 pub mod WorldLaws
+pub mod PushCounts
 pub mod Calling
 pub mod Reached
 pub mod RefusedLines

@@ -27,7 +27,7 @@ use Rattle.world_state.specs.World.{WorldState, with_site}
 use Rattle.world_state.specs.Declaring.{with_snapshot_at}
 use Rattle.world_state.specs.Rounds.{site_settle}
 use Rattle.world_state.specs.Pushes.{world_release, sent_on, world_send, world_send_each, positions_above, world_send_above, taken_each, emptied, world_deliver, world_settle, world_send_mark, world_bring_mark, world_answer, pushed_in, world_push}
-use Rattle.world_state.specs.Blocks.{closed, statements_of, committed_block, world_commit}
+use Rattle.world_state.specs.Blocks.{closed, is_commit, statements_of, committed_block, world_commit}
 use Rattle.world_state.specs.Phases.{is_setup}
 use Rattle.world_state.specs.Refusals.{world_refusal}
 use Rattle.world_state.specs.Steps.{resumed, world_refresh, log_purged_at, run_done, world_done, run_refused, world_refused}
@@ -222,24 +222,11 @@ done_leads number (line.Row table values) w v s = beside_lead w (world_done numb
 done_leads number (line.Run c) w v s = run_leads number c w v s
 
 refused_run_leads : (c : RunCommand) → AreEvents (run_refused c)
-refused_run_leads (command.Txn site) = none_lead
-refused_run_leads (command.Statement statement) = none_lead
-refused_run_leads command.Commit = closed_leads
-refused_run_leads command.Abandon = none_lead
-refused_run_leads (command.Push from to count) = none_lead
-refused_run_leads (command.AddFates from to fates) = none_lead
-refused_run_leads (command.ClearFates from to) = none_lead
-refused_run_leads (command.Link from to up) = none_lead
-refused_run_leads (command.Clock site clock) = none_lead
-refused_run_leads (command.Purge site) = none_lead
-refused_run_leads (command.Execute site origin position) = none_lead
-refused_run_leads (command.DropError site origin position) = none_lead
-refused_run_leads (command.Refresh site mode) = none_lead
-refused_run_leads (command.PurgeLog site table) = none_lead
-refused_run_leads command.Suspend = none_lead
-refused_run_leads command.Resume = none_lead
-refused_run_leads (command.Join site source) = none_lead
-refused_run_leads (command.Show site) = none_lead
+refused_run_leads c w v s = go (is_commit c)
+  where
+    go : (b : Bool) → Leads (cond b (closed w) w) v
+    go true = closed_leads w v s
+    go false = none_lead w v s
 
 refused_leads : (c : WorldCommand) → AreEvents (world_refused c)
 refused_leads (line.Declare declaration) = none_lead

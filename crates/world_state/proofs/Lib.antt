@@ -1,5 +1,6 @@
 -- Worked worlds.
 pub mod WorkedScripts
+mod WorkedSetups
 mod WorkedPushes
 mod WorkedRounds
 mod WorkedErrors

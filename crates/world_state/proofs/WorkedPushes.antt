@@ -5,6 +5,7 @@ use Rattle.rep_declare.specs.Refusals.{columns_step}
 use Rattle.schema_rules.specs.Rules.{broken_rule}
 use Rattle.net_plan.specs.declared.fate.Fate.{Fate}
 use Rattle.net_plan.specs.declared.fate.Fate.TheVariants.{Pass, Lose, Twice, Late}
+use Rattle.net_plan.specs.Directions.{on_way_between}
 use Rattle.rep_values.specs.declared.name.SiteName.{SiteName}
 use Rattle.site_state.specs.declared.entry.Entry.TheVariants as entry
 use Rattle.site_state.specs.State.{acked_of}
@@ -37,6 +38,10 @@ first_is_lost = refl
 then_all_come : push_count a b None (then_lines (push a b ∷ []) lossy) ≡ counted 3 2 0 3
 unfolding group_columns_of columns_step broken_rule
 then_all_come = refl
+
+nothing_stays_on_the_way : on_way_between a b (then_lines (push a b ∷ []) lossy).net ++ on_way_between b a (then_lines (push a b ∷ []) lossy).net ≡ []
+unfolding group_columns_of columns_step broken_rule
+nothing_stays_on_the_way = refl
 
 they_are_done_in_this_order : journal_at b (then_lines (push a b ∷ push a b ∷ []) lossy)
     ≡ entry.Done a 3 0 (of_calls (moved 0 1 11 12 ∷ [])) ∷ entry.Done a 1 0 (of_calls (moved 0 1 10 11 ∷ [])) ∷ entry.Done a 2 0 (of_calls (moved 0 2 20 21 ∷ [])) ∷ []

@@ -1,5 +1,5 @@
 -- The block of a transaction.
-use Rattle.std.specs.Prelude.{ℕ, ◌-◌, nat_lt, cond, List, [], ◌∷◌, ◌++◌, map, length, Option, Some, None, Result, Ok, Err, slice_get}
+use Rattle.std.specs.Prelude.{ℕ, ◌-◌, Bool, true, false, nat_lt, cond, List, [], ◌∷◌, ◌++◌, map, length, Option, Some, None, Result, Ok, Err, slice_get}
 use Rattle.rep_values.specs.declared.name.SiteName.{SiteName}
 use Rattle.rep_values.specs.declared.refusal.Refusal.{Refusal}
 use Rattle.rep_calls.specs.declared.statement.Statement.{Statement}
@@ -10,6 +10,8 @@ use Rattle.site_state.specs.Commits.{site_commit, commit_answer}
 use Rattle.event_laws.specs.Core.{site_of}
 use Rattle.world_state.specs.declared.block.Stated.{Stated}
 use Rattle.world_state.specs.declared.block.Block.{Block}
+use Rattle.world_state.specs.declared.commands.RunCommand.{RunCommand}
+use Rattle.world_state.specs.declared.commands.RunCommand.TheVariants as run
 use Rattle.world_state.specs.World.{WorldState, with_site}
 
 -- a block is opened at a site
@@ -42,6 +44,27 @@ committed_block (Some block) w = closed (with_site block.site (site_commit (stat
 -- the open block is committed at its site, and closed
 abbrev pub world_commit : WorldState → WorldState
 world_commit w = committed_block w.block w
+
+-- a line commits the open block
+abbrev pub is_commit : RunCommand → Bool
+is_commit (run.Txn site) = false
+is_commit (run.Statement statement) = false
+is_commit run.Commit = true
+is_commit run.Abandon = false
+is_commit (run.Push from to count) = false
+is_commit (run.AddFates from to fates) = false
+is_commit (run.ClearFates from to) = false
+is_commit (run.Link from to up) = false
+is_commit (run.Clock site clock) = false
+is_commit (run.Purge site) = false
+is_commit (run.Execute site origin position) = false
+is_commit (run.DropError site origin position) = false
+is_commit (run.Refresh site mode) = false
+is_commit (run.PurgeLog site table) = false
+is_commit run.Suspend = false
+is_commit run.Resume = false
+is_commit (run.Join site source) = false
+is_commit (run.Show site) = false
 
 -- ---- what a commit is refused for
 

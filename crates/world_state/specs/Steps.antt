@@ -1,5 +1,5 @@
 -- What a line of a script does to the world.
-use Rattle.std.specs.Prelude.{ℕ, suc, List, [], ◌∷◌, Option, Some, None}
+use Rattle.std.specs.Prelude.{ℕ, suc, cond, List, [], ◌∷◌, Option, Some, None}
 use Rattle.rep_values.specs.declared.name.SiteName.{SiteName}
 use Rattle.rep_values.specs.declared.refusal.Refusal.{Refusal}
 use Rattle.rep_schema.specs.Named.{table_place}
@@ -19,7 +19,7 @@ use Rattle.world_state.specs.declared.commands.WorldCommand.TheVariants as line
 use Rattle.world_state.specs.World.{WorldState, with_site}
 use Rattle.world_state.specs.Declaring.{with_declaration, with_snapshot, with_row}
 use Rattle.world_state.specs.Making.{world_made}
-use Rattle.world_state.specs.Blocks.{opened, closed, with_statement, world_commit, commit_line}
+use Rattle.world_state.specs.Blocks.{opened, closed, with_statement, world_commit, is_commit, commit_line}
 use Rattle.world_state.specs.Pushes.{world_push}
 use Rattle.world_state.specs.Refusals.{world_refusal}
 
@@ -70,24 +70,7 @@ world_done number (line.Run command) w = run_done number command w
 
 -- it leaves the world, but that a commit closes its block
 abbrev pub run_refused : RunCommand → WorldState → WorldState
-run_refused (run.Txn site) w = w
-run_refused (run.Statement statement) w = w
-run_refused run.Commit w = closed w
-run_refused run.Abandon w = w
-run_refused (run.Push from to count) w = w
-run_refused (run.AddFates from to fates) w = w
-run_refused (run.ClearFates from to) w = w
-run_refused (run.Link from to up) w = w
-run_refused (run.Clock site clock) w = w
-run_refused (run.Purge site) w = w
-run_refused (run.Execute site origin position) w = w
-run_refused (run.DropError site origin position) w = w
-run_refused (run.Refresh site mode) w = w
-run_refused (run.PurgeLog site table) w = w
-run_refused run.Suspend w = w
-run_refused run.Resume w = w
-run_refused (run.Join site source) w = w
-run_refused (run.Show site) w = w
+run_refused command w = cond (is_commit command) (closed w) w
 
 abbrev pub world_refused : WorldCommand → WorldState → WorldState
 world_refused (line.Declare declaration) w = w
@@ -114,24 +97,7 @@ world_steps number (command ∷ more) w = world_steps (suc number) more (world_s
 -- ---- what is told of a refusal
 
 abbrev pub run_line : ℕ → RunCommand → WorldState → ℕ
-run_line number (run.Txn site) w = number
-run_line number (run.Statement statement) w = number
-run_line number run.Commit w = commit_line number w
-run_line number run.Abandon w = number
-run_line number (run.Push from to count) w = number
-run_line number (run.AddFates from to fates) w = number
-run_line number (run.ClearFates from to) w = number
-run_line number (run.Link from to up) w = number
-run_line number (run.Clock site clock) w = number
-run_line number (run.Purge site) w = number
-run_line number (run.Execute site origin position) w = number
-run_line number (run.DropError site origin position) w = number
-run_line number (run.Refresh site mode) w = number
-run_line number (run.PurgeLog site table) w = number
-run_line number run.Suspend w = number
-run_line number run.Resume w = number
-run_line number (run.Join site source) w = number
-run_line number (run.Show site) w = number
+run_line number command w = cond (is_commit command) (commit_line number w) number
 
 -- the line that is told: its own, and that of the refused statement where it is a commit
 abbrev pub told_line : ℕ → WorldCommand → WorldState → ℕ
