@@ -6,7 +6,7 @@ use Rattle.rep_values.specs.declared.refusal.Refusal.TheVariants as refusal
 use Rattle.rep_schema.specs.Groups.{group_columns_of}
 use Rattle.rep_declare.specs.Refusals.{columns_step}
 use Rattle.schema_rules.specs.Rules.{broken_rule}
-use Rattle.site_state.proofs.WorkedSites.{a, b, d, row, add}
+use Rattle.site_state.proofs.WorkedSites.{a, b, c, d, row, add}
 use Rattle.world_state.specs.declared.refused.Refused.{Refused}
 use Rattle.world_state.specs.declared.commands.RunCommand.TheVariants as run
 use Rattle.world_state.specs.declared.commands.WorldCommand.{WorldCommand}
@@ -51,6 +51,10 @@ joined_rows = refl
 joins_that_are_refused : told 9 (push a d ∷ join d a ∷ suspend ∷ join d b ∷ join d b ∷ []) (after with_late) ≡ at_line 9 refusal.UnknownName ∷ at_line 10 refusal.WrongPhase ∷ at_line 13 refusal.NameTaken ∷ []
 unfolding group_columns_of columns_step broken_rule
 joins_that_are_refused = refl
+
+joined_before_the_source : world_refusal (join d c) (then_lines (suspend ∷ []) joined) ≡ Some refusal.NameTaken
+unfolding group_columns_of columns_step broken_rule
+joined_before_the_source = refl
 
 no_early_master_joins : world_refusal (join b a) (after (with_late ++ suspend ∷ [])) ≡ Some refusal.UnknownName
 unfolding group_columns_of columns_step broken_rule

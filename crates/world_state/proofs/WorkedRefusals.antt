@@ -1,5 +1,5 @@
 -- Lines that are refused, each for the first reason that applies.
-use Rattle.std.specs.Prelude.{◌≡◌, refl, ℕ, false, codes, pos, List, [], ◌∷◌, Some, None}
+use Rattle.std.specs.Prelude.{◌≡◌, refl, ℕ, false, codes, pos, List, [], ◌∷◌, Some, None, length, replicate}
 use Rattle.rep_values.specs.declared.refusal.Refusal.{Refusal}
 use Rattle.rep_values.specs.declared.refusal.Refusal.TheVariants as refusal
 use Rattle.rep_values.specs.declared.refusal.Limit.TheVariants as limit
@@ -12,14 +12,17 @@ use Rattle.schema_rules.specs.Rules.{broken_rule}
 use Rattle.rep_schema.specs.declared.schema.Kind.TheVariants as kind
 use Rattle.rep_declare.specs.declared.declaration.Declare.TheVariants as declare
 use Rattle.site_state.proofs.WorkedSites.{a, b, c, named, key_column, add, delete}
+use Rattle.rep_schema.specs.declared.check.Rel.TheVariants as rel
+use Rattle.world_state.specs.declared.block.Stated.{Stated}
 use Rattle.world_state.specs.declared.refused.Refused.{Refused}
 use Rattle.world_state.specs.declared.commands.RunCommand.TheVariants as run
 use Rattle.world_state.specs.declared.commands.WorldCommand.{WorldCommand}
 use Rattle.world_state.specs.declared.commands.WorldCommand.TheVariants as line
 use Rattle.world_state.specs.World.{WorldState, first_world}
+use Rattle.world_state.specs.Blocks.{stated_more}
 use Rattle.world_state.specs.Refusals.{world_refusal}
 use Rattle.world_state.specs.Answers.{commit_number}
-use Rattle.world_state.proofs.WorkedScripts.{t, master_line, table_line, id_and_q, row_line, resume, suspend, txn, commit, statement, push, execute, link_down, after, then_lines, stepped, told}
+use Rattle.world_state.proofs.WorkedScripts.{t, master_line, table_line, id_and_q, row_line, resume, suspend, txn, commit, statement, push, execute, link_down, after, then_lines, stepped, told, shown}
 
 abbrev at_line : ℕ → Refusal → Refused
 at_line number why = record { line = number; refusal = why }
@@ -112,6 +115,14 @@ push_goes_on_while_suspended : world_refusal (push a b) (then_lines (suspend ∷
 unfolding group_columns_of columns_step broken_rule
 push_goes_on_while_suspended = refl
 
+suspended_once : world_refusal suspend (then_lines (suspend ∷ []) two) ≡ Some refusal.WrongPhase
+unfolding group_columns_of columns_step broken_rule
+suspended_once = refl
+
+abandoned_block_changes_nothing : (then_lines (statement (add 1 1) ∷ line.Run run.Abandon ∷ []) in_block).sites ≡ two.sites
+unfolding group_columns_of columns_step broken_rule
+abandoned_block_changes_nothing = refl
+
 abandoned_block_is_closed : (then_lines (line.Run run.Abandon ∷ []) in_block).block ≡ None
 unfolding group_columns_of columns_step broken_rule
 abandoned_block_is_closed = refl
@@ -120,6 +131,10 @@ abandoned_block_is_closed = refl
 shape_before_rows : world_refusal (line.Declare (declare.Group t (codes "shadow") (codes "Q" ∷ []))) (after (master_line a ∷ id_and_q ∷ row_line 1 10 ∷ [])) ≡ Some refusal.WrongPhase
 unfolding group_columns_of columns_step broken_rule
 shape_before_rows = refl
+
+check_before_rows : world_refusal (line.Declare (declare.Check t (codes "c") (codes "Q") rel.Gt (num 0))) (after (master_line a ∷ id_and_q ∷ row_line 1 10 ∷ [])) ≡ Some refusal.WrongPhase
+unfolding group_columns_of columns_step broken_rule
+check_before_rows = refl
 
 name_that_is_taken : world_refusal (line.Declare (declare.Group t (codes "shadow") (codes "Q" ∷ []))) (after (master_line a ∷ id_and_q ∷ [])) ≡ Some refusal.NameTaken
 unfolding group_columns_of columns_step broken_rule
@@ -155,6 +170,10 @@ clock_out_of_range : world_refusal (line.Run (run.Clock a 1000000000000001)) two
 unfolding group_columns_of columns_step broken_rule
 clock_out_of_range = refl
 
+clock_is_set : shown 9 (λ x. x.stamps.clock) a (then_lines (line.Run (run.Clock a 5) ∷ []) two) ≡ 5
+unfolding group_columns_of columns_step broken_rule
+clock_is_set = refl
+
 name_before_the_range : world_refusal (line.Run (run.Clock c 1000000000000001)) two ≡ Some refusal.UnknownName
 unfolding group_columns_of columns_step broken_rule
 name_before_the_range = refl
@@ -166,3 +185,14 @@ ninth_master : told 1 (master_line (site_number 49) ∷ master_line (site_number
     ∷ master_line (site_number 55) ∷ master_line (site_number 56) ∷ master_line (site_number 57) ∷ []) first_world ≡ at_line 9 (refusal.LimitReached limit.Masters) ∷ []
 unfolding group_columns_of columns_step broken_rule
 ninth_master = refl
+
+-- ---- a block keeps one statement more than it may have
+
+abbrev one : Stated
+one = record { line = 1; statement = add 1 1 }
+
+keeps_one_too_many : length (stated_more one (replicate 1000 one)) ≡ 1001
+keeps_one_too_many = refl
+
+keeps_no_more : length (stated_more one (replicate 1001 one)) ≡ 1001
+keeps_no_more = refl

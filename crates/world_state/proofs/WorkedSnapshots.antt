@@ -85,6 +85,14 @@ fast_counts_keys : refresh_answer s mode.Fast conflict ≡ Some (record { by_log
 unfolding group_columns_of columns_step broken_rule
 fast_counts_keys = refl
 
+complete_counts_no_keys : refresh_answer s mode.Complete conflict ≡ Some (record { by_logs = false; count = record { keys = 0; rows = 1 } })
+unfolding group_columns_of columns_step broken_rule
+complete_counts_no_keys = refl
+
+either_direction_hinders_a_refresh : world_refusal (refresh mode.Force) (then_lines (link_down a s ∷ []) conflict) ≡ Some refusal.LinkDown
+unfolding group_columns_of columns_step broken_rule
+either_direction_hinders_a_refresh = refl
+
 -- what comes from a snapshot site goes on to the other masters
 abbrev onward : WorldState
 onward = after (master_line a ∷ master_line b ∷ snapshot_site_line s a ∷ id_and_q ∷ snapshot [] ∷ row_line 1 10 ∷ resume ∷ block s (set_to 1 11 ∷ []) ++ push s a ∷ [])
