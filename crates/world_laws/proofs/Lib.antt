@@ -14,3 +14,4 @@ pub mod Reached
 pub mod RefusedLines
 pub mod Scripts
 pub mod FittingWorlds
+pub mod UnrefusedLines
