@@ -17,8 +17,9 @@ pub fn refused_lines_leave_the_world()
     ensures closed { RefusedCommitsCloseTheBlock }
 {}
 
-/// The laws over events hold of the world of every script, whatever its lines are; and of the world that Setup's end makes
-/// of any schema that has its shape, and each that further lines make of it.
+/// The laws over events hold of the world of every script, of which each group and constraint names a column, as the form
+/// of its line asks; and of the world that Setup's end makes of any schema that has its shape, and each that further lines
+/// make of it.
 pub fn worlds_hold()
     ensures scripts { ScriptsHold }
     ensures worlds { WorldsHold }
