@@ -1,0 +1,55 @@
+-- One site of several, and changes of it in a row.
+use Rattle.std.proofs.Common.{◌≡◌, List, [], ◌∷◌, Bool, true, false, cond, Some, None, refl, ap}
+use Rattle.std.specs.Prelude.{◌≢◌, Option}
+use Rattle.rep_values.specs.declared.name.SiteName.{SiteName}
+use Rattle.deferred_queue.specs.Streams.{is_same_site}
+use Rattle.local_txn.specs.declared.local.Here.{Here}
+use Rattle.site_state.specs.State.{SiteState}
+use Rattle.event_laws.specs.Core.{site_of, at_site}
+use Rattle.event_laws.proofs.Sites.{KeepsHere, at_split}
+
+same_name : (f : SiteState → SiteState) → KeepsHere f → (x : SiteState) (name : SiteName) → is_same_site (f x).here.site name ≡ is_same_site x.here.site name
+same_name f keeps x name = ap (λ (h : Here). is_same_site h.site name) (keeps x)
+
+-- a site that isn't there doesn't change
+pub at_none : (name : SiteName) (f : SiteState → SiteState) (xs : List SiteState) → site_of name xs ≡ None → at_site name f xs ≡ xs
+at_none name f [] none = refl
+at_none name f (x ∷ xs) none = go (is_same_site x.here.site name) (at_none name f xs) none
+  where
+    go : (b : Bool) → (site_of name xs ≡ None → at_site name f xs ≡ xs) → cond b (Some x) (site_of name xs) ≡ None → cond b (f x ∷ xs) (x ∷ at_site name f xs) ≡ x ∷ xs
+    go true later none = absurd (cc none)
+    go false later none = ap (λ (ys : List SiteState). x ∷ ys) (later none)
+
+-- what a change does elsewhere doesn't matter
+pub at_found : (name : SiteName) (f g : SiteState → SiteState) (xs : List SiteState) (x : SiteState) → site_of name xs ≡ Some x → f x ≡ g x → at_site name f xs ≡ at_site name g xs
+at_found name f g [] x found same = refl
+at_found name f g (y ∷ ys) x found same = go (is_same_site y.here.site name) (at_found name f g ys x) found
+  where
+    go : (b : Bool) → (site_of name ys ≡ Some x → f x ≡ g x → at_site name f ys ≡ at_site name g ys) → cond b (Some y) (site_of name ys) ≡ Some x
+        → cond b (f y ∷ ys) (y ∷ at_site name f ys) ≡ cond b (g y ∷ ys) (y ∷ at_site name g ys)
+    go true later found = let is : y ≡ x = cc found in rw (is, same) refl
+    go false later found = ap (λ (zs : List SiteState). y ∷ zs) (later found same)
+
+-- one change and then another
+pub at_twice : (name : SiteName) (f g : SiteState → SiteState) (xs : List SiteState) → KeepsHere f → at_site name g (at_site name f xs) ≡ at_site name (λ x. g (f x)) xs
+at_twice name f g [] keeps = refl
+at_twice name f g (x ∷ xs) keeps = go (is_same_site x.here.site name) refl (at_twice name f g xs keeps)
+  where
+    go : (b : Bool) → is_same_site x.here.site name ≡ b → at_site name g (at_site name f xs) ≡ at_site name (λ x. g (f x)) xs
+        → at_site name g (cond b (f x ∷ xs) (x ∷ at_site name f xs)) ≡ cond b (g (f x) ∷ xs) (x ∷ at_site name (λ x. g (f x)) xs)
+    go true is later = rw (same_name f keeps x name, is) refl
+    go false is later = rw is (ap (λ (zs : List SiteState). x ∷ zs) later)
+
+-- what is found after a change
+pub of_at : (name : SiteName) (f : SiteState → SiteState) (xs : List SiteState) (x : SiteState) → KeepsHere f → site_of name xs ≡ Some x → site_of name (at_site name f xs) ≡ Some (f x)
+of_at name f [] x keeps found = absurd (cc found)
+of_at name f (y ∷ ys) x keeps found = go (is_same_site y.here.site name) refl (of_at name f ys x keeps) found
+  where
+    go : (b : Bool) → is_same_site y.here.site name ≡ b → (site_of name ys ≡ Some x → site_of name (at_site name f ys) ≡ Some (f x)) → cond b (Some y) (site_of name ys) ≡ Some x
+        → site_of name (cond b (f y ∷ ys) (y ∷ at_site name f ys)) ≡ Some (f x)
+    go true is later found = let same : y ≡ x = cc found in rw (same_name f keeps y name, is) (ap (λ (z : SiteState). Some (f z)) same)
+    go false is later found = rw is (later found)
+
+-- another site is as it was
+pub of_other : (name other : SiteName) (f : SiteState → SiteState) (xs : List SiteState) → KeepsHere f → name ≢ other → site_of other (at_site name f xs) ≡ site_of other xs
+of_other name other f xs keeps off = at_split (λ (o : Option SiteState). o ≡ site_of other xs) name other f xs keeps (λ e. absurd (off e)) refl

@@ -1,0 +1,306 @@
+-- The rounds end: each round in which something is ready finishes a position that arrived.
+use Rattle.std.proofs.Common.{◌≡◌, ℕ, zero, suc, ◌+◌, ◌<◌, ◌≤◌, List, [], ◌∷◌, length, Bool, true, false, cond, Some, None, refl, sym, ap, ◌∙◌, arith, subst}
+use Rattle.std.specs.Prelude.{◌&&◌, ◌||◌, not, is_none, Option, Result, Ok, Err}
+use Rattle.std.specs.List.{list_any}
+use Rattle.std.specs.declared.cmp.Ordering.{Ordering}
+use Rattle.std.specs.declared.cmp.Ordering.TheVariants.{Less, Equal, Greater}
+use Rattle.rep_lists.specs.Rising.{find_at, found_here}
+use Rattle.rep_values.specs.declared.name.SiteName.{SiteName}
+use Rattle.deferred_queue.specs.Streams.{is_same_site}
+use Rattle.deferred_queue.proofs.Sites.{is_same_site-true}
+use Rattle.txn_effects.specs.Calls.{Effect}
+use Rattle.txn_effects.specs.Transactions.{Failure}
+use Rattle.site_state.specs.declared.entry.Entry.{Entry}
+use Rattle.site_state.specs.declared.answers.Why.{Why}
+use Rattle.site_state.specs.declared.answers.Why.TheVariants as why
+use Rattle.site_state.specs.declared.arrival.Arrival.{Arrival}
+use Rattle.site_state.specs.State.{SenderState, SiteState, sender_of, arrived_in, arrived_at, arrivals, beside}
+use Rattle.site_state.specs.Journal.{finished, is_position}
+use Rattle.site_state.specs.Ready.{is_due, stale_found, stale_of, is_ready}
+use Rattle.site_state.specs.Steps.{begun, count_where}
+use Rattle.site_state.specs.Passes.{effect_here, finished_by, applied_unless, site_apply, apply_each, site_pass}
+use Rattle.site_state.proofs.Stepping.{with_entry, Steps, apply_steps, found_at}
+use Rattle.site_state.proofs.LowWater.{finished-append}
+use Rattle.event_laws.proofs.ErrorLaws.{is_position-own}
+use Rattle.world_state.specs.Rounds.{is_ready_here, has_ready, passed_where_ready, round, rounds, sender_names, arrived_count, site_rounds}
+use Rattle.world_laws.specs.Worlds.{NothingReady}
+
+-- ---- how many positions wait
+
+abbrev is_waiting : SiteName → List Entry → Arrival → Bool
+is_waiting origin journal a = not (finished origin journal a.position)
+
+abbrev waiting : List Entry → List SenderState → ℕ
+waiting journal [] = 0
+waiting journal (s ∷ ss) = count_where (is_waiting s.origin journal) s.arrived + waiting journal ss
+
+-- the later journal finishes what the earlier one does
+abbrev Finishes : List Entry → List Entry → Type 0
+Finishes before after = (origin : SiteName) (p : ℕ) → finished origin before p ≡ true → finished origin after p ≡ true
+
+fewer : {A : Type 0} (f g : A → Bool) (xs : List A) → ((a : A) → g a ≡ true → f a ≡ true) → count_where g xs ≤ count_where f xs
+fewer f g [] less = omega arith
+fewer f g (x ∷ xs) less = go (g x) refl (f x) refl (fewer f g xs less)
+  where
+    go : (b : Bool) → g x ≡ b → (c : Bool) → f x ≡ c → count_where g xs ≤ count_where f xs → cond b (count_where g xs + 1) (count_where g xs) ≤ cond c (count_where f xs + 1) (count_where f xs)
+    go true is true at later = omega (arith, later)
+    go true is false at later = absurd (cc (less x is, at))
+    go false is true at later = omega (arith, later)
+    go false is false at later = later
+
+-- one of them is no longer so
+one_fewer : {A : Type 0} (f g : A → Bool) (xs : List A) → ((a : A) → g a ≡ true → f a ≡ true) → list_any (λ (a : A). f a && not (g a)) xs ≡ true → count_where g xs < count_where f xs
+one_fewer f g [] less some = absurd (cc some)
+one_fewer f g (x ∷ xs) less some = go (g x) refl (f x) refl some (fewer f g xs less) (one_fewer f g xs less)
+  where
+    go : (b : Bool) → g x ≡ b → (c : Bool) → f x ≡ c → ((c && not b) || list_any (λ a. f a && not (g a)) xs) ≡ true → count_where g xs ≤ count_where f xs
+        → (list_any (λ a. f a && not (g a)) xs ≡ true → count_where g xs < count_where f xs)
+        → cond b (count_where g xs + 1) (count_where g xs) < cond c (count_where f xs + 1) (count_where f xs)
+    go true is true at some rest later = omega (arith, later some)
+    go true is false at some rest later = absurd (cc (less x is, at))
+    go false is true at some rest later = omega (arith, rest)
+    go false is false at some rest later = later some
+
+waits_less : (origin : SiteName) (before after : List Entry) → Finishes before after → (a : Arrival) → is_waiting origin after a ≡ true → is_waiting origin before a ≡ true
+waits_less origin before after more a is = go (finished origin before a.position) refl (finished origin after a.position) refl is
+  where
+    go : (b : Bool) → finished origin before a.position ≡ b → (c : Bool) → finished origin after a.position ≡ c → not c ≡ true → not b ≡ true
+    go true was c now is = absurd (cc (more origin a.position was, now, is))
+    go false was c now is = refl
+
+waiting_falls : (before after : List Entry) (ss : List SenderState) → Finishes before after → waiting after ss ≤ waiting before ss
+waiting_falls before after [] more = omega arith
+waiting_falls before after (s ∷ ss) more = omega (arith, fewer (is_waiting s.origin before) (is_waiting s.origin after) s.arrived (waits_less s.origin before after more), waiting_falls before after ss more)
+
+-- a position that waited and is finished
+abbrev is_new : SiteName → List Entry → List Entry → Arrival → Bool
+is_new origin before after a = is_waiting origin before a && not (is_waiting origin after a)
+
+waiting_less : (origin : SiteName) (before after : List Entry) (ss : List SenderState) → Finishes before after → list_any (is_new origin before after) (arrived_in (sender_of origin ss)) ≡ true → waiting after ss < waiting before ss
+waiting_less origin before after [] more some = absurd (cc some)
+waiting_less origin before after (s ∷ ss) more some = go (is_same_site s.origin origin) refl some (waiting_less origin before after ss more)
+  where
+    own : s.origin ≡ origin → list_any (is_new origin before after) s.arrived ≡ true → count_where (is_waiting s.origin after) s.arrived < count_where (is_waiting s.origin before) s.arrived
+    own same some = rw same (one_fewer (is_waiting origin before) (is_waiting origin after) s.arrived (waits_less origin before after more) some)
+
+    go : (b : Bool) → is_same_site s.origin origin ≡ b → list_any (is_new origin before after) (arrived_in (cond b (Some s) (sender_of origin ss))) ≡ true
+        → (list_any (is_new origin before after) (arrived_in (sender_of origin ss)) ≡ true → waiting after ss < waiting before ss)
+        → count_where (is_waiting s.origin after) s.arrived + waiting after ss < count_where (is_waiting s.origin before) s.arrived + waiting before ss
+    go true is some later = omega (arith, own (is_same_site-true s.origin origin is) some, waiting_falls before after ss more)
+    go false is some later = omega (arith, fewer (is_waiting s.origin before) (is_waiting s.origin after) s.arrived (waits_less s.origin before after more), later some)
+
+-- ---- a pass
+
+-- the senders are as before, and what was finished is
+record Goes (x y : SiteState) : Type 0 where
+  senders : y.senders ≡ x.senders
+  more : Finishes x.journal y.journal
+
+goes_refl : (x : SiteState) → Goes x x
+goes_refl x = record { senders = refl; more = λ o p is. is }
+
+goes_then : (x y z : SiteState) → Goes x y → Goes y z → Goes x z
+goes_then x y z a b = record { senders = b.senders ∙ a.senders; more = λ o p is. b.more o p (a.more o p is) }
+
+steps_go : (x y : SiteState) → Steps x y → Goes x y
+steps_go x y s = record { senders = s.senders; more = λ o p is. rw s.journals.journal (go s.journals.entry o p is) }
+  where
+    go : (e : Option Entry) (o : SiteName) (p : ℕ) → finished o x.journal p ≡ true → finished o (with_entry e x.journal) p ≡ true
+    go None o p is = is
+    go (Some e) o p is = finished-append o (e ∷ []) x.journal p is
+
+each_goes : (origin : SiteName) (arrived : List Arrival) (x : SiteState) → Goes x (apply_each origin arrived x)
+each_goes origin [] x = goes_refl x
+each_goes origin (a ∷ arrived) x = goes_then x (site_apply origin a.position x) (apply_each origin arrived (site_apply origin a.position x)) (steps_go x (site_apply origin a.position x) (apply_steps origin a.position x)) (each_goes origin arrived (site_apply origin a.position x))
+
+pass_goes : (origin : SiteName) (x : SiteState) → Goes x (site_pass origin x)
+pass_goes origin x = let g = each_goes origin (arrivals origin x) (begun x) in record { senders = g.senders; more = g.more }
+
+-- what isn't ready doesn't change a site
+stale_same : (origin : SiteName) (position : ℕ) (x : SiteState) → is_ready origin position x ≡ false → site_apply origin position x ≡ x
+stale_same origin position x is = go (stale_of origin position x) is
+  where
+    go : (o : Option Why) → is_none o ≡ false → applied_unless o origin (arrived_at origin position x.senders) x ≡ x
+    go None is = absurd (cc is)
+    go (Some why) is = refl
+
+-- what is ready wasn't finished, and then is
+ready_waits : (origin : SiteName) (position : ℕ) (x : SiteState) → is_ready origin position x ≡ true → finished origin x.journal position ≡ false
+ready_waits origin position x is = go (finished origin x.journal position) refl is
+  where
+    go : (b : Bool) → finished origin x.journal position ≡ b → is_none (cond b (Some why.Finished) (stale_found origin x (arrived_at origin position x.senders))) ≡ true → b ≡ false
+    go true at is = absurd (cc is)
+    go false at is = refl
+
+or_left : (b c : Bool) → b ≡ true → (b || c) ≡ true
+or_left true c h = refl
+or_left false c h = cc
+
+or_right : (b c : Bool) → c ≡ true → (b || c) ≡ true
+or_right true c h = refl
+or_right false c h = h
+
+by_finishes : (origin : SiteName) (a : Arrival) (x : SiteState) (r : Result Effect Failure) → finished origin (finished_by origin a r x).journal a.position ≡ true
+by_finishes origin a x (Ok effect) = or_left (is_position origin a.position origin a.position) _ (is_position-own origin a.position a.position refl)
+by_finishes origin a x (Err failure) = or_left (is_position origin a.position origin a.position) _ (is_position-own origin a.position a.position refl)
+
+ready_finishes : (origin : SiteName) (position : ℕ) (x : SiteState) → is_ready origin position x ≡ true → finished origin (site_apply origin position x).journal position ≡ true
+ready_finishes origin position x is = go (finished origin x.journal position) refl (arrived_at origin position x.senders) refl is
+  where
+    found : (a : Arrival) → a.position ≡ position → finished origin (finished_by origin a (effect_here origin a x) x).journal position ≡ true
+    found a at = subst (λ (p : ℕ). finished origin (finished_by origin a (effect_here origin a x) x).journal p ≡ true) at (by_finishes origin a x (effect_here origin a x))
+
+    due : (a : Arrival) → a.position ≡ position → (d : Bool) → is_none (cond d None (Some why.NotReady)) ≡ true → finished origin (applied_unless (cond d None (Some why.NotReady)) origin (Some a) x).journal position ≡ true
+    due a at true is = found a at
+    due a at false is = absurd (cc is)
+
+    go : (b : Bool) → finished origin x.journal position ≡ b → (o : Option Arrival) → arrived_at origin position x.senders ≡ o → is_none (cond b (Some why.Finished) (stale_found origin x o)) ≡ true
+        → finished origin (applied_unless (cond b (Some why.Finished) (stale_found origin x o)) origin o x).journal position ≡ true
+    go true was o at is = absurd (cc is)
+    go false was None at is = absurd (cc is)
+    go false was (Some a) at is = due a (found_at position (arrived_in (sender_of origin x.senders)) a at) (is_due origin x a) is
+
+-- where some of these are ready, some position of these is newly finished
+each_finishes : (origin : SiteName) (arrived : List Arrival) (x : SiteState) → list_any (is_ready_here origin x) arrived ≡ true → list_any (is_new origin x.journal (apply_each origin arrived x).journal) arrived ≡ true
+each_finishes origin [] x some = absurd (cc some)
+each_finishes origin (a ∷ arrived) x some = go (each_finishes origin arrived x) (is_ready origin a.position x) refl some
+  where
+    y : SiteState
+    y = apply_each origin (a ∷ arrived) x
+
+    rest : List Arrival → Bool
+    rest xs = list_any (is_new origin x.journal y.journal) xs
+
+    ready : is_ready origin a.position x ≡ true → is_new origin x.journal y.journal a ≡ true
+    ready is = rw (ready_waits origin a.position x is, (each_goes origin arrived (site_apply origin a.position x)).more origin a.position (ready_finishes origin a.position x is)) refl
+
+    go : (list_any (is_ready_here origin x) arrived ≡ true → list_any (is_new origin x.journal (apply_each origin arrived x).journal) arrived ≡ true)
+        → (b : Bool) → is_ready origin a.position x ≡ b → (b || list_any (is_ready_here origin x) arrived) ≡ true → (is_new origin x.journal y.journal a || rest arrived) ≡ true
+    go later true is some = or_left (is_new origin x.journal y.journal a) (rest arrived) (ready is)
+    go later false is some = or_right (is_new origin x.journal y.journal a) (rest arrived)
+        (subst (λ (z : SiteState). list_any (is_new origin x.journal (apply_each origin arrived z).journal) arrived ≡ true) (sym (stale_same origin a.position x is)) (later some))
+
+-- so a pass for which something is ready lowers the count
+pass_lowers : (origin : SiteName) (x : SiteState) → has_ready origin x ≡ true → waiting (site_pass origin x).journal x.senders < waiting x.journal x.senders
+pass_lowers origin x is = waiting_less origin x.journal (site_pass origin x).journal x.senders (pass_goes origin x).more (each_finishes origin (arrivals origin x) (begun x) is)
+
+-- ---- rounds
+
+where_goes : (o : SiteName) (x : SiteState) → Goes x (passed_where_ready o x)
+where_goes o x = go (has_ready o x)
+  where
+    go : (b : Bool) → Goes x (cond b (site_pass o x) x)
+    go true = pass_goes o x
+    go false = goes_refl x
+
+round_goes : (os : List SiteName) (x : SiteState) → Goes x (round os x)
+round_goes [] x = goes_refl x
+round_goes (o ∷ os) x = goes_then x (passed_where_ready o x) (round os (passed_where_ready o x)) (where_goes o x) (round_goes os (passed_where_ready o x))
+
+rounds_go : (n : ℕ) (os : List SiteName) (x : SiteState) → Goes x (rounds n os x)
+rounds_go zero os x = goes_refl x
+rounds_go (suc n) os x = goes_then x (round os x) (rounds n os (round os x)) (round_goes os x) (rounds_go n os (round os x))
+
+abbrev any_ready : List SiteName → SiteState → Bool
+any_ready os x = list_any (λ o. has_ready o x) os
+
+round_lowers : (os : List SiteName) (x : SiteState) → any_ready os x ≡ true → waiting (round os x).journal x.senders < waiting x.journal x.senders
+round_lowers [] x some = absurd (cc some)
+round_lowers (o ∷ os) x some = go (has_ready o x) refl some (round_lowers os x)
+  where
+    go : (b : Bool) → has_ready o x ≡ b → (b || any_ready os x) ≡ true → (any_ready os x ≡ true → waiting (round os x).journal x.senders < waiting x.journal x.senders)
+        → waiting (round os (cond b (site_pass o x) x)).journal x.senders < waiting x.journal x.senders
+    go true is some later = omega (arith, pass_lowers o x is, waiting_falls (site_pass o x).journal (round os (site_pass o x)).journal x.senders (round_goes os (site_pass o x)).more)
+    go false is some later = later some
+
+-- a round in which nothing is ready changes nothing
+pub round_same : (os : List SiteName) (x : SiteState) → list_any (λ o. has_ready o x) os ≡ false → round os x ≡ x
+round_same [] x none = refl
+round_same (o ∷ os) x none = go (has_ready o x) none (round_same os x)
+  where
+    go : (b : Bool) → (b || any_ready os x) ≡ false → (any_ready os x ≡ false → round os x ≡ x) → round os (cond b (site_pass o x) x) ≡ x
+    go true none later = absurd (cc none)
+    go false none later = later none
+
+pub rounds_same : (n : ℕ) (os : List SiteName) (x : SiteState) → list_any (λ o. has_ready o x) os ≡ false → rounds n os x ≡ x
+rounds_same zero os x none = refl
+rounds_same (suc n) os x none = ap (rounds n os) (round_same os x none) ∙ rounds_same n os x none
+
+-- as many rounds as positions wait leave nothing ready
+rounds_end : (n : ℕ) (os : List SiteName) (x : SiteState) → waiting x.journal x.senders ≤ n → any_ready os (rounds n os x) ≡ false
+rounds_end zero os x le = go (any_ready os x) refl
+  where
+    go : (b : Bool) → any_ready os x ≡ b → b ≡ false
+    go true is = absurd (omega (arith, le, round_lowers os x is))
+    go false is = refl
+rounds_end (suc n) os x le = go (any_ready os x) refl (rounds_end n os (round os x))
+  where
+    less : any_ready os x ≡ true → waiting (round os x).journal (round os x).senders ≤ n
+    less is = rw (round_goes os x).senders (omega (arith, le, round_lowers os x is))
+
+    go : (b : Bool) → any_ready os x ≡ b → (waiting (round os x).journal (round os x).senders ≤ n → any_ready os (rounds n os (round os x)) ≡ false) → any_ready os (rounds n os (round os x)) ≡ false
+    go true is later = later (less is)
+    go false is later = subst (λ (z : SiteState). any_ready os (rounds n os z) ≡ false) (sym (round_same os x is)) (ap (any_ready os) (rounds_same n os x is) ∙ is)
+
+count_at_most : {A : Type 0} (f : A → Bool) (xs : List A) → count_where f xs ≤ length xs
+count_at_most f [] = omega arith
+count_at_most f (x ∷ xs) = go (f x) (count_at_most f xs)
+  where
+    go : (b : Bool) → count_where f xs ≤ length xs → cond b (count_where f xs + 1) (count_where f xs) ≤ suc (length xs)
+    go true le = omega (arith, le)
+    go false le = omega (arith, le)
+
+waiting_at_most : (journal : List Entry) (ss : List SenderState) → waiting journal ss ≤ arrived_count ss
+waiting_at_most journal [] = omega arith
+waiting_at_most journal (s ∷ ss) = omega (arith, count_at_most (is_waiting s.origin journal) s.arrived, waiting_at_most journal ss)
+
+-- ---- nothing is ready
+
+found_any : (f : Arrival → Bool) (position : ℕ) (arrived : List Arrival) (a : Arrival) → find_at (beside position) arrived ≡ Some a → f a ≡ true → list_any f arrived ≡ true
+found_any f position [] a found is = absurd (cc found)
+found_any f position (b ∷ bs) a found is = go (beside position b) found (found_any f position bs a)
+  where
+    go : (o : Ordering) → found_here o b (find_at (beside position) bs) ≡ Some a → (find_at (beside position) bs ≡ Some a → f a ≡ true → list_any f bs ≡ true) → (f b || list_any f bs) ≡ true
+    go Less found later = or_right (f b) (list_any f bs) (later found is)
+    go Equal found later = let same : b ≡ a = cc found in or_left (f b) (list_any f bs) (rw same is)
+    go Greater found later = absurd (cc found)
+
+origin_any : (f : SiteName → Bool) (origin : SiteName) (position : ℕ) (ss : List SenderState) (a : Arrival) → arrived_at origin position ss ≡ Some a → f origin ≡ true → list_any f (sender_names ss) ≡ true
+origin_any f origin position [] a found is = absurd (cc found)
+origin_any f origin position (s ∷ ss) a found is = go (is_same_site s.origin origin) refl found (origin_any f origin position ss a)
+  where
+    go : (b : Bool) → is_same_site s.origin origin ≡ b → find_at (beside position) (arrived_in (cond b (Some s) (sender_of origin ss))) ≡ Some a
+        → (arrived_at origin position ss ≡ Some a → f origin ≡ true → list_any f (sender_names ss) ≡ true) → (f s.origin || list_any f (sender_names ss)) ≡ true
+    go true same found later = or_left (f s.origin) (list_any f (sender_names ss)) (rw (is_same_site-true s.origin origin same) is)
+    go false same found later = or_right (f s.origin) (list_any f (sender_names ss)) (later found is)
+
+pub nothing_ready : (x : SiteState) → list_any (λ o. has_ready o x) (sender_names x.senders) ≡ false → NothingReady x
+nothing_ready x none origin position = go (is_ready origin position x) refl
+  where
+    arrived : (a : Arrival) → arrived_at origin position x.senders ≡ Some a → is_ready origin position x ≡ true → ⊥
+    arrived a at ready =
+        let is : is_ready_here origin x a ≡ true = subst (λ (p : ℕ). is_ready origin p x ≡ true) (sym (found_at position (arrived_in (sender_of origin x.senders)) a at)) ready in
+        let some : has_ready origin x ≡ true = found_any (is_ready_here origin x) position (arrivals origin x) a at is in
+        let any : any_ready (sender_names x.senders) x ≡ true = origin_any (λ o. has_ready o x) origin position x.senders a at some in
+        absurd (cc (any, none))
+
+    missing : arrived_at origin position x.senders ≡ None → (b : Bool) → finished origin x.journal position ≡ b → is_ready origin position x ≡ true → ⊥
+    missing at b is ready = by b (rw (is, at) at ready)
+      where
+        by : (b : Bool) → is_none (cond b (Some why.Finished) (stale_found origin x None)) ≡ true → ⊥
+        by true ready = absurd (cc ready)
+        by false ready = absurd (cc ready)
+
+    at_all : (o : Option Arrival) → arrived_at origin position x.senders ≡ o → is_ready origin position x ≡ true → ⊥
+    at_all (Some a) at ready = arrived a at ready
+    at_all None at ready = missing at (finished origin x.journal position) refl ready
+
+    go : (b : Bool) → is_ready origin position x ≡ b → b ≡ false
+    go true ready = absurd (at_all (arrived_at origin position x.senders) refl ready)
+    go false ready = refl
+
+-- once the rounds are over nothing is ready
+pub rounds_leave_nothing : (x : SiteState) → NothingReady (site_rounds x)
+rounds_leave_nothing x =
+    let none : any_ready (sender_names x.senders) (site_rounds x) ≡ false = rounds_end (arrived_count x.senders) (sender_names x.senders) x (waiting_at_most x.journal x.senders) in
+    nothing_ready (site_rounds x) (subst (λ (ss : List SenderState). any_ready (sender_names ss) (site_rounds x) ≡ false) (sym (rounds_go (arrived_count x.senders) (sender_names x.senders) x).senders) none)

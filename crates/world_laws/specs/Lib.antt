@@ -1,0 +1,6 @@
+-- The definitions of this crate.
+pub mod Simulation
+pub mod Worlds
+pub mod Scripts
+pub mod Fitting
+pub mod Reached

@@ -1,0 +1,63 @@
+-- What holds of every world that lines lead to from the one that Setup's end makes.
+use Rattle.std.specs.Prelude.{◌≡◌, ◌≢◌, ℕ, ◌<◌, ◌≤◌, false, List, length, Option, Some, None}
+use Rattle.std.specs.List.{AllByRecursion}
+use Rattle.rep_values.specs.declared.name.SiteName.{SiteName}
+use Rattle.rep_schema.specs.Shape.{HasShape}
+use Rattle.site_state.specs.declared.arrival.Arrival.{Arrival}
+use Rattle.site_state.specs.State.{SiteState, arrivals, acked_of}
+use Rattle.site_state.specs.Streams.{stream_to}
+use Rattle.site_state.specs.Packets.{site_packet}
+use Rattle.site_state.specs.Ready.{is_ready}
+use Rattle.event_laws.specs.Core.{site_of}
+use Rattle.event_laws.specs.Marks.{MarksAreLow, PurgedIsFinished, AreWellNumbered}
+use Rattle.event_laws.specs.Orders.{AreFinishedOnce, AreSettledOnce, EarlierComesFirst}
+use Rattle.event_laws.specs.PassLaws.{CanPass}
+use Rattle.event_laws.specs.Waiting.{IsDelivered, PassesFinishNothing, NothingWaits}
+use Rattle.world_state.specs.declared.commands.WorldCommand.{WorldCommand}
+use Rattle.world_state.specs.World.{WorldState}
+use Rattle.world_state.specs.Making.{world_made}
+use Rattle.world_state.specs.Pushes.{world_push}
+use Rattle.world_state.specs.Steps.{world_steps}
+
+-- every site can make a pass for every sender
+abbrev pub EachCanPass : List SiteState → Type 0
+EachCanPass sites = (site origin : SiteName) (x : SiteState) → site_of site sites ≡ Some x → CanPass origin (arrivals origin x)
+
+-- each position above the acknowledged mark has its packet
+abbrev pub EachIsSent : List SiteState → Type 0
+EachIsSent sites = (from to : SiteName) (x : SiteState) (position : ℕ) → site_of from sites ≡ Some x → acked_of to x < position → position ≤ length (stream_to to x) → site_packet to position x ≢ None
+
+-- positions that arrived are from 1
+abbrev pub AreFrom1 : List SiteState → Type 0
+AreFrom1 sites = (site origin : SiteName) (x : SiteState) → site_of site sites ≡ Some x → AllByRecursion (λ (a : Arrival). 0 < a.position) (arrivals origin x)
+
+-- the laws over events, of the sites of a world
+pub record WorldHolds (w : WorldState) : Type 0 where
+  pub low : MarksAreLow w.sites
+  pub purged : PurgedIsFinished w.sites
+  pub numbered : AreWellNumbered w.sites
+  pub once : AreFinishedOnce w.sites
+  pub settled : AreSettledOnce w.sites
+  pub order : EarlierComesFirst w.sites
+  pub passes : EachCanPass w.sites
+  pub packets : EachIsSent w.sites
+  pub from_1 : AreFrom1 w.sites
+
+-- they hold of the world that Setup's end makes of a schema that has its shape, and of each that further lines make of it
+abbrev pub WorldsHold : Type 0
+WorldsHold = (w : WorldState) → HasShape w.schema → (number : ℕ) (lines : List WorldCommand) → WorldHolds (world_steps number lines (world_made w))
+
+-- no position of any sender is ready at a site
+abbrev pub NothingReady : SiteState → Type 0
+NothingReady x = (origin : SiteName) (position : ℕ) → is_ready origin position x ≡ false
+
+-- once a push to another site is done no position of any sender is ready at the receiver
+abbrev pub PushesLeaveNothingReady : Type 0
+PushesLeaveNothingReady = (from to : SiteName) (count : Option ℕ) (w : WorldState) (x : SiteState) → from ≢ to
+    → site_of to (world_push from to count w).sites ≡ Some x → NothingReady x
+
+-- where all that was queued for a site has arrived there and a pass of any sender finishes nothing, nothing waits there
+abbrev pub NothingWaitsInWorlds : Type 0
+NothingWaitsInWorlds = (w : WorldState) → HasShape w.schema → (number : ℕ) (lines : List WorldCommand) (site : SiteName) (x : SiteState)
+    → site_of site (world_steps number lines (world_made w)).sites ≡ Some x → IsDelivered (world_steps number lines (world_made w)).sites site x
+    → PassesFinishNothing x → NothingWaits x

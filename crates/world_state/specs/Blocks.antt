@@ -1,0 +1,106 @@
+-- The block of a transaction.
+use Rattle.std.specs.Prelude.{ℕ, ◌-◌, Bool, true, false, nat_lt, cond, List, [], ◌∷◌, ◌++◌, map, length, Option, Some, None, Result, Ok, Err, slice_get}
+use Rattle.rep_values.specs.declared.name.SiteName.{SiteName}
+use Rattle.rep_values.specs.declared.refusal.Refusal.{Refusal}
+use Rattle.rep_calls.specs.declared.statement.Statement.{Statement}
+use Rattle.local_txn.specs.declared.local.LocalStop.{LocalStop}
+use Rattle.local_txn.specs.Locals.{most_statements}
+use Rattle.site_state.specs.State.{SiteState}
+use Rattle.site_state.specs.Commits.{site_commit, commit_answer}
+use Rattle.event_laws.specs.Core.{site_of}
+use Rattle.world_state.specs.declared.block.Stated.{Stated}
+use Rattle.world_state.specs.declared.block.Block.{Block}
+use Rattle.world_state.specs.declared.commands.RunCommand.{RunCommand}
+use Rattle.world_state.specs.declared.commands.RunCommand.TheVariants as run
+use Rattle.world_state.specs.World.{WorldState, with_site}
+
+-- a block is opened at a site
+abbrev pub opened : SiteName → WorldState → WorldState
+opened site w = record w { block = Some (record { site = site; stated = [] }) }
+
+-- no block is open
+abbrev pub closed : WorldState → WorldState
+closed w = record w { block = None }
+
+-- a statement more; one behind the first that is too many isn't kept
+abbrev pub stated_more : Stated → List Stated → List Stated
+stated_more one stated = cond (nat_lt most_statements (length stated)) stated (stated ++ one ∷ [])
+
+abbrev pub block_with : Stated → Option Block → Option Block
+block_with one None = None
+block_with one (Some block) = Some (record { site = block.site; stated = stated_more one block.stated })
+
+-- a statement of a line, in the open block
+abbrev pub with_statement : ℕ → Statement → WorldState → WorldState
+with_statement line statement w = record w { block = block_with (record { line = line; statement = statement }) w.block }
+
+abbrev pub statements_of : Block → List Statement
+statements_of block = map (λ (s : Stated). s.statement) block.stated
+
+abbrev pub committed_block : Option Block → WorldState → WorldState
+committed_block None w = w
+committed_block (Some block) w = closed (with_site block.site (site_commit (statements_of block)) w)
+
+-- the open block is committed at its site, and closed
+abbrev pub world_commit : WorldState → WorldState
+world_commit w = committed_block w.block w
+
+-- a line commits the open block
+abbrev pub is_commit : RunCommand → Bool
+is_commit (run.Txn site) = false
+is_commit (run.Statement statement) = false
+is_commit run.Commit = true
+is_commit run.Abandon = false
+is_commit (run.Push from to count) = false
+is_commit (run.AddFates from to fates) = false
+is_commit (run.ClearFates from to) = false
+is_commit (run.Link from to up) = false
+is_commit (run.Clock site clock) = false
+is_commit (run.Purge site) = false
+is_commit (run.Execute site origin position) = false
+is_commit (run.DropError site origin position) = false
+is_commit (run.Refresh site mode) = false
+is_commit (run.PurgeLog site table) = false
+is_commit run.Suspend = false
+is_commit run.Resume = false
+is_commit (run.Join site source) = false
+is_commit (run.Show site) = false
+
+-- ---- what a commit is refused for
+
+abbrev pub stop_in : Result ℕ LocalStop → Option LocalStop
+stop_in (Ok number) = None
+stop_in (Err stop) = Some stop
+
+abbrev pub stop_at_site : List Statement → Option SiteState → Option LocalStop
+stop_at_site statements None = None
+stop_at_site statements (Some x) = stop_in (commit_answer statements x)
+
+abbrev pub block_stop : Option Block → WorldState → Option LocalStop
+block_stop None w = None
+block_stop (Some block) w = stop_at_site (statements_of block) (site_of block.site w.sites)
+
+-- the first statement of the open block that is refused, from 1, and why
+abbrev pub commit_stop : WorldState → Option LocalStop
+commit_stop w = block_stop w.block w
+
+abbrev pub refusal_in : Option LocalStop → Option Refusal
+refusal_in None = None
+refusal_in (Some stop) = Some stop.refusal
+
+-- why the open block isn't committed, if it isn't
+abbrev pub commit_refusal : WorldState → Option Refusal
+commit_refusal w = refusal_in (commit_stop w)
+
+abbrev pub line_in : ℕ → Option Stated → ℕ
+line_in line None = line
+line_in line (Some stated) = stated.line
+
+abbrev pub stated_line : ℕ → Option Block → Option LocalStop → ℕ
+stated_line line None stop = line
+stated_line line (Some block) None = line
+stated_line line (Some block) (Some stop) = line_in line (slice_get block.stated (stop.statement - 1))
+
+-- the line that a refused commit of a line tells: that of the refused statement
+abbrev pub commit_line : ℕ → WorldState → ℕ
+commit_line line w = stated_line line w.block (commit_stop w)

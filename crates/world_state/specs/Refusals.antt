@@ -1,0 +1,149 @@
+-- Why a line is refused: the first of its steps that refuses it. The phase comes first, then names from left to right, and
+-- then links, queues, logs, shapes, errors and ranges.
+use Rattle.std.specs.Prelude.{ℕ, ◌-◌, ◌&&◌, ◌||◌, Bool, not, nat_lt, pos, List, [], ◌∷◌, map, sum, length, Option, Some, None}
+use Rattle.std.specs.List.{list_all}
+use Rattle.rep_values.specs.declared.name.SiteName.{SiteName}
+use Rattle.rep_values.specs.declared.name.TableName.{TableName}
+use Rattle.rep_values.specs.declared.refusal.Refusal.{Refusal}
+use Rattle.rep_values.specs.declared.refusal.Refusal.TheVariants as refusal
+use Rattle.rep_values.specs.RefusalSteps.{refused, or_then, first_refusal, unknown, taken, known}
+use Rattle.rep_values.specs.Literal.{value_of_literal}
+use Rattle.rep_schema.specs.declared.schema.Column.{Column}
+use Rattle.rep_schema.specs.declared.schema.SiteEntry.{SiteEntry}
+use Rattle.rep_schema.specs.Tables.{columns_of}
+use Rattle.rep_schema.specs.Kinds.{is_of_kind, value_in_range, is_some_and}
+use Rattle.rep_schema.specs.Named.{table_place, has_column, column_named}
+use Rattle.rep_declare.specs.Refusals.{out_of_range, refusal_of}
+use Rattle.local_txn.specs.BaseRows.{base_refusal}
+use Rattle.snapshot_query.specs.declared.snapshot.Snapshot.{Snapshot}
+use Rattle.net_plan.specs.Directions.{is_up}
+use Rattle.site_state.specs.State.{DestinationState, LogState, SiteState}
+use Rattle.site_state.specs.Streams.{stream_to}
+use Rattle.site_state.specs.Notes.{log_of, purged_of, is_too_young}
+use Rattle.site_state.specs.Errors.{execute_refusal, drop_refusal}
+use Rattle.site_state.specs.Making.{is_late_master}
+use Rattle.event_laws.specs.Core.{site_of}
+use Rattle.event_laws.specs.Quiet.{unquiet_at}
+use Rattle.event_laws.specs.Events.{is_all_acked, master_of, found_site, is_master_in}
+use Rattle.world_state.specs.declared.commands.RefreshMode.{RefreshMode}
+use Rattle.world_state.specs.declared.commands.RefreshMode.TheVariants as mode
+use Rattle.world_state.specs.declared.commands.RunCommand.{RunCommand}
+use Rattle.world_state.specs.declared.commands.RunCommand.TheVariants as run
+use Rattle.world_state.specs.declared.commands.TestWords.{TestWords}
+use Rattle.world_state.specs.declared.commands.WorldCommand.{WorldCommand}
+use Rattle.world_state.specs.declared.commands.WorldCommand.TheVariants as line
+use Rattle.world_state.specs.World.{WorldState, is_there, gets_from}
+use Rattle.world_state.specs.Declaring.{has_snapshot}
+use Rattle.world_state.specs.Blocks.{commit_refusal}
+use Rattle.world_state.specs.Phases.{setup_step, declare_step, phase_step}
+
+-- ---- names
+
+abbrev pub are_there : WorldState → SiteName → SiteName → Bool
+are_there w a b = is_there w a && is_there w b
+
+-- a site has another one as a sender, and both are there
+abbrev pub has_sender : WorldState → SiteName → SiteName → Bool
+has_sender w site origin = are_there w site origin && gets_from w site origin
+
+-- there is a link between two sites: one of them has the other as a sender
+abbrev pub has_link : WorldState → SiteName → SiteName → Bool
+has_link w a b = has_sender w a b || has_sender w b a
+
+-- ---- links, queues and logs
+
+abbrev pub waiting_for : SiteState → DestinationState → ℕ
+waiting_for x d = length (stream_to d.site x) - d.acked
+
+-- how many of a site's transactions aren't acknowledged
+abbrev pub waiting_count : SiteState → ℕ
+waiting_count x = sum (map (waiting_for x) x.destinations)
+
+-- the first snapshot of which the log was purged above its mark
+abbrev pub young_step : List LogState → List Snapshot → Option Refusal
+young_step logs [] = None
+young_step logs (s ∷ ss) = or_then (refused (is_too_young logs s) (refusal.LogTooYoung (purged_of s.table logs) s.mark)) (young_step logs ss)
+
+-- a refresh goes by logs alone where it is asked to
+abbrev pub log_step : RefreshMode → List LogState → List Snapshot → Option Refusal
+log_step mode.Fast logs snapshots = young_step logs snapshots
+log_step mode.Complete logs snapshots = None
+log_step mode.Force logs snapshots = None
+
+-- a refresh of a snapshot site from its master: both directions are up, all is acknowledged, and the logs reach back
+abbrev pub refresh_steps : RefreshMode → SiteState → SiteState → WorldState → List (Option Refusal)
+refresh_steps mode x master w =
+    refused (not (is_up x.here.site master.here.site w.net && is_up master.here.site x.here.site w.net)) refusal.LinkDown ∷
+    refused (not (is_all_acked x)) (refusal.QueueNotEmpty (waiting_count x)) ∷
+    log_step mode master.logs x.snapshots ∷ []
+
+-- ---- joins
+
+abbrev pub unquiet_step : List SiteState → Option SiteState → Option Refusal
+unquiet_step sites None = None
+unquiet_step sites (Some x) = refused (x.here.is_master && nat_lt 0 (unquiet_at sites x)) (refusal.NotQuiet x.here.site (unquiet_at sites x))
+
+-- the first master in declared order at which something hinders it
+abbrev pub quiet_step : List SiteState → List SiteEntry → Option Refusal
+quiet_step sites [] = None
+quiet_step sites (e ∷ es) = or_then (unquiet_step sites (site_of e.name sites)) (quiet_step sites es)
+
+-- ---- snapshots
+
+abbrev pub has_columns : List Column → List TestWords → Bool
+has_columns columns tests = list_all (λ (t : TestWords). has_column columns t.column) tests
+
+abbrev pub is_of_column : List Column → TestWords → Bool
+is_of_column columns t = is_some_and (λ (c : Column). is_of_kind c.kind t.value) (column_named columns t.column)
+
+abbrev pub test_in_range : TestWords → Bool
+test_in_range t = value_in_range (value_of_literal t.value)
+
+abbrev pub snapshot_steps : WorldState → SiteName → ℕ → List TestWords → List (Option Refusal)
+snapshot_steps w site table tests =
+    refused (has_snapshot w.snapshots site table) refusal.NameTaken ∷
+    refused (not (has_columns (columns_of w.schema table) tests)) refusal.UnknownName ∷
+    refused (not (list_all (is_of_column (columns_of w.schema table)) tests)) refusal.RowShape ∷
+    refused (not (list_all test_in_range tests)) refusal.ValueRange ∷ []
+
+-- a snapshot of a table at a snapshot site
+abbrev pub snapshot_refusal : WorldState → SiteName → TableName → List TestWords → Option Refusal
+snapshot_refusal w site table tests = first_refusal (known (master_of w.schema site) (λ master. known (table_place w.schema table) (λ place. snapshot_steps w site place tests)))
+
+-- ---- a command
+
+-- the steps of a command behind the phase
+abbrev pub run_steps : RunCommand → WorldState → List (Option Refusal)
+run_steps (run.Txn site) w = unknown (site_of site w.sites) ∷ []
+run_steps (run.Statement statement) w = []
+run_steps run.Commit w = commit_refusal w ∷ []
+run_steps run.Abandon w = []
+run_steps (run.Push from to count) w = refused (not (has_sender w to from)) refusal.UnknownName ∷ refused (not (is_up from to w.net)) refusal.LinkDown ∷ []
+run_steps (run.AddFates from to fates) w = refused (not (has_link w from to)) refusal.UnknownName ∷ []
+run_steps (run.ClearFates from to) w = refused (not (has_link w from to)) refusal.UnknownName ∷ []
+run_steps (run.Link from to up) w = refused (not (has_link w from to)) refusal.UnknownName ∷ []
+run_steps (run.Clock site clock) w = unknown (site_of site w.sites) ∷ out_of_range (pos clock) ∷ []
+run_steps (run.Purge site) w = unknown (site_of site w.sites) ∷ []
+run_steps (run.Execute site origin position) w =
+    known (site_of site w.sites) (λ x. refused (not (has_sender w site origin)) refusal.UnknownName ∷ execute_refusal origin position x ∷ [])
+run_steps (run.DropError site origin position) w =
+    known (site_of site w.sites) (λ x. refused (not (has_sender w site origin)) refusal.UnknownName ∷ drop_refusal origin position x ∷ [])
+run_steps (run.Refresh site mode) w =
+    known (site_of site w.sites) (λ x. known (found_site w.sites (master_of w.schema site)) (λ master. refresh_steps mode x master w))
+run_steps (run.PurgeLog site table) w =
+    known (site_of site w.sites) (λ x. known (table_place w.schema table) (λ place. unknown (log_of place x.logs) ∷ []))
+run_steps run.Suspend w = []
+run_steps run.Resume w = []
+run_steps (run.Join site source) w =
+    refused (not (is_late_master w.schema site)) refusal.UnknownName ∷
+    taken (site_of site w.sites) ∷
+    refused (not (is_master_in (site_of source w.sites))) refusal.UnknownName ∷
+    quiet_step w.sites w.schema.sites ∷ []
+run_steps (run.Show site) w = unknown (site_of site w.sites) ∷ []
+
+-- why a line is refused, if it is
+abbrev pub world_refusal : WorldCommand → WorldState → Option Refusal
+world_refusal (line.Declare declaration) w = or_then (declare_step declaration w) (refusal_of w.schema declaration)
+world_refusal (line.Snapshot site table tests) w = or_then (setup_step w) (snapshot_refusal w site table tests)
+world_refusal (line.Row table values) w = or_then (setup_step w) (base_refusal w.schema w.base table values)
+world_refusal (line.Run command) w = or_then (phase_step command w) (first_refusal (run_steps command w))

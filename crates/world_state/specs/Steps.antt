@@ -1,0 +1,115 @@
+-- What a line of a script does to the world.
+use Rattle.std.specs.Prelude.{ℕ, suc, cond, List, [], ◌∷◌, Option, Some, None}
+use Rattle.rep_values.specs.declared.name.SiteName.{SiteName}
+use Rattle.rep_values.specs.declared.refusal.Refusal.{Refusal}
+use Rattle.rep_schema.specs.Named.{table_place}
+use Rattle.net_plan.specs.Directions.{at_direction, with_link, with_fates, without_fates}
+use Rattle.site_state.specs.Commits.{site_clock}
+use Rattle.site_state.specs.Errors.{site_execute, site_drop}
+use Rattle.site_state.specs.Purges.{site_purge, site_purge_log}
+use Rattle.event_laws.specs.Joins.{joined}
+use Rattle.event_laws.specs.Events.{refreshed}
+use Rattle.world_state.specs.declared.phase.Phase.{Phase}
+use Rattle.world_state.specs.declared.phase.Phase.TheVariants as phase
+use Rattle.world_state.specs.declared.refused.Refused.{Refused}
+use Rattle.world_state.specs.declared.commands.RunCommand.{RunCommand}
+use Rattle.world_state.specs.declared.commands.RunCommand.TheVariants as run
+use Rattle.world_state.specs.declared.commands.WorldCommand.{WorldCommand}
+use Rattle.world_state.specs.declared.commands.WorldCommand.TheVariants as line
+use Rattle.world_state.specs.World.{WorldState, with_site}
+use Rattle.world_state.specs.Declaring.{with_declaration, with_snapshot, with_row}
+use Rattle.world_state.specs.Making.{world_made}
+use Rattle.world_state.specs.Blocks.{opened, closed, with_statement, world_commit, is_commit, commit_line}
+use Rattle.world_state.specs.Pushes.{world_push}
+use Rattle.world_state.specs.Refusals.{world_refusal}
+
+-- ---- what a command does where it isn't refused
+
+-- Setup ends, or transactions may begin again
+abbrev pub resumed : Phase → WorldState → WorldState
+resumed phase.Setup w = world_made w
+resumed phase.Running w = w
+resumed phase.Suspended w = record w { phase = phase.Running }
+
+-- a snapshot site gets what its queries pick of its master's rows now; by logs or by all rows, these are the same
+abbrev pub world_refresh : SiteName → WorldState → WorldState
+world_refresh site w = with_site site (refreshed w.sites) w
+
+abbrev pub log_purged_at : SiteName → Option ℕ → WorldState → WorldState
+log_purged_at site None w = w
+log_purged_at site (Some table) w = with_site site (site_purge_log table) w
+
+abbrev pub run_done : ℕ → RunCommand → WorldState → WorldState
+run_done number (run.Txn site) w = opened site w
+run_done number (run.Statement statement) w = with_statement number statement w
+run_done number run.Commit w = world_commit w
+run_done number run.Abandon w = closed w
+run_done number (run.Push from to count) w = world_push from to count w
+run_done number (run.AddFates from to fates) w = record w { net = at_direction from to (with_fates fates) w.net }
+run_done number (run.ClearFates from to) w = record w { net = at_direction from to without_fates w.net }
+run_done number (run.Link from to up) w = record w { net = at_direction from to (with_link up) w.net }
+run_done number (run.Clock site clock) w = with_site site (site_clock clock) w
+run_done number (run.Purge site) w = with_site site site_purge w
+run_done number (run.Execute site origin position) w = with_site site (site_execute origin position) w
+run_done number (run.DropError site origin position) w = with_site site (site_drop origin position) w
+run_done number (run.Refresh site mode) w = world_refresh site w
+run_done number (run.PurgeLog site table) w = log_purged_at site (table_place w.schema table) w
+run_done number run.Suspend w = record w { phase = phase.Suspended }
+run_done number run.Resume w = resumed w.phase w
+run_done number (run.Join site source) w = record w { sites = joined site source w.sites }
+run_done number (run.Show site) w = w
+
+-- what the line of a number does
+abbrev pub world_done : ℕ → WorldCommand → WorldState → WorldState
+world_done number (line.Declare declaration) w = with_declaration declaration w
+world_done number (line.Snapshot site table tests) w = with_snapshot site table tests w
+world_done number (line.Row table values) w = with_row table values w
+world_done number (line.Run command) w = run_done number command w
+
+-- ---- what a refused one does
+
+-- it leaves the world, but that a commit closes its block
+abbrev pub run_refused : RunCommand → WorldState → WorldState
+run_refused command w = cond (is_commit command) (closed w) w
+
+abbrev pub world_refused : WorldCommand → WorldState → WorldState
+world_refused (line.Declare declaration) w = w
+world_refused (line.Snapshot site table tests) w = w
+world_refused (line.Row table values) w = w
+world_refused (line.Run command) w = run_refused command w
+
+-- ---- a step
+
+-- the world after a line that met a refusal, or none
+abbrev pub step_by : Option Refusal → ℕ → WorldCommand → WorldState → WorldState
+step_by None number command w = world_done number command w
+step_by (Some why) number command w = world_refused command w
+
+-- the world after the line of a number
+abbrev pub world_step : ℕ → WorldCommand → WorldState → WorldState
+world_step number command w = step_by (world_refusal command w) number command w
+
+-- the world after lines, the first of which has a number
+abbrev pub world_steps : ℕ → List WorldCommand → WorldState → WorldState
+world_steps number [] w = w
+world_steps number (command ∷ more) w = world_steps (suc number) more (world_step number command w)
+
+-- ---- what is told of a refusal
+
+abbrev pub run_line : ℕ → RunCommand → WorldState → ℕ
+run_line number command w = cond (is_commit command) (commit_line number w) number
+
+-- the line that is told: its own, and that of the refused statement where it is a commit
+abbrev pub told_line : ℕ → WorldCommand → WorldState → ℕ
+told_line number (line.Declare declaration) w = number
+told_line number (line.Snapshot site table tests) w = number
+told_line number (line.Row table values) w = number
+told_line number (line.Run command) w = run_line number command w
+
+abbrev pub told_by : Option Refusal → ℕ → WorldCommand → WorldState → Option Refused
+told_by None number command w = None
+told_by (Some why) number command w = Some (record { line = told_line number command w; refusal = why })
+
+-- what is told of the line of a number, where it is refused
+abbrev pub step_refused : ℕ → WorldCommand → WorldState → Option Refused
+step_refused number command w = told_by (world_refusal command w) number command w
