@@ -1,4 +1,4 @@
 -- The lemmas of this crate.
+pub mod PartsAgain
 pub mod ReadAgain
 pub mod ParsedLines
-mod WorkedLines

@@ -6,12 +6,13 @@ use Rattle.script_lex.specs.declared.token.Token.{Token}
 use Rattle.script_lex.specs.Stop.{Gives}
 use Rattle.script_lex.specs.Lines.{lexed, HasTokens}
 use Rattle.script_lex.proofs.Steps.{has_tokens}
+use Rattle.script_words.specs.Reading.{◌>>=◌}
 use Rattle.script_parse.specs.declared.command.Command.{Command}
-use Rattle.script_parse.specs.Parsed.{command_of, parsed, HasForm}
+use Rattle.script_parse.specs.Parsed.{HasForm}
 
-pub line_gives : (line : List ℕ) (tokens : List Token) (r : Result Command LineStop) → lexed line ≡ Ok tokens
-    → Gives (HasForm tokens) (λ command. command) r (command_of tokens) → Gives (HasTokens line) (λ command. command) r (parsed line)
-line_gives line tokens (Ok command) read gives = rw read gives
-line_gives line [] (Err stop.Memory) read gives = absurd gives
-line_gives line (t ∷ ts) (Err stop.Memory) read gives = has_tokens line t ts read
-line_gives line tokens (Err (stop.Rule rule)) read gives = rw read gives
+pub line_gives : (f : List Token → Result Command ℕ) (line : List ℕ) (tokens : List Token) (r : Result Command LineStop) → lexed line ≡ Ok tokens
+    → Gives (HasForm tokens) (λ command. command) r (f tokens) → Gives (HasTokens line) (λ command. command) r (lexed line >>= f)
+line_gives f line tokens (Ok command) read gives = rw read gives
+line_gives f line [] (Err stop.Memory) read gives = absurd gives
+line_gives f line (t ∷ ts) (Err stop.Memory) read gives = has_tokens line t ts read
+line_gives f line tokens (Err (stop.Rule rule)) read gives = rw read gives

@@ -1,96 +1,142 @@
 -- Commands are read as they are written.
-use Rattle.std.proofs.Common.{◌≡◌, ◌≢◌, ℕ, Bool, true, false, not, List, [], ◌∷◌, ◌++◌, Option, Some, None, Ok, refl}
+use Rattle.std.proofs.Common.{◌≡◌, ◌≢◌, ℕ, false, List, [], ◌∷◌, ◌++◌, Option, Some, None, Ok, refl}
 use Rattle.std.specs.Prelude.{codes, flat_map}
 use Rattle.std.specs.List.{AllByRecursion}
 use Rattle.rep_values.specs.declared.literal.Literal.{Literal}
 use Rattle.rep_values.specs.declared.name.SiteName.{SiteName}
 use Rattle.rep_values.specs.declared.name.TableName.{TableName}
-use Rattle.rep_schema.specs.declared.schema.Kind.{Kind}
-use Rattle.rep_schema.specs.declared.schema.Kind.TheVariants as kind
 use Rattle.rep_schema.specs.declared.schema.Column.{Column}
+use Rattle.rep_declare.specs.declared.declaration.Declare.{Declare}
+use Rattle.rep_declare.specs.declared.declaration.Declare.TheVariants as declare
+use Rattle.rep_calls.specs.declared.statement.Set.{Set}
+use Rattle.rep_calls.specs.declared.statement.Statement.{Statement}
 use Rattle.rep_calls.specs.declared.statement.Statement.TheVariants as statement
+use Rattle.net_plan.specs.declared.fate.Fate.{Fate}
+use Rattle.script_lex.specs.declared.token.Symbol.TheVariants as symbol
 use Rattle.script_lex.specs.declared.token.Token.{Token}
-use Rattle.script_words.specs.Words.{is_named}
-use Rattle.script_words.specs.Reading.{one, mark, at, begins, some_of}
-use Rattle.script_words.specs.Spelled.{is_small}
-use Rattle.script_words.proofs.ReadAgain.{all_again}
-use Rattle.script_words.proofs.Again.{name_is_no_mark, all_values_again}
+use Rattle.script_lex.specs.declared.token.Token.TheVariants as token
+use Rattle.script_words.specs.Reading.{one, mark}
+use Rattle.script_words.specs.Spelled.{value_token}
+use Rattle.script_words.proofs.Again.{name_again, value_again, number_again, values_again, all_values_again, all_names_again}
+use Rattle.script_parse.specs.declared.command.TestWords.{TestWords}
+use Rattle.script_parse.specs.declared.command.Link.{Link}
+use Rattle.script_parse.specs.declared.command.Link.TheVariants as link
+use Rattle.script_parse.specs.declared.command.Refresh.{Refresh}
+use Rattle.script_parse.specs.declared.command.Refresh.TheVariants as refresh
 use Rattle.script_parse.specs.declared.command.Shown.{Shown}
 use Rattle.script_parse.specs.declared.command.Shown.TheVariants as shown
 use Rattle.script_parse.specs.declared.command.Command.{Command}
 use Rattle.script_parse.specs.declared.command.Command.TheVariants as command
-use Rattle.script_parse.specs.Columns.{column_of, column}
-use Rattle.script_parse.specs.Built.{gated}
-use Rattle.script_parse.specs.Parsed.{command_of}
-use Rattle.script_parse.specs.Spelled.{column_tokens, spelled, IsName, IsWellFormed}
+use Rattle.script_parse.specs.Built.{is_built, gated}
+use Rattle.script_parse.specs.Parsed.{form_of, command_of}
+use Rattle.script_parse.specs.Spelled.{number_token, rel_symbol, set_tokens, separated_tokens, spelled, IsName, AreNames, AreValues, AreTests, IsSet, IsDeclaration, IsStatement, IsWellFormed}
+use Rattle.script_parse.proofs.PartsAgain.{columns_again, method_again, unique_method_again, rel_again, tests_again, sets_again, fates_again, fate_is_no_clear}
 
--- Columns, which end where no colon follows.
-
-column_begins : (c : Column) (rest : List Token) → IsName c.name → begins is_named (column_tokens c ++ rest) ≡ true
-column_begins c rest formed = rw formed refl
-
-plain_again : (n : List ℕ) (k : Kind) (rest : List Token) → IsName n → at (codes ":") rest ≡ false
-    → column (column_tokens (column_of n k false) ++ rest) ≡ Ok (column_of n k false, rest)
-unfolding one mark column
-plain_again n kind.Number rest formed none = rw (formed, none) refl
-plain_again n kind.Words rest formed none = rw (formed, none) refl
-plain_again n kind.Date rest formed none = rw (formed, none) refl
-plain_again n kind.Stamp rest formed none = rw (formed, none) refl
-plain_again n kind.Site rest formed none = rw (formed, none) refl
-
-key_again : (n : List ℕ) (k : Kind) (rest : List Token) → IsName n
-    → column (column_tokens (column_of n k true) ++ rest) ≡ Ok (column_of n k true, rest)
-unfolding one mark column
-key_again n kind.Number rest formed = rw formed refl
-key_again n kind.Words rest formed = rw formed refl
-key_again n kind.Date rest formed = rw formed refl
-key_again n kind.Stamp rest formed = rw formed refl
-key_again n kind.Site rest formed = rw formed refl
-
-abbrev ends_column : List Token → Bool
-ends_column rest = not (at (codes ":") rest)
-
-ends_so : (v : Bool) → not v ≡ true → v ≡ false
-ends_so true is = cc
-ends_so false is = refl
-
-column_again : (c : Column) (rest : List Token) → IsName c.name → ends_column rest ≡ true → column (column_tokens c ++ rest) ≡ Ok (c, rest)
-column_again c rest formed ends = go c.name c.kind c.key formed
-  where
-    go : (n : List ℕ) (k : Kind) (b : Bool) → IsName n → column (column_tokens (column_of n k b) ++ rest) ≡ Ok (column_of n k b, rest)
-    go n k true named = key_again n k rest named
-    go n k false named = plain_again n k rest named (ends_so (at (codes ":") rest) ends)
-
-next_ends_column : (c : Column) (rest : List Token) → IsName c.name → ends_column (column_tokens c ++ rest) ≡ true
-next_ends_column c rest formed = rw (name_is_no_mark 58 [] c.name refl formed) refl
-
-columns_again : (c : Column) (cs : List Column) → AllByRecursion (λ d. IsName d.name) (c ∷ cs)
-    → some_of is_named column (flat_map column_tokens (c ∷ cs)) ≡ Ok (c ∷ cs, [])
-columns_again c cs formed =
-    all_again is_named column column_tokens (λ d. IsName d.name) ends_column column_begins column_again next_ends_column c cs formed refl
-
--- Commands.
+-- Declarations.
 
 table_again : (name : TableName) (columns : List Column) → IsName name.0 → columns ≢ [] → AllByRecursion (λ c. IsName c.name) columns
-    → command_of (spelled (command.Table name columns)) ≡ gated (Ok (command.Table name columns))
-unfolding one command_of
+    → form_of (spelled (command.Declare (declare.Table name columns))) ≡ Ok (command.Declare (declare.Table name columns))
+unfolding one form_of
 table_again name [] formed some all = absurd (some refl)
 table_again name (c ∷ cs) formed some all = rw (formed, columns_again c cs all) refl
 
-insert_again : (table : TableName) (values : List Literal) → IsName table.0 → values ≢ [] → AllByRecursion (λ v. is_small v ≡ true) values
-    → command_of (spelled (command.Statement (statement.Insert table values))) ≡ Ok (command.Statement (statement.Insert table values))
-unfolding one command_of
-insert_again table [] formed some all = absurd (some refl)
-insert_again table (v ∷ vs) formed some all = rw (formed, all_values_again v vs all) refl
+group_again : (table : TableName) (group : List ℕ) (columns : List (List ℕ)) → IsName table.0 → IsName group → AreNames columns
+    → form_of (spelled (command.Declare (declare.Group table group columns))) ≡ Ok (command.Declare (declare.Group table group columns))
+unfolding one form_of
+group_again table group [] formed named columns = absurd (columns.0 refl)
+group_again table group (c ∷ cs) formed named columns = rw (formed, named, all_names_again c cs columns.1) refl
+
+unique_again : (table : TableName) (constraint : List ℕ) (columns : List (List ℕ)) → IsName table.0 → IsName constraint → AreNames columns
+    → form_of (spelled (command.Declare (declare.Unique table constraint columns))) ≡ Ok (command.Declare (declare.Unique table constraint columns))
+unfolding one form_of
+unique_again table constraint [] formed named columns = absurd (columns.0 refl)
+unique_again table constraint (c ∷ cs) formed named columns = rw (formed, named, all_names_again c cs columns.1) refl
+
+declaration_again : (d : Declare) → IsDeclaration d → form_of (spelled (command.Declare d)) ≡ Ok (command.Declare d)
+unfolding one form_of
+declaration_again (declare.Site name) formed = rw formed refl
+declaration_again (declare.LateSite name) formed = rw formed refl
+declaration_again (declare.SnapSite name master) formed = rw (formed.0, formed.1) refl
+declaration_again (declare.Table name columns) formed = table_again name columns formed.0 formed.1 formed.2
+declaration_again (declare.Group table group columns) formed = group_again table group columns formed.0 formed.1 formed.2
+declaration_again (declare.Method table group method) formed = rw (formed.0, formed.1, method_again method formed.2) refl
+declaration_again (declare.Priority group v level) formed =
+    rw (formed.0, value_again v (number_token level ∷ []) formed.1, number_again level [] formed.2) refl
+declaration_again (declare.SiteLevel site level) formed = rw (formed.0, number_again level [] formed.1) refl
+declaration_again (declare.Unique table constraint columns) formed = unique_again table constraint columns formed.0 formed.1 formed.2
+declaration_again (declare.UniqueMethod table constraint method) formed = rw (formed.0, formed.1, unique_method_again method formed.2) refl
+declaration_again (declare.Check table check column r v) formed =
+    rw (formed.0, formed.1, formed.2, rel_again r (value_token v ∷ []), value_again v [] formed.3) refl
+declaration_again (declare.Convergent table) formed = rw formed refl
+
+-- Statements and rows.
+
+row_again : (table : TableName) (values : List Literal) → IsName table.0 → AreValues values
+    → form_of (spelled (command.Row table values)) ≡ Ok (command.Row table values)
+unfolding one form_of
+row_again table [] formed values = absurd (values.0 refl)
+row_again table (v ∷ vs) formed values = rw (formed, all_values_again v vs values.1) refl
+
+insert_again : (table : TableName) (values : List Literal) → IsName table.0 → AreValues values
+    → form_of (spelled (command.Statement (statement.Insert table values))) ≡ Ok (command.Statement (statement.Insert table values))
+unfolding one form_of
+insert_again table [] formed values = absurd (values.0 refl)
+insert_again table (v ∷ vs) formed values = rw (formed, all_values_again v vs values.1) refl
+
+update_again : (table : TableName) (key : List Literal) (sets : List Set) → IsName table.0 → AreValues key → sets ≢ [] → AllByRecursion IsSet sets
+    → form_of (spelled (command.Statement (statement.Update table key sets))) ≡ Ok (command.Statement (statement.Update table key sets))
+unfolding one mark form_of
+update_again table [] sets formed values some all = absurd (values.0 refl)
+update_again table (v ∷ vs) [] formed values some all = absurd (some refl)
+update_again table (v ∷ vs) (s ∷ ss) formed values some all =
+    let behind : List Token = token.Symbol symbol.Colon ∷ separated_tokens (token.Symbol symbol.Comma) set_tokens (s ∷ ss) in
+    rw (formed, values_again v vs behind values.1 refl, sets_again s ss all) refl
+
+delete_again : (table : TableName) (key : List Literal) → IsName table.0 → AreValues key
+    → form_of (spelled (command.Statement (statement.Delete table key))) ≡ Ok (command.Statement (statement.Delete table key))
+unfolding one form_of
+delete_again table [] formed values = absurd (values.0 refl)
+delete_again table (v ∷ vs) formed values = rw (formed, all_values_again v vs values.1) refl
+
+statement_again : (s : Statement) → IsStatement s → form_of (spelled (command.Statement s)) ≡ Ok (command.Statement s)
+statement_again (statement.Insert table values) formed = insert_again table values formed.0 formed.1
+statement_again (statement.Update table key sets) formed = update_again table key sets formed.0 formed.1 formed.2 formed.3
+statement_again (statement.Delete table key) formed = delete_again table key formed.0 formed.1
+
+-- Other commands with a choice, a list or a group.
+
+snapshot_again : (site : SiteName) (table : TableName) (tests : Option (List TestWords)) → IsName site.0 → IsName table.0 → AreTests tests
+    → form_of (spelled (command.Snapshot site table tests)) ≡ Ok (command.Snapshot site table tests)
+unfolding one mark form_of
+snapshot_again site table None here of formed = rw (here, of) refl
+snapshot_again site table (Some []) here of formed = absurd (formed.0 refl)
+snapshot_again site table (Some (t ∷ ts)) here of formed = rw (here, of, tests_again t ts formed.1) refl
 
 push_again : (from to : SiteName) (count : Option ℕ) → IsName from.0 → IsName to.0
-    → command_of (spelled (command.Push from to count)) ≡ gated (Ok (command.Push from to count))
-unfolding one mark command_of
+    → form_of (spelled (command.Push from to count)) ≡ Ok (command.Push from to count)
+unfolding one mark form_of
 push_again from to None sends takes = rw (sends, takes) refl
 push_again from to (Some n) sends takes = rw (sends, takes) refl
 
-show_again : (what : Shown) (site : SiteName) → IsName site.0 → command_of (spelled (command.Show what site)) ≡ gated (Ok (command.Show what site))
-unfolding one command_of
+all_fates_again : (from to : SiteName) (fates : List Fate) → IsName from.0 → IsName to.0 → fates ≢ []
+    → form_of (spelled (command.Fates from to fates)) ≡ Ok (command.Fates from to fates)
+unfolding one form_of
+all_fates_again from to [] sends takes some = absurd (some refl)
+all_fates_again from to (f ∷ fs) sends takes some = rw (sends, takes, fate_is_no_clear f, fates_again f fs) refl
+
+link_again : (from to : SiteName) (l : Link) → IsName from.0 → IsName to.0 → form_of (spelled (command.Link from to l)) ≡ Ok (command.Link from to l)
+unfolding one form_of
+link_again from to link.Up sends takes = rw (sends, takes) refl
+link_again from to link.Down sends takes = rw (sends, takes) refl
+
+refresh_again : (site : SiteName) (how : Refresh) → IsName site.0 → form_of (spelled (command.Refresh site how)) ≡ Ok (command.Refresh site how)
+unfolding one form_of
+refresh_again site refresh.Fast formed = rw formed refl
+refresh_again site refresh.Complete formed = rw formed refl
+refresh_again site refresh.Force formed = rw formed refl
+
+show_again : (what : Shown) (site : SiteName) → IsName site.0 → form_of (spelled (command.Show what site)) ≡ Ok (command.Show what site)
+unfolding one form_of
 show_again shown.Tables site formed = rw formed refl
 show_again shown.Queue site formed = rw formed refl
 show_again shown.Errors site formed = rw formed refl
@@ -100,16 +146,74 @@ show_again shown.Log site formed = rw formed refl
 show_again shown.Calls site formed = rw formed refl
 
 -- what a command is written as is read again
-pub reads_again : (c : Command) → IsWellFormed c → command_of (spelled c) ≡ gated (Ok c)
-unfolding one command_of
+pub reads_again : (c : Command) → IsWellFormed c → form_of (spelled c) ≡ Ok c
+unfolding one mark form_of
 reads_again command.Nothing formed = refl
-reads_again (command.Site name) formed = rw formed refl
-reads_again (command.Table name columns) formed = table_again name columns formed.0 formed.1 formed.2
+reads_again (command.Declare d) formed = declaration_again d formed
+reads_again (command.Snapshot site table tests) formed = snapshot_again site table tests formed.0 formed.1 formed.2
+reads_again (command.Row table values) formed = row_again table values formed.0 formed.1
 reads_again command.Resume formed = refl
+reads_again (command.Statement s) formed = statement_again s formed
 reads_again (command.Txn site) formed = rw formed refl
-reads_again (command.Statement (statement.Insert table values)) formed = insert_again table values formed.0 formed.1 formed.2
-reads_again (command.Statement (statement.Update table key sets)) formed = absurd formed
-reads_again (command.Statement (statement.Delete table key)) formed = absurd formed
 reads_again command.Commit formed = refl
+reads_again command.Abandon formed = refl
 reads_again (command.Push from to count) formed = push_again from to count formed.0 formed.1
+reads_again (command.Fates from to fates) formed = all_fates_again from to fates formed.0 formed.1 formed.2
+reads_again (command.ClearFates from to) formed = rw (formed.0, formed.1) refl
+reads_again (command.Link from to l) formed = link_again from to l formed.0 formed.1
+reads_again (command.Clock site time) formed = rw formed refl
+reads_again (command.Purge site) formed = rw formed refl
+reads_again (command.Execute site origin position) formed = rw (formed.0, formed.1) refl
+reads_again (command.DropError site origin position) formed = rw (formed.0, formed.1) refl
+reads_again (command.Refresh site how) formed = refresh_again site how formed
+reads_again (command.PurgeLog master table) formed = rw (formed.0, formed.1) refl
+reads_again command.Suspend formed = refl
 reads_again (command.Show what site) formed = show_again what site formed
+
+declaration_gated : (d : Declare) → form_of (spelled (command.Declare d)) ≡ Ok (command.Declare d)
+    → command_of (spelled (command.Declare d)) ≡ gated is_built (Ok (command.Declare d))
+unfolding command_of
+declaration_gated (declare.Site name) read = rw read refl
+declaration_gated (declare.LateSite name) read = rw read refl
+declaration_gated (declare.SnapSite name master) read = refl
+declaration_gated (declare.Table name columns) read = rw read refl
+declaration_gated (declare.Group table group columns) read = rw read refl
+declaration_gated (declare.Method table group method) read = rw read refl
+declaration_gated (declare.Priority group v level) read = rw read refl
+declaration_gated (declare.SiteLevel site level) read = rw read refl
+declaration_gated (declare.Unique table constraint columns) read = rw read refl
+declaration_gated (declare.UniqueMethod table constraint method) read = rw read refl
+declaration_gated (declare.Check table check column r v) read = rw read refl
+declaration_gated (declare.Convergent table) read = rw read refl
+
+statement_gated : (s : Statement) → form_of (spelled (command.Statement s)) ≡ Ok (command.Statement s)
+    → command_of (spelled (command.Statement s)) ≡ gated is_built (Ok (command.Statement s))
+unfolding command_of
+statement_gated (statement.Insert table values) read = rw read refl
+statement_gated (statement.Update table key sets) read = rw read refl
+statement_gated (statement.Delete table key) read = rw read refl
+
+-- a command that is read stops at rule 5 where its form isn't built
+pub command_gated : (c : Command) → form_of (spelled c) ≡ Ok c → command_of (spelled c) ≡ gated is_built (Ok c)
+unfolding command_of
+command_gated command.Nothing read = rw read refl
+command_gated (command.Declare d) read = declaration_gated d read
+command_gated (command.Snapshot site table tests) read = refl
+command_gated (command.Row table values) read = rw read refl
+command_gated command.Resume read = rw read refl
+command_gated (command.Statement s) read = statement_gated s read
+command_gated (command.Txn site) read = rw read refl
+command_gated command.Commit read = rw read refl
+command_gated command.Abandon read = rw read refl
+command_gated (command.Push from to count) read = rw read refl
+command_gated (command.Fates from to fates) read = rw read refl
+command_gated (command.ClearFates from to) read = rw read refl
+command_gated (command.Link from to l) read = rw read refl
+command_gated (command.Clock site time) read = rw read refl
+command_gated (command.Purge site) read = rw read refl
+command_gated (command.Execute site origin position) read = rw read refl
+command_gated (command.DropError site origin position) read = rw read refl
+command_gated (command.Refresh site how) read = refl
+command_gated (command.PurgeLog master table) read = refl
+command_gated command.Suspend read = rw read refl
+command_gated (command.Show what site) read = rw read refl

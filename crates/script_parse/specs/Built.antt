@@ -1,54 +1,66 @@
 -- Which forms are built. A line of any other form is no command yet.
-use Rattle.std.specs.Prelude.{ℕ, Bool, true, false, if◌then◌else◌, Option, Some, None, Result, Ok, Err}
-use Rattle.std.specs.List.{list_all}
-use Rattle.rep_schema.specs.declared.schema.Kind.{Kind}
-use Rattle.rep_schema.specs.declared.schema.Kind.TheVariants as kind
-use Rattle.rep_schema.specs.declared.schema.Column.{Column}
+use Rattle.std.specs.Prelude.{ℕ, Bool, true, false, if◌then◌else◌, List, [], ◌∷◌, Result, Ok, Err, codes}
+use Rattle.rep_declare.specs.declared.declaration.Declare.{Declare}
+use Rattle.rep_declare.specs.declared.declaration.Declare.TheVariants as declare
 use Rattle.script_parse.specs.declared.command.Shown.{Shown}
 use Rattle.script_parse.specs.declared.command.Shown.TheVariants as shown
 use Rattle.script_parse.specs.declared.command.Command.{Command}
 use Rattle.script_parse.specs.declared.command.Command.TheVariants as command
 
--- NUMBER and TEXT
-abbrev pub is_built_kind : Kind → Bool
-is_built_kind kind.Number = true
-is_built_kind kind.Words = true
-is_built_kind kind.Date = false
-is_built_kind kind.Stamp = false
-is_built_kind kind.Site = false
+-- a declaration of anything but a snapshot site
+abbrev pub is_built_declaration : Declare → Bool
+is_built_declaration (declare.Site name) = true
+is_built_declaration (declare.LateSite name) = true
+is_built_declaration (declare.SnapSite name master) = false
+is_built_declaration (declare.Table name columns) = true
+is_built_declaration (declare.Group table group columns) = true
+is_built_declaration (declare.Method table group method) = true
+is_built_declaration (declare.Priority group value level) = true
+is_built_declaration (declare.SiteLevel site level) = true
+is_built_declaration (declare.Unique table constraint columns) = true
+is_built_declaration (declare.UniqueMethod table constraint method) = true
+is_built_declaration (declare.Check table check column rel value) = true
+is_built_declaration (declare.Convergent table) = true
 
--- a column of such a type
-abbrev pub is_built_column : Column → Bool
-is_built_column column = is_built_kind column.kind
-
--- a push without a count
-abbrev pub is_built_count : Option ℕ → Bool
-is_built_count None = true
-is_built_count (Some n) = false
-
--- show tables
+-- anything but the logs and the calls
 abbrev pub is_built_show : Shown → Bool
 is_built_show shown.Tables = true
-is_built_show shown.Queue = false
-is_built_show shown.Errors = false
-is_built_show shown.Marks = false
-is_built_show shown.Journal = false
+is_built_show shown.Queue = true
+is_built_show shown.Errors = true
+is_built_show shown.Marks = true
+is_built_show shown.Journal = true
 is_built_show shown.Log = false
 is_built_show shown.Calls = false
 
--- a command of a form that is built
+-- a command of a form that is built: no snapshots, and no logs of tables
 abbrev pub is_built : Command → Bool
 is_built command.Nothing = true
-is_built (command.Site name) = true
-is_built (command.Table name columns) = list_all is_built_column columns
+is_built (command.Declare declaration) = is_built_declaration declaration
+is_built (command.Snapshot site table tests) = false
+is_built (command.Row table values) = true
 is_built command.Resume = true
-is_built (command.Txn site) = true
 is_built (command.Statement statement) = true
+is_built (command.Txn site) = true
 is_built command.Commit = true
-is_built (command.Push from to count) = is_built_count count
+is_built command.Abandon = true
+is_built (command.Push from to count) = true
+is_built (command.Fates from to fates) = true
+is_built (command.ClearFates from to) = true
+is_built (command.Link from to link) = true
+is_built (command.Clock site time) = true
+is_built (command.Purge site) = true
+is_built (command.Execute site origin position) = true
+is_built (command.DropError site origin position) = true
+is_built (command.Refresh site how) = false
+is_built (command.PurgeLog master table) = false
+is_built command.Suspend = true
 is_built (command.Show what site) = is_built_show what
 
--- a command whose form isn't built is stopped by rule 5
-abbrev pub gated : Result Command ℕ → Result Command ℕ
-gated (Err rule) = Err rule
-gated (Ok c) = if is_built c then Ok c else Err 5
+-- a command whose form doesn't pass is stopped by rule 5
+abbrev pub gated : (Command → Bool) → Result Command ℕ → Result Command ℕ
+gated passes (Err rule) = Err rule
+gated passes (Ok c) = if passes c then Ok c else Err 5
+
+-- the words of which no form is built
+abbrev pub later_words : List (List ℕ × Unit {0})
+later_words = (codes "snapsite", tt) ∷ (codes "snapshot", tt) ∷ (codes "refresh", tt) ∷ (codes "purge-log", tt) ∷ []

@@ -1,5 +1,8 @@
 -- The definitions of this crate.
 pub mod Columns
+pub mod Parts
+pub mod Methods
+pub mod Declarations
 pub mod Rows
 pub mod Heads
 pub mod Built

@@ -1,49 +1,28 @@
--- The forms of lines, one row each.
-use Rattle.std.specs.Prelude.{ℕ, List, [], ◌∷◌, codes}
+-- The forms of all other commands, one row each, with what stands behind the first word.
+use Rattle.std.specs.Prelude.{ℕ, List, codes}
 use Rattle.rep_values.specs.declared.literal.Literal.{Literal}
 use Rattle.rep_values.specs.declared.name.SiteName.{SiteName}
 use Rattle.rep_values.specs.declared.name.TableName.{TableName}
+use Rattle.rep_calls.specs.declared.statement.Set.{Set}
 use Rattle.rep_calls.specs.declared.statement.Statement.TheVariants as statement
-use Rattle.script_words.specs.Words.{is_named, is_valued}
-use Rattle.script_words.specs.Reading.{Reading, row, ◌⊛◌, optional, some_of}
-use Rattle.script_words.specs.Parts.{name, whole_number, value, choice}
-use Rattle.script_parse.specs.declared.command.Shown.{Shown}
-use Rattle.script_parse.specs.declared.command.Shown.TheVariants as shown
+use Rattle.script_words.specs.Words.{is_valued, is_chosen}
+use Rattle.script_words.specs.Reading.{Reading, ◌>>=◌, row, ◌⊛◌, ◌⊘◌, optional, either, some_of, separated}
+use Rattle.script_words.specs.Parts.{whole_number, value, choice}
 use Rattle.script_parse.specs.declared.command.Command.{Command}
 use Rattle.script_parse.specs.declared.command.Command.TheVariants as command
-use Rattle.script_parse.specs.Columns.{column}
+use Rattle.script_parse.specs.Parts.{site, table, test, set_part, fates, links, refreshes, shown_words}
 
--- the site's name that bytes are
-abbrev pub site_of : List ℕ → SiteName
-site_of n = record { 0 = n }
+-- snapshot NAME NAME [where TEST [and TEST]..]
+abbrev pub snapshot_row : Reading Command
+snapshot_row = row command.Snapshot ⊛ site ⊛ table ⊛ optional (codes "where") (separated (codes "and") test)
 
--- the table's name that bytes are
-abbrev pub table_of : List ℕ → TableName
-table_of n = record { 0 = n }
-
--- NAME, of a site
-abbrev pub site : Reading SiteName
-site = row site_of ⊛ name
-
--- NAME, of a table
-abbrev pub table : Reading TableName
-table = row table_of ⊛ name
-
--- site NAME
-abbrev pub site_row : Reading Command
-site_row = row command.Site ⊛ site
-
--- table NAME COLUMN+
-abbrev pub table_row : Reading Command
-table_row = row command.Table ⊛ table ⊛ some_of is_named column
+-- row NAME VALUE+
+abbrev pub row_row : Reading Command
+row_row = row command.Row ⊛ table ⊛ some_of is_valued value
 
 -- resume
 abbrev pub resume_row : Reading Command
 resume_row = row command.Resume
-
--- txn NAME
-abbrev pub txn_row : Reading Command
-txn_row = row command.Txn ⊛ site
 
 -- the insert of values into a table
 abbrev pub insert_of : TableName → List Literal → Command
@@ -53,25 +32,78 @@ insert_of t values = command.Statement (statement.Insert t values)
 abbrev pub insert_row : Reading Command
 insert_row = row insert_of ⊛ table ⊛ some_of is_valued value
 
+-- the update of a table's row
+abbrev pub update_of : TableName → List Literal → List Set → Command
+update_of t key sets = command.Statement (statement.Update t key sets)
+
+-- update NAME VALUE+ : SET [, SET]..
+abbrev pub update_row : Reading Command
+update_row = row update_of ⊛ table ⊛ some_of is_valued value ⊘ codes ":" ⊛ separated (codes ",") set_part
+
+-- the delete of a table's row
+abbrev pub delete_of : TableName → List Literal → Command
+delete_of t key = command.Statement (statement.Delete t key)
+
+-- delete NAME VALUE+
+abbrev pub delete_row : Reading Command
+delete_row = row delete_of ⊛ table ⊛ some_of is_valued value
+
+-- txn NAME
+abbrev pub txn_row : Reading Command
+txn_row = row command.Txn ⊛ site
+
 -- commit
 abbrev pub commit_row : Reading Command
 commit_row = row command.Commit
+
+-- abandon
+abbrev pub abandon_row : Reading Command
+abandon_row = row command.Abandon
 
 -- push NAME NAME [count WHOLE]
 abbrev pub push_row : Reading Command
 push_row = row command.Push ⊛ site ⊛ site ⊛ optional (codes "count") whole_number
 
--- tables|queue|errors|marks|journal|log|calls
-abbrev pub shown_words : List (List ℕ × Shown)
-shown_words =
-    (codes "tables", shown.Tables) ∷
-    (codes "queue", shown.Queue) ∷
-    (codes "errors", shown.Errors) ∷
-    (codes "marks", shown.Marks) ∷
-    (codes "journal", shown.Journal) ∷
-    (codes "log", shown.Log) ∷
-    (codes "calls", shown.Calls) ∷
-    []
+-- clear or FATE+, behind two sites
+abbrev pub fates_behind : SiteName → SiteName → Reading Command
+fates_behind from to =
+    either (codes "clear") (row (command.ClearFates from to) ⊘ codes "clear") (row (command.Fates from to) ⊛ some_of (is_chosen fates) (choice fates))
+
+-- fate NAME NAME FATE+ or fate NAME NAME clear
+abbrev pub fate_row : Reading Command
+fate_row ts = site ts >>= λ from. site from.1 >>= λ to. fates_behind from.0 to.0 to.1
+
+-- link NAME NAME up|down
+abbrev pub link_row : Reading Command
+link_row = row command.Link ⊛ site ⊛ site ⊛ choice links
+
+-- clock NAME WHOLE
+abbrev pub clock_row : Reading Command
+clock_row = row command.Clock ⊛ site ⊛ whole_number
+
+-- purge NAME
+abbrev pub purge_row : Reading Command
+purge_row = row command.Purge ⊛ site
+
+-- execute NAME NAME WHOLE
+abbrev pub execute_row : Reading Command
+execute_row = row command.Execute ⊛ site ⊛ site ⊛ whole_number
+
+-- drop-error NAME NAME WHOLE
+abbrev pub drop_error_row : Reading Command
+drop_error_row = row command.DropError ⊛ site ⊛ site ⊛ whole_number
+
+-- refresh NAME fast|complete|force
+abbrev pub refresh_row : Reading Command
+refresh_row = row command.Refresh ⊛ site ⊛ choice refreshes
+
+-- purge-log NAME NAME
+abbrev pub purge_log_row : Reading Command
+purge_log_row = row command.PurgeLog ⊛ site ⊛ table
+
+-- suspend
+abbrev pub suspend_row : Reading Command
+suspend_row = row command.Suspend
 
 -- show tables|queue|errors|marks|journal|log|calls NAME
 abbrev pub show_row : Reading Command

@@ -6,27 +6,81 @@ ghost use Rattle.script_parse.specs.Heads.{heads};
 use script_lex::Token;
 use script_words::choice_of;
 
+/// The first word of a declaration.
+#[derive(Clone, Copy, Debug, PartialEq, Eq)]
+pub enum Declaring {
+    Site,
+    LateSite,
+    SnapSite,
+    Table,
+    Group,
+    Method,
+    Priority,
+    SiteLevel,
+    Unique,
+    UniqueMethod,
+    Check,
+    Convergent,
+}
+
 /// The first word of a command.
 #[derive(Clone, Copy, Debug, PartialEq, Eq)]
 pub enum Head {
-    Site,
-    Table,
+    Declare(Declaring),
+    Snapshot,
+    Row,
     Resume,
     Insert,
+    Update,
+    Delete,
     Txn,
     Commit,
+    Abandon,
     Push,
+    Fate,
+    Link,
+    Clock,
+    Purge,
+    Execute,
+    DropError,
+    Refresh,
+    PurgeLog,
+    Suspend,
     Show,
 }
 
-const HEADS: [(&[u8], Head); 8] = [
-    (b"site", Head::Site),
-    (b"table", Head::Table),
+const HEADS: [(&[u8], Head); 32] = [
+    (b"site", Head::Declare(Declaring::Site)),
+    (b"latesite", Head::Declare(Declaring::LateSite)),
+    (b"snapsite", Head::Declare(Declaring::SnapSite)),
+    (b"table", Head::Declare(Declaring::Table)),
+    (b"group", Head::Declare(Declaring::Group)),
+    (b"method", Head::Declare(Declaring::Method)),
+    (b"priority", Head::Declare(Declaring::Priority)),
+    (b"site-level", Head::Declare(Declaring::SiteLevel)),
+    (b"unique", Head::Declare(Declaring::Unique)),
+    (b"unique-method", Head::Declare(Declaring::UniqueMethod)),
+    (b"check", Head::Declare(Declaring::Check)),
+    (b"convergent", Head::Declare(Declaring::Convergent)),
+    (b"snapshot", Head::Snapshot),
+    (b"row", Head::Row),
     (b"resume", Head::Resume),
     (b"insert", Head::Insert),
+    (b"update", Head::Update),
+    (b"delete", Head::Delete),
     (b"txn", Head::Txn),
     (b"commit", Head::Commit),
+    (b"abandon", Head::Abandon),
     (b"push", Head::Push),
+    (b"fate", Head::Fate),
+    (b"link", Head::Link),
+    (b"clock", Head::Clock),
+    (b"purge", Head::Purge),
+    (b"execute", Head::Execute),
+    (b"drop-error", Head::DropError),
+    (b"refresh", Head::Refresh),
+    (b"purge-log", Head::PurgeLog),
+    (b"suspend", Head::Suspend),
     (b"show", Head::Show),
 ];
 

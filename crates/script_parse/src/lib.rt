@@ -4,12 +4,16 @@
 mod built;
 mod column;
 mod command;
+mod commands;
+mod declarations;
 mod forms;
 mod heads;
 mod laws;
+mod methods;
+mod parts;
 mod young;
 
-pub use command::{Command, Shown};
+pub use command::{Command, Link, Refresh, Shown, TestWords};
 pub use forms::parse_line;
 pub use laws::form_laws;
 pub use young::parse_first;

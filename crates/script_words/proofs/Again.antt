@@ -1,5 +1,5 @@
 -- Names and values are read as they are written.
-use Rattle.std.proofs.Common.{◌≡◌, ℕ, pos, negsuc, Bool, true, false, ◌&&◌, eqb, List, [], ◌∷◌, ◌++◌, Ok, refl, arith, length, nat_le}
+use Rattle.std.proofs.Common.{◌≡◌, ℕ, ℤ, pos, negsuc, Bool, true, false, ◌&&◌, eqb, List, [], ◌∷◌, ◌++◌, Ok, refl, arith, length, nat_le}
 use Rattle.std.specs.Prelude.{flat_map}
 use Rattle.std.specs.List.{list_all, AllByRecursion}
 use Rattle.std.specs.Cmp.Lexicographic.{pointwise}
@@ -10,9 +10,9 @@ use Rattle.rep_values.specs.declared.literal.Literal.{Literal}
 use Rattle.rep_values.specs.declared.literal.Literal.TheVariants as literal
 use Rattle.script_lex.specs.declared.token.Token.{Token}
 use Rattle.script_lex.specs.declared.token.Token.TheVariants as token
-use Rattle.script_words.specs.Words.{is_valued}
+use Rattle.script_words.specs.Words.{is_named, is_valued}
 use Rattle.script_words.specs.Reading.{one, begins, some_of}
-use Rattle.script_words.specs.Parts.{name, value}
+use Rattle.script_words.specs.Parts.{name, number, value}
 use Rattle.script_words.specs.Spelled.{value_token, is_small}
 use Rattle.script_words.proofs.ReadAgain.{some_again, all_again}
 
@@ -64,3 +64,19 @@ pub all_values_again : (v : Literal) (vs : List Literal) → AllByRecursion (λ 
 all_values_again v vs formed =
     all_again is_valued value (λ w. value_token w ∷ []) (λ w. is_small w ≡ true) (λ ts. true)
     value_begins (λ w ts small stop. value_again w ts small) (λ w ts small. refl) v vs formed refl
+
+-- a number with its sign
+pub number_again : (n : ℤ) (rest : List Token) → is_small (literal.Num n) ≡ true → number (value_token (literal.Num n) ∷ rest) ≡ Ok (n, rest)
+unfolding one
+number_again (pos n) rest formed = rw formed refl
+number_again (negsuc n) rest formed = rw formed refl
+
+name_begins : (n : List ℕ) (rest : List Token) → is_name n ≡ true → begins is_named (token.Word n ∷ rest) ≡ true
+name_begins n rest formed = rw formed refl
+
+-- names in a row, with nothing behind them
+pub all_names_again : (n : List ℕ) (ns : List (List ℕ)) → AllByRecursion (λ m. is_name m ≡ true) (n ∷ ns)
+    → some_of is_named name (flat_map (λ m. token.Word m ∷ []) (n ∷ ns)) ≡ Ok (n ∷ ns, [])
+all_names_again n ns formed =
+    all_again is_named name (λ m. token.Word m ∷ []) (λ m. is_name m ≡ true) (λ ts. true)
+    name_begins (λ m ts named stop. name_again m ts named) (λ m ts named. refl) n ns formed refl

@@ -78,3 +78,10 @@ module _ {A : Type 0} (word : List ℕ) (m : Token) (marked : is_mark word m ≡
         let more : several (is_mark word) (after word reading) behind ≡ Ok (xs, rest) =
         several_again (is_mark word) (after word reading) (λ y. m ∷ spell y) Formed stops (λ y ts f. marked) behind_again (λ y ts f. stopped _) xs rest formed.1 stop none in
         rw (one, more) refl
+
+    -- the same with nothing behind them
+    pub all_separated_again : (x : A) (xs : List A) → AllByRecursion Formed (x ∷ xs) → stops [] ≡ true
+        → separated word reading (spell x ++ flat_map (λ y. m ∷ spell y) xs) ≡ Ok (x ∷ xs, [])
+    all_separated_again x xs formed stop =
+        subst (λ ts. separated word reading (spell x ++ ts) ≡ Ok (x ∷ xs, [])) (append-nil (flat_map (λ y. m ∷ spell y) xs))
+        (separated_again x xs [] formed stop refl)

@@ -16,7 +16,16 @@ abbrev pub PassesExactly : {A : Type 0} → (List Token → Result (List Token) 
 PassesExactly passing (Ok x) old new = passing old ≡ Ok new
 PassesExactly passing (Err broken) old new = passing old ≡ Err broken.0
 
--- the same of a reading that takes memory, which is wanted only where no rule is broken
+-- something is read, and these are the tokens behind it
+abbrev pub Passes : {A : Type 0} → Reading A → List Token → List Token → Type 0
+Passes {A} reading old new = (x : A) × (reading old ≡ Ok (x, new))
+
+-- the same of a reading that takes memory, which is wanted only where no rule is broken; then the tokens are passed too
 abbrev pub Reads : {A : Type 0} → Reading A → Result A LineStop → List Token → List Token → Type 0
 Reads reading (Ok x) old new = reading old ≡ Ok (x, new)
-Reads reading (Err e) old new = Fails (IsOk (reading old)) e (reading old)
+Reads reading (Err e) old new = Fails (Passes reading old new) e (reading old)
+
+-- the same where nothing is said of the tokens that are left when memory is wanted
+abbrev pub Takes : {A : Type 0} → Reading A → Result A LineStop → List Token → List Token → Type 0
+Takes reading (Ok x) old new = reading old ≡ Ok (x, new)
+Takes reading (Err e) old new = Fails (IsOk (reading old)) e (reading old)

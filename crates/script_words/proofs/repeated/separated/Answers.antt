@@ -1,5 +1,5 @@
 -- The first part is read, and then each step stops, reads a part behind its mark, or breaks a rule.
-use Rattle.std.proofs.Common.{◌≡◌, ◌-◌, ◌+◌, ◌++◌, ◌∷◌, [], Ok, ap, refl, arith, is_ok, false}
+use Rattle.std.proofs.Common.{◌≡◌, ◌-◌, ◌+◌, ◌++◌, ◌∷◌, [], Ok, refl, arith, false}
 use Rattle.std.proofs.lemmas.Result.{err_from_is_err_and}
 use Rattle.script_words.specs.Words.{is_mark}
 use Rattle.script_words.specs.Reading.{separated, after}
@@ -40,7 +40,7 @@ returns-then-lacks g c =
       | else-loop-test w ↦ found_ends (is_mark c.args.word.now) (after c.args.word.now g.P.Part.reading) c.loop.invariant.0 (c.len-end.result - c.loop.counter) c.loop.tokens all c.loop.invariant.1 (omega (arith, w.loop-test.false))
       | then-loop-test+then-not-is_at w ↦ found_stops (is_mark c.args.word.now) (after c.args.word.now g.P.Part.reading) c.loop.invariant.0 (c.len-end.result - c.loop.counter) c.loop.tokens all c.loop.invariant.1 w.if-not-is_at.ensures
     ] in
-    ap is_ok read
+    (c.loop.invariant.0, read)
 
 pub returns : goal.returns
 returns g c =

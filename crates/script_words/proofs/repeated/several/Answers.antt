@@ -1,5 +1,5 @@
 -- Each step stops, reads a part, or breaks a rule.
-use Rattle.std.proofs.Common.{◌≡◌, ◌-◌, ◌+◌, ◌++◌, ◌∷◌, [], Ok, ap, refl, arith, is_ok}
+use Rattle.std.proofs.Common.{◌≡◌, ◌-◌, ◌+◌, ◌++◌, ◌∷◌, [], Ok, refl, arith}
 use Rattle.std.proofs.lemmas.Result.{err_from_is_err_and}
 use Rattle.script_words.specs.Reading.{several}
 use Rattle.script_words.proofs.Repeats.{found_stops, found_ends, found_more, found_fails, more_kept}
@@ -29,7 +29,7 @@ returns-then-lacks g c =
       | else-loop-test w ↦ found_ends g.P.Part.starts g.P.Part.reading c.loop.invariant.0 (c.len-most.result - c.loop.counter) c.loop.tokens all c.loop.invariant.1 (omega (arith, w.loop-test.false))
       | then-loop-test+then-not-is_next w ↦ found_stops g.P.Part.starts g.P.Part.reading c.loop.invariant.0 (c.len-most.result - c.loop.counter) c.loop.tokens all c.loop.invariant.1 w.if-not-is_next.ensures
     ] in
-    ap is_ok read
+    (c.loop.invariant.0, read)
 
 pub returns : goal.returns
 returns g c =

@@ -1,0 +1,240 @@
+//! The forms of all other commands.
+ghost use Rattle.std.specs.Prelude.{codes};
+ghost use Rattle.script_words.specs.Reading.{optional, separated};
+ghost use Rattle.script_words.specs.Parts.{whole_number, choice};
+ghost use Rattle.script_words.specs.Readers.{ReadsExactly, Takes};
+ghost use Rattle.script_parse.specs.Parts.{test, links, refreshes, shown_words};
+ghost use Rattle.script_parse.specs.Rows.{snapshot_row, row_row, insert_row, update_row, delete_row, txn_row, push_row, fates_behind, fate_row, link_row, clock_row, purge_row, execute_row, drop_error_row, refresh_row, purge_log_row, show_row};
+
+use crate::parts::{FatePart, SetPart, TestPart, site, table};
+use crate::{Command, Link, Refresh, Shown, TestWords};
+use rep_calls::Statement;
+use rep_lists::Items;
+use rep_values::SiteName;
+use script_lex::{BrokenRule, LineStop};
+use script_words::{Reader, ValuePart, separated, some_of};
+use std::alloc::Global;
+
+/// `[where TEST [and TEST]..]`
+fn where_group(
+    alloc: Global,
+    tokens: &mut Reader<'_>,
+) -> Result<Option<Items<TestWords>>, LineStop>
+    ensures { Takes (optional (codes "where") (separated (codes "and") test)) result tokens.old tokens.new }
+{
+    if !tokens.is_at(b"where") {
+        return Ok(None);
+    }
+    tokens.pass(b"where")?;
+    Ok(Some(separated::<TestPart>(alloc, b"and", tokens)?))
+}
+
+pub fn snapshot_form(alloc: Global, tokens: &mut Reader<'_>) -> Result<Command, LineStop>
+    ensures { Takes snapshot_row result tokens.old tokens.new }
+{
+    let site = site(tokens)?;
+    let table = table(tokens)?;
+    let tests = where_group(alloc, tokens)?;
+    Ok(Command::Snapshot { site, table, tests })
+}
+
+pub fn row_form(alloc: Global, tokens: &mut Reader<'_>) -> Result<Command, LineStop>
+    ensures { Takes row_row result tokens.old tokens.new }
+{
+    let table = table(tokens)?;
+    let values = some_of::<ValuePart>(alloc, tokens)?;
+    Ok(Command::Row { table, values })
+}
+
+pub fn insert_form(alloc: Global, tokens: &mut Reader<'_>) -> Result<Command, LineStop>
+    ensures { Takes insert_row result tokens.old tokens.new }
+{
+    let table = table(tokens)?;
+    let values = some_of::<ValuePart>(alloc, tokens)?;
+    Ok(Command::Statement(Statement::Insert { table, values }))
+}
+
+/// Where the key finds no memory, the sets are read all the same, so that no broken rule is hidden.
+pub fn update_form(alloc: Global, tokens: &mut Reader<'_>) -> Result<Command, LineStop>
+    ensures { Takes update_row result tokens.old tokens.new }
+{
+    let table = table(tokens)?;
+    let key = some_of::<ValuePart>(alloc, tokens);
+    if let Err(LineStop::Rule(rule)) = key {
+        return Err(LineStop::Rule(rule));
+    }
+    tokens.pass(b":")?;
+    let sets = separated::<SetPart>(alloc, b",", tokens)?;
+    let key = key?;
+    Ok(Command::Statement(Statement::Update { table, key, sets }))
+}
+
+pub fn delete_form(alloc: Global, tokens: &mut Reader<'_>) -> Result<Command, LineStop>
+    ensures { Takes delete_row result tokens.old tokens.new }
+{
+    let table = table(tokens)?;
+    let key = some_of::<ValuePart>(alloc, tokens)?;
+    Ok(Command::Statement(Statement::Delete { table, key }))
+}
+
+pub fn txn_form(tokens: &mut Reader<'_>) -> Result<Command, BrokenRule>
+    ensures { ReadsExactly txn_row result tokens.old tokens.new }
+{
+    let site = site(tokens)?;
+    Ok(Command::Txn { site })
+}
+
+/// `[count WHOLE]`
+fn count_group(tokens: &mut Reader<'_>) -> Result<Option<u64>, BrokenRule>
+    ensures { ReadsExactly (optional (codes "count") whole_number) result tokens.old tokens.new }
+{
+    if !tokens.is_at(b"count") {
+        return Ok(None);
+    }
+    tokens.pass(b"count")?;
+    Ok(Some(tokens.whole_number()?))
+}
+
+pub fn push_form(tokens: &mut Reader<'_>) -> Result<Command, BrokenRule>
+    ensures { ReadsExactly push_row result tokens.old tokens.new }
+{
+    let from = site(tokens)?;
+    let to = site(tokens)?;
+    let count = count_group(tokens)?;
+    Ok(Command::Push { from, to, count })
+}
+
+/// `clear` or `FATE+`
+fn fates_behind(
+    alloc: Global,
+    from: SiteName,
+    to: SiteName,
+    tokens: &mut Reader<'_>,
+) -> Result<Command, LineStop>
+    ensures { Takes (fates_behind from to) result tokens.old tokens.new }
+{
+    if tokens.is_at(b"clear") {
+        tokens.pass(b"clear")?;
+        return Ok(Command::ClearFates { from, to });
+    }
+    let fates = some_of::<FatePart>(alloc, tokens)?;
+    Ok(Command::Fates { from, to, fates })
+}
+
+pub fn fate_form(alloc: Global, tokens: &mut Reader<'_>) -> Result<Command, LineStop>
+    ensures { Takes fate_row result tokens.old tokens.new }
+{
+    let from = site(tokens)?;
+    let to = site(tokens)?;
+    fates_behind(alloc, from, to, tokens)
+}
+
+const LINKS: [(&[u8], Link); 2] = [(b"up", Link::Up), (b"down", Link::Down)];
+
+fn link(tokens: &mut Reader<'_>) -> Result<Link, BrokenRule>
+    ensures { ReadsExactly (choice links) result tokens.old tokens.new }
+{
+    tokens.choice(&LINKS)
+}
+
+pub fn link_form(tokens: &mut Reader<'_>) -> Result<Command, BrokenRule>
+    ensures { ReadsExactly link_row result tokens.old tokens.new }
+{
+    let from = site(tokens)?;
+    let to = site(tokens)?;
+    let link = link(tokens)?;
+    Ok(Command::Link { from, to, link })
+}
+
+pub fn clock_form(tokens: &mut Reader<'_>) -> Result<Command, BrokenRule>
+    ensures { ReadsExactly clock_row result tokens.old tokens.new }
+{
+    let site = site(tokens)?;
+    let time = tokens.whole_number()?;
+    Ok(Command::Clock { site, time })
+}
+
+pub fn purge_form(tokens: &mut Reader<'_>) -> Result<Command, BrokenRule>
+    ensures { ReadsExactly purge_row result tokens.old tokens.new }
+{
+    let site = site(tokens)?;
+    Ok(Command::Purge { site })
+}
+
+pub fn execute_form(tokens: &mut Reader<'_>) -> Result<Command, BrokenRule>
+    ensures { ReadsExactly execute_row result tokens.old tokens.new }
+{
+    let here = site(tokens)?;
+    let origin = site(tokens)?;
+    let position = tokens.whole_number()?;
+    Ok(Command::Execute {
+        site: here,
+        origin,
+        position,
+    })
+}
+
+pub fn drop_error_form(tokens: &mut Reader<'_>) -> Result<Command, BrokenRule>
+    ensures { ReadsExactly drop_error_row result tokens.old tokens.new }
+{
+    let here = site(tokens)?;
+    let origin = site(tokens)?;
+    let position = tokens.whole_number()?;
+    Ok(Command::DropError {
+        site: here,
+        origin,
+        position,
+    })
+}
+
+const REFRESHES: [(&[u8], Refresh); 3] = [
+    (b"fast", Refresh::Fast),
+    (b"complete", Refresh::Complete),
+    (b"force", Refresh::Force),
+];
+
+fn refresh(tokens: &mut Reader<'_>) -> Result<Refresh, BrokenRule>
+    ensures { ReadsExactly (choice refreshes) result tokens.old tokens.new }
+{
+    tokens.choice(&REFRESHES)
+}
+
+pub fn refresh_form(tokens: &mut Reader<'_>) -> Result<Command, BrokenRule>
+    ensures { ReadsExactly refresh_row result tokens.old tokens.new }
+{
+    let site = site(tokens)?;
+    let how = refresh(tokens)?;
+    Ok(Command::Refresh { site, how })
+}
+
+pub fn purge_log_form(tokens: &mut Reader<'_>) -> Result<Command, BrokenRule>
+    ensures { ReadsExactly purge_log_row result tokens.old tokens.new }
+{
+    let master = site(tokens)?;
+    let table = table(tokens)?;
+    Ok(Command::PurgeLog { master, table })
+}
+
+const SHOWN: [(&[u8], Shown); 7] = [
+    (b"tables", Shown::Tables),
+    (b"queue", Shown::Queue),
+    (b"errors", Shown::Errors),
+    (b"marks", Shown::Marks),
+    (b"journal", Shown::Journal),
+    (b"log", Shown::Log),
+    (b"calls", Shown::Calls),
+];
+
+fn shown(tokens: &mut Reader<'_>) -> Result<Shown, BrokenRule>
+    ensures { ReadsExactly (choice shown_words) result tokens.old tokens.new }
+{
+    tokens.choice(&SHOWN)
+}
+
+pub fn show_form(tokens: &mut Reader<'_>) -> Result<Command, BrokenRule>
+    ensures { ReadsExactly show_row result tokens.old tokens.new }
+{
+    let what = shown(tokens)?;
+    let site = site(tokens)?;
+    Ok(Command::Show { what, site })
+}
