@@ -2,3 +2,4 @@
 pub mod PartsAgain
 pub mod ReadAgain
 pub mod ParsedLines
+mod WorkedLines

@@ -28,12 +28,24 @@ Finds found (Err Memory) = Unit {0}
 
 -- a push may leave some rows inserted where there is no memory; no other command does
 abbrev pub StepsBy : Command → Outcome → Result Sheet Stop → WorldState → WorldState → Type 0
-StepsBy (command.Push from to count) = StepsOrSome
 StepsBy command.Nothing = Steps
-StepsBy (command.Site name) = Steps
-StepsBy (command.Table name columns) = Steps
+StepsBy (command.Declare declaration) = Steps
+StepsBy (command.Snapshot site table tests) = Steps
+StepsBy (command.Row table values) = Steps
 StepsBy command.Resume = Steps
-StepsBy (command.Txn site) = Steps
 StepsBy (command.Statement statement) = Steps
+StepsBy (command.Txn site) = Steps
 StepsBy command.Commit = Steps
+StepsBy command.Abandon = Steps
+StepsBy (command.Push from to count) = StepsOrSome
+StepsBy (command.Fates from to fates) = Steps
+StepsBy (command.ClearFates from to) = Steps
+StepsBy (command.Link from to link) = Steps
+StepsBy (command.Clock site time) = Steps
+StepsBy (command.Purge site) = Steps
+StepsBy (command.Execute site origin position) = Steps
+StepsBy (command.DropError site origin position) = Steps
+StepsBy (command.Refresh site how) = Steps
+StepsBy (command.PurgeLog master table) = Steps
+StepsBy command.Suspend = Steps
 StepsBy (command.Show what site) = Steps

@@ -13,6 +13,8 @@ use Rattle.rep_schema.specs.declared.schema.Column.{Column}
 use Rattle.rep_schema.specs.Entries.{master_site, plain_table}
 use Rattle.rep_schema.specs.Tables.{Rows, columns_of, key_count, put_row, rows_of}
 use Rattle.rep_schema.specs.Fitting.{row_fits, is_keyed}
+use Rattle.rep_declare.specs.declared.declaration.Declare.{Declare}
+use Rattle.rep_declare.specs.declared.declaration.Declare.TheVariants as declare
 use Rattle.rep_calls.specs.declared.statement.Statement.{Statement}
 use Rattle.rep_calls.specs.declared.statement.Statement.TheVariants as statement
 use Rattle.script_parse.specs.declared.command.Command.{Command}
@@ -196,14 +198,43 @@ show_step what name w = in_running w.phase
     then (place_of w.sites name >>= λ place. shown_at w.schema w.sites place >>= λ out. Some (w, out))
     else None)
 
--- the step of a command
+-- Commands.
+
+-- the step of a declaration, of a site or of a table; any other is refused
+abbrev pub declare_step : Declare → WorldState → Outcome
+declare_step (declare.Site name) w = site_step name w
+declare_step (declare.LateSite name) w = None
+declare_step (declare.SnapSite name master) w = None
+declare_step (declare.Table name columns) w = table_step name columns w
+declare_step (declare.Group table group columns) w = None
+declare_step (declare.Method table group method) w = None
+declare_step (declare.Priority group value level) w = None
+declare_step (declare.SiteLevel site level) w = None
+declare_step (declare.Unique table constraint columns) w = None
+declare_step (declare.UniqueMethod table constraint method) w = None
+declare_step (declare.Check table check column rel value) w = None
+declare_step (declare.Convergent table) w = None
+
+-- the step of a command; one that this world hasn't is refused
 unfoldable pub command_step : Command → WorldState → Outcome
 command_step command.Nothing w = Some (w, [])
-command_step (command.Site name) w = site_step name w
-command_step (command.Table name columns) w = table_step name columns w
+command_step (command.Declare declaration) w = declare_step declaration w
+command_step (command.Snapshot site table tests) w = None
+command_step (command.Row table values) w = None
 command_step command.Resume w = resume_step w
-command_step (command.Txn site) w = txn_step site w
 command_step (command.Statement s) w = statement_step s w
+command_step (command.Txn site) w = txn_step site w
 command_step command.Commit w = commit_step w
+command_step command.Abandon w = None
 command_step (command.Push from to count) w = push_step from to count w
+command_step (command.Fates from to fates) w = None
+command_step (command.ClearFates from to) w = None
+command_step (command.Link from to link) w = None
+command_step (command.Clock site time) w = None
+command_step (command.Purge site) w = None
+command_step (command.Execute site origin position) w = None
+command_step (command.DropError site origin position) w = None
+command_step (command.Refresh site how) w = None
+command_step (command.PurgeLog master table) w = None
+command_step command.Suspend w = None
 command_step (command.Show what site) w = show_step what site w

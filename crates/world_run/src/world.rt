@@ -1,7 +1,7 @@
 //! The world, and the step of each command.
 ghost use Rattle.std.specs.Prelude.{◌≡◌};
 ghost use Rattle.world_run.specs.World.{first_world};
-ghost use Rattle.world_run.specs.Steps.{command_step, site_step, table_step, resume_step, txn_step, statement_step, commit_step, push_step, show_step, is_tables};
+ghost use Rattle.world_run.specs.Steps.{command_step, declare_step, site_step, table_step, resume_step, txn_step, statement_step, commit_step, push_step, show_step, is_tables};
 ghost use Rattle.world_run.specs.Stepping.{Steps, StepsOrSome, StepsBy};
 
 use crate::Stop;
@@ -12,6 +12,7 @@ use crate::site::Site;
 use crate::sites::{commit_at, new_sites, place_of, push_between, shown_at};
 use crate::stated::stated;
 use rep_calls::Statement;
+use rep_declare::Declare;
 use rep_lists::{Copies, Items};
 use rep_schema::{Column, Schema, SiteEntry, TableEntry};
 use rep_values::{SiteName, TableName};
@@ -66,14 +67,45 @@ impl World {
     {
         match command {
             Command::Nothing => Ok(Lines::make(alloc)),
-            Command::Site { name } => self.site(alloc, *name),
-            Command::Table { name, columns } => self.table(alloc, *name, columns),
+            Command::Declare(declaration) => self.declare(alloc, declaration),
             Command::Resume => self.resume(alloc),
-            Command::Txn { site } => self.open(alloc, *site),
             Command::Statement(statement) => self.state(alloc, statement),
+            Command::Txn { site } => self.open(alloc, *site),
             Command::Commit => self.commit(alloc),
             Command::Push { from, to, count } => self.push(alloc, *from, *to, *count),
             Command::Show { what, site } => self.show(alloc, *what, *site),
+            Command::Snapshot { .. }
+            | Command::Row { .. }
+            | Command::Abandon
+            | Command::Fates { .. }
+            | Command::ClearFates { .. }
+            | Command::Link { .. }
+            | Command::Clock { .. }
+            | Command::Purge { .. }
+            | Command::Execute { .. }
+            | Command::DropError { .. }
+            | Command::Refresh { .. }
+            | Command::PurgeLog { .. }
+            | Command::Suspend => Err(Stop::Refused),
+        }
+    }
+
+    fn declare(&mut self, alloc: Global, declaration: &Declare) -> Result<Lines, Stop>
+        ensures { Steps (declare_step declaration.now self.old) result self.old self.new }
+    {
+        match declaration {
+            Declare::Site { name } => self.site(alloc, *name),
+            Declare::Table { name, columns } => self.table(alloc, *name, columns),
+            Declare::LateSite { .. }
+            | Declare::SnapSite { .. }
+            | Declare::Group { .. }
+            | Declare::Method { .. }
+            | Declare::Priority { .. }
+            | Declare::SiteLevel { .. }
+            | Declare::Unique { .. }
+            | Declare::UniqueMethod { .. }
+            | Declare::Check { .. }
+            | Declare::Convergent { .. } => Err(Stop::Refused),
         }
     }
 
