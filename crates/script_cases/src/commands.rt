@@ -1,59 +1,118 @@
 //! Commands as they are printed.
 
-use crate::texts::{literals_text, text_of};
-use rep_calls::Statement;
+use crate::declared::declared_text;
+use crate::stated::{row_text, statement_text};
+use crate::texts::{literal_text, text_of};
+use net_plan::Fate;
 use rep_lists::Items;
-use rep_schema::Column;
-use rep_values::Name;
-use script_parse::Command;
+use rep_values::{SiteName, TableName};
+use script_parse::{Command, TestWords};
 use std::alloc::{AllocError, Global};
 
-fn columns_text(alloc: Global, name: &Name, columns: &Items<Column>) -> Result<String, AllocError> {
-    let table = text_of(name.bytes());
-    let mut told = format!(in alloc; "table {table}")?;
-    for column in columns.as_slice() {
-        let name = text_of(column.name.bytes());
-        let kind = column.kind;
-        let key = if column.key { " key" } else { "" };
-        let column = format!(in alloc; ", {name} {kind:?}{key}")?;
-        told.push_str(column.as_str())?;
+fn at_text(alloc: Global, word: &str, site: &SiteName) -> Result<String, AllocError> {
+    let site = text_of(site.0.bytes());
+    format!(in alloc; "{word} {site}")
+}
+
+fn way_text(
+    alloc: Global,
+    word: &str,
+    from: &SiteName,
+    to: &SiteName,
+) -> Result<String, AllocError> {
+    let from = text_of(from.0.bytes());
+    let to = text_of(to.0.bytes());
+    format!(in alloc; "{word} from {from} to {to}")
+}
+
+fn fates_text(alloc: Global, way: String, fates: &Items<Fate>) -> Result<String, AllocError> {
+    let mut told = way;
+    for fate in fates.as_slice() {
+        let fate = format!(in alloc; " {fate:?}")?;
+        told.push_str(fate.as_str())?;
     }
     Ok(told)
 }
 
-fn statement_text(alloc: Global, statement: &Statement) -> Result<String, AllocError> {
-    match statement {
-        Statement::Insert { table, values } => {
-            let name = text_of(table.0.bytes());
-            let values = literals_text(alloc, values)?;
-            format!(in alloc; "insert {name}{values}")
+fn snapshot_text(
+    alloc: Global,
+    site: &SiteName,
+    table: &TableName,
+    tests: &Option<Items<TestWords>>,
+) -> Result<String, AllocError> {
+    let table = text_of(table.0.bytes());
+    let mut told = at_text(alloc, "snapshot at", site)?;
+    let of = format!(in alloc; " of {table}")?;
+    told.push_str(of.as_str())?;
+    if let Some(tests) = tests {
+        for test in tests.as_slice() {
+            let column = text_of(test.column.bytes());
+            let rel = test.rel;
+            let value = literal_text(alloc, &test.value)?;
+            let test = format!(in alloc; ", {column} {rel:?}{value}")?;
+            told.push_str(test.as_str())?;
         }
-        Statement::Update { .. } => format!(in alloc; "update"),
-        Statement::Delete { .. } => format!(in alloc; "delete"),
     }
+    Ok(told)
+}
+
+fn error_text(
+    alloc: Global,
+    word: &str,
+    site: &SiteName,
+    origin: &SiteName,
+    position: u64,
+) -> Result<String, AllocError> {
+    let site = text_of(site.0.bytes());
+    let origin = text_of(origin.0.bytes());
+    format!(in alloc; "{word} at {site} from {origin} position {position}")
 }
 
 /// A command by its parts.
 pub fn command_text(alloc: Global, command: &Command) -> Result<String, AllocError> {
     match command {
         Command::Nothing => format!(in alloc; "nothing"),
-        Command::Site { name } => {
-            let name = text_of(name.0.bytes());
-            format!(in alloc; "site {name}")
-        }
-        Command::Table { name, columns } => columns_text(alloc, &name.0, columns),
+        Command::Declare(declaration) => declared_text(alloc, declaration),
+        Command::Snapshot { site, table, tests } => snapshot_text(alloc, site, table, tests),
+        Command::Row { table, values } => row_text(alloc, "row", table, values),
         Command::Resume => format!(in alloc; "resume"),
-        Command::Txn { site } => {
-            let site = text_of(site.0.bytes());
-            format!(in alloc; "txn {site}")
-        }
         Command::Statement(statement) => statement_text(alloc, statement),
+        Command::Txn { site } => at_text(alloc, "txn", site),
         Command::Commit => format!(in alloc; "commit"),
+        Command::Abandon => format!(in alloc; "abandon"),
         Command::Push { from, to, count } => {
-            let from = text_of(from.0.bytes());
-            let to = text_of(to.0.bytes());
-            format!(in alloc; "push from {from} to {to} count {count:?}")
+            let way = way_text(alloc, "push", from, to)?;
+            format!(in alloc; "{way} count {count:?}")
         }
+        Command::Fates { from, to, fates } => {
+            fates_text(alloc, way_text(alloc, "fates", from, to)?, fates)
+        }
+        Command::ClearFates { from, to } => way_text(alloc, "no more fates", from, to),
+        Command::Link { from, to, link } => {
+            let way = way_text(alloc, "link", from, to)?;
+            format!(in alloc; "{way} {link:?}")
+        }
+        Command::Clock { site, time } => {
+            let at = at_text(alloc, "clock of", site)?;
+            format!(in alloc; "{at} {time}")
+        }
+        Command::Purge { site } => at_text(alloc, "purge", site),
+        Command::Execute { site, origin, position } => {
+            error_text(alloc, "execute", site, origin, *position)
+        }
+        Command::DropError { site, origin, position } => {
+            error_text(alloc, "drop error", site, origin, *position)
+        }
+        Command::Refresh { site, how } => {
+            let at = at_text(alloc, "refresh", site)?;
+            format!(in alloc; "{at} {how:?}")
+        }
+        Command::PurgeLog { master, table } => {
+            let table = text_of(table.0.bytes());
+            let at = at_text(alloc, "purge log at", master)?;
+            format!(in alloc; "{at} of {table}")
+        }
+        Command::Suspend => format!(in alloc; "suspend"),
         Command::Show { what, site } => {
             let site = text_of(site.0.bytes());
             format!(in alloc; "show {what:?} of {site}")

@@ -3,8 +3,10 @@
 
 mod cases;
 mod commands;
+mod declared;
 mod printed;
 mod readings;
+mod stated;
 mod texts;
 
 use std::io;
