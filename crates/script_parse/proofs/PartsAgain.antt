@@ -1,8 +1,7 @@
 -- Parts of forms are read as they are written.
-use Rattle.std.proofs.Common.{◌≡◌, ◌≢◌, ℕ, ℤ, Bool, true, false, not, List, [], ◌∷◌, ◌++◌, Ok, refl}
+use Rattle.std.proofs.Common.{◌≡◌, ℕ, Bool, true, false, not, List, [], ◌∷◌, ◌++◌, Ok, refl}
 use Rattle.std.specs.Prelude.{codes, flat_map}
 use Rattle.std.specs.List.{AllByRecursion}
-use Rattle.rep_values.specs.declared.literal.Literal.{Literal}
 use Rattle.rep_schema.specs.declared.schema.Kind.{Kind}
 use Rattle.rep_schema.specs.declared.schema.Kind.TheVariants as kind
 use Rattle.rep_schema.specs.declared.schema.Column.{Column}
@@ -112,8 +111,11 @@ rel_again rel.Ge rest = refl
 test_again : (t : TestWords) (rest : List Token) → IsTest t → true ≡ true → test (test_tokens t ++ rest) ≡ Ok (t, rest)
 unfolding test
 test_again t rest formed any =
-    rw (name_again t.column (token.Symbol (rel_symbol t.rel) ∷ value_token t.value ∷ rest) formed.0,
-    rel_again t.rel (value_token t.value ∷ rest), value_again t.value rest formed.1) refl
+    rw (
+      name_again t.column (token.Symbol (rel_symbol t.rel) ∷ value_token t.value ∷ rest) formed.0,
+      rel_again t.rel (value_token t.value ∷ rest),
+      value_again t.value rest formed.1,
+    ) refl
 
 pub tests_again : (t : TestWords) (ts : List TestWords) → AllByRecursion IsTest (t ∷ ts)
     → separated (codes "and") test (separated_tokens (token.Word (codes "and")) test_tokens (t ∷ ts)) ≡ Ok (t ∷ ts, [])

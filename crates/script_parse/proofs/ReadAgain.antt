@@ -1,6 +1,5 @@
 -- Commands are read as they are written.
-use Rattle.std.proofs.Common.{◌≡◌, ◌≢◌, ℕ, false, List, [], ◌∷◌, ◌++◌, Option, Some, None, Ok, refl}
-use Rattle.std.specs.Prelude.{codes, flat_map}
+use Rattle.std.proofs.Common.{◌≡◌, ◌≢◌, ℕ, List, [], ◌∷◌, Option, Some, None, Ok, refl}
 use Rattle.std.specs.List.{AllByRecursion}
 use Rattle.rep_values.specs.declared.literal.Literal.{Literal}
 use Rattle.rep_values.specs.declared.name.SiteName.{SiteName}
@@ -17,7 +16,7 @@ use Rattle.script_lex.specs.declared.token.Token.{Token}
 use Rattle.script_lex.specs.declared.token.Token.TheVariants as token
 use Rattle.script_words.specs.Reading.{one, mark}
 use Rattle.script_words.specs.Spelled.{value_token}
-use Rattle.script_words.proofs.Again.{name_again, value_again, number_again, values_again, all_values_again, all_names_again}
+use Rattle.script_words.proofs.Again.{value_again, number_again, values_again, all_values_again, all_names_again}
 use Rattle.script_parse.specs.declared.command.TestWords.{TestWords}
 use Rattle.script_parse.specs.declared.command.Link.{Link}
 use Rattle.script_parse.specs.declared.command.Link.TheVariants as link
@@ -29,7 +28,7 @@ use Rattle.script_parse.specs.declared.command.Command.{Command}
 use Rattle.script_parse.specs.declared.command.Command.TheVariants as command
 use Rattle.script_parse.specs.Built.{is_built, gated}
 use Rattle.script_parse.specs.Parsed.{form_of, command_of}
-use Rattle.script_parse.specs.Spelled.{number_token, rel_symbol, set_tokens, separated_tokens, spelled, IsName, AreNames, AreValues, AreTests, IsSet, IsDeclaration, IsStatement, IsWellFormed}
+use Rattle.script_parse.specs.Spelled.{number_token, set_tokens, separated_tokens, spelled, IsName, AreNames, AreValues, AreTests, IsSet, IsDeclaration, IsStatement, IsWellFormed}
 use Rattle.script_parse.proofs.PartsAgain.{columns_again, method_again, unique_method_again, rel_again, tests_again, sets_again, fates_again, fate_is_no_clear}
 
 -- Declarations.

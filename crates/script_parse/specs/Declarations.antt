@@ -1,5 +1,4 @@
 -- The forms of declarations, one row each, with what stands behind the first word.
-use Rattle.std.specs.Prelude.{ℕ, List}
 use Rattle.rep_declare.specs.declared.declaration.Declare.{Declare}
 use Rattle.rep_declare.specs.declared.declaration.Declare.TheVariants as declare
 use Rattle.script_words.specs.Words.{is_named}

@@ -1,5 +1,5 @@
 -- The forms of all other commands, one row each, with what stands behind the first word.
-use Rattle.std.specs.Prelude.{ℕ, List, codes}
+use Rattle.std.specs.Prelude.{List, codes}
 use Rattle.rep_values.specs.declared.literal.Literal.{Literal}
 use Rattle.rep_values.specs.declared.name.SiteName.{SiteName}
 use Rattle.rep_values.specs.declared.name.TableName.{TableName}

@@ -16,10 +16,7 @@ use script_words::{Reader, ValuePart, separated, some_of};
 use std::alloc::Global;
 
 /// `[where TEST [and TEST]..]`
-fn where_group(
-    alloc: Global,
-    tokens: &mut Reader<'_>,
-) -> Result<Option<Items<TestWords>>, LineStop>
+fn where_group(alloc: Global, tokens: &mut Reader<'_>) -> Result<Option<Items<TestWords>>, LineStop>
     ensures { Takes (optional (codes "where") (separated (codes "and") test)) result tokens.old tokens.new }
 {
     if !tokens.is_at(b"where") {
