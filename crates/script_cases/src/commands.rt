@@ -97,12 +97,16 @@ pub fn command_text(alloc: Global, command: &Command) -> Result<String, AllocErr
             format!(in alloc; "{at} {time}")
         }
         Command::Purge { site } => at_text(alloc, "purge", site),
-        Command::Execute { site, origin, position } => {
-            error_text(alloc, "execute", site, origin, *position)
-        }
-        Command::DropError { site, origin, position } => {
-            error_text(alloc, "drop error", site, origin, *position)
-        }
+        Command::Execute {
+            site,
+            origin,
+            position,
+        } => { error_text(alloc, "execute", site, origin, *position) }
+        Command::DropError {
+            site,
+            origin,
+            position,
+        } => { error_text(alloc, "drop error", site, origin, *position) }
         Command::Refresh { site, how } => {
             let at = at_text(alloc, "refresh", site)?;
             format!(in alloc; "{at} {how:?}")

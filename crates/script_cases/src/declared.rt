@@ -40,9 +40,7 @@ fn named_text(
 
 fn method_text(alloc: Global, method: &MethodWords) -> Result<String, AllocError> {
     match method {
-        MethodWords::Latest(column) => {
-            format!(in alloc; "latest {}", text_of(column.bytes()))
-        }
+        MethodWords::Latest(column) => { format!(in alloc; "latest {}", text_of(column.bytes())) }
         MethodWords::Earliest(column) => {
             format!(in alloc; "earliest {}", text_of(column.bytes()))
         }
@@ -50,12 +48,8 @@ fn method_text(alloc: Global, method: &MethodWords) -> Result<String, AllocError
         MethodWords::Discard => format!(in alloc; "discard"),
         MethodWords::Additive => format!(in alloc; "additive"),
         MethodWords::Average => format!(in alloc; "average"),
-        MethodWords::Maximum(column) => {
-            format!(in alloc; "maximum {}", text_of(column.bytes()))
-        }
-        MethodWords::Minimum(column) => {
-            format!(in alloc; "minimum {}", text_of(column.bytes()))
-        }
+        MethodWords::Maximum(column) => { format!(in alloc; "maximum {}", text_of(column.bytes())) }
+        MethodWords::Minimum(column) => { format!(in alloc; "minimum {}", text_of(column.bytes())) }
         MethodWords::Priority { column, group } => {
             let column = text_of(column.bytes());
             let group = text_of(group.bytes());
@@ -133,28 +127,48 @@ pub fn declared_text(alloc: Global, declaration: &Declare) -> Result<String, All
             format!(in alloc; "snapshot site {name} of {master}")
         }
         Declare::Table { name, columns } => columns_text(alloc, name, columns),
-        Declare::Group { table, group, columns } => {
-            named_text(alloc, "group", table, group, columns)
-        }
-        Declare::Method { table, group, method } => {
+        Declare::Group {
+            table,
+            group,
+            columns,
+        } => { named_text(alloc, "group", table, group, columns) }
+        Declare::Method {
+            table,
+            group,
+            method,
+        } => {
             let method = method_text(alloc, method)?;
             for_text(alloc, "group", table, group, method.as_str())
         }
-        Declare::Priority { group, value, level } => level_text(alloc, group, value, *level),
+        Declare::Priority {
+            group,
+            value,
+            level,
+        } => level_text(alloc, group, value, *level),
         Declare::SiteLevel { site, level } => {
             let site = text_of(site.0.bytes());
             format!(in alloc; "level {level} of site {site}")
         }
-        Declare::Unique { table, constraint, columns } => {
-            named_text(alloc, "constraint", table, constraint, columns)
-        }
-        Declare::UniqueMethod { table, constraint, method } => {
+        Declare::Unique {
+            table,
+            constraint,
+            columns,
+        } => { named_text(alloc, "constraint", table, constraint, columns) }
+        Declare::UniqueMethod {
+            table,
+            constraint,
+            method,
+        } => {
             let method = unique_text(alloc, method)?;
             for_text(alloc, "constraint", table, constraint, method.as_str())
         }
-        Declare::Check { table, check, column, rel, value } => {
-            check_text(alloc, table, (check, column), *rel, value)
-        }
+        Declare::Check {
+            table,
+            check,
+            column,
+            rel,
+            value,
+        } => { check_text(alloc, table, (check, column), *rel, value) }
         Declare::Convergent { table } => {
             let table = text_of(table.0.bytes());
             format!(in alloc; "convergent {table}")
