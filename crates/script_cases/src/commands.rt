@@ -6,7 +6,7 @@ use crate::texts::{literal_text, text_of};
 use net_plan::Fate;
 use rep_lists::Items;
 use rep_values::{SiteName, TableName};
-use script_parse::{Command, TestWords};
+use script_parse::{Command, Link, Refresh, Shown, TestWords};
 use std::alloc::{AllocError, Global};
 
 fn at_text(alloc: Global, word: &str, site: &SiteName) -> Result<String, AllocError> {
@@ -25,8 +25,13 @@ fn way_text(
     format!(in alloc; "{word} from {from} to {to}")
 }
 
-fn fates_text(alloc: Global, way: String, fates: &Items<Fate>) -> Result<String, AllocError> {
-    let mut told = way;
+fn fates_text(
+    alloc: Global,
+    from: &SiteName,
+    to: &SiteName,
+    fates: &Items<Fate>,
+) -> Result<String, AllocError> {
+    let mut told = way_text(alloc, "fates", from, to)?;
     for fate in fates.as_slice() {
         let fate = format!(in alloc; " {fate:?}")?;
         told.push_str(fate.as_str())?;
@@ -68,6 +73,51 @@ fn error_text(
     format!(in alloc; "{word} at {site} from {origin} position {position}")
 }
 
+fn push_text(
+    alloc: Global,
+    from: &SiteName,
+    to: &SiteName,
+    count: Option<u64>,
+) -> Result<String, AllocError> {
+    let way = way_text(alloc, "push", from, to)?;
+    format!(in alloc; "{way} count {count:?}")
+}
+
+fn link_text(
+    alloc: Global,
+    from: &SiteName,
+    to: &SiteName,
+    link: Link,
+) -> Result<String, AllocError> {
+    let way = way_text(alloc, "link", from, to)?;
+    format!(in alloc; "{way} {link:?}")
+}
+
+fn clock_text(alloc: Global, site: &SiteName, time: u64) -> Result<String, AllocError> {
+    let at = at_text(alloc, "clock of", site)?;
+    format!(in alloc; "{at} {time}")
+}
+
+fn refresh_text(alloc: Global, site: &SiteName, how: Refresh) -> Result<String, AllocError> {
+    let at = at_text(alloc, "refresh", site)?;
+    format!(in alloc; "{at} {how:?}")
+}
+
+fn purge_log_text(
+    alloc: Global,
+    master: &SiteName,
+    table: &TableName,
+) -> Result<String, AllocError> {
+    let table = text_of(table.0.bytes());
+    let at = at_text(alloc, "purge log at", master)?;
+    format!(in alloc; "{at} of {table}")
+}
+
+fn show_text(alloc: Global, what: Shown, site: &SiteName) -> Result<String, AllocError> {
+    let site = text_of(site.0.bytes());
+    format!(in alloc; "show {what:?} of {site}")
+}
+
 /// A command by its parts.
 pub fn command_text(alloc: Global, command: &Command) -> Result<String, AllocError> {
     match command {
@@ -80,46 +130,21 @@ pub fn command_text(alloc: Global, command: &Command) -> Result<String, AllocErr
         Command::Txn { site } => at_text(alloc, "txn", site),
         Command::Commit => format!(in alloc; "commit"),
         Command::Abandon => format!(in alloc; "abandon"),
-        Command::Push { from, to, count } => {
-            let way = way_text(alloc, "push", from, to)?;
-            format!(in alloc; "{way} count {count:?}")
-        }
-        Command::Fates { from, to, fates } => {
-            fates_text(alloc, way_text(alloc, "fates", from, to)?, fates)
-        }
+        Command::Push { from, to, count } => push_text(alloc, from, to, *count),
+        Command::Fates { from, to, fates } => fates_text(alloc, from, to, fates),
         Command::ClearFates { from, to } => way_text(alloc, "no more fates", from, to),
-        Command::Link { from, to, link } => {
-            let way = way_text(alloc, "link", from, to)?;
-            format!(in alloc; "{way} {link:?}")
-        }
-        Command::Clock { site, time } => {
-            let at = at_text(alloc, "clock of", site)?;
-            format!(in alloc; "{at} {time}")
-        }
+        Command::Link { from, to, link } => link_text(alloc, from, to, *link),
+        Command::Clock { site, time } => clock_text(alloc, site, *time),
         Command::Purge { site } => at_text(alloc, "purge", site),
-        Command::Execute {
-            site,
-            origin,
-            position,
-        } => { error_text(alloc, "execute", site, origin, *position) }
-        Command::DropError {
-            site,
-            origin,
-            position,
-        } => { error_text(alloc, "drop error", site, origin, *position) }
-        Command::Refresh { site, how } => {
-            let at = at_text(alloc, "refresh", site)?;
-            format!(in alloc; "{at} {how:?}")
+        Command::Execute { site, origin, position } => {
+            error_text(alloc, "execute", site, origin, *position)
         }
-        Command::PurgeLog { master, table } => {
-            let table = text_of(table.0.bytes());
-            let at = at_text(alloc, "purge log at", master)?;
-            format!(in alloc; "{at} of {table}")
+        Command::DropError { site, origin, position } => {
+            error_text(alloc, "drop error", site, origin, *position)
         }
+        Command::Refresh { site, how } => refresh_text(alloc, site, *how),
+        Command::PurgeLog { master, table } => purge_log_text(alloc, master, table),
         Command::Suspend => format!(in alloc; "suspend"),
-        Command::Show { what, site } => {
-            let site = text_of(site.0.bytes());
-            format!(in alloc; "show {what:?} of {site}")
-        }
+        Command::Show { what, site } => show_text(alloc, *what, site),
     }
 }

@@ -6,6 +6,7 @@ use script_lex::{BrokenRule, LineStop, Token};
 use std::alloc::{AllocError, Global};
 use std::str;
 
+/// Bytes as text; what isn't text is told by `?`.
 pub fn text_of(bytes: &[u8]) -> &str {
     str::from_utf8(bytes).unwrap_or("?")
 }
@@ -41,6 +42,7 @@ pub fn tokens_text(alloc: Global, tokens: &[Token]) -> Result<String, AllocError
     Ok(told)
 }
 
+/// A space and the value, a text between quotes.
 pub fn literal_text(alloc: Global, value: &Literal) -> Result<String, AllocError> {
     match value {
         Literal::Num(number) => format!(in alloc; " {number}"),
@@ -51,6 +53,7 @@ pub fn literal_text(alloc: Global, value: &Literal) -> Result<String, AllocError
     }
 }
 
+/// The values one behind the other.
 pub fn literals_text(alloc: Global, values: &Items<Literal>) -> Result<String, AllocError> {
     let mut told = String::new(alloc);
     for value in values.as_slice() {
@@ -59,6 +62,7 @@ pub fn literals_text(alloc: Global, values: &Items<Literal>) -> Result<String, A
     Ok(told)
 }
 
+/// The names, each behind a space.
 pub fn names_text(alloc: Global, names: &Items<Name>) -> Result<String, AllocError> {
     let mut told = String::new(alloc);
     for name in names.as_slice() {
@@ -68,11 +72,13 @@ pub fn names_text(alloc: Global, names: &Items<Name>) -> Result<String, AllocErr
     Ok(told)
 }
 
+/// The number of the rule.
 pub fn broken_text(alloc: Global, broken: BrokenRule) -> Result<String, AllocError> {
     let rule = broken.0;
     format!(in alloc; "rule {rule}")
 }
 
+/// The number of the rule, or that there is no memory.
 pub fn stop_text(alloc: Global, stop: LineStop) -> Result<String, AllocError> {
     match stop {
         LineStop::Rule(rule) => broken_text(alloc, BrokenRule(rule)),

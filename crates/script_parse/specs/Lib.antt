@@ -6,6 +6,7 @@ pub mod Declarations
 pub mod Rows
 pub mod Heads
 pub mod Built
+pub mod Named
 pub mod Parsed
 pub mod Spelled
 pub mod Laws

@@ -1,5 +1,5 @@
 //! Which forms are built. A line of any other form is no command yet.
-ghost use Rattle.std.specs.Prelude.{◌≡◌, Ok};
+ghost use Rattle.std.specs.Prelude.{◌≡◌, Ok, IfOk};
 ghost use Rattle.script_lex.specs.Stop.{GivesExactly};
 ghost use Rattle.script_parse.specs.Built.{is_built, is_built_declaration, is_built_show, gated};
 
@@ -63,7 +63,8 @@ fn is_built(command: &Command) -> bool
 
 /// The command, or rule 5 where its form isn't built.
 pub fn built(command: Command) -> Result<Command, BrokenRule>
-    ensures { GivesExactly (λ command. command) result (gated is_built (Ok command)) }
+    ensures read { GivesExactly (λ command. command) result (gated is_built (Ok command)) }
+    ensures same { IfOk result (λ passed. passed ≡ command) }
 {
     if is_built(&command) {
         Ok(command)

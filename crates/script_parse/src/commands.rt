@@ -1,9 +1,10 @@
 //! The forms of all other commands.
-ghost use Rattle.std.specs.Prelude.{codes};
+ghost use Rattle.std.specs.Prelude.{codes, IfOk};
 ghost use Rattle.script_words.specs.Reading.{optional, separated};
 ghost use Rattle.script_words.specs.Parts.{whole_number, choice};
 ghost use Rattle.script_words.specs.Readers.{ReadsExactly, Takes};
 ghost use Rattle.script_parse.specs.Parts.{test, links, refreshes, shown_words};
+ghost use Rattle.script_parse.specs.Named.{NamesColumn};
 ghost use Rattle.script_parse.specs.Rows.{snapshot_row, row_row, insert_row, update_row, delete_row, txn_row, push_row, fates_behind, fate_row, link_row, clock_row, purge_row, execute_row, drop_error_row, refresh_row, purge_log_row, show_row};
 
 use crate::parts::{FatePart, SetPart, TestPart, site, table};
@@ -26,8 +27,10 @@ fn where_group(alloc: Global, tokens: &mut Reader<'_>) -> Result<Option<Items<Te
     Ok(Some(separated::<TestPart>(alloc, b"and", tokens)?))
 }
 
+/// `snapshot NAME NAME [where TEST [and TEST]..]`
 pub fn snapshot_form(alloc: Global, tokens: &mut Reader<'_>) -> Result<Command, LineStop>
-    ensures { Takes snapshot_row result tokens.old tokens.new }
+    ensures read { Takes snapshot_row result tokens.old tokens.new }
+    ensures named { IfOk result NamesColumn }
 {
     let site = site(tokens)?;
     let table = table(tokens)?;
@@ -35,25 +38,31 @@ pub fn snapshot_form(alloc: Global, tokens: &mut Reader<'_>) -> Result<Command, 
     Ok(Command::Snapshot { site, table, tests })
 }
 
+/// `row NAME VALUE+`
 pub fn row_form(alloc: Global, tokens: &mut Reader<'_>) -> Result<Command, LineStop>
-    ensures { Takes row_row result tokens.old tokens.new }
+    ensures read { Takes row_row result tokens.old tokens.new }
+    ensures named { IfOk result NamesColumn }
 {
     let table = table(tokens)?;
     let values = some_of::<ValuePart>(alloc, tokens)?;
     Ok(Command::Row { table, values })
 }
 
+/// `insert NAME VALUE+`
 pub fn insert_form(alloc: Global, tokens: &mut Reader<'_>) -> Result<Command, LineStop>
-    ensures { Takes insert_row result tokens.old tokens.new }
+    ensures read { Takes insert_row result tokens.old tokens.new }
+    ensures named { IfOk result NamesColumn }
 {
     let table = table(tokens)?;
     let values = some_of::<ValuePart>(alloc, tokens)?;
     Ok(Command::Statement(Statement::Insert { table, values }))
 }
 
-/// Where the key finds no memory, the sets are read all the same, so that no broken rule is hidden.
+/// `update NAME VALUE+ : SET [, SET]..`. Where the key finds no memory, the sets are read all the same, so that no broken
+/// rule is hidden.
 pub fn update_form(alloc: Global, tokens: &mut Reader<'_>) -> Result<Command, LineStop>
-    ensures { Takes update_row result tokens.old tokens.new }
+    ensures read { Takes update_row result tokens.old tokens.new }
+    ensures named { IfOk result NamesColumn }
 {
     let table = table(tokens)?;
     let key = some_of::<ValuePart>(alloc, tokens);
@@ -66,16 +75,20 @@ pub fn update_form(alloc: Global, tokens: &mut Reader<'_>) -> Result<Command, Li
     Ok(Command::Statement(Statement::Update { table, key, sets }))
 }
 
+/// `delete NAME VALUE+`
 pub fn delete_form(alloc: Global, tokens: &mut Reader<'_>) -> Result<Command, LineStop>
-    ensures { Takes delete_row result tokens.old tokens.new }
+    ensures read { Takes delete_row result tokens.old tokens.new }
+    ensures named { IfOk result NamesColumn }
 {
     let table = table(tokens)?;
     let key = some_of::<ValuePart>(alloc, tokens)?;
     Ok(Command::Statement(Statement::Delete { table, key }))
 }
 
+/// `txn NAME`
 pub fn txn_form(tokens: &mut Reader<'_>) -> Result<Command, BrokenRule>
-    ensures { ReadsExactly txn_row result tokens.old tokens.new }
+    ensures read { ReadsExactly txn_row result tokens.old tokens.new }
+    ensures named { IfOk result NamesColumn }
 {
     let site = site(tokens)?;
     Ok(Command::Txn { site })
@@ -92,8 +105,10 @@ fn count_group(tokens: &mut Reader<'_>) -> Result<Option<u64>, BrokenRule>
     Ok(Some(tokens.whole_number()?))
 }
 
+/// `push NAME NAME [count WHOLE]`
 pub fn push_form(tokens: &mut Reader<'_>) -> Result<Command, BrokenRule>
-    ensures { ReadsExactly push_row result tokens.old tokens.new }
+    ensures read { ReadsExactly push_row result tokens.old tokens.new }
+    ensures named { IfOk result NamesColumn }
 {
     let from = site(tokens)?;
     let to = site(tokens)?;
@@ -108,7 +123,8 @@ fn fates_behind(
     to: SiteName,
     tokens: &mut Reader<'_>,
 ) -> Result<Command, LineStop>
-    ensures { Takes (fates_behind from to) result tokens.old tokens.new }
+    ensures read { Takes (fates_behind from to) result tokens.old tokens.new }
+    ensures named { IfOk result NamesColumn }
 {
     if tokens.is_at(b"clear") {
         tokens.pass(b"clear")?;
@@ -118,8 +134,10 @@ fn fates_behind(
     Ok(Command::Fates { from, to, fates })
 }
 
+/// `fate NAME NAME FATE+` or `fate NAME NAME clear`
 pub fn fate_form(alloc: Global, tokens: &mut Reader<'_>) -> Result<Command, LineStop>
-    ensures { Takes fate_row result tokens.old tokens.new }
+    ensures read { Takes fate_row result tokens.old tokens.new }
+    ensures named { IfOk result NamesColumn }
 {
     let from = site(tokens)?;
     let to = site(tokens)?;
@@ -134,8 +152,10 @@ fn link(tokens: &mut Reader<'_>) -> Result<Link, BrokenRule>
     tokens.choice(&LINKS)
 }
 
+/// `link NAME NAME up|down`
 pub fn link_form(tokens: &mut Reader<'_>) -> Result<Command, BrokenRule>
-    ensures { ReadsExactly link_row result tokens.old tokens.new }
+    ensures read { ReadsExactly link_row result tokens.old tokens.new }
+    ensures named { IfOk result NamesColumn }
 {
     let from = site(tokens)?;
     let to = site(tokens)?;
@@ -143,23 +163,29 @@ pub fn link_form(tokens: &mut Reader<'_>) -> Result<Command, BrokenRule>
     Ok(Command::Link { from, to, link })
 }
 
+/// `clock NAME WHOLE`
 pub fn clock_form(tokens: &mut Reader<'_>) -> Result<Command, BrokenRule>
-    ensures { ReadsExactly clock_row result tokens.old tokens.new }
+    ensures read { ReadsExactly clock_row result tokens.old tokens.new }
+    ensures named { IfOk result NamesColumn }
 {
     let site = site(tokens)?;
     let time = tokens.whole_number()?;
     Ok(Command::Clock { site, time })
 }
 
+/// `purge NAME`
 pub fn purge_form(tokens: &mut Reader<'_>) -> Result<Command, BrokenRule>
-    ensures { ReadsExactly purge_row result tokens.old tokens.new }
+    ensures read { ReadsExactly purge_row result tokens.old tokens.new }
+    ensures named { IfOk result NamesColumn }
 {
     let site = site(tokens)?;
     Ok(Command::Purge { site })
 }
 
+/// `execute NAME NAME WHOLE`
 pub fn execute_form(tokens: &mut Reader<'_>) -> Result<Command, BrokenRule>
-    ensures { ReadsExactly execute_row result tokens.old tokens.new }
+    ensures read { ReadsExactly execute_row result tokens.old tokens.new }
+    ensures named { IfOk result NamesColumn }
 {
     let here = site(tokens)?;
     let origin = site(tokens)?;
@@ -171,8 +197,10 @@ pub fn execute_form(tokens: &mut Reader<'_>) -> Result<Command, BrokenRule>
     })
 }
 
+/// `drop-error NAME NAME WHOLE`
 pub fn drop_error_form(tokens: &mut Reader<'_>) -> Result<Command, BrokenRule>
-    ensures { ReadsExactly drop_error_row result tokens.old tokens.new }
+    ensures read { ReadsExactly drop_error_row result tokens.old tokens.new }
+    ensures named { IfOk result NamesColumn }
 {
     let here = site(tokens)?;
     let origin = site(tokens)?;
@@ -196,16 +224,20 @@ fn refresh(tokens: &mut Reader<'_>) -> Result<Refresh, BrokenRule>
     tokens.choice(&REFRESHES)
 }
 
+/// `refresh NAME fast|complete|force`
 pub fn refresh_form(tokens: &mut Reader<'_>) -> Result<Command, BrokenRule>
-    ensures { ReadsExactly refresh_row result tokens.old tokens.new }
+    ensures read { ReadsExactly refresh_row result tokens.old tokens.new }
+    ensures named { IfOk result NamesColumn }
 {
     let site = site(tokens)?;
     let how = refresh(tokens)?;
     Ok(Command::Refresh { site, how })
 }
 
+/// `purge-log NAME NAME`
 pub fn purge_log_form(tokens: &mut Reader<'_>) -> Result<Command, BrokenRule>
-    ensures { ReadsExactly purge_log_row result tokens.old tokens.new }
+    ensures read { ReadsExactly purge_log_row result tokens.old tokens.new }
+    ensures named { IfOk result NamesColumn }
 {
     let master = site(tokens)?;
     let table = table(tokens)?;
@@ -228,8 +260,10 @@ fn shown(tokens: &mut Reader<'_>) -> Result<Shown, BrokenRule>
     tokens.choice(&SHOWN)
 }
 
+/// `show tables|queue|errors|marks|journal|log|calls NAME`
 pub fn show_form(tokens: &mut Reader<'_>) -> Result<Command, BrokenRule>
-    ensures { ReadsExactly show_row result tokens.old tokens.new }
+    ensures read { ReadsExactly show_row result tokens.old tokens.new }
+    ensures named { IfOk result NamesColumn }
 {
     let what = shown(tokens)?;
     let site = site(tokens)?;

@@ -1,4 +1,6 @@
 //! The forms of declarations.
+ghost use Rattle.std.specs.Prelude.{IfOk};
+ghost use Rattle.rep_declare.specs.Additions.{ColumnNamed};
 ghost use Rattle.script_words.specs.Readers.{ReadsExactly, Takes};
 ghost use Rattle.script_parse.specs.Declarations.{site_row, late_site_row, snapshot_site_row, table_row, group_row, method_row, priority_row, site_level_row, unique_row, unique_method_row, check_row, convergent_row, declaration_of};
 
@@ -12,21 +14,24 @@ use script_words::{NamePart, Reader, some_of};
 use std::alloc::Global;
 
 fn site_form(tokens: &mut Reader<'_>) -> Result<Declare, BrokenRule>
-    ensures { ReadsExactly site_row result tokens.old tokens.new }
+    ensures read { ReadsExactly site_row result tokens.old tokens.new }
+    ensures named { IfOk result ColumnNamed }
 {
     let name = site(tokens)?;
     Ok(Declare::Site { name })
 }
 
 fn late_site_form(tokens: &mut Reader<'_>) -> Result<Declare, BrokenRule>
-    ensures { ReadsExactly late_site_row result tokens.old tokens.new }
+    ensures read { ReadsExactly late_site_row result tokens.old tokens.new }
+    ensures named { IfOk result ColumnNamed }
 {
     let name = site(tokens)?;
     Ok(Declare::LateSite { name })
 }
 
 fn snapshot_site_form(tokens: &mut Reader<'_>) -> Result<Declare, BrokenRule>
-    ensures { ReadsExactly snapshot_site_row result tokens.old tokens.new }
+    ensures read { ReadsExactly snapshot_site_row result tokens.old tokens.new }
+    ensures named { IfOk result ColumnNamed }
 {
     let name = site(tokens)?;
     let master = site(tokens)?;
@@ -34,7 +39,8 @@ fn snapshot_site_form(tokens: &mut Reader<'_>) -> Result<Declare, BrokenRule>
 }
 
 fn table_form(alloc: Global, tokens: &mut Reader<'_>) -> Result<Declare, LineStop>
-    ensures { Takes table_row result tokens.old tokens.new }
+    ensures read { Takes table_row result tokens.old tokens.new }
+    ensures named { IfOk result ColumnNamed }
 {
     let name = table(tokens)?;
     let columns = some_of::<ColumnPart>(alloc, tokens)?;
@@ -42,7 +48,8 @@ fn table_form(alloc: Global, tokens: &mut Reader<'_>) -> Result<Declare, LineSto
 }
 
 fn group_form(alloc: Global, tokens: &mut Reader<'_>) -> Result<Declare, LineStop>
-    ensures { Takes group_row result tokens.old tokens.new }
+    ensures read { Takes group_row result tokens.old tokens.new }
+    ensures named { IfOk result ColumnNamed }
 {
     let table = table(tokens)?;
     let group = tokens.name()?;
@@ -55,7 +62,8 @@ fn group_form(alloc: Global, tokens: &mut Reader<'_>) -> Result<Declare, LineSto
 }
 
 fn method_form(tokens: &mut Reader<'_>) -> Result<Declare, BrokenRule>
-    ensures { ReadsExactly method_row result tokens.old tokens.new }
+    ensures read { ReadsExactly method_row result tokens.old tokens.new }
+    ensures named { IfOk result ColumnNamed }
 {
     let table = table(tokens)?;
     let group = tokens.name()?;
@@ -68,7 +76,8 @@ fn method_form(tokens: &mut Reader<'_>) -> Result<Declare, BrokenRule>
 }
 
 fn priority_form(tokens: &mut Reader<'_>) -> Result<Declare, BrokenRule>
-    ensures { ReadsExactly priority_row result tokens.old tokens.new }
+    ensures read { ReadsExactly priority_row result tokens.old tokens.new }
+    ensures named { IfOk result ColumnNamed }
 {
     let group = tokens.name()?;
     let value = tokens.value()?;
@@ -81,7 +90,8 @@ fn priority_form(tokens: &mut Reader<'_>) -> Result<Declare, BrokenRule>
 }
 
 fn site_level_form(tokens: &mut Reader<'_>) -> Result<Declare, BrokenRule>
-    ensures { ReadsExactly site_level_row result tokens.old tokens.new }
+    ensures read { ReadsExactly site_level_row result tokens.old tokens.new }
+    ensures named { IfOk result ColumnNamed }
 {
     let site = site(tokens)?;
     let level = tokens.number()?;
@@ -89,7 +99,8 @@ fn site_level_form(tokens: &mut Reader<'_>) -> Result<Declare, BrokenRule>
 }
 
 fn unique_form(alloc: Global, tokens: &mut Reader<'_>) -> Result<Declare, LineStop>
-    ensures { Takes unique_row result tokens.old tokens.new }
+    ensures read { Takes unique_row result tokens.old tokens.new }
+    ensures named { IfOk result ColumnNamed }
 {
     let table = table(tokens)?;
     let constraint = tokens.name()?;
@@ -102,7 +113,8 @@ fn unique_form(alloc: Global, tokens: &mut Reader<'_>) -> Result<Declare, LineSt
 }
 
 fn unique_method_form(tokens: &mut Reader<'_>) -> Result<Declare, BrokenRule>
-    ensures { ReadsExactly unique_method_row result tokens.old tokens.new }
+    ensures read { ReadsExactly unique_method_row result tokens.old tokens.new }
+    ensures named { IfOk result ColumnNamed }
 {
     let table = table(tokens)?;
     let constraint = tokens.name()?;
@@ -115,7 +127,8 @@ fn unique_method_form(tokens: &mut Reader<'_>) -> Result<Declare, BrokenRule>
 }
 
 fn check_form(tokens: &mut Reader<'_>) -> Result<Declare, BrokenRule>
-    ensures { ReadsExactly check_row result tokens.old tokens.new }
+    ensures read { ReadsExactly check_row result tokens.old tokens.new }
+    ensures named { IfOk result ColumnNamed }
 {
     let table = table(tokens)?;
     let check = tokens.name()?;
@@ -132,7 +145,8 @@ fn check_form(tokens: &mut Reader<'_>) -> Result<Declare, BrokenRule>
 }
 
 fn convergent_form(tokens: &mut Reader<'_>) -> Result<Declare, BrokenRule>
-    ensures { ReadsExactly convergent_row result tokens.old tokens.new }
+    ensures read { ReadsExactly convergent_row result tokens.old tokens.new }
+    ensures named { IfOk result ColumnNamed }
 {
     let table = table(tokens)?;
     Ok(Declare::Convergent { table })
@@ -144,7 +158,8 @@ pub fn declaration(
     declaring: Declaring,
     tokens: &mut Reader<'_>,
 ) -> Result<Declare, LineStop>
-    ensures { Takes (declaration_of declaring) result tokens.old tokens.new }
+    ensures read { Takes (declaration_of declaring) result tokens.old tokens.new }
+    ensures named { IfOk result ColumnNamed }
 {
     match declaring {
         Declaring::Site => Ok(site_form(tokens)?),

@@ -1,10 +1,11 @@
 //! Lines as commands.
-ghost use Rattle.std.specs.Prelude.{◌≡◌, IsOk};
+ghost use Rattle.std.specs.Prelude.{◌≡◌, IsOk, IfOk};
 ghost use Rattle.script_lex.specs.Lines.{HasTokens};
 ghost use Rattle.script_lex.specs.Stop.{Gives};
 ghost use Rattle.script_words.specs.Words.{is_chosen};
 ghost use Rattle.script_words.specs.Reading.{whole, begins};
 ghost use Rattle.script_words.specs.Readers.{Takes};
+ghost use Rattle.script_parse.specs.Named.{NamesColumn};
 ghost use Rattle.script_parse.specs.Heads.{row_of};
 ghost use Rattle.script_parse.specs.Built.{later_words};
 ghost use Rattle.script_parse.specs.Parsed.{form_of, command_of, parsed, HasForm};
@@ -24,7 +25,8 @@ use std::alloc::Global;
 
 /// The parts behind a command word.
 fn parts(alloc: Global, head: Head, tokens: &mut Reader<'_>) -> Result<Command, LineStop>
-    ensures { Takes (row_of head) result tokens.old tokens.new }
+    ensures read { Takes (row_of head) result tokens.old tokens.new }
+    ensures named { IfOk result NamesColumn }
 {
     match head {
         Head::Declare(declaring) => Ok(Command::Declare(declaration(alloc, declaring, tokens)?)),
@@ -53,7 +55,8 @@ fn parts(alloc: Global, head: Head, tokens: &mut Reader<'_>) -> Result<Command, 
 
 /// The form behind a command word.
 fn form(alloc: Global, head: Head, tokens: &mut Reader<'_>) -> Result<Command, LineStop>
-    ensures { Gives (IsOk (row_of head tokens.old)) (λ command. command) result (whole (row_of head) tokens.old) }
+    ensures read { Gives (IsOk (row_of head tokens.old)) (λ command. command) result (whole (row_of head) tokens.old) }
+    ensures named { IfOk result NamesColumn }
 {
     let command = parts(alloc, head, tokens)?;
     tokens.end()?;
@@ -63,7 +66,8 @@ fn form(alloc: Global, head: Head, tokens: &mut Reader<'_>) -> Result<Command, L
 /// The command that the tokens are, of any form.
 #[tactic(auto, unfolding(crate::specs::Parsed::form_of))]
 pub fn form_of(alloc: Global, tokens: &mut Reader<'_>) -> Result<Command, LineStop>
-    ensures { Gives (HasForm tokens.old) (λ command. command) result (form_of tokens.old) }
+    ensures read { Gives (HasForm tokens.old) (λ command. command) result (form_of tokens.old) }
+    ensures named { IfOk result NamesColumn }
 {
     let Some(first) = tokens.next() else {
         return Ok(Command::Nothing);
@@ -89,7 +93,8 @@ fn is_later(tokens: &Reader<'_>) -> bool
 
 #[tactic(auto, unfolding(crate::specs::Parsed::command_of))]
 fn command_of(alloc: Global, tokens: &mut Reader<'_>) -> Result<Command, LineStop>
-    ensures { Gives (HasForm tokens.old) (λ command. command) result (command_of tokens.old) }
+    ensures read { Gives (HasForm tokens.old) (λ command. command) result (command_of tokens.old) }
+    ensures named { IfOk result NamesColumn }
 {
     if is_later(tokens) {
         return Err(LineStop::Rule(5));
@@ -100,9 +105,11 @@ fn command_of(alloc: Global, tokens: &mut Reader<'_>) -> Result<Command, LineSto
 
 /// The command that a line is, which has no end of line in it. It stops at the first of the rules 1, 3, 4, 5 and 6 that
 /// the line breaks. A line of a form that isn't built breaks rule 5. Want of memory is answered only where the line has
-/// tokens, that is, where it breaks none of the rules 1, 3 and 4 and isn't passed over.
+/// tokens, that is, where it breaks none of the rules 1, 3 and 4 and isn't passed over. A declared group or constraint
+/// names a column.
 pub fn parse_line(alloc: Global, line: &[u8]) -> Result<Command, LineStop>
-    ensures { Gives (HasTokens line.now) (λ command. command) result (parsed line.now) }
+    ensures read { Gives (HasTokens line.now) (λ command. command) result (parsed line.now) }
+    ensures named { IfOk result NamesColumn }
 {
     let tokens = lex(alloc, line)?;
     command_of(alloc, &mut Reader::of(&tokens))

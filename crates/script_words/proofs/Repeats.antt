@@ -1,7 +1,9 @@
 -- Steps of a loop over parts, with the parts that were found so far.
-use Rattle.std.proofs.Common.{◌≡◌, ℕ, zero, suc, ◌+◌, Bool, true, false, List, [], ◌∷◌, ◌++◌, length, Result, Ok, Err, OnOk, is_err, ◌||◌, refl, sym, ◌∙◌, ap, arith, append_assoc, append-nil}
+use Rattle.std.proofs.Common.{◌≡◌, ℕ, zero, suc, ◌+◌, ◌≤◌, Bool, true, false, List, [], ◌∷◌, ◌++◌, length, Result, Ok, Err, IfOk, OnOk, is_err, ◌||◌, refl, sym, ◌∙◌, ap, arith, append_assoc, append-nil}
+use Rattle.script_lex.specs.declared.stop.LineStop.{LineStop}
 use Rattle.script_lex.specs.declared.token.Token.{Token}
-use Rattle.script_words.specs.Reading.{Reading, ◌>>=◌, begins, many, with_found}
+use Rattle.script_words.specs.Reading.{Reading, ◌>>=◌, begins, many, several, with_found}
+use Rattle.script_words.specs.Readers.{Reads}
 
 -- a part is kept behind those that were found, or finds no memory
 pub more_kept : {A E : Type 0} (kept more found : List A) (x : A) (lacks failed : Bool) (pushed : Result Unit E) → (lacks ≡ false → kept ≡ found)
@@ -59,3 +61,34 @@ module _ {A : Type 0} (starts : Token → Bool) (reading : Reading A) where
       same : (r : Result (List A × List Token) ℕ) → with_found (x ∷ []) r ≡ (r >>= λ xs. Ok (x ∷ xs.0, xs.1))
       same (Ok xs) = refl
       same (Err e) = refl
+
+  -- where a part begins, one at least is read
+  found_some : (ts rest : List Token) (found : List A) → true ≡ begins starts ts → several starts reading ts ≡ Ok (found, rest) → 1 ≤ length found
+  unfolding many
+  found_some [] rest found there read = cc
+  found_some (t ∷ ts) rest found there read = go (reading (t ∷ ts)) (rw (sym there) at read)
+    where
+      one_more : (y : A) (ys : List A) → 1 ≤ length (y ∷ ys)
+      one_more y ys = omega arith
+
+      first_of : List A × List Token → List A
+      first_of p = p.0
+
+      kept : (x : A) (more : Result (List A × List Token) ℕ) → ◌>>=◌ {B = List A × List Token} more (λ xs. Ok (x ∷ xs.0, xs.1)) ≡ Ok (found, rest) → 1 ≤ length found
+      kept x (Ok xs) read =
+          let same : (x ∷ xs.0, xs.1) ≡ (found, rest) = cc in
+          let e : x ∷ xs.0 ≡ found = ap first_of same in
+          rw (sym e) (one_more x xs.0)
+      kept x (Err e) read = cc
+
+      go : (first : Result (A × List Token) ℕ)
+          → ◌>>=◌ {B = List A × List Token} first (λ x. ◌>>=◌ {B = List A × List Token} (many starts reading (length ts) x.1) (λ xs. Ok (x.0 ∷ xs.0, xs.1))) ≡ Ok (found, rest)
+          → 1 ≤ length found
+      go (Ok x) read = kept x.0 (many starts reading (length ts) x.1) read
+      go (Err e) read = cc
+
+  -- the same of a call that reads them
+  pub some_found : (r : Result (List A) LineStop) (old new : List Token) → true ≡ begins starts old → Reads (several starts reading) r old new
+      → IfOk r (λ found. 1 ≤ length found)
+  some_found (Ok found) old new there read = found_some old new found there read
+  some_found (Err e) old new there read = tt

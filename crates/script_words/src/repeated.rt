@@ -1,5 +1,5 @@
 //! Parts of a form that stand several times.
-ghost use Rattle.std.specs.Prelude.{◌≡◌, ℕ, Bool, List, Result};
+ghost use Rattle.std.specs.Prelude.{◌≡◌, ◌≤◌, ℕ, Bool, List, Result, IfOk, length};
 ghost use Rattle.script_lex.specs.declared.token.Token.{Token};
 ghost use Rattle.script_words.specs.Words.{is_named, is_valued};
 ghost use Rattle.script_words.specs.Reading.{begins, after, several, some_of, separated};
@@ -89,7 +89,8 @@ pub fn several<P: Part>(alloc: Global, tokens: &mut Reader<'_>) -> Result<Items<
 
 /// One or more.
 pub fn some_of<P: Part>(alloc: Global, tokens: &mut Reader<'_>) -> Result<Items<P::Item>, LineStop>
-    ensures { Reads (some_of P.starts P.reading) result tokens.old tokens.new }
+    ensures read { Reads (some_of P.starts P.reading) result tokens.old tokens.new }
+    ensures some { IfOk result (λ found. 1 ≤ length found) }
 {
     if !P::is_next(tokens) {
         return Err(LineStop::Rule(6));
