@@ -136,12 +136,16 @@ pub fn command_text(alloc: Global, command: &Command) -> Result<String, AllocErr
         Command::Link { from, to, link } => link_text(alloc, from, to, *link),
         Command::Clock { site, time } => clock_text(alloc, site, *time),
         Command::Purge { site } => at_text(alloc, "purge", site),
-        Command::Execute { site, origin, position } => {
-            error_text(alloc, "execute", site, origin, *position)
-        }
-        Command::DropError { site, origin, position } => {
-            error_text(alloc, "drop error", site, origin, *position)
-        }
+        Command::Execute {
+            site,
+            origin,
+            position,
+        } => { error_text(alloc, "execute", site, origin, *position) }
+        Command::DropError {
+            site,
+            origin,
+            position,
+        } => { error_text(alloc, "drop error", site, origin, *position) }
         Command::Refresh { site, how } => refresh_text(alloc, site, *how),
         Command::PurgeLog { master, table } => purge_log_text(alloc, master, table),
         Command::Suspend => format!(in alloc; "suspend"),

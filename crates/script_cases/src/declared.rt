@@ -92,17 +92,48 @@ fn site_text(alloc: Global, what: &str, name: &SiteName) -> Result<String, Alloc
     format!(in alloc; "{what} {name}")
 }
 
-/// A method behind the table and what it is of there.
-fn for_text(
+fn snapshot_site_text(
     alloc: Global,
-    what: &str,
+    name: &SiteName,
+    master: &SiteName,
+) -> Result<String, AllocError> {
+    let master = text_of(master.0.bytes());
+    let name = text_of(name.0.bytes());
+    format!(in alloc; "snapshot site {name} of {master}")
+}
+
+fn site_level_text(alloc: Global, site: &SiteName, level: i64) -> Result<String, AllocError> {
+    let site = text_of(site.0.bytes());
+    format!(in alloc; "level {level} of site {site}")
+}
+
+fn group_method_text(
+    alloc: Global,
     table: &TableName,
-    name: &Name,
-    method: &str,
+    group: &Name,
+    method: &MethodWords,
 ) -> Result<String, AllocError> {
     let table = text_of(table.0.bytes());
-    let name = text_of(name.bytes());
-    format!(in alloc; "method of {what} {name} of {table}: {method}")
+    let group = text_of(group.bytes());
+    let method = method_text(alloc, method)?;
+    format!(in alloc; "method of group {group} of {table}: {method}")
+}
+
+fn constraint_method_text(
+    alloc: Global,
+    table: &TableName,
+    constraint: &Name,
+    method: &UniqueWords,
+) -> Result<String, AllocError> {
+    let table = text_of(table.0.bytes());
+    let constraint = text_of(constraint.bytes());
+    let method = unique_text(alloc, method)?;
+    format!(in alloc; "method of constraint {constraint} of {table}: {method}")
+}
+
+fn convergent_text(alloc: Global, table: &TableName) -> Result<String, AllocError> {
+    let table = text_of(table.0.bytes());
+    format!(in alloc; "convergent {table}")
 }
 
 fn level_text(
@@ -121,11 +152,7 @@ pub fn declared_text(alloc: Global, declaration: &Declare) -> Result<String, All
     match declaration {
         Declare::Site { name } => site_text(alloc, "site", name),
         Declare::LateSite { name } => site_text(alloc, "late site", name),
-        Declare::SnapSite { name, master } => {
-            let master = text_of(master.0.bytes());
-            let name = text_of(name.0.bytes());
-            format!(in alloc; "snapshot site {name} of {master}")
-        }
+        Declare::SnapSite { name, master } => snapshot_site_text(alloc, name, master),
         Declare::Table { name, columns } => columns_text(alloc, name, columns),
         Declare::Group {
             table,
@@ -136,19 +163,13 @@ pub fn declared_text(alloc: Global, declaration: &Declare) -> Result<String, All
             table,
             group,
             method,
-        } => {
-            let method = method_text(alloc, method)?;
-            for_text(alloc, "group", table, group, method.as_str())
-        }
+        } => group_method_text(alloc, table, group, method),
         Declare::Priority {
             group,
             value,
             level,
         } => level_text(alloc, group, value, *level),
-        Declare::SiteLevel { site, level } => {
-            let site = text_of(site.0.bytes());
-            format!(in alloc; "level {level} of site {site}")
-        }
+        Declare::SiteLevel { site, level } => site_level_text(alloc, site, *level),
         Declare::Unique {
             table,
             constraint,
@@ -158,10 +179,7 @@ pub fn declared_text(alloc: Global, declaration: &Declare) -> Result<String, All
             table,
             constraint,
             method,
-        } => {
-            let method = unique_text(alloc, method)?;
-            for_text(alloc, "constraint", table, constraint, method.as_str())
-        }
+        } => { constraint_method_text(alloc, table, constraint, method) }
         Declare::Check {
             table,
             check,
@@ -169,9 +187,6 @@ pub fn declared_text(alloc: Global, declaration: &Declare) -> Result<String, All
             rel,
             value,
         } => { check_text(alloc, table, (check, column), *rel, value) }
-        Declare::Convergent { table } => {
-            let table = text_of(table.0.bytes());
-            format!(in alloc; "convergent {table}")
-        }
+        Declare::Convergent { table } => convergent_text(alloc, table),
     }
 }
