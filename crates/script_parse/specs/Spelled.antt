@@ -39,6 +39,7 @@ use Rattle.script_parse.specs.declared.command.Command.TheVariants as command
 
 -- Words and symbols of choices.
 
+-- the word of a type
 abbrev pub kind_word : Kind → List ℕ
 kind_word kind.Number = codes "NUMBER"
 kind_word kind.Words = codes "TEXT"
@@ -46,6 +47,7 @@ kind_word kind.Date = codes "DATE"
 kind_word kind.Stamp = codes "STAMP"
 kind_word kind.Site = codes "SITE"
 
+-- the symbol of a relation
 abbrev pub rel_symbol : Rel → Symbol
 rel_symbol rel.Eq = symbol.Eq
 rel_symbol rel.Ne = symbol.Ne
@@ -54,21 +56,25 @@ rel_symbol rel.Le = symbol.Le
 rel_symbol rel.Gt = symbol.Gt
 rel_symbol rel.Ge = symbol.Ge
 
+-- the word of a fate
 abbrev pub fate_word : Fate → List ℕ
 fate_word fate.Pass = codes "pass"
 fate_word fate.Lose = codes "lose"
 fate_word fate.Twice = codes "twice"
 fate_word fate.Late = codes "late"
 
+-- the word of a link's state
 abbrev pub link_word : Link → List ℕ
 link_word link.Up = codes "up"
 link_word link.Down = codes "down"
 
+-- the word of a way to refresh
 abbrev pub refresh_word : Refresh → List ℕ
 refresh_word refresh.Fast = codes "fast"
 refresh_word refresh.Complete = codes "complete"
 refresh_word refresh.Force = codes "force"
 
+-- the word of what is shown
 abbrev pub shown_word : Shown → List ℕ
 shown_word shown.Tables = codes "tables"
 shown_word shown.Queue = codes "queue"
@@ -220,6 +226,7 @@ AreValues values = (values ≢ []) × AllByRecursion IsSmall values
 abbrev pub AreNames : List (List ℕ) → Type 0
 AreNames names = (names ≢ []) × AllByRecursion IsName names
 
+-- a method of a group whose column and priority group have names
 abbrev pub IsMethod : MethodWords → Type 0
 IsMethod (method_words.Latest column) = IsName column
 IsMethod (method_words.Earliest column) = IsName column
@@ -232,25 +239,31 @@ IsMethod (method_words.Minimum column) = IsName column
 IsMethod (method_words.Priority column group) = IsName column × IsName group
 IsMethod (method_words.SitePriority column) = IsName column
 
+-- a method of a constraint whose column has a name
 abbrev pub IsUniqueMethod : UniqueWords → Type 0
 IsUniqueMethod (unique_words.AppendSite column) = IsName column
 IsUniqueMethod (unique_words.AppendSequence column) = IsName column
 IsUniqueMethod unique_words.Discard = Unit {0}
 
+-- a test of a column that has a name
 abbrev pub IsTest : TestWords → Type 0
 IsTest t = IsName t.column × IsSmall t.value
 
+-- no tests at all, or one or more
 abbrev pub AreTests : Option (List TestWords) → Type 0
 AreTests None = Unit {0}
 AreTests (Some tests) = (tests ≢ []) × AllByRecursion IsTest tests
 
+-- a value or an amount that is small enough to be read
 abbrev pub IsHow : How → Type 0
 IsHow (how.To v) = IsSmall v
 IsHow (how.Add n) = IsSmall (literal.Num n)
 
+-- a set of a column that has a name
 abbrev pub IsSet : Set → Type 0
 IsSet s = IsName s.column × IsHow s.how
 
+-- a declaration that a line can give
 abbrev pub IsDeclaration : Declare → Type 0
 IsDeclaration (declare.Site name) = IsName name.0
 IsDeclaration (declare.LateSite name) = IsName name.0
@@ -265,11 +278,13 @@ IsDeclaration (declare.UniqueMethod table constraint method) = IsName table.0 ×
 IsDeclaration (declare.Check table check column r v) = IsName table.0 × IsName check × IsName column × IsSmall v
 IsDeclaration (declare.Convergent table) = IsName table.0
 
+-- a statement that a line can give
 abbrev pub IsStatement : Statement → Type 0
 IsStatement (statement.Insert table values) = IsName table.0 × AreValues values
 IsStatement (statement.Update table key sets) = IsName table.0 × AreValues key × (sets ≢ []) × AllByRecursion IsSet sets
 IsStatement (statement.Delete table key) = IsName table.0 × AreValues key
 
+-- a command that a line can give
 abbrev pub IsWellFormed : Command → Type 0
 IsWellFormed command.Nothing = Unit {0}
 IsWellFormed (command.Declare d) = IsDeclaration d

@@ -102,6 +102,7 @@ young_line line = lexed line >>= young_command_of
 abbrev pub young_rule : ℕ → ℕ
 young_rule rule = if rule == 4 || rule == 6 then 5 else rule
 
+-- the same of what a line gives
 abbrev pub as_young : Result Command ℕ → Result Command ℕ
 as_young (Ok c) = Ok c
 as_young (Err rule) = Err (young_rule rule)
