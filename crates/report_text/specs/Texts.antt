@@ -14,6 +14,22 @@ use Rattle.report_text.specs.Sheet.{line, quoted}
 abbrev pub commit_text : List ℕ → ℕ → List ℕ
 commit_text site number = line (codes "commit") (site ∷ decimal number ∷ [])
 
+-- commit SITE none
+abbrev pub nothing_committed_text : List ℕ → List ℕ
+nothing_committed_text site = line (codes "commit") (site ∷ codes "none" ∷ [])
+
+-- purge SITE N
+abbrev pub purge_text : List ℕ → ℕ → List ℕ
+purge_text site count = line (codes "purge") (site ∷ decimal count ∷ [])
+
+-- execute SITE ORIGIN POSITION done
+abbrev pub execute_text : List ℕ → List ℕ → ℕ → List ℕ
+execute_text site origin position = line (codes "execute") (site ∷ origin ∷ decimal position ∷ codes "done" ∷ [])
+
+-- drop-error SITE ORIGIN POSITION
+abbrev pub drop_error_text : List ℕ → List ℕ → ℕ → List ℕ
+drop_error_text site origin position = line (codes "drop-error") (site ∷ origin ∷ decimal position ∷ [])
+
 -- push A B sent N done D errors E low M
 abbrev pub push_text : List ℕ → List ℕ → PushCount → List ℕ
 push_text from to count =

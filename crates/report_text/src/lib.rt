@@ -1,12 +1,19 @@
 //! The bytes of the report's lines.
 #![tactic(auto)]
 
+mod calls;
 mod lines;
 mod printed;
+mod refusals;
 mod shown;
 mod word;
 
+pub use calls::add_calls;
 pub use lines::{Lines, MOST_LINE};
-pub use printed::{PushCount, commit_line, malformed_line, push_line};
+pub use printed::{
+    PushCount, commit_line, drop_error_line, execute_line, malformed_line, nothing_committed_line,
+    purge_line, push_line,
+};
+pub use refusals::{error_line, refused_line};
 pub use shown::add_tables;
 pub use word::Word;

@@ -1,13 +1,13 @@
 //! Lines of at most 256 bytes, which are put into room that is there.
 ghost use Rattle.std.specs.Prelude.{◌≤◌};
 ghost use Rattle.report_text.specs.Sheet.{Appends, most_line};
-ghost use Rattle.report_text.specs.Texts.{commit_text, push_text, malformed_text};
+ghost use Rattle.report_text.specs.Texts.{commit_text, nothing_committed_text, purge_text, execute_text, drop_error_text, push_text, malformed_text};
 
 use crate::{Lines, Word};
 use rep_values::SiteName;
 
-/// What one push did: how many transactions were sent, how many were applied and how many are in error, and the
-/// receiver's low-water mark for the sender.
+/// What a push tells: how many transactions were sent, one that went twice counted once; how many were applied at the
+/// receiver and how many are in error there; and the receiver's low-water mark for the sender.
 #[derive(Clone, Copy, Debug, PartialEq, Eq)]
 pub struct PushCount {
     pub sent: u64,
@@ -22,6 +22,53 @@ pub fn commit_line(lines: &mut Lines, site: SiteName, number: u64)
     ensures { Appends lines.old lines.new (commit_text site.0 number) }
 {
     lines.put_line(b"commit", &[Word::Name(site.0), Word::Number(number)]);
+}
+
+/// `commit SITE none`
+pub fn nothing_committed_line(lines: &mut Lines, site: SiteName)
+    requires { most_line ≤ lines.old.room }
+    ensures { Appends lines.old lines.new (nothing_committed_text site.0) }
+{
+    lines.put_line(b"commit", &[Word::Name(site.0), Word::Plain(b"none")]);
+}
+
+/// `purge SITE N`
+pub fn purge_line(lines: &mut Lines, site: SiteName, count: u64)
+    requires { most_line ≤ lines.old.room }
+    ensures { Appends lines.old lines.new (purge_text site.0 count) }
+{
+    lines.put_line(b"purge", &[Word::Name(site.0), Word::Number(count)]);
+}
+
+/// `execute SITE ORIGIN POSITION done`
+pub fn execute_line(lines: &mut Lines, site: SiteName, origin: SiteName, position: u64)
+    requires { most_line ≤ lines.old.room }
+    ensures { Appends lines.old lines.new (execute_text site.0 origin.0 position) }
+{
+    lines.put_line(
+        b"execute",
+        &[
+            Word::Name(site.0),
+            Word::Name(origin.0),
+            Word::Number(position),
+            Word::Plain(b"done"),
+        ],
+    );
+}
+
+/// `drop-error SITE ORIGIN POSITION`
+pub fn drop_error_line(lines: &mut Lines, site: SiteName, origin: SiteName, position: u64)
+    requires { most_line ≤ lines.old.room }
+    ensures { Appends lines.old lines.new (drop_error_text site.0 origin.0 position) }
+{
+    lines.put_line(
+        b"drop-error",
+        &[
+            Word::Name(site.0),
+            Word::Name(origin.0),
+            Word::Number(position),
+        ],
+    );
 }
 
 /// `push A B sent N done D errors E low M`

@@ -15,7 +15,7 @@ use rep_values::{NoMemory, Row, SiteName, TableName, Value};
 const MOST_ROW: u64 = 2_148;
 
 /// Each value behind a space.
-fn put_values(lines: &mut Lines, values: &[Value])
+pub(crate) fn put_values(lines: &mut Lines, values: &[Value])
     requires { most_value * length values.now ≤ lines.old.room }
     ensures text { Appends lines.old lines.new (spaced (map value_text values.now)) }
     ensures room { lines.old.room ≤ lines.new.room + most_value * length values.now }

@@ -1,5 +1,5 @@
 -- The newest entry of a journal alone can be settled.
-use Rattle.std.proofs.Common.{◌≡◌, ℕ, ◌+◌, Bool, true, List, [], ◌∷◌, length, reverse, drop, Some, sym, subst, ◌∙◌, ap, arith, drop_of_length-le}
+use Rattle.std.proofs.Common.{◌≡◌, ℕ, ◌+◌, true, List, [], ◌∷◌, length, reverse, drop, Some, sym, subst, ◌∙◌, ap, arith, drop_of_length-le}
 use Rattle.std.specs.Prelude.{slice_get}
 use Rattle.std.specs.List.{AllByRecursion}
 use Rattle.std.proofs.lemmas.List.{length-reverse}
@@ -13,11 +13,11 @@ use Rattle.journal_order.specs.Settling.{IsFinishOf, IsSettleable, AreInOrder, e
 pub newest_can_be_settled : (schema : Schema) (origin : SiteName) (newest : ℕ) (journal : List Entry) (e : Entry) → newest + 1 ≡ length journal
     → slice_get (reverse journal) newest ≡ Some e → IsFinishOf origin e → is_master_site schema origin ≡ true → IsSettleable schema origin newest journal
 newest_can_be_settled schema origin newest journal e last found finishes is_master = record {
-      within = omega (arith, last);
-      master = is_master;
-      entries = subst (AllByRecursion (IsFinishOf origin)) (sym alone) (finishes, tt);
-      order = subst (AreInOrder schema) (sym alone) (tt, tt);
-    }
+  within = omega (arith, last);
+  master = is_master;
+  entries = subst (AllByRecursion (IsFinishOf origin)) (sym alone) (finishes, tt);
+  order = subst (AreInOrder schema) (sym alone) (tt, tt);
+}
   where
     none_behind : drop (newest + 1) (reverse journal) ≡ []
     none_behind = drop_of_length-le (reverse journal) (omega (arith, last, length-reverse journal))

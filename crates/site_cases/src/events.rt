@@ -4,7 +4,7 @@ use crate::told::{push_error, push_seen, refused, refused_statement};
 use crate::works::{WorkAnswer, apply_by_work, settle_newest};
 use case_lines::{CaseStop, Words, push_name};
 use rep_calls::Statement;
-use rep_values::SiteName;
+use rep_values::{ApplyError, SiteName};
 use row_tables::ListTables;
 use site_core::Site;
 use site_state::{Applied, Why};
@@ -116,21 +116,18 @@ fn word_of(why: Why) -> &'static str {
     }
 }
 
-/// What became of a position.
-fn told_applied(alloc: Global, applied: &Applied) -> Result<String, CaseStop> {
-    let mut out = String::new(alloc);
-    match applied {
-        Applied::Done => out.push_str("Done")?,
-        Applied::Error(error) => {
-            out.push_str("Error")?;
-            push_error(&mut out, error)?;
-        }
-        Applied::Stale(why) => {
-            out.push_str("Stale ")?;
-            out.push_str(word_of(*why))?;
-        }
-    }
+fn told_done(alloc: Global) -> Result<String, CaseStop> {
+    Ok(format!(in alloc; "Done")?)
+}
+
+fn told_error(alloc: Global, error: &ApplyError) -> Result<String, CaseStop> {
+    let mut out = format!(in alloc; "Error")?;
+    push_error(&mut out, error)?;
     Ok(out)
+}
+
+fn told_stale(alloc: Global, why: Why) -> Result<String, CaseStop> {
+    Ok(format!(in alloc; "Stale {}", word_of(why))?)
 }
 
 fn apply(
@@ -139,8 +136,11 @@ fn apply(
     origin: &SiteName,
     position: u64,
 ) -> Result<String, CaseStop> {
-    let applied = site.apply_one(alloc, origin, position)?;
-    told_applied(alloc, &applied)
+    match site.apply_one(alloc, origin, position)? {
+        Applied::Done => told_done(alloc),
+        Applied::Error(error) => told_error(alloc, &error),
+        Applied::Stale(why) => told_stale(alloc, why),
+    }
 }
 
 fn work(
@@ -150,7 +150,9 @@ fn work(
     position: u64,
 ) -> Result<String, CaseStop> {
     match apply_by_work(alloc, site, origin, position)? {
-        WorkAnswer::Applied(applied) => told_applied(alloc, &applied),
+        WorkAnswer::Applied(Applied::Done) => told_done(alloc),
+        WorkAnswer::Applied(Applied::Error(error)) => told_error(alloc, &error),
+        WorkAnswer::Applied(Applied::Stale(why)) => told_stale(alloc, why),
         WorkAnswer::Unique => Ok(format!(in alloc; "Unique")?),
     }
 }

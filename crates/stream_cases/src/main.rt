@@ -14,7 +14,7 @@
 //! number with a scan of all earlier positions.
 //!
 //! Tokens: `schema` begins anew; `declare DECLARATION`; `call CALL` keeps a call; `tokens` are those of a transaction of
-//! the calls that are kept, which are then forgotten.
+//! the calls that are kept, which are then forgotten; `lines` are how a report tells these calls, and forgets them too.
 #![tactic(auto)]
 
 mod indexes;
@@ -45,7 +45,7 @@ fn outcome(alloc: Global, state: &mut State, line: &str) -> Result<Option<String
         b"index" | b"note" | b"compare" => {
             indexes::outcome(alloc, &mut state.index, kind.bytes(), &mut words)
         }
-        b"schema" | b"declare" | b"call" | b"tokens" => {
+        b"schema" | b"declare" | b"call" | b"tokens" | b"lines" => {
             tokens::outcome(alloc, &mut state.declared, kind.bytes(), &mut words)
         }
         _ => Err(CaseStop::NoCase),

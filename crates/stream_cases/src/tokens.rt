@@ -1,4 +1,4 @@
-//! Cases of the tokens of transactions.
+//! Cases of the tokens of transactions, and of the lines of their calls.
 ghost use Rattle.std.specs.Prelude.{◌↔◌, IsTrue};
 ghost use Rattle.std.specs.List.{AllByRecursion};
 ghost use Rattle.rep_schema.specs.Tables.{IsKeyed};
@@ -12,9 +12,10 @@ use rep_calls::{Call, Txn};
 use rep_lists::Items;
 use rep_schema::{Schema, TableEntry, is_keyed};
 use rep_values::{ApplyError, Refusal};
+use report_text::{Lines, add_calls};
 use std::alloc::Global;
 use std::marker::Model;
-use std::mem;
+use std::{mem, str};
 
 /// A schema, and the calls that are kept.
 #[derive(Drop)]
@@ -96,6 +97,23 @@ fn shown(alloc: Global, schema: &Schema, txn: &Txn) -> Result<String, CaseStop>
     Ok(out)
 }
 
+/// The lines of the transaction's calls, where it fits the schema.
+fn listed(alloc: Global, schema: &Schema, txn: &Txn) -> Result<String, CaseStop>
+    requires shape { HasShape schema.now }
+{
+    if !fits(schema, txn) {
+        return Ok(format!(in alloc; "no fit")?);
+    }
+    let mut lines = Lines::make(alloc);
+    add_calls(&mut lines, schema, txn)?;
+    let mut out = format!(in alloc; "lines")?;
+    for line in str::from_utf8(lines.bytes()).unwrap_or("?").lines() {
+        out.push('\n')?;
+        out.push_str(line)?;
+    }
+    Ok(out)
+}
+
 /// Whether the declaration that a line is was added.
 fn is_declared(alloc: Global, schema: &mut Schema, words: &mut Words) -> Result<bool, CaseStop>
     requires { HasShape schema.old }
@@ -136,7 +154,10 @@ pub fn outcome(
             words.end()?;
             let calls = mem::replace(&mut declared.calls, Vec::new(alloc));
             let txn = Txn::of(alloc, Items::from_vec(calls))?;
-            Ok(Some(shown(alloc, &declared.schema, &txn)?))
+            match kind {
+                b"lines" => Ok(Some(listed(alloc, &declared.schema, &txn)?)),
+                _ => Ok(Some(shown(alloc, &declared.schema, &txn)?)),
+            }
         }
     }
 }

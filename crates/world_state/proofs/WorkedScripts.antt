@@ -13,7 +13,7 @@ use Rattle.site_state.specs.State.{SiteState}
 use Rattle.site_state.specs.Contents.{tables_of}
 use Rattle.site_state.proofs.WorkedSites.{key_column, number_column}
 use Rattle.event_laws.specs.Core.{site_of}
-use Rattle.world_state.specs.declared.push_count.PushCount.{PushCount}
+use Rattle.report_text.specs.declared.printed.PushCount.{PushCount}
 use Rattle.world_state.specs.declared.refused.Refused.{Refused}
 use Rattle.world_state.specs.declared.commands.RunCommand.TheVariants as run
 use Rattle.world_state.specs.declared.commands.WorldCommand.{WorldCommand}

@@ -8,7 +8,7 @@ use Rattle.site_state.specs.Journal.{low_water}
 use Rattle.site_state.specs.Passes.{is_done, is_error, added_count}
 use Rattle.site_state.specs.Errors.{errors_from}
 use Rattle.event_laws.specs.Core.{site_of}
-use Rattle.world_state.specs.declared.push_count.PushCount.{PushCount}
+use Rattle.report_text.specs.declared.printed.PushCount.{PushCount}
 use Rattle.world_state.specs.World.{WorldState}
 use Rattle.world_state.specs.Rounds.{site_settle}
 use Rattle.world_state.specs.Pushes.{positions_above, pushed_in}

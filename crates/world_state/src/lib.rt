@@ -5,12 +5,10 @@ mod block;
 mod commands;
 mod declared_snapshot;
 mod phase;
-mod push_count;
 mod refused;
 
 pub use block::{Block, Stated};
 pub use commands::{RefreshMode, RunCommand, TestWords, WorldCommand};
 pub use declared_snapshot::DeclaredSnapshot;
 pub use phase::Phase;
-pub use push_count::PushCount;
 pub use refused::Refused;
