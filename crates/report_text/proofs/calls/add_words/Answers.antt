@@ -16,7 +16,7 @@ returns-in_ok-add_parts-in-Update-clause-ok c =
     let keys = map value_text c.in-Update.key in
     let parts = flat_map (part_words schema table) c.in-Update.parts in
     let first : c.put_words-in-Update.new.self.bytes ≡ bytes ++ spaced head =
-    c.put_words-in-Update.ensures.text.bytes ∙ ap (λ n. c.reserve.new.self.bytes ++ spaced (codes "update" ∷ n ∷ [])) c.name_of-name-in-Update.ensures ∙ ap (λ b. b ++ spaced head) c.in_ok-reserve.ensures.bytes in
+    c.put_words-in-Update.ensures.text.bytes ∙ ap (λ n. c.reserve.new.self.bytes ++ spaced (codes "update" ∷ n ∷ [])) c.name_of-name-in-Update.ensures.text ∙ ap (λ b. b ++ spaced head) c.in_ok-reserve.ensures.bytes in
     let second = put_behind bytes c.put_words-in-Update.new.self.bytes c.add_values-in-Update.new.lines.bytes head keys first (c.in_ok-add_values-in-Update.ensures.ok ∙ ap (λ vs. c.put_words-in-Update.new.self.bytes ++ spaced (map value_text vs)) c.values-in-Update.ensures.value) in
     let third = put_behind bytes c.add_values-in-Update.new.lines.bytes c.add_parts.new.lines.bytes (head ++ keys) parts second (c.in_ok-add_parts-in-Update.ensures.ok ∙ ap (λ ps. c.add_values-in-Update.new.lines.bytes ++ spaced (flat_map (part_words schema table) ps)) c.as_slice.ensures) in
     third ∙ ap (λ call. bytes ++ spaced (call_words schema call)) (sym c.in-Update.is)
