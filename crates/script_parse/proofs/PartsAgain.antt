@@ -28,7 +28,7 @@ use Rattle.script_words.proofs.Again.{name_again, name_is_no_mark, value_again, 
 use Rattle.script_parse.specs.declared.command.TestWords.{TestWords}
 use Rattle.script_parse.specs.Columns.{column_of, column}
 use Rattle.script_parse.specs.Methods.{method, unique_method}
-use Rattle.script_parse.specs.Parts.{rels, test, setting, set_part, fates}
+use Rattle.script_parse.specs.Parts.{rels, row_test, setting, set_part, fates}
 use Rattle.script_parse.specs.Spelled.{rel_symbol, fate_word, column_tokens, method_tokens, unique_tokens, fate_tokens, test_tokens, how_tokens, set_tokens, separated_tokens, IsName, IsMethod, IsUniqueMethod, IsTest, IsHow, IsSet}
 
 -- Columns, which end where no colon follows.
@@ -108,8 +108,8 @@ rel_again rel.Le rest = refl
 rel_again rel.Gt rest = refl
 rel_again rel.Ge rest = refl
 
-test_again : (t : TestWords) (rest : List Token) → IsTest t → true ≡ true → test (test_tokens t ++ rest) ≡ Ok (t, rest)
-unfolding test
+test_again : (t : TestWords) (rest : List Token) → IsTest t → true ≡ true → row_test (test_tokens t ++ rest) ≡ Ok (t, rest)
+unfolding row_test
 test_again t rest formed any =
     rw (
       name_again t.column (token.Symbol (rel_symbol t.rel) ∷ value_token t.value ∷ rest) formed.0,
@@ -118,9 +118,9 @@ test_again t rest formed any =
     ) refl
 
 pub tests_again : (t : TestWords) (ts : List TestWords) → AllByRecursion IsTest (t ∷ ts)
-    → separated (codes "and") test (separated_tokens (token.Word (codes "and")) test_tokens (t ∷ ts)) ≡ Ok (t ∷ ts, [])
+    → separated (codes "and") row_test (separated_tokens (token.Word (codes "and")) test_tokens (t ∷ ts)) ≡ Ok (t ∷ ts, [])
 tests_again t ts formed =
-    all_separated_again (codes "and") (token.Word (codes "and")) refl test test_tokens IsTest (λ rest. true) test_again (λ rest. refl) t ts formed refl
+    all_separated_again (codes "and") (token.Word (codes "and")) refl row_test test_tokens IsTest (λ rest. true) test_again (λ rest. refl) t ts formed refl
 
 -- Sets.
 

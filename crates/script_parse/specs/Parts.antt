@@ -51,8 +51,8 @@ abbrev pub test_of : List ℕ → Rel → Literal → TestWords
 test_of c r v = record { column = c; rel = r; value = v }
 
 -- TEST: NAME OP VALUE
-unfoldable pub test : Reading TestWords
-test = row test_of ⊛ name ⊛ choice rels ⊛ value
+unfoldable pub row_test : Reading TestWords
+row_test = row test_of ⊛ name ⊛ choice rels ⊛ value
 
 -- a column that gets a value
 abbrev pub to_value : List ℕ → Literal → Set

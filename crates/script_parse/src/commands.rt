@@ -3,7 +3,7 @@ ghost use Rattle.std.specs.Prelude.{codes, IfOk};
 ghost use Rattle.script_words.specs.Reading.{optional, separated};
 ghost use Rattle.script_words.specs.Parts.{whole_number, choice};
 ghost use Rattle.script_words.specs.Readers.{ReadsExactly, Takes};
-ghost use Rattle.script_parse.specs.Parts.{test, links, refreshes, shown_words};
+ghost use Rattle.script_parse.specs.Parts.{row_test, links, refreshes, shown_words};
 ghost use Rattle.script_parse.specs.Named.{NamesColumn};
 ghost use Rattle.script_parse.specs.Rows.{snapshot_row, row_row, insert_row, update_row, delete_row, txn_row, push_row, fates_behind, fate_row, link_row, clock_row, purge_row, execute_row, drop_error_row, refresh_row, purge_log_row, show_row};
 
@@ -18,7 +18,7 @@ use std::alloc::Global;
 
 /// `[where TEST [and TEST]..]`
 fn where_group(alloc: Global, tokens: &mut Reader<'_>) -> Result<Option<Items<TestWords>>, LineStop>
-    ensures { Takes (optional (codes "where") (separated (codes "and") test)) result tokens.old tokens.new }
+    ensures { Takes (optional (codes "where") (separated (codes "and") row_test)) result tokens.old tokens.new }
 {
     if !tokens.is_at(b"where") {
         return Ok(None);

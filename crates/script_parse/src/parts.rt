@@ -4,7 +4,7 @@ ghost use Rattle.script_words.specs.Words.{is_named, is_chosen};
 ghost use Rattle.script_words.specs.Reading.{either};
 ghost use Rattle.script_words.specs.Parts.{choice};
 ghost use Rattle.script_words.specs.Readers.{ReadsExactly};
-ghost use Rattle.script_parse.specs.Parts.{site, table, rels, test, setting, set_part, fates};
+ghost use Rattle.script_parse.specs.Parts.{site, table, rels, row_test, setting, set_part, fates};
 
 use crate::TestWords;
 use net_plan::Fate;
@@ -52,13 +52,13 @@ impl Part for TestPart {
 
     ghost starts = { is_named };
 
-    ghost reading = { test };
+    ghost reading = { row_test };
 
     fn is_next(tokens: &Reader<'_>) -> bool {
         tokens.is_at_name()
     }
 
-    #[tactic(auto, unfolding(crate::specs::Parts::test))]
+    #[tactic(auto, unfolding(crate::specs::Parts::row_test))]
     fn read(tokens: &mut Reader<'_>) -> Result<TestWords, BrokenRule> {
         let column = tokens.name()?;
         let rel = rel(tokens)?;
