@@ -1,9 +1,8 @@
-//! Errors, refusals and calls in words, as reports have them.
+//! Errors, refusals and what was seen in words, as reports have them.
 
-use case_lines::{CaseStop, push_name, push_row, push_values};
-use rep_calls::{Call, Part, Past, Txn};
+use case_lines::{CaseStop, push_name};
+use rep_calls::Past;
 use rep_lists::NoMemory;
-use rep_schema::{Schema, TableEntry};
 use rep_values::{ApplyError, Refusal};
 use std::alloc::Global;
 
@@ -97,92 +96,6 @@ pub fn refused_statement(
     let mut out = format!(in alloc; "! {statement}")?;
     push_refusal(&mut out, alloc, refusal)?;
     Ok(out)
-}
-
-/// Where nothing of the schema has this number.
-fn push_unknown(out: &mut String) -> Result<(), NoMemory> {
-    out.push_str(" ?")?;
-    Ok(())
-}
-
-fn push_table(out: &mut String, table: Option<&TableEntry>) -> Result<(), NoMemory> {
-    match table {
-        Some(entry) => push_name(out, &entry.name.0),
-        None => push_unknown(out),
-    }
-}
-
-fn push_group(out: &mut String, table: Option<&TableEntry>, group: u8) -> Result<(), NoMemory> {
-    let Some(entry) = table else {
-        return push_unknown(out);
-    };
-    match entry.groups.as_slice().get(group as usize) {
-        Some(group) => push_name(out, &group.name),
-        None => {
-            out.push_str(" shadow")?;
-            Ok(())
-        }
-    }
-}
-
-fn push_part(
-    out: &mut String,
-    alloc: Global,
-    table: Option<&TableEntry>,
-    part: &Part,
-) -> Result<(), NoMemory> {
-    out.push_str(" group")?;
-    push_group(out, table, part.group)?;
-    out.push_str(" old")?;
-    push_values(out, alloc, part.old.as_slice())?;
-    out.push_str(" new")?;
-    push_values(out, alloc, part.new.as_slice())
-}
-
-fn push_call(
-    out: &mut String,
-    alloc: Global,
-    schema: &Schema,
-    call: &Call,
-) -> Result<(), NoMemory> {
-    match call {
-        Call::Insert { table, row } => {
-            out.push_str(" insert")?;
-            push_table(out, schema.tables.as_slice().get(*table as usize))?;
-            push_row(out, alloc, row)?;
-        }
-        Call::Delete { table, row } => {
-            out.push_str(" delete")?;
-            push_table(out, schema.tables.as_slice().get(*table as usize))?;
-            push_row(out, alloc, row)?;
-        }
-        Call::Update { table, key, parts } => {
-            let entry = schema.tables.as_slice().get(*table as usize);
-            out.push_str(" update")?;
-            push_table(out, entry)?;
-            push_values(out, alloc, key.values())?;
-            for part in parts.as_slice() {
-                push_part(out, alloc, entry, part)?;
-            }
-        }
-    }
-    Ok(())
-}
-
-/// A line for each call of a transaction.
-pub fn push_calls(
-    out: &mut String,
-    alloc: Global,
-    schema: &Schema,
-    txn: &Txn,
-) -> Result<(), NoMemory> {
-    let mut number = 0u64;
-    for call in txn.calls.as_slice() {
-        number = number.saturating_add(1);
-        out.push_str(&format!(in alloc; "\ncall {number}")?)?;
-        push_call(out, alloc, schema, call)?;
-    }
-    Ok(())
 }
 
 /// Each master that was seen, and its number.
