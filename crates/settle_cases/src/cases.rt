@@ -34,6 +34,7 @@ fn place_of(sites: &[Site], name: &SiteName) -> Option<usize>
 }
 
 impl Cases {
+    /// Nothing is declared, and nothing is kept.
     pub fn new(alloc: Global) -> Cases {
         Cases {
             schema: Schema::empty(alloc),
