@@ -13,4 +13,5 @@ mod MethodShapes
 mod UniqueMethodShapes
 mod CheckShapes
 pub mod DeclaredShapes
+pub mod DeclaredTables
 mod WorkedDeclarations

@@ -1,4 +1,5 @@
 -- The definitions of this crate.
 pub mod Refusals
 pub mod Additions
+pub mod Shaping
 pub mod Laws

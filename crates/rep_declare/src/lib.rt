@@ -10,6 +10,7 @@ mod method_changes;
 mod places;
 mod priority_changes;
 mod refusals;
+mod shaping;
 mod site_changes;
 mod table_changes;
 
@@ -17,3 +18,4 @@ pub use additions::add_declaration;
 pub use declaration::{Declare, MethodWords, UniqueWords};
 pub use laws::{lines_pass_that_name_free_columns, places_are_those_of_named_columns};
 pub use refusals::refusal_of;
+pub use shaping::table_shaped;

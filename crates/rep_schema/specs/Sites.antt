@@ -1,5 +1,5 @@
 -- The sites of a schema: who sends to whom, and which tables one holds.
-use Rattle.std.specs.Prelude.{ℕ, Bool, false, not, ◌&&◌, List, [], Option, Some, None, map, filter, slice_index_or}
+use Rattle.std.specs.Prelude.{ℕ, Bool, false, not, ◌&&◌, ◌||◌, List, [], Option, Some, None, map, filter, flat_map, slice_index_or}
 use Rattle.std.specs.List.{find}
 use Rattle.rep_values.specs.declared.name.SiteName.{SiteName}
 use Rattle.rep_schema.specs.declared.schema.Schema.{Schema}
@@ -38,6 +38,15 @@ senders_of schema site = names_of (senders_to schema.sites (site_named schema si
 -- the sites that the site of this name sends to, in declared order
 abbrev pub destinations_of : Schema → SiteName → List SiteName
 destinations_of schema site = names_of (destinations_from schema.sites (site_named schema site))
+
+-- one of two sites sends to the other
+abbrev pub are_linked : SiteEntry → SiteEntry → Bool
+are_linked a b = sends_to a b || sends_to b a
+
+-- the pairs of sites with a direction from one to the other: two masters, late ones among them, and a snapshot site and its
+-- master in either order
+abbrev pub linked_pairs : List SiteEntry → List (SiteName × SiteName)
+linked_pairs entries = flat_map (λ (a : SiteEntry). map (λ (b : SiteEntry). (a.name, b.name)) (filter (are_linked a) entries)) entries
 
 -- a table is among those of a set
 abbrev pub has_table : List Bool → ℕ → Bool

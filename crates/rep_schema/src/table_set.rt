@@ -1,6 +1,6 @@
 //! Tables that a site holds, by number.
-ghost use Rattle.std.specs.Prelude.{◌≡◌, ◌<◌, ◌==◌, ℕ, false, slice_index_or};
-ghost use Rattle.std.specs.List.{list_any, AllByRecursion};
+ghost use Rattle.std.specs.Prelude.{◌≡◌, ◌<◌, ◌==◌, ℕ, false, map, nat_lt, slice_index_or};
+ghost use Rattle.std.specs.List.{list_any, range_with_len, AllByRecursion};
 ghost use Rattle.rep_schema.specs.Sites.{has_table};
 
 use std::marker::Model;
@@ -38,6 +38,17 @@ impl TableSet {
         let mut held = [false; 32];
         for i in 0..32usize {
             held[i] = has_number(tables, i);
+        }
+        TableSet { held }
+    }
+
+    /// The tables below a number.
+    pub fn below(number: usize) -> TableSet
+        ensures { result ≡ map (λ table. nat_lt table number) (range_with_len 0 32) }
+    {
+        let mut held = [false; 32];
+        for i in 0..32usize {
+            held[i] = i < number;
         }
         TableSet { held }
     }

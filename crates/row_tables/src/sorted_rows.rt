@@ -3,7 +3,7 @@ ghost use Rattle.std.specs.Prelude.{◌≡◌, ◌≢◌, ◌+◌, ◌≤◌, �
 ghost use Rattle.rep_lists.specs.Rising.{IsRising, IsThere, IsGap};
 ghost use Rattle.rep_schema.specs.Tables.{beside, row_cmp, key_of, find_row, put_row, take_row, picked, IsHeldElsewhere};
 
-use rep_lists::RoomyList;
+use rep_lists::{Copies, RoomyList};
 use rep_schema::{Column, compare_row, compare_rows, have_one_key, same_picked};
 use rep_values::{NoMemory, Row, Value};
 use std::alloc::Global;
@@ -118,6 +118,17 @@ impl SortedRows {
         SortedRows {
             rows: RoomyList::new(alloc),
         }
+    }
+
+    /// The same rows once more, or want of memory.
+    pub fn copy(&self, alloc: Global) -> Result<SortedRows, NoMemory>
+        ensures { IfOk result (λ copied. copied.rows ≡ self.now.rows) }
+    {
+        let mut rows = RoomyList::with_room(alloc, self.rows.len())?;
+        for row in self.rows.as_slice() {
+            rows.push(row.copy(alloc)?);
+        }
+        Ok(SortedRows { rows })
     }
 
     /// How many rows there are.

@@ -1,6 +1,4 @@
 use Rattle.std.proofs.Common.{◌<◌, length, sym, subst}
-use Rattle.rep_schema.specs.Tables.{columns_of, RowFits, IsKeyed}
-use Rattle.rep_schema.proofs.RowFit.{length-key_of}
 use Rattle.row_tables.specs.Stored.{Stored}
 use Rattle.row_tables.proofs.OneTable.{in_stored, rows_of-stored}
 use Rattle.row_tables.proofs.list_tables.ListTablesRowStore.holds_unique.Goals as goal
