@@ -1,5 +1,5 @@
 //! The inboxes of a site, one for each sender.
-ghost use Rattle.std.specs.Prelude.{◌≡◌, ℕ, map, false, option_copied, IfOk};
+ghost use Rattle.std.specs.Prelude.{◌≡◌, ℕ, map, slice_get, false, option_copied, IfOk};
 ghost use Rattle.std.specs.List.{position, AllByRecursion};
 ghost use Rattle.deferred_queue.specs.Streams.{is_same_site};
 ghost use Rattle.origin_marks.specs.Marks.{finished};
@@ -35,4 +35,14 @@ pub(crate) fn place_from(inboxes: &[Inbox], origin: &SiteName) -> Option<usize>
     ensures { result ≡ position (λ i. is_same_site i.sender.origin origin.now) inboxes.now }
 {
     inboxes.iter().position(|inbox| inbox.is_from(origin))
+}
+
+/// The sender of the inbox at a place.
+pub(crate) fn origin_at(inboxes: &[Inbox], place: usize) -> Option<&SiteName>
+    ensures { option_copied result ≡ slice_get (map (λ i. i.sender.origin) inboxes.now) place }
+{
+    match inboxes.get(place) {
+        Some(inbox) => Some(inbox.origin()),
+        None => None,
+    }
 }

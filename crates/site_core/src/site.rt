@@ -107,6 +107,13 @@ impl<R: RowStore> Site<R> {
         })
     }
 
+    /// The site's name.
+    pub fn name(&self) -> &SiteName
+        ensures { result.now ≡ self.now.here.site }
+    {
+        &self.here.site
+    }
+
     /// The store of rows.
     pub fn store(&self) -> &R
         ensures tables { R.tables result.now ≡ tables_of self.now }

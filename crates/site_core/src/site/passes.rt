@@ -153,6 +153,13 @@ impl<R: RowStore> Site<R> {
         }
     }
 
+    /// Positions that arrived from a sender are from 1.
+    pub fn arrivals_are_from_one(&self, origin: &SiteName)
+        ensures { AllByRecursion (λ a. 1 ≤ a.position) (arrivals origin.now self.now) }
+    {
+        let _ = self.arrivals_above(origin, 0);
+    }
+
     /// The position of a sender at a place in rising order.
     fn position_at(&self, origin: &SiteName, place: usize) -> u64
         requires { place < length (arrivals origin.now self.now) }

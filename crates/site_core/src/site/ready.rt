@@ -1,5 +1,5 @@
 //! What a site has of its senders, and what of it is ready.
-ghost use Rattle.std.specs.Prelude.{◌≡◌, length, IfOk};
+ghost use Rattle.std.specs.Prelude.{◌≡◌, length, map, slice_get, option_copied, IfOk};
 ghost use Rattle.std.specs.List.{list_all};
 ghost use Rattle.site_state.specs.State.{arrivals, first_number};
 ghost use Rattle.site_state.specs.Journal.{low_water};
@@ -7,7 +7,7 @@ ghost use Rattle.site_state.specs.Ready.{covered, is_covered, is_due, stale_of};
 ghost use Rattle.site_state.specs.Pasts.{past_of};
 
 use super::Site;
-use crate::inboxes::inbox_from;
+use crate::inboxes::{inbox_from, origin_at};
 use crate::seen::past_seen;
 use rep_calls::Past;
 use rep_lists::{Items, NoMemory};
@@ -17,6 +17,20 @@ use site_state::{Arrival, Why};
 use std::alloc::Global;
 
 impl<R: RowStore> Site<R> {
+    /// How many senders the site has.
+    pub fn sender_count(&self) -> usize
+        ensures { result ≡ length self.now.senders }
+    {
+        self.inboxes.len()
+    }
+
+    /// The sender at a place in declared order; None exactly where the place is at or behind their end.
+    pub fn sender(&self, place: usize) -> Option<&SiteName>
+        ensures { option_copied result ≡ slice_get (map (λ s. s.origin) self.now.senders) place }
+    {
+        origin_at(&self.inboxes, place)
+    }
+
     /// The low-water mark of a sender: the greatest number with all of its positions from 1 up to it finished.
     pub fn mark(&self, origin: &SiteName) -> u64
         ensures { result ≡ low_water origin.now self.now.journal }

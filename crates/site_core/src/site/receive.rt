@@ -37,8 +37,8 @@ impl<R: RowStore> Site<R> {
         self.outbox.is_destination(site)
     }
 
-    /// The last position of the stream to a site.
-    fn last_sent(&self, to: &SiteName) -> u64
+    /// The last position of the stream to a site, 0 where nothing was queued for it.
+    pub fn last_sent(&self, to: &SiteName) -> u64
         ensures { result ≡ length (stream_to to.now self.now) }
     {
         self.outbox.last(to)
