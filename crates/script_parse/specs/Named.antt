@@ -25,4 +25,5 @@ NamesColumn (command.DropError site origin position) = Unit {0}
 NamesColumn (command.Refresh site how) = Unit {0}
 NamesColumn (command.PurgeLog master table) = Unit {0}
 NamesColumn command.Suspend = Unit {0}
+NamesColumn (command.Join site source) = Unit {0}
 NamesColumn (command.Show what site) = Unit {0}

@@ -105,6 +105,10 @@ purge_log_row = row command.PurgeLog ⊛ site ⊛ table
 abbrev pub suspend_row : Reading Command
 suspend_row = row command.Suspend
 
+-- join NAME NAME
+abbrev pub join_row : Reading Command
+join_row = row command.Join ⊛ site ⊛ site
+
 -- show tables|queue|errors|marks|journal|log|calls NAME
 abbrev pub show_row : Reading Command
 show_row = row command.Show ⊛ choice shown_words ⊛ site

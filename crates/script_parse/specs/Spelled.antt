@@ -206,6 +206,7 @@ spelled (command.DropError site origin position) =
 spelled (command.Refresh site r) = token.Word (codes "refresh") ∷ token.Word site.0 ∷ token.Word (refresh_word r) ∷ []
 spelled (command.PurgeLog master table) = token.Word (codes "purge-log") ∷ token.Word master.0 ∷ token.Word table.0 ∷ []
 spelled command.Suspend = token.Word (codes "suspend") ∷ []
+spelled (command.Join site source) = token.Word (codes "join") ∷ token.Word site.0 ∷ token.Word source.0 ∷ []
 spelled (command.Show what site) = token.Word (codes "show") ∷ token.Word (shown_word what) ∷ token.Word site.0 ∷ []
 
 -- What a line can give: names have their form, numbers are small enough to be read, and no list of parts is empty.
@@ -306,4 +307,5 @@ IsWellFormed (command.DropError site origin position) = IsName site.0 × IsName 
 IsWellFormed (command.Refresh site r) = IsName site.0
 IsWellFormed (command.PurgeLog master table) = IsName master.0 × IsName table.0
 IsWellFormed command.Suspend = Unit {0}
+IsWellFormed (command.Join site source) = IsName site.0 × IsName source.0
 IsWellFormed (command.Show what site) = IsName site.0

@@ -88,6 +88,7 @@ is_young (command.DropError site origin position) = false
 is_young (command.Refresh site how) = false
 is_young (command.PurgeLog master table) = false
 is_young command.Suspend = false
+is_young (command.Join site source) = false
 is_young (command.Show what site) = is_young_show what
 
 -- the command that tokens are, of the first program's forms; any other is stopped by rule 5

@@ -11,9 +11,8 @@ fn is_built_declaration(declaration: &Declare) -> bool
     ensures { result ≡ is_built_declaration declaration.now }
 {
     match declaration {
-        Declare::SnapSite { .. } => false,
+        Declare::SnapSite { .. } | Declare::LateSite { .. } => false,
         Declare::Site { .. }
-        | Declare::LateSite { .. }
         | Declare::Table { .. }
         | Declare::Group { .. }
         | Declare::Method { .. }
@@ -41,7 +40,10 @@ fn is_built(command: &Command) -> bool
     match command {
         Command::Declare(declaration) => is_built_declaration(declaration),
         Command::Show { what, .. } => is_built_show(*what),
-        Command::Snapshot { .. } | Command::Refresh { .. } | Command::PurgeLog { .. } => false,
+        Command::Snapshot { .. }
+        | Command::Refresh { .. }
+        | Command::PurgeLog { .. }
+        | Command::Join { .. } => false,
         Command::Nothing
         | Command::Row { .. }
         | Command::Resume

@@ -93,6 +93,11 @@ pub enum Command {
     },
     /// `suspend`
     Suspend,
+    /// `join NAME NAME`
+    Join {
+        site: SiteName,
+        source: SiteName,
+    },
     /// `show tables|queue|errors|marks|journal|log|calls NAME`
     Show {
         what: Shown,

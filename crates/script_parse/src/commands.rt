@@ -5,7 +5,7 @@ ghost use Rattle.script_words.specs.Parts.{whole_number, choice};
 ghost use Rattle.script_words.specs.Readers.{ReadsExactly, Takes};
 ghost use Rattle.script_parse.specs.Parts.{row_test, links, refreshes, shown_words};
 ghost use Rattle.script_parse.specs.Named.{NamesColumn};
-ghost use Rattle.script_parse.specs.Rows.{snapshot_row, row_row, insert_row, update_row, delete_row, txn_row, push_row, fates_behind, fate_row, link_row, clock_row, purge_row, execute_row, drop_error_row, refresh_row, purge_log_row, show_row};
+ghost use Rattle.script_parse.specs.Rows.{snapshot_row, row_row, insert_row, update_row, delete_row, txn_row, push_row, fates_behind, fate_row, link_row, clock_row, purge_row, execute_row, drop_error_row, refresh_row, purge_log_row, join_row, show_row};
 
 use crate::parts::{FatePart, SetPart, TestPart, site, table};
 use crate::{Command, Link, Refresh, Shown, TestWords};
@@ -242,6 +242,16 @@ pub fn purge_log_form(tokens: &mut Reader<'_>) -> Result<Command, BrokenRule>
     let master = site(tokens)?;
     let table = table(tokens)?;
     Ok(Command::PurgeLog { master, table })
+}
+
+/// `join NAME NAME`
+pub fn join_form(tokens: &mut Reader<'_>) -> Result<Command, BrokenRule>
+    ensures read { ReadsExactly join_row result tokens.old tokens.new }
+    ensures named { IfOk result NamesColumn }
+{
+    let late = site(tokens)?;
+    let source = site(tokens)?;
+    Ok(Command::Join { site: late, source })
 }
 
 const SHOWN: [(&[u8], Shown); 7] = [

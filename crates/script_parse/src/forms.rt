@@ -13,9 +13,9 @@ ghost use Rattle.script_parse.specs.Parsed.{form_of, command_of, parsed, HasForm
 use crate::Command;
 use crate::built::built;
 use crate::commands::{
-    clock_form, delete_form, drop_error_form, execute_form, fate_form, insert_form, link_form,
-    purge_form, purge_log_form, push_form, refresh_form, row_form, show_form, snapshot_form,
-    txn_form, update_form,
+    clock_form, delete_form, drop_error_form, execute_form, fate_form, insert_form, join_form,
+    link_form, purge_form, purge_log_form, push_form, refresh_form, row_form, show_form,
+    snapshot_form, txn_form, update_form,
 };
 use crate::declarations::declaration;
 use crate::heads::{Head, head_of};
@@ -49,6 +49,7 @@ fn parts(alloc: Global, head: Head, tokens: &mut Reader<'_>) -> Result<Command, 
         Head::Refresh => Ok(refresh_form(tokens)?),
         Head::PurgeLog => Ok(purge_log_form(tokens)?),
         Head::Suspend => Ok(Command::Suspend),
+        Head::Join => Ok(join_form(tokens)?),
         Head::Show => Ok(show_form(tokens)?),
     }
 }
@@ -78,11 +79,13 @@ pub fn form_of(alloc: Global, tokens: &mut Reader<'_>) -> Result<Command, LineSt
     form(alloc, head, tokens)
 }
 
-const LATER: [(&[u8], ()); 4] = [
+const LATER: [(&[u8], ()); 6] = [
+    (b"latesite", ()),
     (b"snapsite", ()),
     (b"snapshot", ()),
     (b"refresh", ()),
     (b"purge-log", ()),
+    (b"join", ()),
 ];
 
 fn is_later(tokens: &Reader<'_>) -> bool

@@ -46,10 +46,11 @@ pub enum Head {
     Refresh,
     PurgeLog,
     Suspend,
+    Join,
     Show,
 }
 
-const HEADS: [(&[u8], Head); 32] = [
+const HEADS: [(&[u8], Head); 33] = [
     (b"site", Head::Declare(Declaring::Site)),
     (b"latesite", Head::Declare(Declaring::LateSite)),
     (b"snapsite", Head::Declare(Declaring::SnapSite)),
@@ -81,6 +82,7 @@ const HEADS: [(&[u8], Head); 32] = [
     (b"refresh", Head::Refresh),
     (b"purge-log", Head::PurgeLog),
     (b"suspend", Head::Suspend),
+    (b"join", Head::Join),
     (b"show", Head::Show),
 ];
 

@@ -90,6 +90,7 @@ fn is_young(command: &Command) -> bool
         | Command::DropError { .. }
         | Command::Refresh { .. }
         | Command::PurgeLog { .. }
+        | Command::Join { .. }
         | Command::Suspend => false,
     }
 }

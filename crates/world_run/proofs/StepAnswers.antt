@@ -30,6 +30,7 @@ steps_ok (command.DropError site origin position) outcome lines old new steps = 
 steps_ok (command.Refresh site how) outcome lines old new steps = steps
 steps_ok (command.PurgeLog master table) outcome lines old new steps = steps
 steps_ok command.Suspend outcome lines old new steps = steps
+steps_ok (command.Join site source) outcome lines old new steps = steps
 steps_ok (command.Show what site) outcome lines old new steps = steps
 
 -- a refusal comes where there is no outcome, and leaves the world
@@ -54,4 +55,5 @@ steps_refused (command.DropError site origin position) outcome old new steps = s
 steps_refused (command.Refresh site how) outcome old new steps = steps
 steps_refused (command.PurgeLog master table) outcome old new steps = steps
 steps_refused command.Suspend outcome old new steps = steps
+steps_refused (command.Join site source) outcome old new steps = steps
 steps_refused (command.Show what site) outcome old new steps = steps

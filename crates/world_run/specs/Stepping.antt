@@ -48,4 +48,5 @@ StepsBy (command.DropError site origin position) = Steps
 StepsBy (command.Refresh site how) = Steps
 StepsBy (command.PurgeLog master table) = Steps
 StepsBy command.Suspend = Steps
+StepsBy (command.Join site source) = Steps
 StepsBy (command.Show what site) = Steps

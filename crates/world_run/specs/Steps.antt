@@ -237,4 +237,5 @@ command_step (command.DropError site origin position) w = None
 command_step (command.Refresh site how) w = None
 command_step (command.PurgeLog master table) w = None
 command_step command.Suspend w = None
+command_step (command.Join site source) w = None
 command_step (command.Show what site) w = show_step what site w

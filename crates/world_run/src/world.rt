@@ -86,7 +86,8 @@ impl World {
             | Command::DropError { .. }
             | Command::Refresh { .. }
             | Command::PurgeLog { .. }
-            | Command::Suspend => Err(Stop::Refused),
+            | Command::Suspend
+            | Command::Join { .. } => Err(Stop::Refused),
         }
     }
 
