@@ -2,7 +2,7 @@
 -- ready; and the place of a site among the others.
 use Rattle.std.proofs.Common.{◌≡◌, ℕ, zero, suc, ◌+◌, ◌<◌, List, [], ◌∷◌, ◌++◌, drop, Bool, true, false, cond, Some, None, refl, sym, ap, arith, subst}
 use Rattle.std.specs.Prelude.{◌&&◌, ◌||◌, not, nat_lt, is_some, slice_get, slice_set, Option}
-use Rattle.std.specs.List.{list_any, AllByRecursion, position_or_len}
+use Rattle.std.specs.List.{list_any, AllByRecursion}
 use Rattle.std.proofs.lemmas.Bool.Decides.{nat_tests}
 use Rattle.rep_values.specs.declared.name.SiteName.{SiteName}
 use Rattle.deferred_queue.specs.Streams.{is_same_site}
@@ -16,13 +16,15 @@ use Rattle.world_state.specs.World.{WorldState}
 use Rattle.world_state.specs.Rounds.{is_ready_here, passed_where_ready, round, rounds}
 use Rattle.world_state.specs.Pushes.{taken_each, taken_one, emptied, world_take, world_deliver, world_send, world_send_each}
 use Rattle.world_laws.specs.Simulation.{WasSent, AreEvents}
+use Rattle.world_laws.specs.Places.{place_of}
 use Rattle.world_laws.proofs.Links.{at_carries, way_sent, delivered_carries}
 use Rattle.world_laws.proofs.SiteSteps.{Runs, taken_runs}
 use Rattle.world_laws.proofs.Pieces.{runs_lead, links_lead}
 
 -- ---- deliveries, one by one
 
-on_way_between-delivered : (from to : SiteName) (net : List Direction) → on_way_between from to (at_direction from to delivered net) ≡ drop 1 (on_way_between from to net)
+-- a delivery takes the first packet off the way
+pub on_way_between-delivered : (from to : SiteName) (net : List Direction) → on_way_between from to (at_direction from to delivered net) ≡ drop 1 (on_way_between from to net)
 on_way_between-delivered from to [] = refl
 on_way_between-delivered from to (d ∷ ds) = go (is_between from to d) refl (on_way_between-delivered from to ds)
   where
@@ -121,9 +123,6 @@ ready_first origin x (a ∷ arrived) all = go (nat_lt 0 a.position) (grind (arit
     go false is c later = absurd (cc is)
 
 -- ---- a site's place
-
-abbrev pub place_of : SiteName → List SiteState → ℕ
-place_of name xs = position_or_len (λ (x : SiteState). is_same_site x.here.site name) xs
 
 -- a site is the one at its place
 pub site_of-place : (name : SiteName) (xs : List SiteState) → site_of name xs ≡ slice_get xs (place_of name xs)

@@ -18,19 +18,17 @@ use Rattle.event_laws.specs.Events as event
 use Rattle.world_state.specs.declared.phase.Phase.{Phase}
 use Rattle.world_state.specs.declared.phase.Phase.TheVariants as phase
 use Rattle.world_state.specs.declared.block.Block.{Block}
-use Rattle.world_state.specs.declared.commands.RunCommand.{RunCommand}
-use Rattle.world_state.specs.declared.commands.RunCommand.TheVariants as command
-use Rattle.world_state.specs.declared.commands.TestWords.{TestWords}
-use Rattle.world_state.specs.declared.commands.WorldCommand.{WorldCommand}
-use Rattle.world_state.specs.declared.commands.WorldCommand.TheVariants as line
+use Rattle.script_parse.specs.declared.command.Command.{Command}
+use Rattle.script_parse.specs.declared.command.Command.TheVariants as command
+use Rattle.script_parse.specs.declared.command.TestWords.{TestWords}
 use Rattle.world_state.specs.World.{WorldState, with_site}
-use Rattle.world_state.specs.Declaring.{with_snapshot_at}
+use Rattle.world_state.specs.Declaring.{with_snapshot_at, tests_in}
 use Rattle.world_state.specs.Rounds.{site_settle}
 use Rattle.world_state.specs.Pushes.{world_release, sent_on, world_send, world_send_each, positions_above, world_send_above, taken_each, emptied, world_deliver, world_settle, world_send_mark, world_bring_mark, world_answer, pushed_in, world_push}
-use Rattle.world_state.specs.Blocks.{closed, is_commit, statements_of, committed_block, world_commit}
+use Rattle.world_state.specs.Blocks.{closed, is_commit, committed_block, world_commit}
 use Rattle.world_state.specs.Phases.{is_setup}
 use Rattle.world_state.specs.Refusals.{world_refusal}
-use Rattle.world_state.specs.Steps.{resumed, world_refresh, log_purged_at, run_done, world_done, run_refused, world_refused}
+use Rattle.world_state.specs.Steps.{resumed, world_refresh, log_purged_at, is_up_word, world_done, world_refused}
 use Rattle.world_laws.specs.Simulation.{CarriesSent, Simulates, Leads, AreEvents, StepsAreEvents, StepsAreEventsHoweverRefused}
 use Rattle.world_laws.proofs.Links.{net_more, at_carries, way_sent, released_carries, emptied_carries, sent_carries}
 use Rattle.world_laws.proofs.SiteSteps.{run-append, Runs, taken_runs, SiteRuns, does_runs, settle_does}
@@ -158,7 +156,7 @@ push_leads from to count = then_lead (λ w. world_settle from to (pushed_in from
 
 block_leads : (block : Option Block) → AreEvents (committed_block block)
 block_leads None w v s = none_lead w v s
-block_leads (Some block) w v s = one_lead w (committed_block (Some block) w) v (event.Commit block.site (statements_of block)) s refl refl (ap (at_site block.site _) (sym s.sites)) refl
+block_leads (Some block) w v s = one_lead w (committed_block (Some block) w) v (event.Commit block.site block.statements) s refl refl (ap (at_site block.site _) (sym s.sites)) refl
 
 pub commit_leads : AreEvents world_commit
 commit_leads w v s = block_leads w.block w v s
@@ -190,49 +188,41 @@ resumed_leads phase.Setup w v is s = let setup : is_setup w.phase ≡ true = ap 
 resumed_leads phase.Running w v is s = none_lead w v s
 resumed_leads phase.Suspended w v is s = beside_lead w (record w { phase = phase.Running }) v s refl refl refl
 
-pub run_leads : (number : ℕ) (c : RunCommand) → AreEvents (run_done number c)
-run_leads number (command.Txn site) w v s = beside_lead w (run_done number (command.Txn site) w) v s s.behind refl refl
-run_leads number (command.Statement statement) w v s = beside_lead w (run_done number (command.Statement statement) w) v s s.behind refl refl
-run_leads number command.Commit w v s = commit_leads w v s
-run_leads number command.Abandon w v s = closed_leads w v s
-run_leads number (command.Push from to count) w v s = push_leads from to count w v s
-run_leads number (command.AddFates from to fates) w v s = links_lead w _ v s (same_carried v.sent from to (with_fates fates) w.net (λ d carries. record { held = carries.held; on_way = carries.on_way }) s.net)
-run_leads number (command.ClearFates from to) w v s = links_lead w _ v s (same_carried v.sent from to without_fates w.net (λ d carries. record { held = carries.held; on_way = carries.on_way }) s.net)
-run_leads number (command.Link from to up) w v s = links_lead w _ v s (same_carried v.sent from to (with_link up) w.net (λ d carries. record { held = carries.held; on_way = carries.on_way }) s.net)
-run_leads number (command.Clock site clock) w v s = one_site site _ (event.SetClock site clock) (λ v. refl) (λ v. refl) w v s
-run_leads number (command.Purge site) w v s = one_site site _ (event.Purge site) (λ v. refl) (λ v. refl) w v s
-run_leads number (command.Execute site origin position) w v s = one_site site _ (event.Execute site origin position) (λ v. refl) (λ v. refl) w v s
-run_leads number (command.DropError site origin position) w v s = one_site site _ (event.Drop site origin position) (λ v. refl) (λ v. refl) w v s
-run_leads number (command.Refresh site mode) w v s = refresh_leads site w v s
-run_leads number (command.PurgeLog site table) w v s = purge_log_leads site (table_place w.schema table) w v s
-run_leads number command.Suspend w v s = beside_lead w (record w { phase = phase.Suspended }) v s refl refl refl
-run_leads number command.Resume w v s = resumed_leads w.phase w v refl s
-run_leads number (command.Join site source) w v s = join_leads site source w v s
-run_leads number (command.Show site) w v s = none_lead w v s
-
 -- declarations are beside what events look at
 declared_leads : (site : SiteName) (table : Option ℕ) (tests : List TestWords) → AreEvents (with_snapshot_at site table tests)
 declared_leads site None tests w v s = none_lead w v s
 declared_leads site (Some table) tests w v s = beside_lead w (with_snapshot_at site (Some table) tests w) v s s.behind refl refl
 
-pub done_leads : (number : ℕ) (c : WorldCommand) → AreEvents (world_done number c)
-done_leads number (line.Declare declaration) w v s = beside_lead w (world_done number (line.Declare declaration) w) v s s.behind refl refl
-done_leads number (line.Snapshot site table tests) w v s = declared_leads site (table_place w.schema table) tests w v s
-done_leads number (line.Row table values) w v s = beside_lead w (world_done number (line.Row table values) w) v s s.behind refl refl
-done_leads number (line.Run c) w v s = run_leads number c w v s
+pub done_leads : (number : ℕ) (c : Command) → AreEvents (world_done number c)
+done_leads number command.Nothing w v s = none_lead w v s
+done_leads number (command.Declare declaration) w v s = beside_lead w (world_done number (command.Declare declaration) w) v s s.behind refl refl
+done_leads number (command.Snapshot site table tests) w v s = declared_leads site (table_place w.schema table) (tests_in tests) w v s
+done_leads number (command.Row table values) w v s = beside_lead w (world_done number (command.Row table values) w) v s s.behind refl refl
+done_leads number (command.Txn site) w v s = beside_lead w (world_done number (command.Txn site) w) v s s.behind refl refl
+done_leads number (command.Statement statement) w v s = beside_lead w (world_done number (command.Statement statement) w) v s s.behind refl refl
+done_leads number command.Commit w v s = commit_leads w v s
+done_leads number command.Abandon w v s = closed_leads w v s
+done_leads number (command.Push from to count) w v s = push_leads from to count w v s
+done_leads number (command.Fates from to fates) w v s = links_lead w _ v s (same_carried v.sent from to (with_fates fates) w.net (λ d carries. record { held = carries.held; on_way = carries.on_way }) s.net)
+done_leads number (command.ClearFates from to) w v s = links_lead w _ v s (same_carried v.sent from to without_fates w.net (λ d carries. record { held = carries.held; on_way = carries.on_way }) s.net)
+done_leads number (command.Link from to word) w v s = links_lead w _ v s (same_carried v.sent from to (with_link (is_up_word word)) w.net (λ d carries. record { held = carries.held; on_way = carries.on_way }) s.net)
+done_leads number (command.Clock site time) w v s = one_site site _ (event.SetClock site time) (λ v. refl) (λ v. refl) w v s
+done_leads number (command.Purge site) w v s = one_site site _ (event.Purge site) (λ v. refl) (λ v. refl) w v s
+done_leads number (command.Execute site origin position) w v s = one_site site _ (event.Execute site origin position) (λ v. refl) (λ v. refl) w v s
+done_leads number (command.DropError site origin position) w v s = one_site site _ (event.Drop site origin position) (λ v. refl) (λ v. refl) w v s
+done_leads number (command.Refresh site how) w v s = refresh_leads site w v s
+done_leads number (command.PurgeLog master table) w v s = purge_log_leads master (table_place w.schema table) w v s
+done_leads number command.Suspend w v s = beside_lead w (record w { phase = phase.Suspended }) v s refl refl refl
+done_leads number command.Resume w v s = resumed_leads w.phase w v refl s
+done_leads number (command.Join site source) w v s = join_leads site source w v s
+done_leads number (command.Show what site) w v s = none_lead w v s
 
-refused_run_leads : (c : RunCommand) → AreEvents (run_refused c)
-refused_run_leads c w v s = go (is_commit c)
+refused_leads : (c : Command) → AreEvents (world_refused c)
+refused_leads c w v s = go (is_commit c)
   where
     go : (b : Bool) → Leads (cond b (closed w) w) v
     go true = closed_leads w v s
     go false = none_lead w v s
-
-refused_leads : (c : WorldCommand) → AreEvents (world_refused c)
-refused_leads (line.Declare declaration) = none_lead
-refused_leads (line.Snapshot site table tests) = none_lead
-refused_leads (line.Row table values) = none_lead
-refused_leads (line.Run c) = refused_run_leads c
 
 -- each line behind Setup is a list of events, whatever refusal it meets
 pub steps_are_events_however_refused : StepsAreEventsHoweverRefused

@@ -12,7 +12,7 @@ use Rattle.event_laws.specs.Events.{run}
 use Rattle.event_laws.specs.Marks.{MarksAreLow, PurgedIsFinished, AreWellNumbered}
 use Rattle.event_laws.specs.Orders.{AreFinishedOnce, AreSettledOnce}
 use Rattle.event_laws.specs.Waiting.{IsDelivered, PassesFinishNothing, NothingWaits}
-use Rattle.world_state.specs.declared.commands.WorldCommand.{WorldCommand}
+use Rattle.script_parse.specs.declared.command.Command.{Command}
 use Rattle.world_state.specs.World.{WorldState}
 use Rattle.world_state.specs.Making.{world_made}
 use Rattle.world_state.specs.Phases.{is_setup}
@@ -39,7 +39,7 @@ reached_by change are w reached = ∥∥₁_map reached go
     }
 
 -- so does a line
-pub reached_step : (number : ℕ) (c : WorldCommand) (w : WorldState) → IsReached w → IsReached (world_step number c w)
+pub reached_step : (number : ℕ) (c : Command) (w : WorldState) → IsReached w → IsReached (world_step number c w)
 reached_step number c w reached = reached_by (world_step number c) (steps_are_events number c) w reached
 
 -- it begins where Setup ends

@@ -92,9 +92,9 @@ waiting_less origin before after (s ∷ ss) more some = go (is_same_site s.origi
 -- ---- a pass
 
 -- the senders are as before, and what was finished is
-record Goes (x y : SiteState) : Type 0 where
-  senders : y.senders ≡ x.senders
-  more : Finishes x.journal y.journal
+pub record Goes (x y : SiteState) : Type 0 where
+  pub senders : y.senders ≡ x.senders
+  pub more : Finishes x.journal y.journal
 
 goes_refl : (x : SiteState) → Goes x x
 goes_refl x = record { senders = refl; more = λ o p is. is }
@@ -113,7 +113,7 @@ each_goes : (origin : SiteName) (arrived : List Arrival) (x : SiteState) → Goe
 each_goes origin [] x = goes_refl x
 each_goes origin (a ∷ arrived) x = goes_then x (site_apply origin a.position x) (apply_each origin arrived (site_apply origin a.position x)) (steps_go x (site_apply origin a.position x) (apply_steps origin a.position x)) (each_goes origin arrived (site_apply origin a.position x))
 
-pass_goes : (origin : SiteName) (x : SiteState) → Goes x (site_pass origin x)
+pub pass_goes : (origin : SiteName) (x : SiteState) → Goes x (site_pass origin x)
 pass_goes origin x = let g = each_goes origin (arrivals origin x) (begun x) in record { senders = g.senders; more = g.more }
 
 -- what isn't ready doesn't change a site
@@ -186,14 +186,14 @@ pass_lowers origin x is = waiting_less origin x.journal (site_pass origin x).jou
 
 -- ---- rounds
 
-where_goes : (o : SiteName) (x : SiteState) → Goes x (passed_where_ready o x)
+pub where_goes : (o : SiteName) (x : SiteState) → Goes x (passed_where_ready o x)
 where_goes o x = go (has_ready o x)
   where
     go : (b : Bool) → Goes x (cond b (site_pass o x) x)
     go true = pass_goes o x
     go false = goes_refl x
 
-round_goes : (os : List SiteName) (x : SiteState) → Goes x (round os x)
+pub round_goes : (os : List SiteName) (x : SiteState) → Goes x (round os x)
 round_goes [] x = goes_refl x
 round_goes (o ∷ os) x = goes_then x (passed_where_ready o x) (round os (passed_where_ready o x)) (where_goes o x) (round_goes os (passed_where_ready o x))
 

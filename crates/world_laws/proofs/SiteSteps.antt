@@ -142,7 +142,7 @@ where_does site origin = record { keeps = λ x. kept x (has_ready origin x); run
 
 -- ---- rounds
 
-same_does : (site : SiteName) → SiteRuns site (λ x. x)
+pub same_does : (site : SiteName) → SiteRuns site (λ x. x)
 same_does site = record { keeps = λ x. refl; runs = λ x v found. record { events = []; sites = sym (at_same site (λ y. y) v.sites (λ y. refl)); sent = refl } }
 
 pub round_does : (site : SiteName) (origins : List SiteName) → SiteRuns site (round origins)

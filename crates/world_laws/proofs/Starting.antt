@@ -9,7 +9,7 @@ use Rattle.rep_schema.specs.declared.schema.SiteEntry.{SiteEntry}
 use Rattle.rep_schema.specs.Shape.{is_master, HasShape}
 use Rattle.rep_schema.specs.Tables.{Rows}
 use Rattle.rep_schema.specs.Named.{is_site}
-use Rattle.rep_schema.specs.Sites.{senders_of, destinations_of}
+use Rattle.rep_schema.specs.Sites.{senders_of, destinations_of, linked_pairs}
 use Rattle.deferred_queue.specs.Streams.{is_same_site}
 use Rattle.deferred_queue.proofs.Sites.{is_same_site-true, is_same_site-refl}
 use Rattle.site_state.specs.State.{SenderState, DestinationState, SiteState, is_master_site, is_among, destination_of, opened_in, opened_of}
@@ -23,7 +23,7 @@ use Rattle.event_laws.specs.Waiting.{IsFirst, AreFirsts, StreamsMeet, AbsentAreC
 use Rattle.event_laws.proofs.NewSites.{new_site_is_new}
 use Rattle.world_state.specs.declared.declared_snapshot.DeclaredSnapshot.{DeclaredSnapshot}
 use Rattle.world_state.specs.World.{WorldState}
-use Rattle.world_state.specs.Making.{rows_made, logged_at, snapshots_at, snapshot_here, rows_of_snapshots, site_made, entry_made, is_early, sites_made, linked_pairs, world_made}
+use Rattle.world_state.specs.Making.{rows_made, logged_at, snapshots_at, snapshot_here, rows_of_snapshots, site_made, entry_made, is_early, sites_made, world_made}
 use Rattle.world_laws.specs.Simulation.{Simulates}
 use Rattle.world_laws.proofs.Links.{new_carries}
 

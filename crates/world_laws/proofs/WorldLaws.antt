@@ -14,7 +14,7 @@ use Rattle.event_laws.proofs.MarkLaws.{run_holds, marks_are_low, purged_is_finis
 use Rattle.event_laws.proofs.OrderLaws.{are_finished_once, are_settled_once, earlier_comes_first}
 use Rattle.event_laws.proofs.Passing.{every_site_can_pass}
 use Rattle.event_laws.proofs.Waiting.{nothing_waits_for_ever}
-use Rattle.world_state.specs.declared.commands.WorldCommand.{WorldCommand}
+use Rattle.script_parse.specs.declared.command.Command.{Command}
 use Rattle.world_state.specs.World.{WorldState}
 use Rattle.world_state.specs.Making.{world_made}
 use Rattle.world_state.specs.Steps.{world_step, world_steps}
@@ -25,7 +25,7 @@ use Rattle.world_laws.proofs.Sending.{holds_packets, holds_from_1}
 use Rattle.world_laws.proofs.Starting.{core_of, made_start, made_simulates, made_declared, made_meshed}
 
 -- lines behind Setup are a list of events
-pub lines_lead : (number : ℕ) (lines : List WorldCommand) → AreEvents (world_steps number lines)
+pub lines_lead : (number : ℕ) (lines : List Command) → AreEvents (world_steps number lines)
 lines_lead number [] = none_lead
 lines_lead number (c ∷ more) = then_lead (world_step number c) (world_steps (suc number) more) (steps_are_events number c) (lines_lead (suc number) more)
 

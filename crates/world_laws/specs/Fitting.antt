@@ -8,7 +8,7 @@ use Rattle.site_state.specs.State.{SiteState, is_master_site}
 use Rattle.event_laws.specs.Core.{site_of}
 use Rattle.event_laws.specs.Fitting.{FitsHere}
 use Rattle.event_laws.specs.Confluence.{CanPassInAnyOrder}
-use Rattle.world_state.specs.declared.commands.WorldCommand.{WorldCommand}
+use Rattle.script_parse.specs.declared.command.Command.{Command}
 use Rattle.world_state.specs.declared.declared_snapshot.DeclaredSnapshot.{DeclaredSnapshot}
 use Rattle.world_state.specs.World.{WorldState}
 use Rattle.world_state.specs.Making.{rows_made, world_made}
@@ -27,9 +27,9 @@ EachFits sites = (site : SiteName) (x : SiteState) → site_of site sites ≡ So
 
 -- so it is in the world that Setup's end makes of what is well declared, and in each that further lines make of it
 abbrev pub EachFitsInWorlds : Type 0
-EachFitsInWorlds = (w : WorldState) → IsWellDeclared w → (number : ℕ) (lines : List WorldCommand) → EachFits (world_steps number lines (world_made w)).sites
+EachFitsInWorlds = (w : WorldState) → IsWellDeclared w → (number : ℕ) (lines : List Command) → EachFits (world_steps number lines (world_made w)).sites
 
 -- and there the order in which all that is ready of a master is applied doesn't count at any site
 abbrev pub EachCanPassInAnyOrder : Type 0
-EachCanPassInAnyOrder = (w : WorldState) → IsWellDeclared w → (number : ℕ) (lines : List WorldCommand)
+EachCanPassInAnyOrder = (w : WorldState) → IsWellDeclared w → (number : ℕ) (lines : List Command)
     → (site origin : SiteName) (x : SiteState) → site_of site (world_steps number lines (world_made w)).sites ≡ Some x → is_master_site w.schema origin ≡ true → CanPassInAnyOrder origin x

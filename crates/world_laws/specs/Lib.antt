@@ -4,3 +4,4 @@ pub mod Worlds
 pub mod Scripts
 pub mod Fitting
 pub mod Reached
+pub mod Places

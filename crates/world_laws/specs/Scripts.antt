@@ -4,42 +4,34 @@ use Rattle.std.specs.List.{AllByRecursion}
 use Rattle.rep_values.specs.declared.name.SiteName.{SiteName}
 use Rattle.rep_values.specs.declared.refusal.Refusal.{Refusal}
 use Rattle.rep_schema.specs.Shape.{HasShape}
-use Rattle.rep_declare.specs.Additions.{ColumnNamed}
 use Rattle.site_state.specs.State.{SiteState}
 use Rattle.event_laws.specs.Core.{site_of}
 use Rattle.event_laws.specs.Waiting.{IsDelivered, PassesFinishNothing, NothingWaits}
-use Rattle.world_state.specs.declared.commands.RunCommand.TheVariants as command
-use Rattle.world_state.specs.declared.commands.WorldCommand.{WorldCommand}
-use Rattle.world_state.specs.declared.commands.WorldCommand.TheVariants as line
+use Rattle.script_parse.specs.declared.command.Command.{Command}
+use Rattle.script_parse.specs.declared.command.Command.TheVariants as command
+use Rattle.script_parse.specs.Named.{NamesColumn}
 use Rattle.world_state.specs.World.{WorldState, first_world}
 use Rattle.world_state.specs.Refusals.{world_refusal}
 use Rattle.world_state.specs.Steps.{world_step, world_steps}
 use Rattle.world_laws.specs.Worlds.{WorldHolds, NothingReady}
 
--- a group or a constraint that a line declares names a column
-abbrev pub NamesColumns : WorldCommand → Type 0
-NamesColumns (line.Declare declaration) = ColumnNamed declaration
-NamesColumns (line.Snapshot site table tests) = Unit {0}
-NamesColumns (line.Row table values) = Unit {0}
-NamesColumns (line.Run c) = Unit {0}
-
 -- the world after the lines of a script
-abbrev pub script_world : List WorldCommand → WorldState
+abbrev pub script_world : List Command → WorldState
 script_world lines = world_steps 1 lines first_world
 
 -- the laws over events hold of the world of every script
 abbrev pub ScriptsHold : Type 0
-ScriptsHold = (lines : List WorldCommand) → AllByRecursion NamesColumns lines → WorldHolds (script_world lines)
+ScriptsHold = (lines : List Command) → AllByRecursion NamesColumn lines → WorldHolds (script_world lines)
 
 -- where all that was queued for a site has arrived there and a pass of any sender finishes nothing, nothing waits there
 abbrev pub NothingWaitsInScripts : Type 0
-NothingWaitsInScripts = (lines : List WorldCommand) → AllByRecursion NamesColumns lines → (site : SiteName) (x : SiteState)
+NothingWaitsInScripts = (lines : List Command) → AllByRecursion NamesColumn lines → (site : SiteName) (x : SiteState)
     → site_of site (script_world lines).sites ≡ Some x → IsDelivered (script_world lines).sites site x → PassesFinishNothing x → NothingWaits x
 
 -- once a push is reported no position of any sender is ready at the receiver
 abbrev pub ReportedPushesLeaveNothingReady : Type 0
 ReportedPushesLeaveNothingReady = (number : ℕ) (from to : SiteName) (count : Option ℕ) (w : WorldState) (x : SiteState) → HasShape w.schema
-    → world_refusal (line.Run (command.Push from to count)) w ≡ None → site_of to (world_step number (line.Run (command.Push from to count)) w).sites ≡ Some x → NothingReady x
+    → world_refusal (command.Push from to count) w ≡ None → site_of to (world_step number (command.Push from to count) w).sites ≡ Some x → NothingReady x
 
 -- all but the open block is as before
 pub record LeavesAllButTheBlock (w y : WorldState) : Type 0 where
@@ -52,8 +44,8 @@ pub record LeavesAllButTheBlock (w y : WorldState) : Type 0 where
 
 -- a line that is refused leaves all but the open block
 abbrev pub RefusedLinesLeaveAllButTheBlock : Type 0
-RefusedLinesLeaveAllButTheBlock = (number : ℕ) (c : WorldCommand) (w : WorldState) (why : Refusal) → world_refusal c w ≡ Some why → LeavesAllButTheBlock w (world_step number c w)
+RefusedLinesLeaveAllButTheBlock = (number : ℕ) (c : Command) (w : WorldState) (why : Refusal) → world_refusal c w ≡ Some why → LeavesAllButTheBlock w (world_step number c w)
 
 -- a commit that is refused closes the open block
 abbrev pub RefusedCommitsCloseTheBlock : Type 0
-RefusedCommitsCloseTheBlock = (number : ℕ) (w : WorldState) (why : Refusal) → world_refusal (line.Run command.Commit) w ≡ Some why → (world_step number (line.Run command.Commit) w).block ≡ None
+RefusedCommitsCloseTheBlock = (number : ℕ) (w : WorldState) (why : Refusal) → world_refusal command.Commit w ≡ Some why → (world_step number command.Commit w).block ≡ None

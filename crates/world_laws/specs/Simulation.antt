@@ -7,7 +7,7 @@ use Rattle.packet_code.specs.declared.packet.Packet.{Packet}
 use Rattle.net_plan.specs.Directions.{Direction}
 use Rattle.event_laws.specs.Core.{Core}
 use Rattle.event_laws.specs.Events.{Event, receiver, run}
-use Rattle.world_state.specs.declared.commands.WorldCommand.{WorldCommand}
+use Rattle.script_parse.specs.declared.command.Command.{Command}
 use Rattle.world_state.specs.World.{WorldState}
 use Rattle.world_state.specs.Phases.{is_setup}
 use Rattle.world_state.specs.Steps.{step_by, world_step}
@@ -40,8 +40,8 @@ AreEvents change = (w : WorldState) (v : Core) → Simulates w v → Leads (chan
 
 -- each line behind Setup is
 abbrev pub StepsAreEvents : Type 0
-StepsAreEvents = (number : ℕ) (command : WorldCommand) → AreEvents (world_step number command)
+StepsAreEvents = (number : ℕ) (command : Command) → AreEvents (world_step number command)
 
 -- whatever refusal it meets, and where it meets none
 abbrev pub StepsAreEventsHoweverRefused : Type 0
-StepsAreEventsHoweverRefused = (why : Option Refusal) (number : ℕ) (command : WorldCommand) → AreEvents (step_by why number command)
+StepsAreEventsHoweverRefused = (why : Option Refusal) (number : ℕ) (command : Command) → AreEvents (step_by why number command)

@@ -13,7 +13,7 @@ use Rattle.event_laws.specs.Marks.{MarksAreLow, PurgedIsFinished, AreWellNumbere
 use Rattle.event_laws.specs.Orders.{AreFinishedOnce, AreSettledOnce, EarlierComesFirst}
 use Rattle.event_laws.specs.PassLaws.{CanPass}
 use Rattle.event_laws.specs.Waiting.{IsDelivered, PassesFinishNothing, NothingWaits}
-use Rattle.world_state.specs.declared.commands.WorldCommand.{WorldCommand}
+use Rattle.script_parse.specs.declared.command.Command.{Command}
 use Rattle.world_state.specs.World.{WorldState}
 use Rattle.world_state.specs.Making.{world_made}
 use Rattle.world_state.specs.Pushes.{world_push}
@@ -45,7 +45,7 @@ pub record WorldHolds (w : WorldState) : Type 0 where
 
 -- they hold of the world that Setup's end makes of a schema that has its shape, and of each that further lines make of it
 abbrev pub WorldsHold : Type 0
-WorldsHold = (w : WorldState) → HasShape w.schema → (number : ℕ) (lines : List WorldCommand) → WorldHolds (world_steps number lines (world_made w))
+WorldsHold = (w : WorldState) → HasShape w.schema → (number : ℕ) (lines : List Command) → WorldHolds (world_steps number lines (world_made w))
 
 -- no position of any sender is ready at a site
 abbrev pub NothingReady : SiteState → Type 0
@@ -58,6 +58,6 @@ PushesLeaveNothingReady = (from to : SiteName) (count : Option ℕ) (w : WorldSt
 
 -- where all that was queued for a site has arrived there and a pass of any sender finishes nothing, nothing waits there
 abbrev pub NothingWaitsInWorlds : Type 0
-NothingWaitsInWorlds = (w : WorldState) → HasShape w.schema → (number : ℕ) (lines : List WorldCommand) (site : SiteName) (x : SiteState)
+NothingWaitsInWorlds = (w : WorldState) → HasShape w.schema → (number : ℕ) (lines : List Command) (site : SiteName) (x : SiteState)
     → site_of site (world_steps number lines (world_made w)).sites ≡ Some x → IsDelivered (world_steps number lines (world_made w)).sites site x
     → PassesFinishNothing x → NothingWaits x

@@ -7,13 +7,14 @@ use Rattle.rep_declare.specs.Refusals.{columns_step}
 use Rattle.schema_rules.specs.Rules.{broken_rule}
 use Rattle.site_state.specs.declared.entry.Entry.TheVariants as entry
 use Rattle.site_state.proofs.WorkedSites.{a, b, row, set_to, moved, of_calls}
-use Rattle.world_state.specs.declared.commands.WorldCommand.{WorldCommand}
+use Rattle.script_parse.specs.declared.command.Command.{Command}
+use Rattle.script_parse.specs.declared.command.Command.TheVariants as command
 use Rattle.world_state.specs.World.{WorldState}
 use Rattle.world_state.specs.PushAnswers.{push_count, push_errors}
 use Rattle.world_state.proofs.WorkedScripts.{master_line, id_and_q, row_line, resume, block, push, execute, drop_error, after, then_lines, stepped, told, counted, journal_at, rows_at}
 
 -- the second call of a block conflicts with an update at the other site
-abbrev script : List WorldCommand
+abbrev script : List Command
 script = master_line a ∷ master_line b ∷ id_and_q ∷ row_line 1 10 ∷ row_line 2 20 ∷ resume ∷ block b (set_to 2 21 ∷ []) ++ block a (set_to 1 11 ∷ set_to 2 22 ∷ [])
 
 abbrev conflict : WorldState
@@ -40,7 +41,7 @@ abbrev pushed : WorldState
 pushed = then_lines (push a b ∷ []) conflict
 
 -- the row is set back, and then the whole block is executed
-abbrev executed_lines : List WorldCommand
+abbrev executed_lines : List Command
 executed_lines = execute b a 1 ∷ block b (set_to 2 20 ∷ []) ++ execute b a 1 ∷ []
 
 execution_that_fails_is_told : told 15 executed_lines pushed ≡ record { line = 15; refusal = refusal.StillFails (error.UpdateConflict (codes "shadow")) } ∷ []
@@ -51,7 +52,7 @@ executed_rows : rows_at b (stepped 15 executed_lines pushed) ≡ (row 1 11 ∷ r
 unfolding group_columns_of columns_step broken_rule
 executed_rows = refl
 
-abbrev dropped_lines : List WorldCommand
+abbrev dropped_lines : List Command
 dropped_lines = drop_error b a 1 ∷ drop_error b a 1 ∷ execute b a 1 ∷ []
 
 dropped_once : told 16 dropped_lines pushed ≡ record { line = 17; refusal = refusal.NoSuchError } ∷ record { line = 18; refusal = refusal.NoSuchError } ∷ []

@@ -8,9 +8,8 @@ use Rattle.rep_declare.specs.Refusals.{columns_step}
 use Rattle.schema_rules.specs.Rules.{broken_rule}
 use Rattle.site_state.proofs.WorkedSites.{a, b, c, d, row, add}
 use Rattle.world_state.specs.declared.refused.Refused.{Refused}
-use Rattle.world_state.specs.declared.commands.RunCommand.TheVariants as run
-use Rattle.world_state.specs.declared.commands.WorldCommand.{WorldCommand}
-use Rattle.world_state.specs.declared.commands.WorldCommand.TheVariants as line
+use Rattle.script_parse.specs.declared.command.Command.{Command}
+use Rattle.script_parse.specs.declared.command.Command.TheVariants as command
 use Rattle.world_state.specs.World.{WorldState}
 use Rattle.world_state.specs.PushAnswers.{push_count}
 use Rattle.world_state.specs.Refusals.{world_refusal}
@@ -20,10 +19,10 @@ use Rattle.world_state.proofs.WorkedScripts.{master_line, late_line, id_and_q, a
 abbrev at_line : ℕ → Refusal → Refused
 at_line number why = record { line = number; refusal = why }
 
-abbrev join : SiteName → SiteName → WorldCommand
-join site source = line.Run (run.Join site source)
+abbrev join : SiteName → SiteName → Command
+join site source = command.Join site source
 
-abbrev with_late : List WorldCommand
+abbrev with_late : List Command
 with_late = master_line a ∷ master_line b ∷ late_line d ∷ id_and_q ∷ added_up ++ row_line 1 10 ∷ resume ∷ []
 
 abbrev queued : WorldState

@@ -10,20 +10,19 @@ use Rattle.rep_values.specs.declared.name.SiteName.{SiteName}
 use Rattle.site_state.specs.declared.entry.Entry.TheVariants as entry
 use Rattle.site_state.specs.State.{acked_of}
 use Rattle.site_state.proofs.WorkedSites.{a, b, row, add, moved, of_calls}
-use Rattle.world_state.specs.declared.commands.RunCommand.TheVariants as run
-use Rattle.world_state.specs.declared.commands.WorldCommand.{WorldCommand}
-use Rattle.world_state.specs.declared.commands.WorldCommand.TheVariants as line
+use Rattle.script_parse.specs.declared.command.Command.{Command}
+use Rattle.script_parse.specs.declared.command.Command.TheVariants as command
 use Rattle.world_state.specs.World.{WorldState}
 use Rattle.world_state.specs.PushAnswers.{push_count}
 use Rattle.world_state.proofs.WorkedScripts.{master_line, id_and_q, added_up, row_line, resume, block, push, link, link_down, after, then_lines, counted, shown, journal_at, rows_at}
 
-abbrev fates : SiteName → SiteName → List Fate → WorldCommand
-fates from to more = line.Run (run.AddFates from to more)
+abbrev fates : SiteName → SiteName → List Fate → Command
+fates from to more = command.Fates from to more
 
-abbrev purge : SiteName → WorldCommand
-purge site = line.Run (run.Purge site)
+abbrev purge : SiteName → Command
+purge site = command.Purge site
 
-abbrev two_masters : List WorldCommand
+abbrev two_masters : List Command
 two_masters = master_line a ∷ master_line b ∷ id_and_q ∷ added_up
 
 -- ---- a lost packet, a repeated one, and all are sent again
@@ -116,6 +115,6 @@ unfolding group_columns_of columns_step broken_rule
 held_mark_comes = refl
 
 -- fates that are cleared are none
-cleared_fates : shown 9 (acked_of b) a (then_lines (fates b a (Lose ∷ []) ∷ line.Run (run.ClearFates b a) ∷ push a b ∷ []) held) ≡ 1
+cleared_fates : shown 9 (acked_of b) a (then_lines (fates b a (Lose ∷ []) ∷ command.ClearFates b a ∷ push a b ∷ []) held) ≡ 1
 unfolding group_columns_of columns_step broken_rule
 cleared_fates = refl

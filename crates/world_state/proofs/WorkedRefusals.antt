@@ -13,11 +13,10 @@ use Rattle.rep_schema.specs.declared.schema.Kind.TheVariants as kind
 use Rattle.rep_declare.specs.declared.declaration.Declare.TheVariants as declare
 use Rattle.site_state.proofs.WorkedSites.{a, b, c, named, key_column, add, delete}
 use Rattle.rep_schema.specs.declared.check.Rel.TheVariants as rel
-use Rattle.world_state.specs.declared.block.Stated.{Stated}
+use Rattle.world_state.specs.declared.block.Block.{Block}
 use Rattle.world_state.specs.declared.refused.Refused.{Refused}
-use Rattle.world_state.specs.declared.commands.RunCommand.TheVariants as run
-use Rattle.world_state.specs.declared.commands.WorldCommand.{WorldCommand}
-use Rattle.world_state.specs.declared.commands.WorldCommand.TheVariants as line
+use Rattle.script_parse.specs.declared.command.Command.{Command}
+use Rattle.script_parse.specs.declared.command.Command.TheVariants as command
 use Rattle.world_state.specs.World.{WorldState, first_world}
 use Rattle.world_state.specs.Blocks.{stated_more}
 use Rattle.world_state.specs.Refusals.{world_refusal}
@@ -33,16 +32,16 @@ num k = literal.Num (pos k)
 abbrev text : List ℕ → Literal
 text bytes = literal.Words bytes
 
-abbrev row_of : Literal → Literal → WorldCommand
-row_of key value = line.Row t (key ∷ value ∷ [])
+abbrev row_of : Literal → Literal → Command
+row_of key value = command.Row t (key ∷ value ∷ [])
 
 -- ---- a script in which most lines are refused
 
-abbrev refused_lines : List WorldCommand
+abbrev refused_lines : List Command
 refused_lines =
     push a b ∷ resume ∷ master_line a ∷ master_line a ∷ master_line b
     ∷ table_line (key_column (codes "ID") ∷ record { name = codes "C"; kind = kind.Words; key = false } ∷ [])
-    ∷ line.Declare (declare.Unique t (codes "u") (codes "C" ∷ []))
+    ∷ command.Declare (declare.Unique t (codes "u") (codes "C" ∷ []))
     ∷ row_of (num 1) (text (codes "a")) ∷ row_of (num 1) (text (codes "b")) ∷ row_of (num 2) (text (codes "a")) ∷ row_of (text (codes "x")) (text (codes "y"))
     ∷ resume ∷ execute b a 1 ∷ suspend ∷ txn a ∷ resume ∷ txn a ∷ statement (delete 9) ∷ commit ∷ txn a ∷ commit ∷ push a c ∷ []
 
@@ -119,24 +118,24 @@ suspended_once : world_refusal suspend (then_lines (suspend ∷ []) two) ≡ Som
 unfolding group_columns_of columns_step broken_rule
 suspended_once = refl
 
-abandoned_block_changes_nothing : (then_lines (statement (add 1 1) ∷ line.Run run.Abandon ∷ []) in_block).sites ≡ two.sites
+abandoned_block_changes_nothing : (then_lines (statement (add 1 1) ∷ command.Abandon ∷ []) in_block).sites ≡ two.sites
 unfolding group_columns_of columns_step broken_rule
 abandoned_block_changes_nothing = refl
 
-abandoned_block_is_closed : (then_lines (line.Run run.Abandon ∷ []) in_block).block ≡ None
+abandoned_block_is_closed : (then_lines (command.Abandon ∷ []) in_block).block ≡ None
 unfolding group_columns_of columns_step broken_rule
 abandoned_block_is_closed = refl
 
 -- a table that has a row keeps its shape, and that is said before a name that is taken
-shape_before_rows : world_refusal (line.Declare (declare.Group t (codes "shadow") (codes "Q" ∷ []))) (after (master_line a ∷ id_and_q ∷ row_line 1 10 ∷ [])) ≡ Some refusal.WrongPhase
+shape_before_rows : world_refusal (command.Declare (declare.Group t (codes "shadow") (codes "Q" ∷ []))) (after (master_line a ∷ id_and_q ∷ row_line 1 10 ∷ [])) ≡ Some refusal.WrongPhase
 unfolding group_columns_of columns_step broken_rule
 shape_before_rows = refl
 
-check_before_rows : world_refusal (line.Declare (declare.Check t (codes "c") (codes "Q") rel.Gt (num 0))) (after (master_line a ∷ id_and_q ∷ row_line 1 10 ∷ [])) ≡ Some refusal.WrongPhase
+check_before_rows : world_refusal (command.Declare (declare.Check t (codes "c") (codes "Q") rel.Gt (num 0))) (after (master_line a ∷ id_and_q ∷ row_line 1 10 ∷ [])) ≡ Some refusal.WrongPhase
 unfolding group_columns_of columns_step broken_rule
 check_before_rows = refl
 
-name_that_is_taken : world_refusal (line.Declare (declare.Group t (codes "shadow") (codes "Q" ∷ []))) (after (master_line a ∷ id_and_q ∷ [])) ≡ Some refusal.NameTaken
+name_that_is_taken : world_refusal (command.Declare (declare.Group t (codes "shadow") (codes "Q" ∷ []))) (after (master_line a ∷ id_and_q ∷ [])) ≡ Some refusal.NameTaken
 unfolding group_columns_of columns_step broken_rule
 name_that_is_taken = refl
 
@@ -162,19 +161,19 @@ no_error_of_a_stranger : world_refusal (execute a a 1) two ≡ Some refusal.Unkn
 unfolding group_columns_of columns_step broken_rule
 no_error_of_a_stranger = refl
 
-clock_in_range : world_refusal (line.Run (run.Clock a 1000000000000000)) two ≡ None
+clock_in_range : world_refusal (command.Clock a 1000000000000000) two ≡ None
 unfolding group_columns_of columns_step broken_rule
 clock_in_range = refl
 
-clock_out_of_range : world_refusal (line.Run (run.Clock a 1000000000000001)) two ≡ Some refusal.ValueRange
+clock_out_of_range : world_refusal (command.Clock a 1000000000000001) two ≡ Some refusal.ValueRange
 unfolding group_columns_of columns_step broken_rule
 clock_out_of_range = refl
 
-clock_is_set : shown 9 (λ x. x.stamps.clock) a (then_lines (line.Run (run.Clock a 5) ∷ []) two) ≡ 5
+clock_is_set : shown 9 (λ x. x.stamps.clock) a (then_lines (command.Clock a 5 ∷ []) two) ≡ 5
 unfolding group_columns_of columns_step broken_rule
 clock_is_set = refl
 
-name_before_the_range : world_refusal (line.Run (run.Clock c 1000000000000001)) two ≡ Some refusal.UnknownName
+name_before_the_range : world_refusal (command.Clock c 1000000000000001) two ≡ Some refusal.UnknownName
 unfolding group_columns_of columns_step broken_rule
 name_before_the_range = refl
 
@@ -188,11 +187,11 @@ ninth_master = refl
 
 -- ---- a block keeps one statement more than it may have
 
-abbrev one : Stated
-one = record { line = 1; statement = add 1 1 }
+abbrev block_of : ℕ → Block
+block_of count = record { site = a; lines = replicate count 1; statements = replicate count (add 1 1) }
 
-keeps_one_too_many : length (stated_more one (replicate 1000 one)) ≡ 1001
+keeps_one_too_many : length (stated_more 1 (add 1 1) (block_of 1000)).statements ≡ 1001
 keeps_one_too_many = refl
 
-keeps_no_more : length (stated_more one (replicate 1001 one)) ≡ 1001
+keeps_no_more : length (stated_more 1 (add 1 1) (block_of 1001)).statements ≡ 1001
 keeps_no_more = refl

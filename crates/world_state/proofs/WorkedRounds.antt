@@ -6,15 +6,14 @@ use Rattle.rep_declare.specs.Refusals.{columns_step}
 use Rattle.schema_rules.specs.Rules.{broken_rule}
 use Rattle.net_plan.specs.declared.fate.Fate.TheVariants.{Lose}
 use Rattle.site_state.proofs.WorkedSites.{a, b, c, d, row, add, insert}
-use Rattle.world_state.specs.declared.commands.RunCommand.TheVariants as run
-use Rattle.world_state.specs.declared.commands.WorldCommand.{WorldCommand}
-use Rattle.world_state.specs.declared.commands.WorldCommand.TheVariants as line
+use Rattle.script_parse.specs.declared.command.Command.{Command}
+use Rattle.script_parse.specs.declared.command.Command.TheVariants as command
 use Rattle.world_state.specs.World.{WorldState}
 use Rattle.world_state.specs.PushAnswers.{push_count}
 use Rattle.world_state.specs.Refusals.{world_refusal}
 use Rattle.world_state.proofs.WorkedScripts.{master_line, id_and_q, added_up, resume, block, push, push_some, execute, after, then_lines, counted, rows_at}
 
-abbrev three_masters : List WorldCommand
+abbrev three_masters : List Command
 three_masters = master_line a ∷ master_line b ∷ master_line c ∷ id_and_q ∷ added_up ++ resume ∷ []
 
 -- ---- an update of a row that came from a third site
@@ -48,7 +47,7 @@ all_have_it = refl
 -- ---- a gap: what was seen is the greatest finished number, though the one before was lost
 
 abbrev gap : WorldState
-gap = after (three_masters ++ block a (insert 1 10 ∷ []) ++ block a (insert 2 20 ∷ []) ++ line.Run (run.AddFates a b (Lose ∷ [])) ∷ push a b ∷ block b (add 2 1 ∷ []))
+gap = after (three_masters ++ block a (insert 1 10 ∷ []) ++ block a (insert 2 20 ∷ []) ++ (command.Fates a b (Lose ∷ [])) ∷ push a b ∷ block b (add 2 1 ∷ []))
 
 gap_waits : push_count b c None gap ≡ counted 1 0 0 0
 unfolding group_columns_of columns_step broken_rule

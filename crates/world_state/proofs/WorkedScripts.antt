@@ -15,9 +15,9 @@ use Rattle.site_state.proofs.WorkedSites.{key_column, number_column}
 use Rattle.event_laws.specs.Core.{site_of}
 use Rattle.report_text.specs.declared.printed.PushCount.{PushCount}
 use Rattle.world_state.specs.declared.refused.Refused.{Refused}
-use Rattle.world_state.specs.declared.commands.RunCommand.TheVariants as run
-use Rattle.world_state.specs.declared.commands.WorldCommand.{WorldCommand}
-use Rattle.world_state.specs.declared.commands.WorldCommand.TheVariants as line
+use Rattle.script_parse.specs.declared.command.Command.{Command}
+use Rattle.script_parse.specs.declared.command.Command.TheVariants as command
+use Rattle.script_parse.specs.declared.command.Link.TheVariants as link_word
 use Rattle.world_state.specs.World.{WorldState, first_world}
 use Rattle.world_state.specs.Steps.{world_done, world_step, world_steps, step_refused}
 
@@ -26,81 +26,81 @@ use Rattle.world_state.specs.Steps.{world_done, world_step, world_steps, step_re
 abbrev pub t : TableName
 t = record { 0 = codes "T" }
 
-abbrev pub master_line : SiteName → WorldCommand
-master_line site = line.Declare (declare.Site site)
+abbrev pub master_line : SiteName → Command
+master_line site = command.Declare (declare.Site site)
 
-abbrev pub late_line : SiteName → WorldCommand
-late_line site = line.Declare (declare.LateSite site)
+abbrev pub late_line : SiteName → Command
+late_line site = command.Declare (declare.LateSite site)
 
-abbrev pub snapshot_site_line : SiteName → SiteName → WorldCommand
-snapshot_site_line site master = line.Declare (declare.SnapSite site master)
+abbrev pub snapshot_site_line : SiteName → SiteName → Command
+snapshot_site_line site master = command.Declare (declare.SnapSite site master)
 
-abbrev pub table_line : List Column → WorldCommand
-table_line columns = line.Declare (declare.Table t columns)
+abbrev pub table_line : List Column → Command
+table_line columns = command.Declare (declare.Table t columns)
 
 -- T has a key ID and a number Q
-abbrev pub id_and_q : WorldCommand
+abbrev pub id_and_q : Command
 id_and_q = table_line (key_column (codes "ID") ∷ number_column (codes "Q") ∷ [])
 
 -- Q is a group of its own, and its amounts are added up
-abbrev pub added_up : List WorldCommand
-added_up = line.Declare (declare.Group t (codes "q") (codes "Q" ∷ [])) ∷ line.Declare (declare.Method t (codes "q") words.Additive) ∷ []
+abbrev pub added_up : List Command
+added_up = command.Declare (declare.Group t (codes "q") (codes "Q" ∷ [])) ∷ command.Declare (declare.Method t (codes "q") words.Additive) ∷ []
 
-abbrev pub row_line : ℕ → ℕ → WorldCommand
-row_line k q = line.Row t (literal.Num (pos k) ∷ literal.Num (pos q) ∷ [])
+abbrev pub row_line : ℕ → ℕ → Command
+row_line k q = command.Row t (literal.Num (pos k) ∷ literal.Num (pos q) ∷ [])
 
-abbrev pub resume : WorldCommand
-resume = line.Run run.Resume
+abbrev pub resume : Command
+resume = command.Resume
 
 -- ---- the other lines
 
-abbrev pub suspend : WorldCommand
-suspend = line.Run run.Suspend
+abbrev pub suspend : Command
+suspend = command.Suspend
 
-abbrev pub txn : SiteName → WorldCommand
-txn site = line.Run (run.Txn site)
+abbrev pub txn : SiteName → Command
+txn site = command.Txn site
 
-abbrev pub commit : WorldCommand
-commit = line.Run run.Commit
+abbrev pub commit : Command
+commit = command.Commit
 
-abbrev pub statement : Statement → WorldCommand
-statement s = line.Run (run.Statement s)
+abbrev pub statement : Statement → Command
+statement s = command.Statement s
 
 -- a block at a site
-abbrev pub block : SiteName → List Statement → List WorldCommand
+abbrev pub block : SiteName → List Statement → List Command
 block site statements = txn site ∷ map statement statements ++ commit ∷ []
 
-abbrev pub push : SiteName → SiteName → WorldCommand
-push from to = line.Run (run.Push from to None)
+abbrev pub push : SiteName → SiteName → Command
+push from to = command.Push from to None
 
-abbrev pub push_some : SiteName → SiteName → ℕ → WorldCommand
-push_some from to count = line.Run (run.Push from to (Some count))
+abbrev pub push_some : SiteName → SiteName → ℕ → Command
+push_some from to count = command.Push from to (Some count)
 
-abbrev pub link : SiteName → SiteName → WorldCommand
-link from to = line.Run (run.Link from to true)
+abbrev pub link : SiteName → SiteName → Command
+link from to = command.Link from to link_word.Up
 
-abbrev pub link_down : SiteName → SiteName → WorldCommand
-link_down from to = line.Run (run.Link from to false)
+abbrev pub link_down : SiteName → SiteName → Command
+link_down from to = command.Link from to link_word.Down
 
-abbrev pub execute : SiteName → SiteName → ℕ → WorldCommand
-execute site origin position = line.Run (run.Execute site origin position)
+abbrev pub execute : SiteName → SiteName → ℕ → Command
+execute site origin position = command.Execute site origin position
 
-abbrev pub drop_error : SiteName → SiteName → ℕ → WorldCommand
-drop_error site origin position = line.Run (run.DropError site origin position)
+abbrev pub drop_error : SiteName → SiteName → ℕ → Command
+drop_error site origin position = command.DropError site origin position
 
 -- ---- what is shown
 
 -- the world after lines of which none is refused
-abbrev pub then_lines : List WorldCommand → WorldState → WorldState
+abbrev pub then_lines : List Command → WorldState → WorldState
 then_lines [] w = w
 then_lines (command ∷ more) w = then_lines more (world_done 1 command w)
 
 -- so a script begins
-abbrev pub after : List WorldCommand → WorldState
+abbrev pub after : List Command → WorldState
 after lines = then_lines lines first_world
 
 -- the world after the lines from a number on, whether they are refused or not
-abbrev pub stepped : ℕ → List WorldCommand → WorldState → WorldState
+abbrev pub stepped : ℕ → List Command → WorldState → WorldState
 stepped number lines w = world_steps number lines w
 
 abbrev pub told_before : Option Refused → List Refused → List Refused
@@ -108,7 +108,7 @@ told_before None more = more
 told_before (Some refused) more = refused ∷ more
 
 -- what is told of the lines that are refused
-abbrev pub told : ℕ → List WorldCommand → WorldState → List Refused
+abbrev pub told : ℕ → List Command → WorldState → List Refused
 told number [] w = []
 told number (command ∷ more) w = told_before (step_refused number command w) (told (suc number) more (world_step number command w))
 

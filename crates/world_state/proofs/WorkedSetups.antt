@@ -12,15 +12,15 @@ use Rattle.schema_rules.specs.Rules.{broken_rule}
 use Rattle.net_plan.specs.Directions.{is_up}
 use Rattle.site_state.specs.State.{LogState, SiteState, opened_of}
 use Rattle.site_state.proofs.WorkedSites.{a, b, d, s, row}
-use Rattle.world_state.specs.declared.commands.WorldCommand.{WorldCommand}
-use Rattle.world_state.specs.declared.commands.WorldCommand.TheVariants as line
+use Rattle.script_parse.specs.declared.command.Command.{Command}
+use Rattle.script_parse.specs.declared.command.Command.TheVariants as command
 use Rattle.world_state.specs.World.{WorldState, first_world}
 use Rattle.world_state.specs.Refusals.{world_refusal}
 use Rattle.world_state.proofs.WorkedScripts.{t, master_line, late_line, snapshot_site_line, table_line, id_and_q, row_line, resume, push, after, told, shown, rows_at}
 
 -- two masters, a snapshot site of the first, and a late master
-abbrev setup_lines : List WorldCommand
-setup_lines = master_line a ∷ late_line d ∷ master_line b ∷ snapshot_site_line s a ∷ id_and_q ∷ line.Snapshot s t [] ∷ row_line 1 10 ∷ resume ∷ []
+abbrev setup_lines : List Command
+setup_lines = master_line a ∷ late_line d ∷ master_line b ∷ snapshot_site_line s a ∷ id_and_q ∷ command.Snapshot s t None ∷ row_line 1 10 ∷ resume ∷ []
 
 abbrev made : WorldState
 made = after setup_lines
@@ -72,7 +72,7 @@ abbrev stamped : WorldState
 stamped = after (
     master_line a ∷ master_line b
     ∷ table_line (column (codes "HOME") kind.Site true ∷ column (codes "ID") kind.Number true ∷ column (codes "TOP") kind.Number false ∷ column (codes "CHG") kind.Stamp false ∷ column (codes "BY") kind.Site false ∷ [])
-    ∷ line.Row t (literal.Words (codes "B") ∷ literal.Num (pos 1) ∷ literal.Num (pos 5) ∷ []) ∷ resume ∷ []
+    ∷ command.Row t (literal.Words (codes "B") ∷ literal.Num (pos 1) ∷ literal.Num (pos 5) ∷ []) ∷ resume ∷ []
     )
 
 -- with stamp 0 and the name of the first declared master

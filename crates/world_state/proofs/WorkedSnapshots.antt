@@ -10,12 +10,12 @@ use Rattle.schema_rules.specs.Rules.{broken_rule}
 use Rattle.snapshot_query.specs.declared.query.Op.TheVariants as op
 use Rattle.site_state.proofs.WorkedSites.{a, b, s, n, row, set_to}
 use Rattle.world_state.specs.declared.refused.Refused.{Refused}
-use Rattle.world_state.specs.declared.commands.TestWords.{TestWords}
-use Rattle.world_state.specs.declared.commands.RefreshMode.{RefreshMode}
-use Rattle.world_state.specs.declared.commands.RefreshMode.TheVariants as mode
-use Rattle.world_state.specs.declared.commands.RunCommand.TheVariants as run
-use Rattle.world_state.specs.declared.commands.WorldCommand.{WorldCommand}
-use Rattle.world_state.specs.declared.commands.WorldCommand.TheVariants as line
+use Rattle.script_parse.specs.declared.command.TestWords.{TestWords}
+use Rattle.rep_schema.specs.declared.check.Rel.TheVariants as rel
+use Rattle.script_parse.specs.declared.command.Refresh.{Refresh}
+use Rattle.script_parse.specs.declared.command.Refresh.TheVariants as how
+use Rattle.script_parse.specs.declared.command.Command.{Command}
+use Rattle.script_parse.specs.declared.command.Command.TheVariants as command
 use Rattle.world_state.specs.World.{WorldState}
 use Rattle.world_state.specs.PushAnswers.{push_count}
 use Rattle.world_state.specs.Refusals.{world_refusal}
@@ -24,15 +24,15 @@ use Rattle.world_state.proofs.WorkedScripts.{t, master_line, snapshot_site_line,
 
 -- rows whose Q is above a number
 abbrev above : ℕ → List TestWords
-above k = record { column = codes "Q"; op = op.Gt; value = literal.Num (pos k) } ∷ []
+above k = record { column = codes "Q"; rel = rel.Gt; value = literal.Num (pos k) } ∷ []
 
-abbrev snapshot : List TestWords → WorldCommand
-snapshot tests = line.Snapshot s t tests
+abbrev snapshot : List TestWords → Command
+snapshot tests = command.Snapshot s t (Some tests)
 
-abbrev refresh : RefreshMode → WorldCommand
-refresh mode = line.Run (run.Refresh s mode)
+abbrev refresh : Refresh → Command
+refresh mode = command.Refresh s mode
 
-abbrev declared_lines : List WorldCommand
+abbrev declared_lines : List Command
 declared_lines = master_line a ∷ snapshot_site_line s a ∷ id_and_q ∷ snapshot (above 5) ∷ row_line 1 10 ∷ row_line 2 20 ∷ row_line 3 3 ∷ resume ∷ []
 
 snapshot_shows_its_query : rows_at s (after declared_lines) ≡ (row 1 10 ∷ row 2 20 ∷ []) ∷ []
@@ -45,8 +45,8 @@ at_line number why = record { line = number; refusal = why }
 abbrev changed : WorldState
 changed = then_lines (block s (set_to 2 21 ∷ [])) (after declared_lines)
 
-abbrev refresh_lines : List WorldCommand
-refresh_lines = refresh mode.Fast ∷ link_down s a ∷ refresh mode.Fast ∷ push s a ∷ link s a ∷ push s a ∷ line.Run (run.PurgeLog a t) ∷ refresh mode.Fast ∷ refresh mode.Force ∷ []
+abbrev refresh_lines : List Command
+refresh_lines = refresh how.Fast ∷ link_down s a ∷ refresh how.Fast ∷ push s a ∷ link s a ∷ push s a ∷ command.PurgeLog a t ∷ refresh how.Fast ∷ refresh how.Force ∷ []
 
 refreshes_that_are_refused : told 12 refresh_lines changed ≡ at_line 12 (refusal.QueueNotEmpty 1) ∷ at_line 14 refusal.LinkDown ∷ at_line 15 refusal.LinkDown ∷ at_line 19 (refusal.LogTooYoung 1 0) ∷ []
 unfolding group_columns_of columns_step broken_rule
@@ -57,10 +57,10 @@ unfolding group_columns_of columns_step broken_rule
 refreshed_at_the_masters_moment = refl
 
 abbrev log_purged : WorldState
-log_purged = then_lines (push s a ∷ line.Run (run.PurgeLog a t) ∷ []) changed
+log_purged = then_lines (push s a ∷ command.PurgeLog a t ∷ []) changed
 
 -- the log doesn't reach back, so that a refresh that is forced goes by all rows
-forced_goes_by_all_rows : refresh_answer s mode.Force log_purged ≡ Some (record { by_logs = false; count = record { keys = 0; rows = 2 } })
+forced_goes_by_all_rows : refresh_answer s how.Force log_purged ≡ Some (record { by_logs = false; count = record { keys = 0; rows = 2 } })
 unfolding group_columns_of columns_step broken_rule
 forced_goes_by_all_rows = refl
 
@@ -76,20 +76,20 @@ conflict_at_the_master : push_count s a None (then_lines (block a (set_to 1 4 �
 unfolding group_columns_of columns_step broken_rule
 conflict_at_the_master = refl
 
-refresh_shows_the_query : rows_at s (then_lines (refresh mode.Fast ∷ []) conflict) ≡ (row 2 20 ∷ []) ∷ []
+refresh_shows_the_query : rows_at s (then_lines (refresh how.Fast ∷ []) conflict) ≡ (row 2 20 ∷ []) ∷ []
 unfolding group_columns_of columns_step broken_rule
 refresh_shows_the_query = refl
 
 -- by the logs it looks up two keys, of which the master changed one and the site itself both
-fast_counts_keys : refresh_answer s mode.Fast conflict ≡ Some (record { by_logs = true; count = record { keys = 2; rows = 1 } })
+fast_counts_keys : refresh_answer s how.Fast conflict ≡ Some (record { by_logs = true; count = record { keys = 2; rows = 1 } })
 unfolding group_columns_of columns_step broken_rule
 fast_counts_keys = refl
 
-complete_counts_no_keys : refresh_answer s mode.Complete conflict ≡ Some (record { by_logs = false; count = record { keys = 0; rows = 1 } })
+complete_counts_no_keys : refresh_answer s how.Complete conflict ≡ Some (record { by_logs = false; count = record { keys = 0; rows = 1 } })
 unfolding group_columns_of columns_step broken_rule
 complete_counts_no_keys = refl
 
-either_direction_hinders_a_refresh : world_refusal (refresh mode.Force) (then_lines (link_down a s ∷ []) conflict) ≡ Some refusal.LinkDown
+either_direction_hinders_a_refresh : world_refusal (refresh how.Force) (then_lines (link_down a s ∷ []) conflict) ≡ Some refusal.LinkDown
 unfolding group_columns_of columns_step broken_rule
 either_direction_hinders_a_refresh = refl
 
@@ -115,12 +115,12 @@ abbrev before_resume : WorldState
 before_resume = after (master_line a ∷ snapshot_site_line s a ∷ id_and_q ∷ [])
 
 abbrev test : Literal → List TestWords
-test value = record { column = codes "Q"; op = op.Eq; value = value } ∷ []
+test value = record { column = codes "Q"; rel = rel.Eq; value = value } ∷ []
 
 abbrev nowhere : List TestWords
-nowhere = record { column = codes "NOCOL"; op = op.Eq; value = literal.Num (pos 1) } ∷ []
+nowhere = record { column = codes "NOCOL"; rel = rel.Eq; value = literal.Num (pos 1) } ∷ []
 
-no_snapshot_at_a_master : world_refusal (line.Snapshot a t []) before_resume ≡ Some refusal.UnknownName
+no_snapshot_at_a_master : world_refusal (command.Snapshot a t None) before_resume ≡ Some refusal.UnknownName
 unfolding group_columns_of columns_step broken_rule
 no_snapshot_at_a_master = refl
 

@@ -4,6 +4,8 @@ use Rattle.rep_values.specs.declared.name.SiteName.{SiteName}
 use Rattle.rep_schema.specs.Tables.{Rows}
 use Rattle.local_txn.specs.declared.local.LocalStop.{LocalStop}
 use Rattle.snapshot_query.specs.declared.snapshot.Snapshot.{Snapshot}
+use Rattle.script_parse.specs.declared.command.Refresh.{Refresh}
+use Rattle.script_parse.specs.declared.command.Refresh.TheVariants as refresh
 use Rattle.site_state.specs.declared.answers.RefreshCount.{RefreshCount}
 use Rattle.site_state.specs.State.{LogState, SiteState}
 use Rattle.site_state.specs.Contents.{tables_of}
@@ -13,10 +15,7 @@ use Rattle.site_state.specs.Refreshes.{rows_shown, refresh_complete_answer, refr
 use Rattle.event_laws.specs.Core.{site_of}
 use Rattle.event_laws.specs.Events.{master_of, found_site}
 use Rattle.world_state.specs.declared.block.Block.{Block}
-use Rattle.world_state.specs.declared.commands.RefreshMode.{RefreshMode}
-use Rattle.world_state.specs.declared.commands.RefreshMode.TheVariants as mode
 use Rattle.world_state.specs.World.{WorldState}
-use Rattle.world_state.specs.Blocks.{statements_of}
 use Rattle.world_state.specs.Refusals.{young_step}
 
 -- something of a site, 0 where it isn't there
@@ -32,7 +31,7 @@ number_of (Err stop) = 0
 
 abbrev pub block_number : Option Block → WorldState → ℕ
 block_number None w = 0
-block_number (Some block) w = number_at (λ x. number_of (commit_answer (statements_of block) x)) (site_of block.site w.sites)
+block_number (Some block) w = number_at (λ x. number_of (commit_answer block.statements x)) (site_of block.site w.sites)
 
 -- the number under which the open block is queued, 0 where no row changes
 abbrev pub commit_number : WorldState → ℕ
@@ -51,10 +50,10 @@ log_purge_count site table w = number_at (purge_log_answer table) (site_of site 
 -- ---- refreshes
 
 -- a refresh goes by the logs: where it is asked to, or where they reach back far enough
-abbrev pub goes_by_logs : RefreshMode → List LogState → List Snapshot → Bool
-goes_by_logs mode.Fast logs snapshots = true
-goes_by_logs mode.Complete logs snapshots = false
-goes_by_logs mode.Force logs snapshots = is_none (young_step logs snapshots)
+abbrev pub goes_by_logs : Refresh → List LogState → List Snapshot → Bool
+goes_by_logs refresh.Fast logs snapshots = true
+goes_by_logs refresh.Complete logs snapshots = false
+goes_by_logs refresh.Force logs snapshots = is_none (young_step logs snapshots)
 
 -- what a refresh tells, of a site and its master: whether it went by the logs, and its counts
 pub record RefreshTold : Type 0 where
@@ -65,16 +64,16 @@ abbrev pub count_of_refresh : Bool → SiteState → SiteState → RefreshCount
 count_of_refresh true x master = refresh_fast_answer master.logs (rows_shown (tables_of master) x.snapshots) x
 count_of_refresh false x master = refresh_complete_answer (rows_shown (tables_of master) x.snapshots)
 
-abbrev pub refresh_told : RefreshMode → SiteState → SiteState → RefreshTold
+abbrev pub refresh_told : Refresh → SiteState → SiteState → RefreshTold
 refresh_told mode x master = record { by_logs = goes_by_logs mode master.logs x.snapshots; count = count_of_refresh (goes_by_logs mode master.logs x.snapshots) x master }
 
-abbrev pub refresh_between : RefreshMode → Option SiteState → Option SiteState → Option RefreshTold
+abbrev pub refresh_between : Refresh → Option SiteState → Option SiteState → Option RefreshTold
 refresh_between mode None master = None
 refresh_between mode (Some x) None = None
 refresh_between mode (Some x) (Some master) = Some (refresh_told mode x master)
 
 -- what a refresh of a site tells, where it and its master are there
-abbrev pub refresh_answer : SiteName → RefreshMode → WorldState → Option RefreshTold
+abbrev pub refresh_answer : SiteName → Refresh → WorldState → Option RefreshTold
 refresh_answer site mode w = refresh_between mode (site_of site w.sites) (found_site w.sites (master_of w.schema site))
 
 -- ---- joins

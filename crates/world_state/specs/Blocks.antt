@@ -1,70 +1,71 @@
 -- The block of a transaction.
-use Rattle.std.specs.Prelude.{ℕ, ◌-◌, Bool, true, false, nat_lt, cond, List, [], ◌∷◌, ◌++◌, map, length, Option, Some, None, Result, Ok, Err, slice_get}
+use Rattle.std.specs.Prelude.{ℕ, ◌-◌, Bool, true, false, nat_lt, cond, List, [], ◌∷◌, ◌++◌, length, Option, Some, None, Result, Ok, Err, slice_get}
 use Rattle.rep_values.specs.declared.name.SiteName.{SiteName}
 use Rattle.rep_values.specs.declared.refusal.Refusal.{Refusal}
 use Rattle.rep_calls.specs.declared.statement.Statement.{Statement}
 use Rattle.local_txn.specs.declared.local.LocalStop.{LocalStop}
 use Rattle.local_txn.specs.Locals.{most_statements}
+use Rattle.script_parse.specs.declared.command.Command.{Command}
+use Rattle.script_parse.specs.declared.command.Command.TheVariants as command
 use Rattle.site_state.specs.State.{SiteState}
 use Rattle.site_state.specs.Commits.{site_commit, commit_answer}
 use Rattle.event_laws.specs.Core.{site_of}
-use Rattle.world_state.specs.declared.block.Stated.{Stated}
 use Rattle.world_state.specs.declared.block.Block.{Block}
-use Rattle.world_state.specs.declared.commands.RunCommand.{RunCommand}
-use Rattle.world_state.specs.declared.commands.RunCommand.TheVariants as run
 use Rattle.world_state.specs.World.{WorldState, with_site}
 
 -- a block is opened at a site
 abbrev pub opened : SiteName → WorldState → WorldState
-opened site w = record w { block = Some (record { site = site; stated = [] }) }
+opened site w = record w { block = Some (record { site = site; lines = []; statements = [] }) }
 
 -- no block is open
 abbrev pub closed : WorldState → WorldState
 closed w = record w { block = None }
 
 -- a statement more; one behind the first that is too many isn't kept
-abbrev pub stated_more : Stated → List Stated → List Stated
-stated_more one stated = cond (nat_lt most_statements (length stated)) stated (stated ++ one ∷ [])
+abbrev pub stated_more : ℕ → Statement → Block → Block
+stated_more line statement block =
+    cond (nat_lt most_statements (length block.statements)) block (record block { lines = block.lines ++ line ∷ []; statements = block.statements ++ statement ∷ [] })
 
-abbrev pub block_with : Stated → Option Block → Option Block
-block_with one None = None
-block_with one (Some block) = Some (record { site = block.site; stated = stated_more one block.stated })
+abbrev pub block_with : ℕ → Statement → Option Block → Option Block
+block_with line statement None = None
+block_with line statement (Some block) = Some (stated_more line statement block)
 
 -- a statement of a line, in the open block
 abbrev pub with_statement : ℕ → Statement → WorldState → WorldState
-with_statement line statement w = record w { block = block_with (record { line = line; statement = statement }) w.block }
-
-abbrev pub statements_of : Block → List Statement
-statements_of block = map (λ (s : Stated). s.statement) block.stated
+with_statement line statement w = record w { block = block_with line statement w.block }
 
 abbrev pub committed_block : Option Block → WorldState → WorldState
 committed_block None w = w
-committed_block (Some block) w = closed (with_site block.site (site_commit (statements_of block)) w)
+committed_block (Some block) w = closed (with_site block.site (site_commit block.statements) w)
 
 -- the open block is committed at its site, and closed
 abbrev pub world_commit : WorldState → WorldState
 world_commit w = committed_block w.block w
 
 -- a line commits the open block
-abbrev pub is_commit : RunCommand → Bool
-is_commit (run.Txn site) = false
-is_commit (run.Statement statement) = false
-is_commit run.Commit = true
-is_commit run.Abandon = false
-is_commit (run.Push from to count) = false
-is_commit (run.AddFates from to fates) = false
-is_commit (run.ClearFates from to) = false
-is_commit (run.Link from to up) = false
-is_commit (run.Clock site clock) = false
-is_commit (run.Purge site) = false
-is_commit (run.Execute site origin position) = false
-is_commit (run.DropError site origin position) = false
-is_commit (run.Refresh site mode) = false
-is_commit (run.PurgeLog site table) = false
-is_commit run.Suspend = false
-is_commit run.Resume = false
-is_commit (run.Join site source) = false
-is_commit (run.Show site) = false
+abbrev pub is_commit : Command → Bool
+is_commit command.Nothing = false
+is_commit (command.Declare declaration) = false
+is_commit (command.Snapshot site table tests) = false
+is_commit (command.Row table values) = false
+is_commit command.Resume = false
+is_commit (command.Statement statement) = false
+is_commit (command.Txn site) = false
+is_commit command.Commit = true
+is_commit command.Abandon = false
+is_commit (command.Push from to count) = false
+is_commit (command.Fates from to fates) = false
+is_commit (command.ClearFates from to) = false
+is_commit (command.Link from to link) = false
+is_commit (command.Clock site time) = false
+is_commit (command.Purge site) = false
+is_commit (command.Execute site origin position) = false
+is_commit (command.DropError site origin position) = false
+is_commit (command.Refresh site how) = false
+is_commit (command.PurgeLog master table) = false
+is_commit command.Suspend = false
+is_commit (command.Join site source) = false
+is_commit (command.Show what site) = false
 
 -- ---- what a commit is refused for
 
@@ -78,7 +79,7 @@ stop_at_site statements (Some x) = stop_in (commit_answer statements x)
 
 abbrev pub block_stop : Option Block → WorldState → Option LocalStop
 block_stop None w = None
-block_stop (Some block) w = stop_at_site (statements_of block) (site_of block.site w.sites)
+block_stop (Some block) w = stop_at_site block.statements (site_of block.site w.sites)
 
 -- the first statement of the open block that is refused, from 1, and why
 abbrev pub commit_stop : WorldState → Option LocalStop
@@ -92,14 +93,14 @@ refusal_in (Some stop) = Some stop.refusal
 abbrev pub commit_refusal : WorldState → Option Refusal
 commit_refusal w = refusal_in (commit_stop w)
 
-abbrev pub line_in : ℕ → Option Stated → ℕ
+abbrev pub line_in : ℕ → Option ℕ → ℕ
 line_in line None = line
-line_in line (Some stated) = stated.line
+line_in line (Some stated) = stated
 
 abbrev pub stated_line : ℕ → Option Block → Option LocalStop → ℕ
 stated_line line None stop = line
 stated_line line (Some block) None = line
-stated_line line (Some block) (Some stop) = line_in line (slice_get block.stated (stop.statement - 1))
+stated_line line (Some block) (Some stop) = line_in line (slice_get block.lines (stop.statement - 1))
 
 -- the line that a refused commit of a line tells: that of the refused statement
 abbrev pub commit_line : ℕ → WorldState → ℕ

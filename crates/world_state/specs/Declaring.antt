@@ -6,32 +6,21 @@ use Rattle.rep_values.specs.declared.name.TableName.{TableName}
 use Rattle.rep_values.specs.declared.literal.Literal.{Literal}
 use Rattle.rep_values.specs.Literal.{value_of_literal}
 use Rattle.rep_schema.specs.declared.schema.Column.{Column}
-use Rattle.rep_schema.specs.Tables.{Rows, columns_of}
+use Rattle.rep_schema.specs.Tables.{columns_of}
 use Rattle.rep_schema.specs.Named.{table_place}
 use Rattle.rep_declare.specs.declared.declaration.Declare.{Declare}
-use Rattle.rep_declare.specs.declared.declaration.Declare.TheVariants as declare
 use Rattle.rep_declare.specs.Additions.{declared, column_number}
+use Rattle.rep_declare.specs.Shaping.{rows_with}
 use Rattle.deferred_queue.specs.Streams.{is_same_site}
 use Rattle.local_txn.specs.BaseRows.{tables_with_row}
 use Rattle.snapshot_query.specs.declared.query.Test.{Test}
-use Rattle.world_state.specs.declared.commands.TestWords.{TestWords}
+use Rattle.snapshot_query.specs.declared.query.Op.{Op}
+use Rattle.snapshot_query.specs.declared.query.Op.TheVariants as op
+use Rattle.rep_schema.specs.declared.check.Rel.{Rel}
+use Rattle.rep_schema.specs.declared.check.Rel.TheVariants as rel
+use Rattle.script_parse.specs.declared.command.TestWords.{TestWords}
 use Rattle.world_state.specs.declared.declared_snapshot.DeclaredSnapshot.{DeclaredSnapshot}
 use Rattle.world_state.specs.World.{WorldState}
-
--- the rows of the tables, where a table that is declared has none yet
-abbrev pub rows_with : Declare → List Rows → List Rows
-rows_with (declare.Site name) base = base
-rows_with (declare.LateSite name) base = base
-rows_with (declare.SnapSite name master) base = base
-rows_with (declare.Table name columns) base = base ++ [] ∷ []
-rows_with (declare.Group table group columns) base = base
-rows_with (declare.Method table group method) base = base
-rows_with (declare.Priority group value level) base = base
-rows_with (declare.SiteLevel site level) base = base
-rows_with (declare.Unique table constraint columns) base = base
-rows_with (declare.UniqueMethod table constraint method) base = base
-rows_with (declare.Check table check column rel value) base = base
-rows_with (declare.Convergent table) base = base
 
 -- a declaration
 abbrev pub with_declaration : Declare → WorldState → WorldState
@@ -47,9 +36,23 @@ is_snapshot_of site table s = is_same_site s.site site && s.table == table
 abbrev pub has_snapshot : List DeclaredSnapshot → SiteName → ℕ → Bool
 has_snapshot snapshots site table = list_any (is_snapshot_of site table) snapshots
 
+-- the operator of a query that a relation is
+abbrev pub op_of : Rel → Op
+op_of rel.Eq = op.Eq
+op_of rel.Ne = op.Ne
+op_of rel.Lt = op.Lt
+op_of rel.Le = op.Le
+op_of rel.Gt = op.Gt
+op_of rel.Ge = op.Ge
+
 -- the test that these words mean in a table
 abbrev pub test_of : List Column → TestWords → Test
-test_of columns words = record { column = column_number columns words.column; op = words.op; value = value_of_literal words.value }
+test_of columns words = record { column = column_number columns words.column; op = op_of words.rel; value = value_of_literal words.value }
+
+-- the tests of a snapshot; with none, every row passes
+abbrev pub tests_in : Option (List TestWords) → List TestWords
+tests_in None = []
+tests_in (Some tests) = tests
 
 abbrev pub with_snapshot_at : SiteName → Option ℕ → List TestWords → WorldState → WorldState
 with_snapshot_at site None tests w = w

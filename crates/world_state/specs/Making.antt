@@ -1,11 +1,11 @@
 -- The sites and the net as Setup's end makes them.
-use Rattle.std.specs.Prelude.{ℕ, ◌&&◌, ◌||◌, Bool, false, not, List, [], map, filter, flat_map, replicate, length, Option, Some, None}
+use Rattle.std.specs.Prelude.{ℕ, ◌&&◌, Bool, false, not, List, [], map, filter, replicate, length, Option, Some, None}
 use Rattle.std.specs.List.{list_any, range_with_len}
 use Rattle.rep_values.specs.declared.name.SiteName.{SiteName}
 use Rattle.rep_schema.specs.declared.schema.Schema.{Schema}
 use Rattle.rep_schema.specs.declared.schema.SiteEntry.{SiteEntry}
 use Rattle.rep_schema.specs.Tables.{Rows}
-use Rattle.rep_schema.specs.Sites.{first_master, sends_to}
+use Rattle.rep_schema.specs.Sites.{first_master, linked_pairs}
 use Rattle.deferred_queue.specs.Streams.{is_same_site}
 use Rattle.local_txn.specs.declared.local.Here.{Here}
 use Rattle.local_txn.specs.BaseRows.{filled_tables}
@@ -75,17 +75,6 @@ is_early schema e = not (is_late_master schema e.name)
 -- the sites that are there from the start, in declared order
 abbrev pub sites_made : Schema → List Rows → List DeclaredSnapshot → List SiteState
 sites_made schema rows snapshots = map (entry_made schema rows snapshots) (filter (is_early schema) schema.sites)
-
--- ---- the net
-
--- one of two sites sends to the other
-abbrev pub are_linked : SiteEntry → SiteEntry → Bool
-are_linked a b = sends_to a b || sends_to b a
-
--- the pairs of sites with a direction from one to the other: two masters, late ones among them, and a snapshot site and its
--- master in either order
-abbrev pub linked_pairs : List SiteEntry → List (SiteName × SiteName)
-linked_pairs entries = flat_map (λ (a : SiteEntry). map (λ (b : SiteEntry). (a.name, b.name)) (filter (are_linked a) entries)) entries
 
 -- ---- Setup's end
 

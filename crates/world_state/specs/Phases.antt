@@ -10,12 +10,12 @@ use Rattle.rep_schema.specs.Tables.{Rows, rows_of}
 use Rattle.rep_schema.specs.Named.{table_place}
 use Rattle.schema_rules.specs.Rules.{broken_rule}
 use Rattle.rep_declare.specs.declared.declaration.Declare.{Declare}
-use Rattle.rep_declare.specs.declared.declaration.Declare.TheVariants as declare
+use Rattle.rep_declare.specs.Shaping.{table_shaped}
 use Rattle.site_state.specs.Steps.{is_empty}
 use Rattle.world_state.specs.declared.phase.Phase.{Phase}
 use Rattle.world_state.specs.declared.phase.Phase.TheVariants as phase
-use Rattle.world_state.specs.declared.commands.RunCommand.{RunCommand}
-use Rattle.world_state.specs.declared.commands.RunCommand.TheVariants as run
+use Rattle.script_parse.specs.declared.command.Command.{Command}
+use Rattle.script_parse.specs.declared.command.Command.TheVariants as command
 use Rattle.world_state.specs.World.{WorldState}
 
 abbrev pub is_setup : Phase → Bool
@@ -41,21 +41,6 @@ has_block w = is_some w.block
 -- they are for Setup alone
 abbrev pub setup_step : WorldState → Option Refusal
 setup_step w = refused (not (is_setup w.phase) || has_block w) refusal.WrongPhase
-
--- the table whose shape a declaration changes
-abbrev pub table_shaped : Declare → Option TableName
-table_shaped (declare.Site name) = None
-table_shaped (declare.LateSite name) = None
-table_shaped (declare.SnapSite name master) = None
-table_shaped (declare.Table name columns) = None
-table_shaped (declare.Group table group columns) = Some table
-table_shaped (declare.Method table group method) = Some table
-table_shaped (declare.Priority group value level) = None
-table_shaped (declare.SiteLevel site level) = None
-table_shaped (declare.Unique table constraint columns) = Some table
-table_shaped (declare.UniqueMethod table constraint method) = Some table
-table_shaped (declare.Check table check column rel value) = Some table
-table_shaped (declare.Convergent table) = Some table
 
 abbrev pub rows_at : List Rows → Option ℕ → Rows
 rows_at base None = []
@@ -85,23 +70,27 @@ resume_step phase.Setup schema = option_map refusal.SchemaRule (broken_rule sche
 resume_step phase.Running schema = Some refusal.WrongPhase
 resume_step phase.Suspended schema = None
 
--- why the phase or the open block hinders a command, if one does
-abbrev pub phase_step : RunCommand → WorldState → Option Refusal
-phase_step (run.Txn site) w = or_then (behind_setup_step w) (refused (is_suspended w.phase) refusal.Suspended)
-phase_step (run.Statement statement) w = block_step w
-phase_step run.Commit w = block_step w
-phase_step run.Abandon w = block_step w
-phase_step (run.Push from to count) w = behind_setup_step w
-phase_step (run.AddFates from to fates) w = behind_setup_step w
-phase_step (run.ClearFates from to) w = behind_setup_step w
-phase_step (run.Link from to up) w = behind_setup_step w
-phase_step (run.Clock site clock) w = behind_setup_step w
-phase_step (run.Purge site) w = behind_setup_step w
-phase_step (run.Execute site origin position) w = behind_setup_step w
-phase_step (run.DropError site origin position) w = behind_setup_step w
-phase_step (run.Refresh site mode) w = behind_setup_step w
-phase_step (run.PurgeLog site table) w = behind_setup_step w
-phase_step run.Suspend w = or_then (behind_setup_step w) (refused (not (is_running w.phase)) refusal.WrongPhase)
-phase_step run.Resume w = or_then (refused (has_block w) refusal.WrongPhase) (resume_step w.phase w.schema)
-phase_step (run.Join site source) w = or_then (behind_setup_step w) (refused (not (is_suspended w.phase)) refusal.WrongPhase)
-phase_step (run.Show site) w = behind_setup_step w
+-- why the phase or the open block hinders a line, if one does
+abbrev pub phase_step : Command → WorldState → Option Refusal
+phase_step command.Nothing w = None
+phase_step (command.Declare declaration) w = declare_step declaration w
+phase_step (command.Snapshot site table tests) w = setup_step w
+phase_step (command.Row table values) w = setup_step w
+phase_step command.Resume w = or_then (refused (has_block w) refusal.WrongPhase) (resume_step w.phase w.schema)
+phase_step (command.Statement statement) w = block_step w
+phase_step (command.Txn site) w = or_then (behind_setup_step w) (refused (is_suspended w.phase) refusal.Suspended)
+phase_step command.Commit w = block_step w
+phase_step command.Abandon w = block_step w
+phase_step (command.Push from to count) w = behind_setup_step w
+phase_step (command.Fates from to fates) w = behind_setup_step w
+phase_step (command.ClearFates from to) w = behind_setup_step w
+phase_step (command.Link from to link) w = behind_setup_step w
+phase_step (command.Clock site time) w = behind_setup_step w
+phase_step (command.Purge site) w = behind_setup_step w
+phase_step (command.Execute site origin position) w = behind_setup_step w
+phase_step (command.DropError site origin position) w = behind_setup_step w
+phase_step (command.Refresh site how) w = behind_setup_step w
+phase_step (command.PurgeLog master table) w = behind_setup_step w
+phase_step command.Suspend w = or_then (behind_setup_step w) (refused (not (is_running w.phase)) refusal.WrongPhase)
+phase_step (command.Join site source) w = or_then (behind_setup_step w) (refused (not (is_suspended w.phase)) refusal.WrongPhase)
+phase_step (command.Show what site) w = behind_setup_step w

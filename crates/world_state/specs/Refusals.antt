@@ -25,17 +25,15 @@ use Rattle.site_state.specs.Making.{is_late_master}
 use Rattle.event_laws.specs.Core.{site_of}
 use Rattle.event_laws.specs.Quiet.{unquiet_at}
 use Rattle.event_laws.specs.Events.{is_all_acked, master_of, found_site, is_master_in}
-use Rattle.world_state.specs.declared.commands.RefreshMode.{RefreshMode}
-use Rattle.world_state.specs.declared.commands.RefreshMode.TheVariants as mode
-use Rattle.world_state.specs.declared.commands.RunCommand.{RunCommand}
-use Rattle.world_state.specs.declared.commands.RunCommand.TheVariants as run
-use Rattle.world_state.specs.declared.commands.TestWords.{TestWords}
-use Rattle.world_state.specs.declared.commands.WorldCommand.{WorldCommand}
-use Rattle.world_state.specs.declared.commands.WorldCommand.TheVariants as line
+use Rattle.script_parse.specs.declared.command.Refresh.{Refresh}
+use Rattle.script_parse.specs.declared.command.Refresh.TheVariants as refresh
+use Rattle.script_parse.specs.declared.command.TestWords.{TestWords}
+use Rattle.script_parse.specs.declared.command.Command.{Command}
+use Rattle.script_parse.specs.declared.command.Command.TheVariants as command
 use Rattle.world_state.specs.World.{WorldState, is_there, gets_from}
-use Rattle.world_state.specs.Declaring.{has_snapshot}
+use Rattle.world_state.specs.Declaring.{has_snapshot, tests_in}
 use Rattle.world_state.specs.Blocks.{commit_refusal}
-use Rattle.world_state.specs.Phases.{setup_step, declare_step, phase_step}
+use Rattle.world_state.specs.Phases.{phase_step}
 
 -- ---- names
 
@@ -65,13 +63,13 @@ young_step logs [] = None
 young_step logs (s ∷ ss) = or_then (refused (is_too_young logs s) (refusal.LogTooYoung (purged_of s.table logs) s.mark)) (young_step logs ss)
 
 -- a refresh goes by logs alone where it is asked to
-abbrev pub log_step : RefreshMode → List LogState → List Snapshot → Option Refusal
-log_step mode.Fast logs snapshots = young_step logs snapshots
-log_step mode.Complete logs snapshots = None
-log_step mode.Force logs snapshots = None
+abbrev pub log_step : Refresh → List LogState → List Snapshot → Option Refusal
+log_step refresh.Fast logs snapshots = young_step logs snapshots
+log_step refresh.Complete logs snapshots = None
+log_step refresh.Force logs snapshots = None
 
 -- a refresh of a snapshot site from its master: both directions are up, all is acknowledged, and the logs reach back
-abbrev pub refresh_steps : RefreshMode → SiteState → SiteState → WorldState → List (Option Refusal)
+abbrev pub refresh_steps : Refresh → SiteState → SiteState → WorldState → List (Option Refusal)
 refresh_steps mode x master w =
     refused (not (is_up x.here.site master.here.site w.net && is_up master.here.site x.here.site w.net)) refusal.LinkDown ∷
     refused (not (is_all_acked x)) (refusal.QueueNotEmpty (waiting_count x)) ∷
@@ -107,43 +105,44 @@ snapshot_steps w site table tests =
     refused (not (list_all test_in_range tests)) refusal.ValueRange ∷ []
 
 -- a snapshot of a table at a snapshot site
-abbrev pub snapshot_refusal : WorldState → SiteName → TableName → List TestWords → Option Refusal
-snapshot_refusal w site table tests = first_refusal (known (master_of w.schema site) (λ master. known (table_place w.schema table) (λ place. snapshot_steps w site place tests)))
+abbrev pub named_snapshot_steps : WorldState → SiteName → TableName → List TestWords → List (Option Refusal)
+named_snapshot_steps w site table tests = known (master_of w.schema site) (λ master. known (table_place w.schema table) (λ place. snapshot_steps w site place tests))
 
--- ---- a command
+-- ---- a line
 
--- the steps of a command behind the phase
-abbrev pub run_steps : RunCommand → WorldState → List (Option Refusal)
-run_steps (run.Txn site) w = unknown (site_of site w.sites) ∷ []
-run_steps (run.Statement statement) w = []
-run_steps run.Commit w = commit_refusal w ∷ []
-run_steps run.Abandon w = []
-run_steps (run.Push from to count) w = refused (not (has_sender w to from)) refusal.UnknownName ∷ refused (not (is_up from to w.net)) refusal.LinkDown ∷ []
-run_steps (run.AddFates from to fates) w = refused (not (has_link w from to)) refusal.UnknownName ∷ []
-run_steps (run.ClearFates from to) w = refused (not (has_link w from to)) refusal.UnknownName ∷ []
-run_steps (run.Link from to up) w = refused (not (has_link w from to)) refusal.UnknownName ∷ []
-run_steps (run.Clock site clock) w = unknown (site_of site w.sites) ∷ out_of_range (pos clock) ∷ []
-run_steps (run.Purge site) w = unknown (site_of site w.sites) ∷ []
-run_steps (run.Execute site origin position) w =
+-- the steps of a line behind the phase
+abbrev pub further_steps : Command → WorldState → List (Option Refusal)
+further_steps command.Nothing w = []
+further_steps (command.Declare declaration) w = refusal_of w.schema declaration ∷ []
+further_steps (command.Snapshot site table tests) w = named_snapshot_steps w site table (tests_in tests)
+further_steps (command.Row table values) w = base_refusal w.schema w.base table values ∷ []
+further_steps command.Resume w = []
+further_steps (command.Statement statement) w = []
+further_steps (command.Txn site) w = unknown (site_of site w.sites) ∷ []
+further_steps command.Commit w = commit_refusal w ∷ []
+further_steps command.Abandon w = []
+further_steps (command.Push from to count) w = refused (not (has_sender w to from)) refusal.UnknownName ∷ refused (not (is_up from to w.net)) refusal.LinkDown ∷ []
+further_steps (command.Fates from to fates) w = refused (not (has_link w from to)) refusal.UnknownName ∷ []
+further_steps (command.ClearFates from to) w = refused (not (has_link w from to)) refusal.UnknownName ∷ []
+further_steps (command.Link from to link) w = refused (not (has_link w from to)) refusal.UnknownName ∷ []
+further_steps (command.Clock site time) w = unknown (site_of site w.sites) ∷ out_of_range (pos time) ∷ []
+further_steps (command.Purge site) w = unknown (site_of site w.sites) ∷ []
+further_steps (command.Execute site origin position) w =
     known (site_of site w.sites) (λ x. refused (not (has_sender w site origin)) refusal.UnknownName ∷ execute_refusal origin position x ∷ [])
-run_steps (run.DropError site origin position) w =
+further_steps (command.DropError site origin position) w =
     known (site_of site w.sites) (λ x. refused (not (has_sender w site origin)) refusal.UnknownName ∷ drop_refusal origin position x ∷ [])
-run_steps (run.Refresh site mode) w =
-    known (site_of site w.sites) (λ x. known (found_site w.sites (master_of w.schema site)) (λ master. refresh_steps mode x master w))
-run_steps (run.PurgeLog site table) w =
-    known (site_of site w.sites) (λ x. known (table_place w.schema table) (λ place. unknown (log_of place x.logs) ∷ []))
-run_steps run.Suspend w = []
-run_steps run.Resume w = []
-run_steps (run.Join site source) w =
+further_steps (command.Refresh site how) w =
+    known (site_of site w.sites) (λ x. known (found_site w.sites (master_of w.schema site)) (λ master. refresh_steps how x master w))
+further_steps (command.PurgeLog master table) w =
+    known (site_of master w.sites) (λ x. known (table_place w.schema table) (λ place. unknown (log_of place x.logs) ∷ []))
+further_steps command.Suspend w = []
+further_steps (command.Join site source) w =
     refused (not (is_late_master w.schema site)) refusal.UnknownName ∷
     taken (site_of site w.sites) ∷
     refused (not (is_master_in (site_of source w.sites))) refusal.UnknownName ∷
     quiet_step w.sites w.schema.sites ∷ []
-run_steps (run.Show site) w = unknown (site_of site w.sites) ∷ []
+further_steps (command.Show what site) w = unknown (site_of site w.sites) ∷ []
 
 -- why a line is refused, if it is
-abbrev pub world_refusal : WorldCommand → WorldState → Option Refusal
-world_refusal (line.Declare declaration) w = or_then (declare_step declaration w) (refusal_of w.schema declaration)
-world_refusal (line.Snapshot site table tests) w = or_then (setup_step w) (snapshot_refusal w site table tests)
-world_refusal (line.Row table values) w = or_then (setup_step w) (base_refusal w.schema w.base table values)
-world_refusal (line.Run command) w = or_then (phase_step command w) (first_refusal (run_steps command w))
+abbrev pub world_refusal : Command → WorldState → Option Refusal
+world_refusal command w = or_then (phase_step command w) (first_refusal (further_steps command w))

@@ -1,5 +1,5 @@
 -- What a line of a script does to the world.
-use Rattle.std.specs.Prelude.{ℕ, suc, cond, List, [], ◌∷◌, Option, Some, None}
+use Rattle.std.specs.Prelude.{ℕ, suc, Bool, true, false, cond, List, [], ◌∷◌, Option, Some, None}
 use Rattle.rep_values.specs.declared.name.SiteName.{SiteName}
 use Rattle.rep_values.specs.declared.refusal.Refusal.{Refusal}
 use Rattle.rep_schema.specs.Named.{table_place}
@@ -12,12 +12,12 @@ use Rattle.event_laws.specs.Events.{refreshed}
 use Rattle.world_state.specs.declared.phase.Phase.{Phase}
 use Rattle.world_state.specs.declared.phase.Phase.TheVariants as phase
 use Rattle.world_state.specs.declared.refused.Refused.{Refused}
-use Rattle.world_state.specs.declared.commands.RunCommand.{RunCommand}
-use Rattle.world_state.specs.declared.commands.RunCommand.TheVariants as run
-use Rattle.world_state.specs.declared.commands.WorldCommand.{WorldCommand}
-use Rattle.world_state.specs.declared.commands.WorldCommand.TheVariants as line
+use Rattle.script_parse.specs.declared.command.Command.{Command}
+use Rattle.script_parse.specs.declared.command.Command.TheVariants as command
+use Rattle.script_parse.specs.declared.command.Link.{Link}
+use Rattle.script_parse.specs.declared.command.Link.TheVariants as link
 use Rattle.world_state.specs.World.{WorldState, with_site}
-use Rattle.world_state.specs.Declaring.{with_declaration, with_snapshot, with_row}
+use Rattle.world_state.specs.Declaring.{with_declaration, with_snapshot, with_row, tests_in}
 use Rattle.world_state.specs.Making.{world_made}
 use Rattle.world_state.specs.Blocks.{opened, closed, with_statement, world_commit, is_commit, commit_line}
 use Rattle.world_state.specs.Pushes.{world_push}
@@ -39,77 +39,68 @@ abbrev pub log_purged_at : SiteName → Option ℕ → WorldState → WorldState
 log_purged_at site None w = w
 log_purged_at site (Some table) w = with_site site (site_purge_log table) w
 
-abbrev pub run_done : ℕ → RunCommand → WorldState → WorldState
-run_done number (run.Txn site) w = opened site w
-run_done number (run.Statement statement) w = with_statement number statement w
-run_done number run.Commit w = world_commit w
-run_done number run.Abandon w = closed w
-run_done number (run.Push from to count) w = world_push from to count w
-run_done number (run.AddFates from to fates) w = record w { net = at_direction from to (with_fates fates) w.net }
-run_done number (run.ClearFates from to) w = record w { net = at_direction from to without_fates w.net }
-run_done number (run.Link from to up) w = record w { net = at_direction from to (with_link up) w.net }
-run_done number (run.Clock site clock) w = with_site site (site_clock clock) w
-run_done number (run.Purge site) w = with_site site site_purge w
-run_done number (run.Execute site origin position) w = with_site site (site_execute origin position) w
-run_done number (run.DropError site origin position) w = with_site site (site_drop origin position) w
-run_done number (run.Refresh site mode) w = world_refresh site w
-run_done number (run.PurgeLog site table) w = log_purged_at site (table_place w.schema table) w
-run_done number run.Suspend w = record w { phase = phase.Suspended }
-run_done number run.Resume w = resumed w.phase w
-run_done number (run.Join site source) w = record w { sites = joined site source w.sites }
-run_done number (run.Show site) w = w
+-- the word of a link
+abbrev pub is_up_word : Link → Bool
+is_up_word link.Up = true
+is_up_word link.Down = false
 
 -- what the line of a number does
-abbrev pub world_done : ℕ → WorldCommand → WorldState → WorldState
-world_done number (line.Declare declaration) w = with_declaration declaration w
-world_done number (line.Snapshot site table tests) w = with_snapshot site table tests w
-world_done number (line.Row table values) w = with_row table values w
-world_done number (line.Run command) w = run_done number command w
+abbrev pub world_done : ℕ → Command → WorldState → WorldState
+world_done number command.Nothing w = w
+world_done number (command.Declare declaration) w = with_declaration declaration w
+world_done number (command.Snapshot site table tests) w = with_snapshot site table (tests_in tests) w
+world_done number (command.Row table values) w = with_row table values w
+world_done number command.Resume w = resumed w.phase w
+world_done number (command.Statement statement) w = with_statement number statement w
+world_done number (command.Txn site) w = opened site w
+world_done number command.Commit w = world_commit w
+world_done number command.Abandon w = closed w
+world_done number (command.Push from to count) w = world_push from to count w
+world_done number (command.Fates from to fates) w = record w { net = at_direction from to (with_fates fates) w.net }
+world_done number (command.ClearFates from to) w = record w { net = at_direction from to without_fates w.net }
+world_done number (command.Link from to word) w = record w { net = at_direction from to (with_link (is_up_word word)) w.net }
+world_done number (command.Clock site time) w = with_site site (site_clock time) w
+world_done number (command.Purge site) w = with_site site site_purge w
+world_done number (command.Execute site origin position) w = with_site site (site_execute origin position) w
+world_done number (command.DropError site origin position) w = with_site site (site_drop origin position) w
+world_done number (command.Refresh site how) w = world_refresh site w
+world_done number (command.PurgeLog master table) w = log_purged_at master (table_place w.schema table) w
+world_done number command.Suspend w = record w { phase = phase.Suspended }
+world_done number (command.Join site source) w = record w { sites = joined site source w.sites }
+world_done number (command.Show what site) w = w
 
 -- ---- what a refused one does
 
 -- it leaves the world, but that a commit closes its block
-abbrev pub run_refused : RunCommand → WorldState → WorldState
-run_refused command w = cond (is_commit command) (closed w) w
-
-abbrev pub world_refused : WorldCommand → WorldState → WorldState
-world_refused (line.Declare declaration) w = w
-world_refused (line.Snapshot site table tests) w = w
-world_refused (line.Row table values) w = w
-world_refused (line.Run command) w = run_refused command w
+abbrev pub world_refused : Command → WorldState → WorldState
+world_refused command w = cond (is_commit command) (closed w) w
 
 -- ---- a step
 
 -- the world after a line that met a refusal, or none
-abbrev pub step_by : Option Refusal → ℕ → WorldCommand → WorldState → WorldState
+abbrev pub step_by : Option Refusal → ℕ → Command → WorldState → WorldState
 step_by None number command w = world_done number command w
 step_by (Some why) number command w = world_refused command w
 
 -- the world after the line of a number
-abbrev pub world_step : ℕ → WorldCommand → WorldState → WorldState
+abbrev pub world_step : ℕ → Command → WorldState → WorldState
 world_step number command w = step_by (world_refusal command w) number command w
 
 -- the world after lines, the first of which has a number
-abbrev pub world_steps : ℕ → List WorldCommand → WorldState → WorldState
+abbrev pub world_steps : ℕ → List Command → WorldState → WorldState
 world_steps number [] w = w
 world_steps number (command ∷ more) w = world_steps (suc number) more (world_step number command w)
 
 -- ---- what is told of a refusal
 
-abbrev pub run_line : ℕ → RunCommand → WorldState → ℕ
-run_line number command w = cond (is_commit command) (commit_line number w) number
-
 -- the line that is told: its own, and that of the refused statement where it is a commit
-abbrev pub told_line : ℕ → WorldCommand → WorldState → ℕ
-told_line number (line.Declare declaration) w = number
-told_line number (line.Snapshot site table tests) w = number
-told_line number (line.Row table values) w = number
-told_line number (line.Run command) w = run_line number command w
+abbrev pub told_line : ℕ → Command → WorldState → ℕ
+told_line number command w = cond (is_commit command) (commit_line number w) number
 
-abbrev pub told_by : Option Refusal → ℕ → WorldCommand → WorldState → Option Refused
+abbrev pub told_by : Option Refusal → ℕ → Command → WorldState → Option Refused
 told_by None number command w = None
 told_by (Some why) number command w = Some (record { line = told_line number command w; refusal = why })
 
 -- what is told of the line of a number, where it is refused
-abbrev pub step_refused : ℕ → WorldCommand → WorldState → Option Refused
+abbrev pub step_refused : ℕ → Command → WorldState → Option Refused
 step_refused number command w = told_by (world_refusal command w) number command w

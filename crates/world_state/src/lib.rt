@@ -2,13 +2,11 @@
 #![tactic(auto)]
 
 mod block;
-mod commands;
 mod declared_snapshot;
 mod phase;
 mod refused;
 
-pub use block::{Block, Stated};
-pub use commands::{RefreshMode, RunCommand, TestWords, WorldCommand};
+pub use block::Block;
 pub use declared_snapshot::DeclaredSnapshot;
 pub use phase::Phase;
 pub use refused::Refused;

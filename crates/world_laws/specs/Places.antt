@@ -1,0 +1,10 @@
+-- The place of a site among the others.
+use Rattle.std.specs.Prelude.{ℕ, List}
+use Rattle.std.specs.List.{position_or_len}
+use Rattle.rep_values.specs.declared.name.SiteName.{SiteName}
+use Rattle.deferred_queue.specs.Streams.{is_same_site}
+use Rattle.site_state.specs.State.{SiteState}
+
+-- the place of the first site of a name; their end where none has it
+abbrev pub place_of : SiteName → List SiteState → ℕ
+place_of name xs = position_or_len (λ (x : SiteState). is_same_site x.here.site name) xs
