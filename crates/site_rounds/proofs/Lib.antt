@@ -1,0 +1,4 @@
+-- The lemmas of this crate, from the bottom up.
+pub mod Parts
+mod Quiet
+mod Newest

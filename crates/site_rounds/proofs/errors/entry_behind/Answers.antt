@@ -1,0 +1,9 @@
+-- The entry at a place from the end is the first from there on.
+use Rattle.std.proofs.Common.{sym}
+use Rattle.site_rounds.proofs.Newest.{newest_found}
+use Rattle.site_rounds.proofs.errors.entry_behind.Goals as goal
+
+pub returns : goal.returns
+returns g c =
+    let journal = c.args.site.now.journal in
+    newest_found journal c.args.behind c.in-Some.entry.now c.requires (rw c.journal_len.ensures at (sym c.in-Some.ensures))
