@@ -1,0 +1,4 @@
+-- The lemmas of this crate, from the bottom up.
+mod MappedMore
+mod EarlyMasters
+pub mod SenderDirections

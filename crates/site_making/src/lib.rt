@@ -1,0 +1,8 @@
+//! The sites and the net that the end of Setup makes.
+#![tactic(auto)]
+
+mod net;
+mod sites;
+
+pub use net::make_net;
+pub use sites::make_sites;
