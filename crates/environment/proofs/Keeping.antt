@@ -1,0 +1,333 @@
+-- What holds of a world of a script of the forms that are built holds behind each of its lines.
+use Rattle.std.proofs.Common.{◌≡◌, ℕ, ℤ, List, [], ◌∷◌, ◌++◌, Bool, true, false, cond, Some, None, refl, sym, ap, ◌∙◌, subst, inl, inr}
+use Rattle.std.specs.Prelude.{◌||◌, not, Option, Ok, Err, is_some}
+use Rattle.std.specs.List.{AllByRecursion}
+use Rattle.rep_lists.proofs.Each.{each_push}
+use Rattle.rep_values.specs.declared.name.SiteName.{SiteName}
+use Rattle.rep_values.specs.declared.refusal.Refusal.{Refusal}
+use Rattle.rep_values.specs.declared.refusal.Refusal.TheVariants as refusal
+use Rattle.rep_values.specs.RefusalSteps.{refused}
+use Rattle.rep_values.proofs.RefusalSteps.{or_then-None}
+use Rattle.rep_schema.specs.declared.schema.SiteEntry.{SiteEntry}
+use Rattle.rep_schema.specs.declared.schema.Schema.{Schema}
+use Rattle.rep_schema.specs.Shape.{HasShape}
+use Rattle.rep_schema.specs.Entries.{master_site}
+use Rattle.rep_schema.specs.Sites.{senders_of}
+use Rattle.rep_schema.specs.Named.{is_site}
+use Rattle.rep_declare.specs.declared.declaration.Declare.{Declare}
+use Rattle.rep_declare.specs.declared.declaration.Declare.TheVariants as declare
+use Rattle.rep_declare.specs.Additions.{with_changed, with_site_level, declared}
+use Rattle.rep_declare.specs.Refusals.{refusal_of}
+use Rattle.rep_declare.proofs.DeclaredShapes.{HasShape-declared}
+use Rattle.net_plan.specs.Directions.{Direction, HasDirection, direction_of, is_up, with_link, with_fates, without_fates}
+use Rattle.script_parse.specs.declared.command.Command.{Command}
+use Rattle.script_parse.specs.declared.command.Command.TheVariants as command
+use Rattle.script_parse.specs.Built.{is_built, is_built_declaration}
+use Rattle.script_parse.specs.Named.{NamesColumn}
+use Rattle.site_state.specs.State.{is_among}
+use Rattle.event_laws.specs.Events.{run}
+use Rattle.world_state.specs.declared.phase.Phase.{Phase}
+use Rattle.world_state.specs.declared.phase.Phase.TheVariants as phase
+use Rattle.world_state.specs.declared.block.Block.{Block}
+use Rattle.world_state.specs.declared.refused.Refused.{Refused}
+use Rattle.world_state.specs.World.{WorldState, gets_from}
+use Rattle.world_state.specs.Phases.{is_setup, has_block, setup_step, declare_step, phase_step, behind_setup_step}
+use Rattle.world_state.specs.Blocks.{committed_block}
+use Rattle.world_state.specs.Pushes.{world_release, world_send, world_send_each, positions_above, world_bring_mark, world_answer, world_settle, pushed_in, world_push}
+use Rattle.world_state.specs.Making.{world_made}
+use Rattle.world_state.specs.Refusals.{world_refusal}
+use Rattle.world_state.specs.Steps.{resumed, is_up_word, world_done, world_refused, step_by, step_refused, told_by}
+use Rattle.world_laws.specs.Simulation.{Simulates}
+use Rattle.world_laws.specs.Scripts.{LeavesAllButTheBlock}
+use Rattle.world_laws.specs.Reached.{IsOfScript, InSetup, Behind}
+use Rattle.world_laws.proofs.SiteSteps.{run-append}
+use Rattle.world_laws.proofs.Scripts.{step_of_script}
+use Rattle.world_laws.proofs.RefusedLines.{refused_leaves}
+use Rattle.site_making.proofs.SenderDirections.{direction_to_sender, direction_from_sender}
+use Rattle.site_making.specs.Masters.{IsEarlyMaster}
+use Rattle.environment.specs.Following.{Follows, IsBuilt}
+use Rattle.environment.specs.Doing.{IsShort, is_push}
+use Rattle.environment.specs.Known.{is_tried}
+use Rattle.environment.specs.Keeping.{LinesKeepBuilt}
+use Rattle.environment.proofs.StayingDirections.{Stay, stay-at, stays, stay-push}
+
+-- ---- lines that declare nothing and end no Setup
+
+-- the schema stays, and whether it is Setup, and the directions
+record Keeps (w y : WorldState) : Type 0 where
+  schema : y.schema ≡ w.schema
+  setup : is_setup y.phase ≡ is_setup w.phase
+  net : Stay w.net y.net
+
+same : (w : WorldState) → Keeps w w
+same w = record { schema = refl; setup = refl; net = λ a b. refl }
+
+keeps_committed : (block : Option Block) (w : WorldState) → Keeps w (committed_block block w)
+keeps_committed None w = same w
+keeps_committed (Some block) w = record { schema = refl; setup = refl; net = λ a b. refl }
+
+keeps_answered : (from to : SiteName) (w : WorldState) → ((world_answer from to w).schema ≡ w.schema) × ((world_answer from to w).phase ≡ w.phase)
+keeps_answered from to w = go (is_up from to w.net)
+  where
+    go : (t : Bool) → ((cond t (world_bring_mark from to w) w).schema ≡ w.schema) × ((cond t (world_bring_mark from to w) w).phase ≡ w.phase)
+    go true = (refl, refl)
+    go false = (refl, refl)
+
+schema_each : (from to : SiteName) (positions : List ℕ) (w : WorldState) → (world_send_each from to positions w).schema ≡ w.schema
+schema_each from to [] w = refl
+schema_each from to (position ∷ more) w = schema_each from to more (world_send from to position w)
+
+phase_each : (from to : SiteName) (positions : List ℕ) (w : WorldState) → (world_send_each from to positions w).phase ≡ w.phase
+phase_each from to [] w = refl
+phase_each from to (position ∷ more) w = phase_each from to more (world_send from to position w)
+
+keeps_pushed : (from to : SiteName) (count : Option ℕ) (w : WorldState) → Keeps w (world_push from to count w)
+keeps_pushed from to count w =
+    let answered = keeps_answered to from (world_settle from to (pushed_in from to count w)) in
+    let before : (pushed_in from to count w).phase ≡ w.phase = phase_each from to (positions_above from to count (world_release from to w)) (world_release from to w) in
+    let shaped : (pushed_in from to count w).schema ≡ w.schema = schema_each from to (positions_above from to count (world_release from to w)) (world_release from to w) in
+    record { schema = answered.0 ∙ shaped; setup = ap is_setup (answered.1 ∙ before); net = stay-push from to count w }
+
+keeps_resumed : (now : Phase) (w : WorldState) → w.phase ≡ now → is_setup now ≡ false → Keeps w (resumed now w)
+keeps_resumed phase.Setup w is behind = absurd (cc behind)
+keeps_resumed phase.Running w is behind = same w
+keeps_resumed phase.Suspended w is behind = record { schema = refl; setup = sym (ap is_setup is); net = λ a b. refl }
+
+-- each line that is built, declares nothing and ends no Setup
+abbrev IsPlain : Command → WorldState → Type 0
+IsPlain command.Nothing w = Unit {0}
+IsPlain (command.Declare declaration) w = ⊥
+IsPlain (command.Snapshot site table tests) w = ⊥
+IsPlain (command.Row table values) w = Unit {0}
+IsPlain command.Resume w = is_setup w.phase ≡ false
+IsPlain (command.Statement statement) w = Unit {0}
+IsPlain (command.Txn site) w = Unit {0}
+IsPlain command.Commit w = Unit {0}
+IsPlain command.Abandon w = Unit {0}
+IsPlain (command.Push from to count) w = Unit {0}
+IsPlain (command.Fates from to fates) w = Unit {0}
+IsPlain (command.ClearFates from to) w = Unit {0}
+IsPlain (command.Link from to word) w = Unit {0}
+IsPlain (command.Clock site time) w = Unit {0}
+IsPlain (command.Purge site) w = Unit {0}
+IsPlain (command.Execute site origin position) w = Unit {0}
+IsPlain (command.DropError site origin position) w = Unit {0}
+IsPlain (command.Refresh site how) w = ⊥
+IsPlain (command.PurgeLog master table) w = ⊥
+IsPlain command.Suspend w = is_setup w.phase ≡ false
+IsPlain (command.Join site source) w = ⊥
+IsPlain (command.Show what site) w = Unit {0}
+
+keeps_done : (number : ℕ) (c : Command) (w : WorldState) → IsPlain c w → Keeps w (world_done number c w)
+keeps_done number command.Nothing w plain = same w
+keeps_done number (command.Declare declaration) w plain = absurd plain
+keeps_done number (command.Snapshot site table tests) w plain = absurd plain
+keeps_done number (command.Row table values) w plain = record { schema = refl; setup = refl; net = λ a b. refl }
+keeps_done number command.Resume w plain = keeps_resumed w.phase w refl plain
+keeps_done number (command.Statement statement) w plain = record { schema = refl; setup = refl; net = λ a b. refl }
+keeps_done number (command.Txn site) w plain = record { schema = refl; setup = refl; net = λ a b. refl }
+keeps_done number command.Commit w plain = keeps_committed w.block w
+keeps_done number command.Abandon w plain = record { schema = refl; setup = refl; net = λ a b. refl }
+keeps_done number (command.Push from to count) w plain = keeps_pushed from to count w
+keeps_done number (command.Fates from to fates) w plain = record { schema = refl; setup = refl; net = stay-at from to (with_fates fates) (λ a b d. refl) w.net }
+keeps_done number (command.ClearFates from to) w plain = record { schema = refl; setup = refl; net = stay-at from to without_fates (λ a b d. refl) w.net }
+keeps_done number (command.Link from to word) w plain = record { schema = refl; setup = refl; net = stay-at from to (with_link (is_up_word word)) (λ a b d. refl) w.net }
+keeps_done number (command.Clock site time) w plain = record { schema = refl; setup = refl; net = λ a b. refl }
+keeps_done number (command.Purge site) w plain = record { schema = refl; setup = refl; net = λ a b. refl }
+keeps_done number (command.Execute site origin position) w plain = record { schema = refl; setup = refl; net = λ a b. refl }
+keeps_done number (command.DropError site origin position) w plain = record { schema = refl; setup = refl; net = λ a b. refl }
+keeps_done number (command.Refresh site how) w plain = absurd plain
+keeps_done number (command.PurgeLog master table) w plain = absurd plain
+keeps_done number command.Suspend w plain = record { schema = refl; setup = sym plain; net = λ a b. refl }
+keeps_done number (command.Join site source) w plain = absurd plain
+keeps_done number (command.Show what site) w plain = same w
+
+-- ---- what stays built
+
+-- the world that a step leads to is one of a script
+step_is : (number : ℕ) (c : Command) (w : WorldState) (r : Option Refusal) → NamesColumn c → IsOfScript w → world_refusal c w ≡ r → IsOfScript (step_by r number c w)
+step_is number c w r named is met = subst (λ (o : Option Refusal). IsOfScript (step_by o number c w)) met (step_of_script number c w named is)
+
+linked_behind : (w y : WorldState) → IsBuilt w → Keeps w y → is_setup y.phase ≡ false → (site origin : SiteName) → gets_from y site origin ≡ true
+    → HasDirection y.net site origin × HasDirection y.net origin site
+linked_behind w y built kept behind site origin gets =
+    let had = built.linked (sym kept.setup ∙ behind) site origin (subst (λ (s : Schema). is_among (senders_of s site) origin ≡ true) kept.schema gets) in
+    (stays w.net y.net kept.net site origin had.0, stays w.net y.net kept.net origin site had.1)
+
+built_kept : (w y : WorldState) → IsBuilt w → IsOfScript y → Keeps w y → IsBuilt y
+built_kept w y built is kept = record {
+  of_script = is;
+  shape = subst HasShape (sym kept.schema) built.shape;
+  masters = subst (λ (s : Schema). AllByRecursion IsEarlyMaster s.sites) (sym kept.schema) built.masters;
+  linked = linked_behind w y built kept;
+}
+
+-- ---- declarations
+
+levels_keep : (site : SiteName) (level : ℤ) (es : List SiteEntry) → AllByRecursion IsEarlyMaster es → AllByRecursion IsEarlyMaster (with_changed (is_site site) (with_site_level level) es)
+levels_keep site level [] all = tt
+levels_keep site level (e ∷ es) all = go (is_site site e) (levels_keep site level es all.1)
+  where
+    go : (b : Bool) → AllByRecursion IsEarlyMaster (with_changed (is_site site) (with_site_level level) es)
+        → AllByRecursion IsEarlyMaster (cond b (with_site_level level e ∷ es) (e ∷ with_changed (is_site site) (with_site_level level) es))
+    go true later = (all.0, all.1)
+    go false later = (all.0, later)
+
+masters_declared : (d : Declare) (schema : Schema) → is_built_declaration d ≡ true → AllByRecursion IsEarlyMaster schema.sites → AllByRecursion IsEarlyMaster (declared d schema).sites
+masters_declared (declare.Site name) schema form all = each_push IsEarlyMaster schema.sites (master_site name) all refl
+masters_declared (declare.LateSite name) schema form all = absurd (cc form)
+masters_declared (declare.SnapSite name master) schema form all = absurd (cc form)
+masters_declared (declare.Table name columns) schema form all = all
+masters_declared (declare.Group table group columns) schema form all = all
+masters_declared (declare.Method table group method) schema form all = all
+masters_declared (declare.Priority group value level) schema form all = all
+masters_declared (declare.SiteLevel site level) schema form all = levels_keep site level schema.sites all
+masters_declared (declare.Unique table constraint columns) schema form all = all
+masters_declared (declare.UniqueMethod table constraint method) schema form all = all
+masters_declared (declare.Check table check column rel value) schema form all = all
+masters_declared (declare.Convergent table) schema form all = all
+
+in_setup : (p : Phase) (b : Bool) → refused (not (is_setup p) || b) refusal.WrongPhase ≡ None → is_setup p ≡ true
+in_setup phase.Setup b none = refl
+in_setup phase.Running b none = absurd (cc none)
+in_setup phase.Suspended b none = absurd (cc none)
+
+built_declared : (number : ℕ) (d : Declare) (w : WorldState) → is_built_declaration d ≡ true → NamesColumn (command.Declare d) → world_refusal (command.Declare d) w ≡ None → IsBuilt w
+    → IsBuilt (world_done number (command.Declare d) w)
+built_declared number d w form named passes built =
+    let steps = or_then-None (declare_step d w) _ passes in
+    let setup : is_setup w.phase ≡ true = in_setup w.phase (has_block w) (or_then-None (setup_step w) _ steps.0).0 in
+    record {
+      of_script = step_is number (command.Declare d) w None named built.of_script passes;
+      shape = HasShape-declared d w.schema built.shape named (or_then-None (refusal_of w.schema d) None steps.1).0;
+      masters = masters_declared d w.schema form built.masters;
+      linked = λ behind. absurd (cc (setup, behind));
+    }
+
+-- ---- Setup's end
+
+built_made : (w : WorldState) → IsOfScript (world_made w) → IsBuilt w → IsBuilt (world_made w)
+built_made w is built = record {
+  of_script = is;
+  shape = built.shape;
+  masters = built.masters;
+  linked = λ behind site origin gets. (direction_to_sender w.schema site origin gets, direction_from_sender w.schema site origin gets);
+}
+
+built_resumed : (number : ℕ) (w : WorldState) → world_refusal command.Resume w ≡ None → IsBuilt w → IsBuilt (world_done number command.Resume w)
+built_resumed number w passes built = go w.phase refl
+  where
+    is : IsOfScript (resumed w.phase w)
+    is = step_is number command.Resume w None tt built.of_script passes
+
+    go : (now : Phase) → w.phase ≡ now → IsBuilt (resumed w.phase w)
+    go phase.Setup at = subst (λ (p : Phase). IsBuilt (resumed p w)) (sym at) (built_made w (subst (λ (p : Phase). IsOfScript (resumed p w)) at is) built)
+    go phase.Running at = built_kept w (resumed w.phase w) built is (keeps_resumed w.phase w refl (ap is_setup at))
+    go phase.Suspended at = built_kept w (resumed w.phase w) built is (keeps_resumed w.phase w refl (ap is_setup at))
+
+-- ---- each line
+
+plain_done : (number : ℕ) (c : Command) (w : WorldState) → IsPlain c w → NamesColumn c → world_refusal c w ≡ None → IsBuilt w → IsBuilt (world_done number c w)
+plain_done number c w plain named passes built = built_kept w (world_done number c w) built (step_is number c w None named built.of_script passes) (keeps_done number c w plain)
+
+behind_of : (p : Phase) (b : Bool) → refused (is_setup p || b) refusal.WrongPhase ≡ None → is_setup p ≡ false
+behind_of phase.Setup b none = absurd (cc none)
+behind_of phase.Running b none = refl
+behind_of phase.Suspended b none = refl
+
+built_done : (number : ℕ) (c : Command) (w : WorldState) → is_built c ≡ true → NamesColumn c → world_refusal c w ≡ None → IsBuilt w → IsBuilt (world_done number c w)
+built_done number (command.Declare declaration) w form named passes built = built_declared number declaration w form named passes built
+built_done number command.Resume w form named passes built = built_resumed number w passes built
+built_done number (command.Snapshot site table tests) w form named passes built = absurd (cc form)
+built_done number (command.Refresh site how) w form named passes built = absurd (cc form)
+built_done number (command.PurgeLog master table) w form named passes built = absurd (cc form)
+built_done number (command.Join site source) w form named passes built = absurd (cc form)
+built_done number command.Suspend w form named passes built =
+    plain_done number command.Suspend w (behind_of w.phase (has_block w) (or_then-None (behind_setup_step w) _ (or_then-None (phase_step command.Suspend w) _ passes).0).0) named passes built
+built_done number command.Nothing w form named passes built = plain_done number command.Nothing w tt named passes built
+built_done number (command.Row table values) w form named passes built = plain_done number (command.Row table values) w tt named passes built
+built_done number (command.Statement statement) w form named passes built = plain_done number (command.Statement statement) w tt named passes built
+built_done number (command.Txn site) w form named passes built = plain_done number (command.Txn site) w tt named passes built
+built_done number command.Commit w form named passes built = plain_done number command.Commit w tt named passes built
+built_done number command.Abandon w form named passes built = plain_done number command.Abandon w tt named passes built
+built_done number (command.Push from to count) w form named passes built = plain_done number (command.Push from to count) w tt named passes built
+built_done number (command.Fates from to fates) w form named passes built = plain_done number (command.Fates from to fates) w tt named passes built
+built_done number (command.ClearFates from to) w form named passes built = plain_done number (command.ClearFates from to) w tt named passes built
+built_done number (command.Link from to word) w form named passes built = plain_done number (command.Link from to word) w tt named passes built
+built_done number (command.Clock site time) w form named passes built = plain_done number (command.Clock site time) w tt named passes built
+built_done number (command.Purge site) w form named passes built = plain_done number (command.Purge site) w tt named passes built
+built_done number (command.Execute site origin position) w form named passes built = plain_done number (command.Execute site origin position) w tt named passes built
+built_done number (command.DropError site origin position) w form named passes built = plain_done number (command.DropError site origin position) w tt named passes built
+built_done number (command.Show what site) w form named passes built = plain_done number (command.Show what site) w tt named passes built
+
+built_refused : (number : ℕ) (c : Command) (w : WorldState) (r : Refused) → NamesColumn c → step_refused number c w ≡ Some r → IsBuilt w → IsBuilt (world_refused c w)
+built_refused number c w r named told built = go (world_refusal c w) refl told
+  where
+    leaves : LeavesAllButTheBlock w (world_refused c w)
+    leaves = refused_leaves c w
+
+    kept : Keeps w (world_refused c w)
+    kept = record { schema = leaves.schema; setup = ap is_setup leaves.phase; net = λ a b. ap (λ (net : List Direction). is_some (direction_of a b net)) leaves.net }
+
+    go : (o : Option Refusal) → world_refusal c w ≡ o → told_by o number c w ≡ Some r → IsBuilt (world_refused c w)
+    go None met told = absurd (cc told)
+    go (Some why) met told = built_kept w (world_refused c w) built (step_is number c w (Some why) named built.of_script met) kept
+
+-- events lead on from a world behind Setup
+script_follows : (old new : WorldState) → is_setup old.phase ≡ false → Follows old new → IsOfScript old → IsOfScript new
+script_follows old new behind follows (InSetup s) = absurd (cc (s.setup, behind))
+script_follows old new behind follows (Behind r) = let a = follows.leads (run r.leads.events r.start) r.leads.simulates in Behind (record {
+  schema = r.schema;
+  start = r.start;
+  is = r.is;
+  meshed = r.meshed;
+  leads = record { events = a.events ++ r.leads.events; simulates = subst (Simulates new) (sym (run-append a.events r.leads.events r.start)) a.simulates };
+})
+
+built_follows : (old new : WorldState) → is_setup old.phase ≡ false → Follows old new → IsBuilt old → IsBuilt new
+built_follows old new behind follows built = record {
+  of_script = script_follows old new behind follows built.of_script;
+  shape = subst HasShape (sym follows.schema) built.shape;
+  masters = subst (λ (s : Schema). AllByRecursion IsEarlyMaster s.sites) (sym follows.schema) built.masters;
+  linked = λ set site origin gets.
+      let had = built.linked behind site origin (subst (λ (s : Schema). is_among (senders_of s site) origin ≡ true) follows.schema gets) in
+      (follows.directions site origin had.0, follows.directions origin site had.1);
+}
+
+-- a push that isn't refused is behind Setup
+push_behind : (c : Command) (w : WorldState) → is_push c ≡ true → (is_tried c ≡ false → world_refusal c w ≡ None) → is_setup w.phase ≡ false
+push_behind (command.Push from to count) w is passes = behind_of w.phase (has_block w) (or_then-None (behind_setup_step w) _ (passes refl)).0
+push_behind command.Nothing w is passes = absurd (cc is)
+push_behind (command.Declare declaration) w is passes = absurd (cc is)
+push_behind (command.Snapshot site table tests) w is passes = absurd (cc is)
+push_behind (command.Row table values) w is passes = absurd (cc is)
+push_behind command.Resume w is passes = absurd (cc is)
+push_behind (command.Statement statement) w is passes = absurd (cc is)
+push_behind (command.Txn site) w is passes = absurd (cc is)
+push_behind command.Commit w is passes = absurd (cc is)
+push_behind command.Abandon w is passes = absurd (cc is)
+push_behind (command.Fates from to fates) w is passes = absurd (cc is)
+push_behind (command.ClearFates from to) w is passes = absurd (cc is)
+push_behind (command.Link from to word) w is passes = absurd (cc is)
+push_behind (command.Clock site time) w is passes = absurd (cc is)
+push_behind (command.Purge site) w is passes = absurd (cc is)
+push_behind (command.Execute site origin position) w is passes = absurd (cc is)
+push_behind (command.DropError site origin position) w is passes = absurd (cc is)
+push_behind (command.Refresh site how) w is passes = absurd (cc is)
+push_behind (command.PurgeLog master table) w is passes = absurd (cc is)
+push_behind command.Suspend w is passes = absurd (cc is)
+push_behind (command.Join site source) w is passes = absurd (cc is)
+push_behind (command.Show what site) w is passes = absurd (cc is)
+
+-- what is left of a line for which there was no memory
+built_short : (number : ℕ) (c : Command) (old new : WorldState) (r : Refused) → IsShort number c old new r → IsBuilt old → IsBuilt new
+built_short number c old new r short built = go (is_push c) refl
+  where
+    go : (b : Bool) → is_push c ≡ b → IsBuilt new
+    go false is = subst IsBuilt (sym (short.kept is)) built
+    go true is = built_follows old new (push_behind c old is short.passes) short.follows built
+
+pub lines_keep_built : LinesKeepBuilt
+lines_keep_built number c old new (Ok sheet) form named does built = subst IsBuilt (sym does.world) (built_done number c old form named does.passes built)
+lines_keep_built number c old new (Err r) form named (inl short) built = built_short number c old new r short built
+lines_keep_built number c old new (Err r) form named (inr refused) built = subst IsBuilt (sym refused.world) (built_refused number c old r named refused.told built)

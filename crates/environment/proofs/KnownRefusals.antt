@@ -1,0 +1,121 @@
+-- A refusal that is known before a line is tried is the line's, and where none is known only those that are tried may meet one.
+use Rattle.std.proofs.Common.{◌≡◌, ℕ, [], ◌∷◌, Bool, true, false, Some, None, refl, ap, ◌∙◌}
+use Rattle.std.specs.Prelude.{not, Option}
+use Rattle.rep_values.specs.declared.refusal.Refusal.{Refusal}
+use Rattle.rep_values.specs.declared.refusal.Refusal.TheVariants as refusal
+use Rattle.rep_values.specs.RefusalSteps.{refused, or_then, first_refusal, known}
+use Rattle.script_parse.specs.declared.command.Command.{Command}
+use Rattle.script_parse.specs.declared.command.Command.TheVariants as command
+use Rattle.site_state.specs.State.{SiteState}
+use Rattle.site_state.specs.Errors.{execute_refusal, drop_refusal}
+use Rattle.event_laws.specs.Core.{site_of}
+use Rattle.world_state.specs.declared.block.Block.{Block}
+use Rattle.world_state.specs.World.{WorldState}
+use Rattle.world_state.specs.Phases.{phase_step}
+use Rattle.world_state.specs.Blocks.{commit_stop, stated_line}
+use Rattle.world_state.specs.Refusals.{has_sender, world_refusal}
+use Rattle.world_state.specs.Steps.{world_refused, told_line, told_by}
+use Rattle.environment.specs.Known.{known_refusal}
+use Rattle.environment.specs.Doing.{IsRefused}
+
+-- a step more changes nothing where one in front refuses
+or_first : (first following : Option Refusal) (why : Refusal) → or_then first None ≡ Some why → or_then first following ≡ Some why
+or_first None following why is = absurd (cc is)
+or_first (Some w) following why is = is
+
+known_first : (found : Option SiteState) (test : Bool) (further : SiteState → Option Refusal) (phase : Option Refusal) (why : Refusal)
+    → or_then phase (first_refusal (known found (λ x. refused test refusal.UnknownName ∷ []))) ≡ Some why
+    → or_then phase (first_refusal (known found (λ x. refused test refusal.UnknownName ∷ further x ∷ []))) ≡ Some why
+known_first found test further (Some p) why is = is
+known_first None test further None why is = is
+known_first (Some x) true further None why is = is
+known_first (Some x) false further None why is = absurd (cc is)
+
+-- the line meets it
+known_met : (c : Command) (w : WorldState) (why : Refusal) → known_refusal c w ≡ Some why → world_refusal c w ≡ Some why
+known_met command.Nothing w why is = is
+known_met (command.Declare declaration) w why is = is
+known_met (command.Snapshot site table tests) w why is = is
+known_met (command.Row table values) w why is = or_first (phase_step (command.Row table values) w) _ why is
+known_met command.Resume w why is = is
+known_met (command.Statement statement) w why is = is
+known_met (command.Txn site) w why is = is
+known_met command.Commit w why is = or_first (phase_step command.Commit w) _ why is
+known_met command.Abandon w why is = is
+known_met (command.Push from to count) w why is = is
+known_met (command.Fates from to fates) w why is = is
+known_met (command.ClearFates from to) w why is = is
+known_met (command.Link from to word) w why is = is
+known_met (command.Clock site time) w why is = is
+known_met (command.Purge site) w why is = is
+known_met (command.Execute site origin position) w why is = known_first (site_of site w.sites) (not (has_sender w site origin)) (execute_refusal origin position) (phase_step (command.Execute site origin position) w) why is
+known_met (command.DropError site origin position) w why is = known_first (site_of site w.sites) (not (has_sender w site origin)) (drop_refusal origin position) (phase_step (command.DropError site origin position) w) why is
+known_met (command.Refresh site how) w why is = is
+known_met (command.PurgeLog master table) w why is = is
+known_met command.Suspend w why is = is
+known_met (command.Join site source) w why is = is
+known_met (command.Show what site) w why is = is
+
+-- a commit that is refused so finds no open block
+no_block : (w : WorldState) (why : Refusal) → known_refusal command.Commit w ≡ Some why → w.block ≡ None
+no_block w why is = go w.block refl
+  where
+    go : (b : Option Block) → w.block ≡ b → w.block ≡ None
+    go None at = at
+    go (Some block) at = let passes : known_refusal command.Commit w ≡ None = rw at refl in absurd (cc (passes, is))
+
+-- its line is its own
+known_line : (number : ℕ) (c : Command) (w : WorldState) (why : Refusal) → known_refusal c w ≡ Some why → told_line number c w ≡ number
+known_line number command.Nothing w why is = refl
+known_line number (command.Declare declaration) w why is = refl
+known_line number (command.Snapshot site table tests) w why is = refl
+known_line number (command.Row table values) w why is = refl
+known_line number command.Resume w why is = refl
+known_line number (command.Statement statement) w why is = refl
+known_line number (command.Txn site) w why is = refl
+known_line number command.Commit w why is = ap (λ (b : Option Block). stated_line number b (commit_stop w)) (no_block w why is)
+known_line number command.Abandon w why is = refl
+known_line number (command.Push from to count) w why is = refl
+known_line number (command.Fates from to fates) w why is = refl
+known_line number (command.ClearFates from to) w why is = refl
+known_line number (command.Link from to word) w why is = refl
+known_line number (command.Clock site time) w why is = refl
+known_line number (command.Purge site) w why is = refl
+known_line number (command.Execute site origin position) w why is = refl
+known_line number (command.DropError site origin position) w why is = refl
+known_line number (command.Refresh site how) w why is = refl
+known_line number (command.PurgeLog master table) w why is = refl
+known_line number command.Suspend w why is = refl
+known_line number (command.Join site source) w why is = refl
+known_line number (command.Show what site) w why is = refl
+
+-- and the world is as before
+known_leaves : (c : Command) (w : WorldState) (why : Refusal) → known_refusal c w ≡ Some why → w ≡ world_refused c w
+known_leaves command.Nothing w why is = refl
+known_leaves (command.Declare declaration) w why is = refl
+known_leaves (command.Snapshot site table tests) w why is = refl
+known_leaves (command.Row table values) w why is = refl
+known_leaves command.Resume w why is = refl
+known_leaves (command.Statement statement) w why is = refl
+known_leaves (command.Txn site) w why is = refl
+known_leaves command.Commit w why is = ap (λ (b : Option Block). record w { block = b }) (no_block w why is)
+known_leaves command.Abandon w why is = refl
+known_leaves (command.Push from to count) w why is = refl
+known_leaves (command.Fates from to fates) w why is = refl
+known_leaves (command.ClearFates from to) w why is = refl
+known_leaves (command.Link from to word) w why is = refl
+known_leaves (command.Clock site time) w why is = refl
+known_leaves (command.Purge site) w why is = refl
+known_leaves (command.Execute site origin position) w why is = refl
+known_leaves (command.DropError site origin position) w why is = refl
+known_leaves (command.Refresh site how) w why is = refl
+known_leaves (command.PurgeLog master table) w why is = refl
+known_leaves command.Suspend w why is = refl
+known_leaves (command.Join site source) w why is = refl
+known_leaves (command.Show what site) w why is = refl
+
+pub known_refused : (number : ℕ) (c : Command) (w : WorldState) (why : Refusal) → known_refusal c w ≡ Some why → IsRefused number c w w (record { line = number; refusal = why })
+known_refused number c w why is = record {
+  told = ap (λ (o : Option Refusal). told_by o number c w) (known_met c w why is) ∙ ap (λ (line : ℕ). Some (record { line = line; refusal = why })) (known_line number c w why is);
+  world = known_leaves c w why is;
+}

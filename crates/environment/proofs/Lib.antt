@@ -1,0 +1,8 @@
+-- The lemmas of this crate, from the bottom up.
+pub mod Places
+pub mod Directions
+pub mod Following
+pub mod Written
+pub mod StayingDirections
+pub mod Keeping
+pub mod KnownRefusals

@@ -1,0 +1,63 @@
+-- What comes of a line.
+use Rattle.std.specs.Prelude.{◌≡◌, ◌⊎◌, ℕ, Bool, true, false, List, Some, None, Result, Ok, Err}
+use Rattle.rep_values.specs.declared.refusal.Refusal.TheVariants as refusal
+use Rattle.report_text.specs.Sheet.{Sheet}
+use Rattle.script_parse.specs.declared.command.Command.{Command}
+use Rattle.script_parse.specs.declared.command.Command.TheVariants as command
+use Rattle.world_state.specs.declared.refused.Refused.{Refused}
+use Rattle.world_state.specs.World.{WorldState}
+use Rattle.world_state.specs.Refusals.{world_refusal}
+use Rattle.world_state.specs.Steps.{world_done, world_refused, step_refused}
+use Rattle.environment.specs.Following.{Follows}
+use Rattle.environment.specs.Known.{is_tried}
+use Rattle.environment.specs.Texts.{world_text}
+
+-- a line pushes
+abbrev pub is_push : Command → Bool
+is_push command.Nothing = false
+is_push (command.Declare declaration) = false
+is_push (command.Snapshot site table tests) = false
+is_push (command.Row table values) = false
+is_push command.Resume = false
+is_push (command.Statement statement) = false
+is_push (command.Txn site) = false
+is_push command.Commit = false
+is_push command.Abandon = false
+is_push (command.Push from to count) = true
+is_push (command.Fates from to fates) = false
+is_push (command.ClearFates from to) = false
+is_push (command.Link from to word) = false
+is_push (command.Clock site time) = false
+is_push (command.Purge site) = false
+is_push (command.Execute site origin position) = false
+is_push (command.DropError site origin position) = false
+is_push (command.Refresh site how) = false
+is_push (command.PurgeLog master table) = false
+is_push command.Suspend = false
+is_push (command.Join site source) = false
+is_push (command.Show what site) = false
+
+-- a line that isn't refused was done, and this is what it prints
+pub record IsDone (number : ℕ) (command : Command) (old new : WorldState) (bytes : List ℕ) : Type 0 where
+  pub passes : world_refusal command old ≡ None
+  pub world : new ≡ world_done number command old
+  pub text : bytes ≡ world_text command old
+
+-- there was no memory for a line: a push may be done in part, and every other line leaves the world; which of the lines it is
+-- that meets no refusal is known but of those that have to be tried
+pub record IsShort (number : ℕ) (command : Command) (old new : WorldState) (r : Refused) : Type 0 where
+  pub memory : r.refusal ≡ refusal.Memory
+  pub line : r.line ≡ number
+  pub passes : is_tried command ≡ false → world_refusal command old ≡ None
+  pub kept : is_push command ≡ false → new ≡ old
+  pub follows : Follows old new
+
+-- a line was refused
+pub record IsRefused (number : ℕ) (command : Command) (old new : WorldState) (r : Refused) : Type 0 where
+  pub told : step_refused number command old ≡ Some r
+  pub world : new ≡ world_refused command old
+
+-- a line was done, or refused, or there was no memory for it
+abbrev pub Does : ℕ → Command → WorldState → WorldState → Result Sheet Refused → Type 0
+Does number command old new (Ok sheet) = IsDone number command old new sheet.bytes
+Does number command old new (Err r) = IsShort number command old new r ⊎ IsRefused number command old new r

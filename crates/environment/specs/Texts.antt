@@ -1,0 +1,82 @@
+-- What the lines of a script print that aren't refused.
+use Rattle.std.specs.Prelude.{ℕ, ◌==◌, cond, List, [], ◌++◌, filter, Option, Some, None}
+use Rattle.std.specs.List.{flat_map}
+use Rattle.rep_values.specs.declared.name.SiteName.{SiteName}
+use Rattle.rep_schema.specs.Sites.{senders_of, destinations_of}
+use Rattle.report_text.specs.Texts.{commit_text, nothing_committed_text, purge_text, execute_text, drop_error_text, push_text, tables_text}
+use Rattle.report_text.specs.Refusals.{error_text}
+use Rattle.site_report.specs.Shows.{errors_text, journal_text, marks_text, queue_text}
+use Rattle.error_queue.specs.declared.entry.ErrorEntry.{ErrorEntry}
+use Rattle.script_parse.specs.declared.command.Shown.{Shown}
+use Rattle.script_parse.specs.declared.command.Shown.TheVariants as shown
+use Rattle.script_parse.specs.declared.command.Command.{Command}
+use Rattle.script_parse.specs.declared.command.Command.TheVariants as command
+use Rattle.site_state.specs.State.{SiteState}
+use Rattle.site_state.specs.Contents.{tables_of}
+use Rattle.event_laws.specs.Core.{site_of}
+use Rattle.world_state.specs.declared.block.Block.{Block}
+use Rattle.world_state.specs.World.{WorldState, is_there}
+use Rattle.world_state.specs.Answers.{commit_number, purge_count}
+use Rattle.world_state.specs.PushAnswers.{push_count, push_errors}
+
+-- a commit's number, or that nothing was committed
+abbrev pub committed_text : SiteName → ℕ → List ℕ
+committed_text site number = cond (number == 0) (nothing_committed_text site.0) (commit_text site.0 number)
+
+abbrev pub block_text : Option Block → ℕ → List ℕ
+block_text None number = []
+block_text (Some block) number = committed_text block.site number
+
+-- a new error
+abbrev pub new_error_text : ErrorEntry → List ℕ
+new_error_text e = error_text e.origin.0 e.position e.call e.error
+
+-- a push, and the errors that it brought
+abbrev pub pushed_text : SiteName → SiteName → Option ℕ → WorldState → List ℕ
+pushed_text from to count w = push_text from.0 to.0 (push_count from to count w) ++ flat_map new_error_text (push_errors from to count w)
+
+-- the senders and destinations of a site that are there
+abbrev pub senders_there : WorldState → SiteName → List SiteName
+senders_there w site = filter (is_there w) (senders_of w.schema site)
+
+abbrev pub destinations_there : WorldState → SiteName → List SiteName
+destinations_there w site = filter (is_there w) (destinations_of w.schema site)
+
+-- what is shown of a site; logs and the calls of procedures come with them
+abbrev pub shown_text : Shown → SiteName → SiteState → WorldState → List ℕ
+shown_text shown.Tables site x w = tables_text site.0 x.schema (tables_of x)
+shown_text shown.Queue site x w = queue_text site.0 (destinations_there w site) x
+shown_text shown.Errors site x w = errors_text site.0 x
+shown_text shown.Marks site x w = marks_text site.0 (senders_there w site) (destinations_there w site) x
+shown_text shown.Journal site x w = journal_text site.0 x
+shown_text shown.Log site x w = []
+shown_text shown.Calls site x w = []
+
+abbrev pub shown_found : Shown → SiteName → Option SiteState → WorldState → List ℕ
+shown_found what site None w = []
+shown_found what site (Some x) w = shown_text what site x w
+
+-- what a line prints; those of snapshots and of joins come with them
+abbrev pub world_text : Command → WorldState → List ℕ
+world_text command.Nothing w = []
+world_text (command.Declare declaration) w = []
+world_text (command.Snapshot site table tests) w = []
+world_text (command.Row table values) w = []
+world_text command.Resume w = []
+world_text (command.Statement statement) w = []
+world_text (command.Txn site) w = []
+world_text command.Commit w = block_text w.block (commit_number w)
+world_text command.Abandon w = []
+world_text (command.Push from to count) w = pushed_text from to count w
+world_text (command.Fates from to fates) w = []
+world_text (command.ClearFates from to) w = []
+world_text (command.Link from to word) w = []
+world_text (command.Clock site time) w = []
+world_text (command.Purge site) w = purge_text site.0 (purge_count site w)
+world_text (command.Execute site origin position) w = execute_text site.0 origin.0 position
+world_text (command.DropError site origin position) w = drop_error_text site.0 origin.0 position
+world_text (command.Refresh site how) w = []
+world_text (command.PurgeLog master table) w = []
+world_text command.Suspend w = []
+world_text (command.Join site source) w = []
+world_text (command.Show what site) w = shown_found what site (site_of site w.sites) w

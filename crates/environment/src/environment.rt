@@ -1,0 +1,73 @@
+//! What a script makes.
+ghost use Rattle.std.specs.Prelude.{◌≡◌, IfOk};
+ghost use Rattle.std.specs.List.{position};
+ghost use Rattle.deferred_queue.specs.Streams.{is_same_site};
+ghost use Rattle.world_state.specs.World.{first_world};
+ghost use Rattle.environment.specs.Finding.{FindsSite};
+
+use net_plan::Net;
+use rep_lists::NoMemory;
+use rep_schema::Schema;
+use rep_values::SiteName;
+use row_tables::ListTables;
+use site_core::Site;
+use std::alloc::Global;
+use std::marker::Model;
+use world_state::{Block, Phase};
+
+/// A replication environment: the phase of its script, the store of what is declared and of the rows that masters begin
+/// with, its sites in declared order, the net between them, and the open block.
+#[derive(Drop)]
+pub struct Environment {
+    pub phase: Phase,
+    pub store: ListTables,
+    pub sites: Vec<Site<ListTables>>,
+    pub net: Net,
+    pub block: Option<Block>,
+}
+
+impl Model for Environment {
+    ghost use Rattle.std.specs.Prelude.{[]};
+    ghost use Rattle.world_state.specs.World.{WorldState};
+
+    ghost Value = { WorldState };
+
+    ghost view = { λ e. record {
+      phase = e.phase;
+      schema = e.store.schema;
+      base = e.store.tables;
+      snapshots = [];
+      sites = e.sites.items;
+      net = e.net;
+      block = e.block;
+    } };
+}
+
+impl Environment {
+    /// An environment in which nothing is declared.
+    pub fn make(alloc: Global) -> Result<Environment, NoMemory>
+        ensures { IfOk result (λ environment. environment ≡ first_world) }
+    {
+        Ok(Environment {
+            phase: Phase::Setup,
+            store: ListTables::make(alloc, Schema::empty(alloc))?,
+            sites: Vec::new(alloc),
+            net: Net::make(alloc, &[])?,
+            block: None,
+        })
+    }
+}
+
+/// The place of the first site of a name.
+fn first_of(sites: &[Site<ListTables>], name: &SiteName) -> Option<usize>
+    ensures { result ≡ position (λ x. is_same_site x.here.site name.now) sites.now }
+{
+    sites.iter().position(|site| site.name().is_same(name))
+}
+
+/// The place of the site of a name, None exactly where it isn't there.
+pub fn place_of(sites: &[Site<ListTables>], name: &SiteName) -> Option<usize>
+    ensures { FindsSite name.now sites.now result }
+{
+    first_of(sites, name)
+}

@@ -1,0 +1,122 @@
+//! Why a line is refused, as far as that is known before it is tried.
+ghost use Rattle.std.specs.Prelude.{◌≡◌, true, false, not, None};
+ghost use Rattle.rep_values.specs.RefusalSteps.{refused, first_refusal, unknown};
+ghost use Rattle.script_parse.specs.Built.{is_built};
+ghost use Rattle.event_laws.specs.Core.{site_of};
+ghost use Rattle.world_state.specs.Phases.{is_setup, phase_step};
+ghost use Rattle.world_state.specs.Refusals.{has_link};
+ghost use Rattle.environment.specs.Following.{IsBuilt};
+ghost use Rattle.environment.specs.Known.{known_steps, known_refusal};
+
+use crate::Environment;
+use rep_declare::refusal_of;
+use rep_schema::RowStore;
+use rep_values::{Refusal, SiteName};
+use script_parse::Command;
+
+/// The most that a number may be.
+const MOST_NUMBER: u64 = 1_000_000_000_000_000;
+
+impl Environment {
+    fn unknown_site(&self, site: &SiteName) -> Option<Refusal>
+        ensures { result ≡ unknown (site_of site.now self.now.sites) }
+    {
+        if self.is_there(site) {
+            None
+        } else {
+            Some(Refusal::UnknownName)
+        }
+    }
+
+    fn push_refusal(&self, from: &SiteName, to: &SiteName) -> Option<Refusal>
+        requires built { IsBuilt self.now }
+        requires behind { is_setup self.now.phase ≡ false }
+        ensures { result ≡ first_refusal (known_steps (Command.Push from.now to.now None) self.now) }
+    {
+        if !self.has_sender(to, from) {
+            return Some(Refusal::UnknownName);
+        }
+        if !self.net.is_up(from, to) {
+            return Some(Refusal::LinkDown);
+        }
+        None
+    }
+
+    fn link_refusal(&self, from: &SiteName, to: &SiteName) -> Option<Refusal>
+        ensures { result ≡ refused (not (has_link self.now from.now to.now)) Refusal.UnknownName }
+    {
+        if self.has_link(from, to) {
+            None
+        } else {
+            Some(Refusal::UnknownName)
+        }
+    }
+
+    fn clock_refusal(&self, site: &SiteName, time: u64) -> Option<Refusal>
+        ensures { result ≡ first_refusal (known_steps (Command.Clock site.now time) self.now) }
+    {
+        if !self.is_there(site) {
+            return Some(Refusal::UnknownName);
+        }
+        if time > MOST_NUMBER {
+            return Some(Refusal::ValueRange);
+        }
+        None
+    }
+
+    // The site of an error and the sender that it came from.
+    fn error_refusal(&self, site: &SiteName, origin: &SiteName) -> Option<Refusal>
+        ensures { result ≡ first_refusal (known_steps (Command.Execute site.now origin.now 0) self.now) }
+    {
+        if self.has_sender(site, origin) {
+            None
+        } else {
+            Some(Refusal::UnknownName)
+        }
+    }
+
+    // What hinders a line of a form that is built behind the phase.
+    fn further_step(&self, command: &Command) -> Option<Refusal>
+        requires built { IsBuilt self.now }
+        requires behind { phase_step command.now self.now ≡ None }
+        requires form { is_built command.now ≡ true }
+        ensures { result ≡ first_refusal (known_steps command.now self.now) }
+    {
+        match command {
+            Command::Declare(declaration) => refusal_of(self.store.schema(), declaration),
+            Command::Push { from, to, .. } => self.push_refusal(from, to),
+            Command::Fates { from, to, .. }
+            | Command::ClearFates { from, to }
+            | Command::Link { from, to, .. } => self.link_refusal(from, to),
+            Command::Clock { site, time } => self.clock_refusal(site, *time),
+            Command::Execute { site, origin, .. } | Command::DropError { site, origin, .. } =>
+                self.error_refusal(site, origin),
+            Command::Txn { site } | Command::Purge { site } | Command::Show { site, .. } =>
+                self.unknown_site(site),
+            Command::Nothing
+            | Command::Row { .. }
+            | Command::Resume
+            | Command::Statement(_)
+            | Command::Commit
+            | Command::Abandon
+            | Command::Suspend => None,
+            Command::Snapshot { .. }
+            | Command::Refresh { .. }
+            | Command::PurgeLog { .. }
+            | Command::Join { .. } => unreachable!(),
+        }
+    }
+
+    /// Why a line is refused, as far as that is known before it is tried: all but what a row, a commit, an execution and a
+    /// drop of an error meet as they run. It takes no memory.
+    pub fn refusal(&self, command: &Command) -> Option<Refusal>
+        requires built { IsBuilt self.now }
+        requires form { is_built command.now ≡ true }
+        ensures { result ≡ known_refusal command.now self.now }
+    {
+        if let Some(refusal) = self.phase_step(command) {
+            return Some(refusal);
+        }
+        self.further_step(command)
+    }
+}
