@@ -1,0 +1,3 @@
+-- The lemmas of this crate, from the bottom up.
+pub mod Outcomes
+pub mod Printing

@@ -1,0 +1,116 @@
+-- What comes of a line where there is no memory, and what of one that had to be tried.
+use Rattle.std.proofs.Common.{◌≡◌, ◌-◌, ℕ, List, [], ◌∷◌, false, Some, None, refl, sym, ap, subst, ◌∙◌}
+use Rattle.std.specs.Prelude.{Option, slice_get}
+use Rattle.rep_values.specs.declared.name.SiteName.{SiteName}
+use Rattle.rep_values.specs.declared.name.TableName.{TableName}
+use Rattle.rep_values.specs.declared.literal.Literal.{Literal}
+use Rattle.rep_values.specs.declared.refusal.Refusal.{Refusal}
+use Rattle.rep_values.specs.declared.refusal.Refusal.TheVariants as refusal
+use Rattle.rep_values.specs.RefusalSteps.{or_then, refused, first_refusal, known}
+use Rattle.rep_values.proofs.RefusalSteps.{or_then-None}
+use Rattle.local_txn.specs.declared.local.LocalStop.{LocalStop}
+use Rattle.local_txn.specs.BaseRows.{base_refusal}
+use Rattle.script_parse.specs.declared.command.Command.{Command}
+use Rattle.script_parse.specs.declared.command.Command.TheVariants as command
+use Rattle.site_state.specs.State.{SiteState}
+use Rattle.site_state.specs.Errors.{execute_refusal, drop_refusal}
+use Rattle.event_laws.specs.Core.{site_of}
+use Rattle.world_state.specs.declared.block.Block.{Block}
+use Rattle.world_state.specs.declared.refused.Refused.{Refused}
+use Rattle.world_state.specs.World.{WorldState}
+use Rattle.world_state.specs.Phases.{block_step, setup_step}
+use Rattle.world_state.specs.Blocks.{is_commit, closed, stop_at_site, refusal_in, commit_stop, commit_refusal, commit_line, line_in}
+use Rattle.world_state.specs.Refusals.{world_refusal}
+use Rattle.world_state.specs.Steps.{told_by}
+use Rattle.world_laws.proofs.Pieces.{none_lead}
+use Rattle.environment.specs.Following.{Follows}
+use Rattle.environment.specs.Known.{is_tried, known_refusal}
+use Rattle.environment.specs.Doing.{IsShort, IsRefused}
+
+-- ---- want of memory
+
+-- nothing changed, so no events are wanted
+pub follows_same : (old new : WorldState) → new ≡ old → Follows old new
+follows_same old new same = subst (λ (w : WorldState). Follows old w) (sym same) (record {
+  leads = λ v s. none_lead old v s;
+  phase = refl;
+  schema = refl;
+  base = refl;
+  snapshots = refl;
+  block = refl;
+  directions = λ from to there. there;
+})
+
+-- there was no memory, and nothing changed
+pub is_short : (number : ℕ) (command : Command) (old new : WorldState) (r : Refused) → r ≡ record { line = number; refusal = refusal.Memory } → (is_tried command ≡ false → world_refusal command old ≡ None)
+    → new ≡ old → IsShort number command old new r
+is_short number command old new r is passes same = record {
+  memory = ap (λ (r : Refused). r.refusal) is;
+  line = ap (λ (r : Refused). r.line) is;
+  passes = passes;
+  kept = λ push. same;
+  follows = follows_same old new same;
+}
+
+-- ---- lines that had to be tried
+
+-- the last step decides
+last_step : (step : Option Refusal) → or_then step None ≡ step
+last_step None = refl
+last_step (Some why) = refl
+
+-- so a line is refused for the step that remains
+or_then-tried : (phase step : Option Refusal) → phase ≡ None → or_then phase (or_then step None) ≡ step
+or_then-tried phase step none = rw none (last_step step)
+
+-- a row
+pub row_tried : (w : WorldState) (table : TableName) (values : List Literal) → known_refusal (command.Row table values) w ≡ None → world_refusal (command.Row table values) w ≡ base_refusal w.schema w.base table values
+row_tried w table values passes = or_then-tried (setup_step w) (base_refusal w.schema w.base table values) (or_then-None (setup_step w) None passes).0
+
+-- a commit
+pub commit_tried : (w : WorldState) → known_refusal command.Commit w ≡ None → world_refusal command.Commit w ≡ commit_refusal w
+commit_tried w passes = or_then-tried (block_step w) (commit_refusal w) (or_then-None (block_step w) None passes).0
+
+-- the last step of a line on a site and its sender
+tried_of_sender : (phase sender : Option Refusal) (step : SiteState → Option Refusal) (found : Option SiteState) (x : SiteState) → found ≡ Some x
+    → or_then phase (first_refusal (known found (λ y. sender ∷ []))) ≡ None → or_then phase (first_refusal (known found (λ y. sender ∷ step y ∷ []))) ≡ step x
+tried_of_sender phase sender step None x there passes = cc
+tried_of_sender phase sender step (Some y) x there passes =
+    let both = or_then-None phase (or_then sender None) passes in
+    let same : y ≡ x = cc in
+    rw (both.0, (or_then-None sender None both.1).0) (last_step (step y) ∙ ap step same)
+
+-- an execution
+pub execute_tried : (w : WorldState) (site origin : SiteName) (position : ℕ) (x : SiteState) → site_of site w.sites ≡ Some x → known_refusal (command.Execute site origin position) w ≡ None
+    → world_refusal (command.Execute site origin position) w ≡ execute_refusal origin position x
+execute_tried w site origin position x there passes = tried_of_sender _ _ (execute_refusal origin position) (site_of site w.sites) x there passes
+
+-- a drop of an error
+pub drop_tried : (w : WorldState) (site origin : SiteName) (position : ℕ) (x : SiteState) → site_of site w.sites ≡ Some x → known_refusal (command.DropError site origin position) w ≡ None
+    → world_refusal (command.DropError site origin position) w ≡ drop_refusal origin position x
+drop_tried w site origin position x there passes = tried_of_sender _ _ (drop_refusal origin position) (site_of site w.sites) x there passes
+
+-- one that is refused leaves the world, where it is no commit
+pub is_refused : (number : ℕ) (command : Command) (old new : WorldState) (why : Refusal) → is_commit command ≡ false → world_refusal command old ≡ Some why → new ≡ old
+    → IsRefused number command old new (record { line = number; refusal = why })
+is_refused number command old new why other refused same = record {
+  told = rw (refused, other) refl;
+  world = rw other same;
+}
+
+-- ---- commits
+
+-- what a refused commit tells, and that it closes its block
+pub commit_is_refused : (number : ℕ) (old new : WorldState) (block : Block) (stop : LocalStop) → old.block ≡ Some block → known_refusal command.Commit old ≡ None
+    → stop_at_site block.statements (site_of block.site old.sites) ≡ Some stop → new ≡ closed old
+    → IsRefused number command.Commit old new (record { line = line_in number (slice_get block.lines (stop.statement - 1)); refusal = stop.refusal })
+commit_is_refused number old new block stop is_open passes stops same = record {
+  told = ap (λ why. told_by why number command.Commit old) (commit_tried old passes ∙ ap refusal_in is) ∙ ap (λ line. Some (record { line = line; refusal = stop.refusal })) line;
+  world = same;
+}
+  where
+    is : commit_stop old ≡ Some stop
+    is = rw is_open stops
+
+    line : commit_line number old ≡ line_in number (slice_get block.lines (stop.statement - 1))
+    line = rw (is_open, stops) refl

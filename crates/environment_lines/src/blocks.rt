@@ -1,0 +1,194 @@
+//! Blocks of statements.
+ghost use Rattle.std.specs.Prelude.{◌≡◌, ◌≤◌, ◌-◌, ◌⊎◌, ◌++◌, ◌∷◌, [], None, Some, slice_get, take, length, IfOk, IfErr, OnOk, OnErr};
+ghost use Rattle.rep_values.specs.declared.refusal.Refusal.TheVariants as refusal;
+ghost use Rattle.site_state.specs.Commits.{site_commit, commit_answer};
+ghost use Rattle.event_laws.specs.Core.{site_of, at_site};
+ghost use Rattle.world_state.specs.Blocks.{stated_more, stop_at_site, line_in};
+ghost use Rattle.world_state.specs.Answers.{number_at, number_of};
+ghost use Rattle.report_text.specs.Sheet.{Appends, most_line};
+ghost use Rattle.environment.specs.Known.{known_refusal};
+ghost use Rattle.environment.specs.Texts.{committed_text};
+ghost use Rattle.environment.specs.Doing.{Does};
+
+use crate::room::{no_memory, room_for_line};
+use environment::{Environment, place_of};
+use local_txn::LocalStop;
+use rep_calls::Statement;
+use rep_lists::{Copies, Items, NoMemory};
+use rep_values::{Refusal, SiteName};
+use report_text::{Lines, commit_line, nothing_committed_line};
+use row_tables::ListTables;
+use script_parse::Command;
+use site_core::Site;
+use std::alloc::Global;
+use std::mem;
+use world_state::{Block, Refused};
+
+/// So many statements, and one more, are kept.
+const MOST_STATEMENTS: usize = 1_000;
+
+/// `txn`
+pub fn open_block(
+    environment: &mut Environment,
+    alloc: Global,
+    line: u32,
+    site: &SiteName,
+) -> Result<Lines, Refused>
+    requires passes { known_refusal (Command.Txn site.now) environment.old ≡ None }
+    ensures { Does line (Command.Txn site.now) environment.old environment.new result }
+{
+    environment.block = Some(Block {
+        site: *site,
+        lines: Items::new(alloc),
+        statements: Items::new(alloc),
+    });
+    Ok(Lines::make(alloc))
+}
+
+/// Lets go of the last line.
+fn drop_last(lines: &mut Items<u32>, alloc: Global)
+    ensures { lines.new ≡ take (length lines.old - 1) lines.old }
+{
+    let mut kept = mem::replace(lines, Items::new(alloc)).into_vec();
+    let _ = kept.pop();
+    *lines = Items::from_vec(kept);
+}
+
+/// Keeps a statement and its line, or neither where there is no memory.
+fn keep_statement(
+    block: &mut Block,
+    alloc: Global,
+    line: u32,
+    statement: &Statement,
+) -> Result<(), NoMemory>
+    ensures ok { OnOk result (block.new ≡ stated_more line statement.now block.old) }
+    ensures kept { OnErr result (block.new ≡ block.old) }
+{
+    if block.statements.len() > MOST_STATEMENTS {
+        return Ok(());
+    }
+    let copied = statement.copy(alloc)?;
+    block.lines.push(line)?;
+    let Ok(()) = block.statements.push(copied) else {
+        drop_last(&mut block.lines, alloc);
+        return Err(NoMemory);
+    };
+    Ok(())
+}
+
+/// A statement. One behind the first that is too many isn't kept.
+pub fn state(
+    environment: &mut Environment,
+    alloc: Global,
+    line: u32,
+    statement: &Statement,
+) -> Result<Lines, Refused>
+    requires passes { known_refusal (Command.Statement statement.now) environment.old ≡ None }
+    ensures { Does line (Command.Statement statement.now) environment.old environment.new result }
+{
+    let Some(block) = &mut environment.block else {
+        unreachable!()
+    };
+    let Ok(()) = keep_statement(block, alloc, line, statement) else {
+        return Err(no_memory(line));
+    };
+    Ok(Lines::make(alloc))
+}
+
+/// `abandon`
+pub fn abandon(environment: &mut Environment, alloc: Global, line: u32) -> Result<Lines, Refused>
+    requires passes { known_refusal Command.Abandon environment.old ≡ None }
+    ensures { Does line Command.Abandon environment.old environment.new result }
+{
+    environment.block = None;
+    Ok(Lines::make(alloc))
+}
+
+/// There is no memory for a block.
+fn no_memory_for_block() -> LocalStop
+    ensures { result ≡ record { statement = 0; refusal = refusal.Memory } }
+{
+    LocalStop {
+        statement: 0,
+        refusal: Refusal::Memory,
+    }
+}
+
+/// Commits a block at its site. Where that isn't there nothing happens.
+fn commit_block(
+    sites: &mut Vec<Site<ListTables>>,
+    alloc: Global,
+    block: &Block,
+) -> Result<u64, LocalStop>
+    ensures ok { OnOk result (sites.new.items ≡ at_site block.now.site (site_commit block.now.statements) sites.old.items) }
+    ensures passes { OnOk result (stop_at_site block.now.statements (site_of block.now.site sites.old.items) ≡ None) }
+    ensures number { IfOk result (λ number. number ≡ number_at (λ x. number_of (commit_answer block.now.statements x)) (site_of block.now.site sites.old.items)) }
+    ensures err { IfErr result (λ stop. (stop ≡ record { statement = 0; refusal = refusal.Memory }) ⊎ (stop_at_site block.now.statements (site_of block.now.site sites.old.items) ≡ Some stop)) }
+    ensures kept { OnErr result (sites.new.items ≡ sites.old.items) }
+{
+    let Some(place) = place_of(sites, &block.site) else {
+        return Ok(0);
+    };
+    // No machine gets so far.
+    if sites[place].moment() == u64::MAX {
+        return Err(no_memory_for_block());
+    }
+    let number = sites[place].commit(alloc, block.statements.as_slice())?;
+    Ok(number)
+}
+
+/// A commit's number, or that nothing was committed.
+fn put_committed(lines: &mut Lines, site: SiteName, number: u64)
+    requires { most_line ≤ lines.old.room }
+    ensures { Appends lines.old lines.new (committed_text site number) }
+{
+    if number == 0 {
+        nothing_committed_line(lines, site);
+    } else {
+        commit_line(lines, site, number);
+    }
+}
+
+/// The line of a statement of a block, from 1; the commit's where it has none.
+fn line_of(block: &Block, line: u32, statement: u32) -> u32
+    ensures { result ≡ line_in line (slice_get block.now.lines (statement - 1)) }
+{
+    match block
+        .lines
+        .as_slice()
+        .get(statement.saturating_sub(1) as usize)
+    {
+        Some(stated) => *stated,
+        None => line,
+    }
+}
+
+/// `commit`. Where a statement is refused, the block is closed too.
+pub fn commit(environment: &mut Environment, alloc: Global, line: u32) -> Result<Lines, Refused>
+    requires passes { known_refusal Command.Commit environment.old ≡ None }
+    ensures { Does line Command.Commit environment.old environment.new result }
+{
+    let Ok(mut lines) = room_for_line(alloc) else {
+        return Err(no_memory(line));
+    };
+    let Some(block) = &environment.block else {
+        unreachable!()
+    };
+    let number = match commit_block(&mut environment.sites, alloc, block) {
+        Ok(number) => number,
+        Err(stop) => {
+            if stop.statement == 0 {
+                return Err(no_memory(line));
+            }
+            let told = line_of(block, line, stop.statement);
+            environment.block = None;
+            return Err(Refused {
+                line: told,
+                refusal: stop.refusal,
+            });
+        }
+    };
+    put_committed(&mut lines, block.site, number);
+    environment.block = None;
+    Ok(lines)
+}

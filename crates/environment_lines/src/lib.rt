@@ -1,0 +1,15 @@
+//! What the lines of a script do to a replication environment, pushes apart.
+#![tactic(auto)]
+
+mod blocks;
+mod links;
+mod room;
+mod setup;
+mod shown;
+mod sites;
+
+pub use blocks::{abandon, commit, open_block, state};
+pub use links::{add_fates, clear_fates, set_link};
+pub use setup::{add_row, declare, resume, suspend};
+pub use shown::show;
+pub use sites::{drop_error, execute, purge, set_clock};

@@ -1,0 +1,99 @@
+//! Declarations, rows that masters begin with, and the phases of a script.
+ghost use Rattle.std.specs.Prelude.{◌≡◌, None, OnOk, OnErr};
+ghost use Rattle.schema_rules.specs.Rules.{broken_rule};
+ghost use Rattle.script_parse.specs.Named.{NamesColumn};
+ghost use Rattle.world_state.specs.Making.{world_made};
+ghost use Rattle.environment.specs.Following.{IsBuilt};
+ghost use Rattle.environment.specs.Known.{known_refusal};
+ghost use Rattle.environment.specs.Doing.{Does};
+
+use crate::room::no_memory;
+use environment::Environment;
+use local_txn::put_base_row;
+use rep_declare::Declare;
+use rep_lists::NoMemory;
+use rep_schema::RowStore;
+use rep_values::{Literal, TableName};
+use report_text::Lines;
+use script_parse::Command;
+use site_making::{make_net, make_sites};
+use std::alloc::Global;
+use world_state::{Phase, Refused};
+
+/// A line that declares something.
+pub fn declare(
+    environment: &mut Environment,
+    alloc: Global,
+    line: u32,
+    declaration: &Declare,
+) -> Result<Lines, Refused>
+    requires built { IsBuilt environment.old }
+    requires named { NamesColumn (Command.Declare declaration.now) }
+    requires passes { known_refusal (Command.Declare declaration.now) environment.old ≡ None }
+    ensures { Does line (Command.Declare declaration.now) environment.old environment.new result }
+{
+    match environment.store.declare(alloc, declaration) {
+        Ok(()) => Ok(Lines::make(alloc)),
+        Err(refusal) => Err(Refused { line, refusal }),
+    }
+}
+
+/// `row`
+pub fn add_row(
+    environment: &mut Environment,
+    alloc: Global,
+    line: u32,
+    table: &TableName,
+    values: &[Literal],
+) -> Result<Lines, Refused>
+    requires built { IsBuilt environment.old }
+    requires passes { known_refusal (Command.Row table.now values.now) environment.old ≡ None }
+    ensures { Does line (Command.Row table.now values.now) environment.old environment.new result }
+{
+    match put_base_row(alloc, &mut environment.store, table, values) {
+        Ok(()) => Ok(Lines::make(alloc)),
+        Err(refusal) => Err(Refused { line, refusal }),
+    }
+}
+
+/// Setup ends: the sites are made, and the net between them.
+fn end_setup(environment: &mut Environment, alloc: Global) -> Result<(), NoMemory>
+    requires built { IsBuilt environment.old }
+    requires sound { broken_rule environment.old.schema ≡ None }
+    ensures ok { OnOk result (environment.new ≡ world_made environment.old) }
+    ensures err { OnErr result (environment.new ≡ environment.old) }
+{
+    let sites = make_sites(alloc, &environment.store)?;
+    let net = make_net(alloc, environment.store.schema())?;
+    environment.sites = sites;
+    environment.net = net;
+    environment.phase = Phase::Running;
+    Ok(())
+}
+
+/// `resume`
+pub fn resume(environment: &mut Environment, alloc: Global, line: u32) -> Result<Lines, Refused>
+    requires built { IsBuilt environment.old }
+    requires passes { known_refusal Command.Resume environment.old ≡ None }
+    ensures { Does line Command.Resume environment.old environment.new result }
+{
+    match environment.phase {
+        Phase::Setup => {
+            let Ok(()) = end_setup(environment, alloc) else {
+                return Err(no_memory(line));
+            };
+        }
+        Phase::Running => {}
+        Phase::Suspended => environment.phase = Phase::Running,
+    }
+    Ok(Lines::make(alloc))
+}
+
+/// `suspend`
+pub fn suspend(environment: &mut Environment, alloc: Global, line: u32) -> Result<Lines, Refused>
+    requires passes { known_refusal Command.Suspend environment.old ≡ None }
+    ensures { Does line Command.Suspend environment.old environment.new result }
+{
+    environment.phase = Phase::Suspended;
+    Ok(Lines::make(alloc))
+}

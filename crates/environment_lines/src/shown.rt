@@ -1,0 +1,150 @@
+//! What is shown of a site.
+ghost use Rattle.std.specs.Prelude.{◌≡◌, ◌++◌, true, None, filter, IfOk, OnOk};
+ghost use Rattle.script_parse.specs.Built.{is_built, is_built_show};
+ghost use Rattle.world_state.specs.World.{is_there};
+ghost use Rattle.environment.specs.Known.{known_refusal};
+ghost use Rattle.environment.specs.Texts.{senders_there, destinations_there, shown_text};
+ghost use Rattle.environment.specs.Doing.{Does};
+
+use crate::room::no_memory;
+use environment::{Environment, place_of};
+use rep_lists::{Items, NoMemory};
+use rep_schema::RowStore;
+use rep_values::SiteName;
+use report_text::{Lines, add_tables};
+use row_tables::ListTables;
+use schema_sites::{destinations_of, senders_of};
+use script_parse::{Command, Shown};
+use site_core::Site;
+use site_report::{add_errors, add_journal, add_marks, add_queue};
+use std::alloc::Global;
+use world_state::Refused;
+
+/// Those of some sites that are there.
+fn those_there(
+    environment: &Environment,
+    alloc: Global,
+    names: &[SiteName],
+) -> Result<Items<SiteName>, NoMemory>
+    ensures { IfOk result (λ there. there ≡ filter (is_there environment.now) names.now) }
+{
+    let mut there = Items::new(alloc);
+    for name in names {
+        if environment.is_there(name) {
+            there.push(*name)?;
+        }
+    }
+    Ok(there)
+}
+
+/// The senders of a site that are there, as declared.
+fn senders_there(
+    environment: &Environment,
+    alloc: Global,
+    site: &SiteName,
+) -> Result<Items<SiteName>, NoMemory>
+    ensures { IfOk result (λ there. there ≡ senders_there environment.now site.now) }
+{
+    let senders = senders_of(alloc, environment.store.schema(), site)?;
+    those_there(environment, alloc, senders.as_slice())
+}
+
+/// The destinations of a site that are there, as declared.
+fn destinations_there(
+    environment: &Environment,
+    alloc: Global,
+    site: &SiteName,
+) -> Result<Items<SiteName>, NoMemory>
+    ensures { IfOk result (λ there. there ≡ destinations_there environment.now site.now) }
+{
+    let destinations = destinations_of(alloc, environment.store.schema(), site)?;
+    those_there(environment, alloc, destinations.as_slice())
+}
+
+/// The queue of a site.
+fn add_queue_there(
+    lines: &mut Lines,
+    alloc: Global,
+    environment: &Environment,
+    name: &SiteName,
+    site: &Site<ListTables>,
+) -> Result<(), NoMemory>
+    ensures { OnOk result (lines.new.bytes ≡ lines.old.bytes ++ shown_text Shown.Queue name.now site.now environment.now) }
+{
+    let destinations = destinations_there(environment, alloc, name)?;
+    add_queue(lines, name, destinations.as_slice(), site)?;
+    Ok(())
+}
+
+/// The marks of a site.
+fn add_marks_there(
+    lines: &mut Lines,
+    alloc: Global,
+    environment: &Environment,
+    name: &SiteName,
+    site: &Site<ListTables>,
+) -> Result<(), NoMemory>
+    ensures { OnOk result (lines.new.bytes ≡ lines.old.bytes ++ shown_text Shown.Marks name.now site.now environment.now) }
+{
+    let senders = senders_there(environment, alloc, name)?;
+    let destinations = destinations_there(environment, alloc, name)?;
+    add_marks(
+        lines,
+        name,
+        senders.as_slice(),
+        destinations.as_slice(),
+        site,
+    )?;
+    Ok(())
+}
+
+/// What is shown of a site.
+fn add_shown(
+    lines: &mut Lines,
+    alloc: Global,
+    environment: &Environment,
+    what: Shown,
+    name: &SiteName,
+    site: &Site<ListTables>,
+) -> Result<(), NoMemory>
+    requires { is_built_show what ≡ true }
+    ensures { OnOk result (lines.new.bytes ≡ lines.old.bytes ++ shown_text what name.now site.now environment.now) }
+{
+    match what {
+        Shown::Tables => add_tables(lines, *name, site.store()),
+        Shown::Queue => add_queue_there(lines, alloc, environment, name, site),
+        Shown::Errors => add_errors(lines, name, site),
+        Shown::Marks => add_marks_there(lines, alloc, environment, name, site),
+        Shown::Journal => add_journal(lines, name, site),
+        Shown::Log | Shown::Calls => unreachable!(),
+    }
+}
+
+/// `show`
+pub fn show(
+    environment: &Environment,
+    alloc: Global,
+    line: u32,
+    what: Shown,
+    site: &SiteName,
+) -> Result<Lines, Refused>
+    requires form { is_built (Command.Show what site.now) ≡ true }
+    requires passes { known_refusal (Command.Show what site.now) environment.now ≡ None }
+    ensures { Does line (Command.Show what site.now) environment.now environment.now result }
+{
+    let Some(place) = place_of(&environment.sites, site) else {
+        unreachable!()
+    };
+    let mut lines = Lines::make(alloc);
+    let Ok(()) = add_shown(
+        &mut lines,
+        alloc,
+        environment,
+        what,
+        site,
+        &environment.sites[place],
+    ) else {
+        return Err(no_memory(line));
+    };
+    Ok(lines)
+}

@@ -1,0 +1,113 @@
+//! One site: its clock, its queue and its errors.
+ghost use Rattle.std.specs.Prelude.{◌≡◌, None};
+ghost use Rattle.environment.specs.Known.{known_refusal};
+ghost use Rattle.environment.specs.Doing.{Does};
+
+use crate::room::{no_memory, room_for_line};
+use environment::{Environment, place_of};
+use rep_values::SiteName;
+use report_text::{Lines, drop_error_line, execute_line, purge_line};
+use script_parse::Command;
+use std::alloc::Global;
+use world_state::Refused;
+
+/// `clock`
+pub fn set_clock(
+    environment: &mut Environment,
+    alloc: Global,
+    line: u32,
+    site: &SiteName,
+    time: u64,
+) -> Result<Lines, Refused>
+    requires passes { known_refusal (Command.Clock site.now time) environment.old ≡ None }
+    ensures { Does line (Command.Clock site.now time) environment.old environment.new result }
+{
+    let Some(place) = place_of(&environment.sites, site) else {
+        unreachable!()
+    };
+    environment.sites[place].set_clock(time);
+    Ok(Lines::make(alloc))
+}
+
+/// `purge`
+pub fn purge(
+    environment: &mut Environment,
+    alloc: Global,
+    line: u32,
+    site: &SiteName,
+) -> Result<Lines, Refused>
+    requires passes { known_refusal (Command.Purge site.now) environment.old ≡ None }
+    ensures { Does line (Command.Purge site.now) environment.old environment.new result }
+{
+    let Ok(mut lines) = room_for_line(alloc) else {
+        return Err(no_memory(line));
+    };
+    let Some(place) = place_of(&environment.sites, site) else {
+        unreachable!()
+    };
+    let count = environment.sites[place].purge();
+    purge_line(&mut lines, *site, count);
+    Ok(lines)
+}
+
+/// `execute`
+pub fn execute(
+    environment: &mut Environment,
+    alloc: Global,
+    line: u32,
+    site: &SiteName,
+    origin: &SiteName,
+    position: u64,
+) -> Result<Lines, Refused>
+    requires passes { known_refusal (Command.Execute site.now origin.now position) environment.old ≡ None }
+    ensures { Does line (Command.Execute site.now origin.now position) environment.old environment.new result }
+{
+    let Ok(mut lines) = room_for_line(alloc) else {
+        return Err(no_memory(line));
+    };
+    let Some(place) = place_of(&environment.sites, site) else {
+        unreachable!()
+    };
+    // No machine gets so far.
+    if environment.sites[place].moment() == u64::MAX {
+        return Err(no_memory(line));
+    }
+    match environment.sites[place].execute_error(alloc, origin, position) {
+        Ok(()) => {
+            execute_line(&mut lines, *site, *origin, position);
+            Ok(lines)
+        }
+        Err(refusal) => Err(Refused { line, refusal }),
+    }
+}
+
+/// `drop-error`
+pub fn drop_error(
+    environment: &mut Environment,
+    alloc: Global,
+    line: u32,
+    site: &SiteName,
+    origin: &SiteName,
+    position: u64,
+) -> Result<Lines, Refused>
+    requires passes { known_refusal (Command.DropError site.now origin.now position) environment.old ≡ None }
+    ensures { Does line (Command.DropError site.now origin.now position) environment.old environment.new result }
+{
+    let Ok(mut lines) = room_for_line(alloc) else {
+        return Err(no_memory(line));
+    };
+    let Some(place) = place_of(&environment.sites, site) else {
+        unreachable!()
+    };
+    // No machine gets so far.
+    if environment.sites[place].moment() == u64::MAX {
+        return Err(no_memory(line));
+    }
+    match environment.sites[place].delete_error(origin, position) {
+        Ok(()) => {
+            drop_error_line(&mut lines, *site, *origin, position);
+            Ok(lines)
+        }
+        Err(refusal) => Err(Refused { line, refusal }),
+    }
+}
