@@ -1,0 +1,132 @@
+-- What a receiver tells of what it settled, and that what it does is events.
+use Rattle.std.proofs.Common.{◌≡◌, ℕ, suc, ◌+◌, ◌-◌, List, [], ◌∷◌, ◌++◌, length, take, Bool, true, false, cond, Option, Some, None, refl, sym, ap, ◌∙◌, arith, append_assoc, append-nil, length-append, get_or, set, subst, inl, inr}
+use Rattle.std.specs.Prelude.{filter_map, flat_map}
+use Rattle.rep_values.specs.declared.name.SiteName.{SiteName}
+use Rattle.error_queue.specs.declared.entry.ErrorEntry.{ErrorEntry}
+use Rattle.report_text.specs.Texts.{push_text}
+use Rattle.site_state.specs.declared.arrival.Arrival.{Arrival}
+use Rattle.site_state.specs.declared.entry.Entry.{Entry}
+use Rattle.site_state.specs.declared.entry.Entry.TheVariants.{Local, Done, Error, Executed, Dropped, Refreshed}
+use Rattle.site_state.specs.State.{SenderState, SiteState}
+use Rattle.site_state.specs.Journal.{is_position, error_at, low_water}
+use Rattle.site_state.specs.Passes.{is_done, is_error, added_count}
+use Rattle.site_state.specs.Steps.{count_where}
+use Rattle.site_state.specs.Errors.{errors_from}
+use Rattle.event_laws.specs.Core.{site_of}
+use Rattle.world_state.specs.World.{WorldState}
+use Rattle.world_state.specs.Rounds.{site_settle}
+use Rattle.world_state.specs.Pushes.{world_settle}
+use Rattle.world_state.specs.PushAnswers.{count_in, entries_since, errors_in}
+use Rattle.world_laws.proofs.SiteSteps.{SiteRuns, settle_does}
+use Rattle.site_rounds.specs.NewErrors.{error_entry_text, new_errors}
+use Rattle.site_rounds.specs.Parts.{parts_done}
+use Rattle.site_rounds.proofs.Parts.{parts_do}
+use Rattle.environment.specs.Finding.{IsAt}
+use Rattle.environment.specs.Following.{Follows}
+use Rattle.environment.specs.Texts.{new_error_text}
+use Rattle.environment.proofs.Places.{site_of-read, at_site-written}
+use Rattle.environment.proofs.Following.{follows_site}
+use Rattle.environment_push.specs.Settling.{told_text, IsSettling}
+use Rattle.environment_push.proofs.Journals.{settle_grows}
+
+-- ---- no errors
+
+take-front : {X : Type 0} (front xs : List X) → take (length (front ++ xs) - length xs) (front ++ xs) ≡ front
+take-front [] xs = let none : length xs - length xs ≡ 0 = omega arith in rw none refl
+take-front (x ∷ front) xs = let longer : length ((x ∷ front) ++ xs) - length xs ≡ suc (length (front ++ xs) - length xs) = omega (arith, length-append front xs) in
+    rw longer (ap (λ ys. x ∷ ys) (take-front front xs))
+
+count_where-append : {X : Type 0} (test : X → Bool) (xs ys : List X) → count_where test (xs ++ ys) ≡ count_where test xs + count_where test ys
+count_where-append test [] ys = omega arith
+count_where-append test (x ∷ xs) ys = go (test x) (count_where-append test xs ys)
+  where
+    go : (b : Bool) → count_where test (xs ++ ys) ≡ count_where test xs + count_where test ys
+        → cond b (count_where test (xs ++ ys) + 1) (count_where test (xs ++ ys)) ≡ cond b (count_where test xs + 1) (count_where test xs) + count_where test ys
+    go true later = omega (arith, later)
+    go false later = later
+
+either_none : (b : Bool) (o : Option ErrorEntry) → o ≡ None → cond b None o ≡ None
+either_none true o none = refl
+either_none false o none = none
+
+-- entries without an error have none of any position
+error_at-none : (origin : SiteName) (position : ℕ) (es : List Entry) → count_where is_error es ≡ 0 → error_at origin position es ≡ None
+error_at-none origin position [] none = refl
+error_at-none origin position (Local number txn ∷ es) none = error_at-none origin position es none
+error_at-none origin position (Done o p onward txn ∷ es) none = error_at-none origin position es none
+error_at-none origin position (Error o p call error txn ∷ es) none = absurd (omega (arith, none))
+error_at-none origin position (Executed o p onward txn ∷ es) none = either_none (is_position origin position o p) (error_at origin position es) (error_at-none origin position es none)
+error_at-none origin position (Dropped o p ∷ es) none = either_none (is_position origin position o p) (error_at origin position es) (error_at-none origin position es none)
+error_at-none origin position (Refreshed moment ∷ es) none = error_at-none origin position es none
+
+arrived-none : (es : List Entry) (origin : SiteName) (arrived : List Arrival) → count_where is_error es ≡ 0 → filter_map (λ (a : Arrival). error_at origin a.position es) arrived ≡ []
+arrived-none es origin [] none = refl
+arrived-none es origin (a ∷ arrived) none = rw (error_at-none origin a.position es none) (arrived-none es origin arrived none)
+
+senders-none : (es : List Entry) (senders : List SenderState) → count_where is_error es ≡ 0 → flat_map (errors_from es) senders ≡ []
+senders-none es [] none = refl
+senders-none es (s ∷ senders) none = rw (arrived-none es s.origin s.arrived none) (senders-none es senders none)
+
+-- where no error was counted none is told
+errors_in-none : (origin : SiteName) (x : SiteState) → added_count is_error x (site_settle origin x) ≡ 0 → errors_in origin (Some x) ≡ []
+errors_in-none origin x none =
+    let y : SiteState = site_settle origin x in
+    let g = settle_grows origin x in
+    let since : entries_since x.journal y.journal ≡ g.front = ap (λ (es : List Entry). take (length es - length x.journal) es) g.is ∙ take-front g.front x.journal in
+    let counted : count_where is_error y.journal ≡ count_where is_error g.front + count_where is_error x.journal = ap (count_where is_error) g.is ∙ count_where-append is_error g.front x.journal in
+    let no : count_where is_error g.front ≡ 0 = omega (arith, counted, none) in
+    ap (λ (es : List Entry). flat_map (errors_from es) y.senders) since ∙ senders-none g.front y.senders no
+
+-- ---- what is told
+
+module _ (origin to : SiteName) (sent done errors low before : ℕ) (x y : SiteState) (old lined : List ℕ) (settled : y ≡ site_settle origin x) (begins : before ≡ length x.journal)
+    (done_is : done ≡ added_count is_done x y) (errors_is : errors ≡ added_count is_error x y) (low_is : low ≡ low_water origin y.journal)
+    (line : lined ≡ old ++ push_text origin.0 to.0 (record { sent = sent; done = done; errors = errors; low = low })) where
+  abbrev all : List ℕ
+  all = push_text origin.0 to.0 (count_in sent origin (Some x))
+
+  counted : push_text origin.0 to.0 (record { sent = sent; done = done; errors = errors; low = low }) ≡ all
+  counted =
+      ap (λ (d : ℕ). push_text origin.0 to.0 (record { sent = sent; done = d; errors = errors; low = low })) (done_is ∙ ap (added_count is_done x) settled)
+      ∙ ap (λ (e : ℕ). push_text origin.0 to.0 (record { sent = sent; done = added_count is_done x (site_settle origin x); errors = e; low = low })) (errors_is ∙ ap (added_count is_error x) settled)
+      ∙ ap (λ (l : ℕ). push_text origin.0 to.0 (record { sent = sent; done = added_count is_done x (site_settle origin x); errors = added_count is_error x (site_settle origin x); low = l }))
+      (low_is ∙ ap (λ (z : SiteState). low_water origin z.journal) settled)
+
+  lined_is : lined ≡ old ++ all
+  lined_is = line ∙ ap (λ (text : List ℕ). old ++ text) counted
+
+  -- no error was counted
+  pub told-none : errors ≡ 0 → lined ≡ old ++ told_text origin to sent (Some x)
+  told-none none =
+      let no : added_count is_error x (site_settle origin x) ≡ 0 = ap (added_count is_error x) (sym settled) ∙ sym errors_is ∙ none in
+      lined_is ∙ ap (λ (text : List ℕ). old ++ text) (sym (append-nil all))
+      ∙ ap (λ (es : List ErrorEntry). old ++ (all ++ flat_map new_error_text es)) (sym (errors_in-none origin x no))
+
+  -- errors are listed
+  pub told-some : (listed : List ℕ) → listed ≡ lined ++ flat_map error_entry_text (new_errors before y) → listed ≡ old ++ told_text origin to sent (Some x)
+  told-some listed is =
+      let new : flat_map error_entry_text (new_errors before y) ≡ flat_map new_error_text (errors_in origin (Some x))
+      = ap (λ (n : ℕ). flat_map error_entry_text (new_errors n y)) begins ∙ ap (λ (z : SiteState). flat_map error_entry_text (new_errors (length x.journal) z)) settled in
+      is ∙ ap (λ (text : List ℕ). text ++ flat_map error_entry_text (new_errors before y)) lined_is
+      ∙ ap (λ (text : List ℕ). (old ++ all) ++ text) new
+      ∙ append_assoc old all (flat_map new_error_text (errors_in origin (Some x)))
+
+-- ---- the world
+
+module _ (origin name : SiteName) (w : WorldState) (place : ℕ) (found : IsAt name w.sites place) (x y : SiteState) (read : x ≡ get_or w.sites place x) where
+  written_follows : (change : SiteState → SiteState) → SiteRuns name change → y ≡ change x → Follows w (record w { sites = set w.sites place y })
+  written_follows change does is =
+      subst (λ (sites : List SiteState). Follows w (record w { sites = sites })) (sym (at_site-written name w.sites place found x read change y is)) (follows_site name change does w)
+
+  -- passes of the receiver are events
+  pub settling_follows : IsSettling origin x y → Follows w (record w { sites = set w.sites place y })
+  settling_follows (inl parts) = written_follows (parts_done parts.0) (parts_do name parts.0) parts.1
+  settling_follows (inr is) = written_follows (site_settle origin) (settle_does name origin) is
+
+  -- all of them settle what came
+  pub settled_world : y ≡ site_settle origin x → record w { sites = set w.sites place y } ≡ world_settle origin name w
+  settled_world is = ap (λ (sites : List SiteState). record w { sites = sites }) (at_site-written name w.sites place found x read (site_settle origin) y is)
+
+  -- what is told of the receiver
+  pub told-there : (to : SiteName) (sent : ℕ) → told_text origin to sent (Some x) ≡ told_text origin to sent (site_of name w.sites)
+  told-there to sent = ap (told_text origin to sent) (sym (site_of-read name w.sites place found x read))

@@ -1,0 +1,17 @@
+-- What a receiver does with what came by a push, and what it tells of it.
+use Rattle.std.specs.Prelude.{◌≡◌, ◌⊎◌, ℕ, List, ◌++◌, flat_map, Option}
+use Rattle.rep_values.specs.declared.name.SiteName.{SiteName}
+use Rattle.report_text.specs.Texts.{push_text}
+use Rattle.site_state.specs.State.{SiteState}
+use Rattle.world_state.specs.Rounds.{site_settle}
+use Rattle.world_state.specs.PushAnswers.{count_in, errors_in}
+use Rattle.site_rounds.specs.Parts.{PartlySettled}
+use Rattle.environment.specs.Texts.{new_error_text}
+
+-- what is told of a push that sent so many positions, of the receiver before it settles them
+abbrev pub told_text : SiteName → SiteName → ℕ → Option SiteState → List ℕ
+told_text from to sent x = push_text from.0 to.0 (count_in sent from x) ++ flat_map new_error_text (errors_in from x)
+
+-- the receiver has made some of its passes, or all
+abbrev pub IsSettling : SiteName → SiteState → SiteState → Type 0
+IsSettling origin x y = PartlySettled x y ⊎ (y ≡ site_settle origin x)

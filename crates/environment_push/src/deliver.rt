@@ -1,0 +1,73 @@
+//! What the receiver takes in.
+ghost use Rattle.std.specs.Prelude.{◌≡◌, is_some, IfOk, OnOk, OnErr};
+ghost use Rattle.packet_code.specs.Limits.{IsPacket};
+ghost use Rattle.net_plan.specs.Directions.{HasDirection, first_between};
+ghost use Rattle.site_state.specs.Packets.{site_accept};
+ghost use Rattle.event_laws.specs.Core.{at_site};
+ghost use Rattle.world_state.specs.Pushes.{world_take, world_deliver};
+ghost use Rattle.environment.specs.Following.{Follows};
+
+use environment::{Environment, place_of};
+use packet_code::Packet;
+use rep_lists::NoMemory;
+use rep_values::SiteName;
+use row_tables::ListTables;
+use site_core::Site;
+use std::alloc::Global;
+
+/// A site takes in a packet, where it is there.
+fn accept_at(
+    sites: &mut Vec<Site<ListTables>>,
+    to: &SiteName,
+    packet: Packet,
+) -> Result<(), NoMemory>
+    requires { IsPacket packet }
+    ensures ok { OnOk result (sites.new.items ≡ at_site to.now (site_accept packet) sites.old.items) }
+    ensures err { OnErr result (sites.new.items ≡ sites.old.items) }
+{
+    let Some(place) = place_of(sites, to) else {
+        return Ok(());
+    };
+    let site = &mut sites[place];
+    site.accept(packet)?;
+    Ok(())
+}
+
+/// A site takes in the first packet on the way to it, and whether there is one is answered. Where there is no memory, the
+/// packet may be gone, like one that is lost.
+fn take(
+    environment: &mut Environment,
+    alloc: Global,
+    from: &SiteName,
+    to: &SiteName,
+) -> Result<bool, NoMemory>
+    requires { HasDirection environment.old.net from.now to.now }
+    ensures ok { OnOk result (environment.new ≡ world_take from.now to.now environment.old) }
+    ensures some { IfOk result (λ some. some ≡ is_some (first_between from.now to.now environment.old.net)) }
+    ensures follows { Follows environment.old environment.new }
+{
+    let Some(sealed) = environment.net.deliver(from, to) else {
+        return Ok(false);
+    };
+    let packet = sealed.unseal(alloc)?;
+    accept_at(&mut environment.sites, to, packet)?;
+    Ok(true)
+}
+
+/// A site takes in all that is on the way to it from another one.
+pub(crate) fn deliver_all(
+    environment: &mut Environment,
+    alloc: Global,
+    from: &SiteName,
+    to: &SiteName,
+) -> Result<(), NoMemory>
+    requires { HasDirection environment.old.net from.now to.now }
+    ensures ok { OnOk result (environment.new ≡ world_deliver from.now to.now environment.old) }
+    ensures follows { Follows environment.old environment.new }
+{
+    'packets: loop {
+        if !take(environment, alloc, from, to)? {
+            return Ok(());
+        }
+    }
+}

@@ -1,0 +1,116 @@
+//! A push, whole.
+ghost use Rattle.std.specs.Prelude.{◌≡◌, ◌++◌, ◌≤◌, None, true, length, IfOk, OnOk};
+ghost use Rattle.net_plan.specs.Directions.{HasDirection};
+ghost use Rattle.report_text.specs.Sheet.{most_line};
+ghost use Rattle.script_parse.specs.declared.command.Command.TheVariants as Command;
+ghost use Rattle.world_state.specs.World.{is_there};
+ghost use Rattle.world_state.specs.Pushes.{positions_above, pushed_in, world_push};
+ghost use Rattle.environment.specs.Following.{Follows, IsBuilt};
+ghost use Rattle.environment.specs.Known.{known_refusal};
+ghost use Rattle.environment.specs.Texts.{pushed_text};
+ghost use Rattle.environment.specs.Doing.{Does};
+
+use crate::answer::answer;
+use crate::deliver::deliver_all;
+use crate::send::{release, send_above};
+use crate::settle::{Pushed, settle_and_tell};
+use environment::Environment;
+use rep_lists::NoMemory;
+use rep_values::{Refusal, SiteName};
+use report_text::{Lines, MOST_LINE};
+use std::alloc::Global;
+use world_state::Refused;
+
+/// What is held is released, what isn't acknowledged is sent, and all is taken in. It answers how many positions were sent.
+fn bring(
+    environment: &mut Environment,
+    alloc: Global,
+    from: &SiteName,
+    to: &SiteName,
+    count: Option<u64>,
+) -> Result<u64, NoMemory>
+    requires { HasDirection environment.old.net from.now to.now }
+    ensures ok { OnOk result (environment.new ≡ pushed_in from.now to.now count environment.old) }
+    ensures sent { IfOk result (λ sent. sent ≡ length (positions_above from.now to.now count environment.old)) }
+    ensures follows { Follows environment.old environment.new }
+{
+    release(environment, from, to)?;
+    let sent = send_above(environment, alloc, from, to, count)?;
+    deliver_all(environment, alloc, from, to)?;
+    Ok(sent)
+}
+
+/// A push for whose line there is room.
+fn push_in_room(
+    environment: &mut Environment,
+    alloc: Global,
+    lines: &mut Lines,
+    from: &SiteName,
+    to: &SiteName,
+    count: Option<u64>,
+) -> Result<(), NoMemory>
+    requires room { most_line ≤ lines.old.room }
+    requires there { is_there environment.old to.now ≡ true }
+    requires linked { HasDirection environment.old.net from.now to.now }
+    requires back { HasDirection environment.old.net to.now from.now }
+    ensures ok { OnOk result (environment.new ≡ world_push from.now to.now count environment.old) }
+    ensures text { OnOk result (lines.new.bytes ≡ lines.old.bytes ++ pushed_text from.now to.now count environment.old) }
+    ensures follows { Follows environment.old environment.new }
+{
+    let sent = bring(environment, alloc, from, to, count)?;
+    let pushed = Pushed {
+        from: *from,
+        to: *to,
+        sent,
+    };
+    settle_and_tell(environment, alloc, lines, pushed)?;
+    answer(environment, alloc, to, from)?;
+    Ok(())
+}
+
+/// A push between sites that are there, with a direction each way.
+fn push_linked(
+    environment: &mut Environment,
+    alloc: Global,
+    from: &SiteName,
+    to: &SiteName,
+    count: Option<u64>,
+) -> Result<Lines, NoMemory>
+    requires there { is_there environment.old to.now ≡ true }
+    requires linked { HasDirection environment.old.net from.now to.now }
+    requires back { HasDirection environment.old.net to.now from.now }
+    ensures ok { OnOk result (environment.new ≡ world_push from.now to.now count environment.old) }
+    ensures text { IfOk result (λ lines. lines.bytes ≡ pushed_text from.now to.now count environment.old) }
+    ensures follows { Follows environment.old environment.new }
+{
+    // The room for the push's own line comes before anything changes.
+    let mut lines = Lines::make(alloc);
+    lines.reserve(MOST_LINE)?;
+    push_in_room(environment, alloc, &mut lines, from, to, count)?;
+    Ok(lines)
+}
+
+/// Does the line of a push that isn't refused: what is held between the sites goes on the way, what the receiver hasn't
+/// acknowledged is sent, at most so many positions where a count is given, and the receiver takes all in, settles it and tells
+/// what came of it. Its mark goes back where that direction is up. Where there is no memory, the push may be done in part:
+/// what is left follows by events.
+pub fn push(
+    environment: &mut Environment,
+    alloc: Global,
+    line: u32,
+    from: &SiteName,
+    to: &SiteName,
+    count: Option<u64>,
+) -> Result<Lines, Refused>
+    requires built { IsBuilt environment.old }
+    requires passes { known_refusal (Command.Push from.now to.now count) environment.old ≡ None }
+    ensures { Does line (Command.Push from.now to.now count) environment.old environment.new result }
+{
+    match push_linked(environment, alloc, from, to, count) {
+        Ok(lines) => Ok(lines),
+        Err(NoMemory) => Err(Refused {
+            line,
+            refusal: Refusal::Memory,
+        }),
+    }
+}

@@ -1,0 +1,146 @@
+//! What the sender sends.
+ghost use Rattle.std.specs.Prelude.{◌≡◌, ◌+◌, ◌-◌, ◌<◌, ◌≤◌, ◌^◌, length, IfOk, OnOk, OnErr};
+ghost use Rattle.std.specs.List.{range_with_len};
+ghost use Rattle.net_plan.specs.Directions.{HasDirection};
+ghost use Rattle.event_laws.specs.Core.{site_of};
+ghost use Rattle.event_laws.specs.Events.{packet_from};
+ghost use Rattle.world_state.specs.Pushes.{at_most, sent_on, world_release, world_send, positions_in, positions_above, world_send_above};
+ghost use Rattle.environment.specs.Following.{Follows};
+
+use environment::{Environment, place_of};
+use packet_code::Sealed;
+use rep_lists::NoMemory;
+use rep_values::SiteName;
+use row_tables::ListTables;
+use site_core::Site;
+use std::alloc::Global;
+
+/// What is held from a site to another one goes on the way.
+pub(crate) fn release(
+    environment: &mut Environment,
+    from: &SiteName,
+    to: &SiteName,
+) -> Result<(), NoMemory>
+    requires { HasDirection environment.old.net from.now to.now }
+    ensures ok { OnOk result (environment.new ≡ world_release from.now to.now environment.old) }
+    ensures follows { Follows environment.old environment.new }
+{
+    environment.net.release(from, to)?;
+    Ok(())
+}
+
+/// Sends a packet, where there is one.
+pub(crate) fn send_some(
+    environment: &mut Environment,
+    alloc: Global,
+    from: &SiteName,
+    to: &SiteName,
+    packet: Option<Sealed>,
+) -> Result<(), NoMemory>
+    requires { HasDirection environment.old.net from.now to.now }
+    ensures ok { OnOk result (environment.new ≡ record environment.old { net = sent_on packet from.now to.now environment.old.net }) }
+    ensures err { OnErr result (environment.new ≡ environment.old) }
+{
+    let Some(packet) = packet else {
+        return Ok(());
+    };
+    environment.net.send(alloc, from, to, packet)?;
+    Ok(())
+}
+
+/// The packet of a position, where the site is there and has one.
+fn packet_of(
+    sites: &[Site<ListTables>],
+    alloc: Global,
+    from: &SiteName,
+    to: &SiteName,
+    position: u64,
+) -> Result<Option<Sealed>, NoMemory>
+    ensures { IfOk result (λ packet. packet ≡ packet_from to.now position (site_of from.now sites.now)) }
+{
+    let Some(place) = place_of(sites, from) else {
+        return Ok(None);
+    };
+    let packet = sites[place].packet(alloc, to, position)?;
+    Ok(packet)
+}
+
+/// The packet of a position is sent, where there is one.
+fn send(
+    environment: &mut Environment,
+    alloc: Global,
+    from: &SiteName,
+    to: &SiteName,
+    position: u64,
+) -> Result<(), NoMemory>
+    requires { HasDirection environment.old.net from.now to.now }
+    ensures ok { OnOk result (environment.new ≡ world_send from.now to.now position environment.old) }
+    ensures follows { Follows environment.old environment.new }
+{
+    let packet = packet_of(&environment.sites, alloc, from, to, position)?;
+    send_some(environment, alloc, from, to, packet)?;
+    Ok(())
+}
+
+/// The positions behind the acknowledged mark, so many.
+#[derive(Clone, Copy)]
+struct Unsent {
+    acked: u64,
+    number: u64,
+    ghost within: { 0 < number → acked + number < 2 ^ 64 },
+}
+
+/// So many, and at most as a count says where it is given.
+fn at_most(count: Option<u64>, number: u64) -> u64
+    ensures is { result ≡ at_most count number }
+    ensures within { result ≤ number }
+{
+    match count {
+        None => number,
+        Some(count) => count.min(number),
+    }
+}
+
+/// The positions of a site that aren't acknowledged, at most so many where a count is given.
+fn unsent_of(
+    sites: &[Site<ListTables>],
+    from: &SiteName,
+    to: &SiteName,
+    count: Option<u64>,
+) -> Unsent
+    ensures { positions_in to.now count (site_of from.now sites.now) ≡ range_with_len (result.acked + 1) result.number }
+{
+    let Some(place) = place_of(sites, from) else {
+        return Unsent {
+            acked: 0,
+            number: 0,
+        };
+    };
+    let site = &sites[place];
+    let acked = site.queue().acked(to);
+    let waiting = site.last_sent(to).saturating_sub(acked);
+    Unsent {
+        acked,
+        number: at_most(count, waiting),
+    }
+}
+
+/// What isn't acknowledged is sent, at most so many where a count is given. It answers how many positions that is.
+pub(crate) fn send_above(
+    environment: &mut Environment,
+    alloc: Global,
+    from: &SiteName,
+    to: &SiteName,
+    count: Option<u64>,
+) -> Result<u64, NoMemory>
+    requires { HasDirection environment.old.net from.now to.now }
+    ensures ok { OnOk result (environment.new ≡ world_send_above from.now to.now count environment.old) }
+    ensures sent { IfOk result (λ sent. sent ≡ length (positions_above from.now to.now count environment.old)) }
+    ensures follows { Follows environment.old environment.new }
+{
+    let unsent = unsent_of(&environment.sites, from, to, count);
+    for sent in 0..unsent.number {
+        send(environment, alloc, from, to, unsent.acked + 1 + sent)?;
+    }
+    Ok(unsent.number)
+}
