@@ -30,7 +30,7 @@ use Rattle.world_state.specs.declared.phase.Phase.{Phase}
 use Rattle.world_state.specs.declared.phase.Phase.TheVariants as phase
 use Rattle.world_state.specs.declared.block.Block.{Block}
 use Rattle.world_state.specs.declared.refused.Refused.{Refused}
-use Rattle.world_state.specs.World.{WorldState, gets_from}
+use Rattle.world_state.specs.World.{WorldState, first_world, gets_from}
 use Rattle.world_state.specs.Phases.{is_setup, has_block, setup_step, declare_step, phase_step, behind_setup_step}
 use Rattle.world_state.specs.Blocks.{committed_block}
 use Rattle.world_state.specs.Pushes.{world_release, world_send, world_send_each, positions_above, world_bring_mark, world_answer, world_settle, pushed_in, world_push}
@@ -41,7 +41,7 @@ use Rattle.world_laws.specs.Simulation.{Simulates}
 use Rattle.world_laws.specs.Scripts.{LeavesAllButTheBlock}
 use Rattle.world_laws.specs.Reached.{IsOfScript, InSetup, Behind}
 use Rattle.world_laws.proofs.SiteSteps.{run-append}
-use Rattle.world_laws.proofs.Scripts.{step_of_script}
+use Rattle.world_laws.proofs.Scripts.{HasShape-no_schema, step_of_script, first_of_script}
 use Rattle.world_laws.proofs.RefusedLines.{refused_leaves}
 use Rattle.site_making.proofs.SenderDirections.{direction_to_sender, direction_from_sender}
 use Rattle.site_making.specs.Masters.{IsEarlyMaster}
@@ -49,7 +49,7 @@ use Rattle.environment.specs.Following.{Follows, IsBuilt}
 use Rattle.environment.specs.Doing.{IsShort, is_push}
 use Rattle.environment.specs.Known.{is_tried}
 use Rattle.environment.specs.Keeping.{LinesKeepBuilt}
-use Rattle.environment.proofs.StayingDirections.{Stay, stay-at, stays, stay-push}
+use Rattle.environment.proofs.Directions.{Stay, stay-at, stays, stay-push}
 
 -- ---- lines that declare nothing and end no Setup
 
@@ -331,3 +331,7 @@ pub lines_keep_built : LinesKeepBuilt
 lines_keep_built number c old new (Ok sheet) form named does built = subst IsBuilt (sym does.world) (built_done number c old form named does.passes built)
 lines_keep_built number c old new (Err r) form named (inl short) built = built_short number c old new r short built
 lines_keep_built number c old new (Err r) form named (inr refused) built = subst IsBuilt (sym refused.world) (built_refused number c old r named refused.told built)
+
+-- where nothing is declared
+pub first_built : IsBuilt first_world
+first_built = record { of_script = first_of_script; shape = HasShape-no_schema; masters = tt; linked = λ behind site origin gets. absurd (cc behind) }

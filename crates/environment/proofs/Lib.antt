@@ -3,6 +3,5 @@ pub mod Places
 pub mod Directions
 pub mod Following
 pub mod Written
-pub mod StayingDirections
 pub mod Keeping
 pub mod KnownRefusals

@@ -1,30 +1,15 @@
--- The site at the place that is found, and what is written there.
-use Rattle.std.proofs.Common.{◌≡◌, ℕ, ◌<◌, ◌≤◌, List, length, Bool, true, false, cond, Some, None, refl, sym, ap, ◌∙◌, arith, get_or, set, subst, inl, inr}
+-- The place that is found by the names of the sites.
+use Rattle.std.proofs.Common.{◌≡◌, ℕ, ◌<◌, ◌≤◌, List, length, Bool, true, false, cond, Some, None, refl, sym, ◌∙◌, arith, get_or, subst, inl, inr}
 use Rattle.std.specs.Prelude.{Option, ◌⊎◌, nat_lt, slice_get}
 use Rattle.std.specs.List.{position}
 use Rattle.std.proofs.lemmas.Bool.{ltb-true, ltb-false}
-use Rattle.std.proofs.lemmas.Option.{get_or_from_slice_get, slice_get_cases, slice_get_past}
+use Rattle.std.proofs.lemmas.Option.{slice_get_cases, slice_get_past}
 use Rattle.rep_values.specs.declared.name.SiteName.{SiteName}
 use Rattle.deferred_queue.specs.Streams.{is_same_site}
 use Rattle.site_state.specs.State.{SiteState}
-use Rattle.event_laws.specs.Core.{site_of, at_site}
 use Rattle.world_laws.specs.Places.{place_of}
-use Rattle.world_laws.proofs.Calling.{site_of-place, slice_set-place}
+use Rattle.world_laws.proofs.Calling.{site_of-place}
 use Rattle.environment.specs.Finding.{IsAt, FindsSite}
-
-module _ (name : SiteName) (sites : List SiteState) (place : ℕ) (found : IsAt name sites place) (x : SiteState) (read : x ≡ get_or sites place x) where
-  at_place : slice_get sites place ≡ Some x
-  at_place = found.there ∙ ap Some (sym (read ∙ get_or_from_slice_get sites place found.site x found.there))
-
-  -- what is read there is the site
-  pub site_of-read : site_of name sites ≡ Some x
-  site_of-read = found.found ∙ sym found.there ∙ at_place
-
-  -- what changes there changes at the site
-  pub at_site-written : (change : SiteState → SiteState) (y : SiteState) → y ≡ change x → set sites place y ≡ at_site name change sites
-  at_site-written change y is =
-      let there : slice_get sites (place_of name sites) ≡ Some x = subst (λ (k : ℕ). slice_get sites k ≡ Some x) found.is at_place in
-      ap (set sites place) is ∙ ap (λ (k : ℕ). set sites k (change x)) found.is ∙ slice_set-place name change sites x there
 
 -- what is found by the names of the sites
 pub finds_site : (name : SiteName) (sites : List SiteState) (result : Option ℕ) → result ≡ position (λ (x : SiteState). is_same_site x.here.site name) sites → FindsSite name sites result

@@ -1,5 +1,6 @@
 -- What comes of a line.
 use Rattle.std.specs.Prelude.{◌≡◌, ◌⊎◌, ℕ, Bool, true, false, List, Some, None, Result, Ok, Err}
+use Rattle.rep_values.specs.declared.refusal.Refusal.{Refusal}
 use Rattle.rep_values.specs.declared.refusal.Refusal.TheVariants as refusal
 use Rattle.report_text.specs.Sheet.{Sheet}
 use Rattle.script_parse.specs.declared.command.Command.{Command}
@@ -9,7 +10,7 @@ use Rattle.world_state.specs.World.{WorldState}
 use Rattle.world_state.specs.Refusals.{world_refusal}
 use Rattle.world_state.specs.Steps.{world_done, world_refused, step_refused}
 use Rattle.environment.specs.Following.{Follows}
-use Rattle.environment.specs.Known.{is_tried}
+use Rattle.environment.specs.Known.{is_tried, known_refusal}
 use Rattle.environment.specs.Texts.{world_text}
 
 -- a line pushes
@@ -61,3 +62,7 @@ pub record IsRefused (number : ℕ) (command : Command) (old new : WorldState) (
 abbrev pub Does : ℕ → Command → WorldState → WorldState → Result Sheet Refused → Type 0
 Does number command old new (Ok sheet) = IsDone number command old new sheet.bytes
 Does number command old new (Err r) = IsShort number command old new r ⊎ IsRefused number command old new r
+
+-- a refusal that is known before the line is tried is answered, whatever memory there is
+abbrev pub AnswersKnown : ℕ → Command → WorldState → Result Sheet Refused → Type 0
+AnswersKnown number command old result = (why : Refusal) → known_refusal command old ≡ Some why → result ≡ Err (record { line = number; refusal = why })

@@ -123,7 +123,8 @@ fn commit_block(
     ensures ok { OnOk result (sites.new.items ≡ at_site block.now.site (site_commit block.now.statements) sites.old.items) }
     ensures passes { OnOk result (stop_at_site block.now.statements (site_of block.now.site sites.old.items) ≡ None) }
     ensures number { IfOk result (λ number. number ≡ number_at (λ x. number_of (commit_answer block.now.statements x)) (site_of block.now.site sites.old.items)) }
-    ensures err { IfErr result (λ stop. (stop ≡ record { statement = 0; refusal = refusal.Memory }) ⊎ (stop_at_site block.now.statements (site_of block.now.site sites.old.items) ≡ Some stop)) }
+    ensures err { IfErr result (λ stop. (stop ≡ record { statement = 0; refusal = refusal.Memory })
+        ⊎ (stop_at_site block.now.statements (site_of block.now.site sites.old.items) ≡ Some stop)) }
     ensures kept { OnErr result (sites.new.items ≡ sites.old.items) }
 {
     let Some(place) = place_of(sites, &block.site) else {

@@ -24,7 +24,7 @@ use Rattle.site_rounds.proofs.Parts.{parts_do}
 use Rattle.environment.specs.Finding.{IsAt}
 use Rattle.environment.specs.Following.{Follows}
 use Rattle.environment.specs.Texts.{new_error_text}
-use Rattle.environment.proofs.Places.{site_of-read, at_site-written}
+use Rattle.environment.proofs.Written.{site_of-read, at_site-written}
 use Rattle.environment.proofs.Following.{follows_site}
 use Rattle.environment_push.specs.Settling.{told_text, IsSettling}
 use Rattle.environment_push.proofs.Journals.{settle_grows}
@@ -116,7 +116,7 @@ module _ (origin to : SiteName) (sent done errors low before : ℕ) (x y : SiteS
 module _ (origin name : SiteName) (w : WorldState) (place : ℕ) (found : IsAt name w.sites place) (x y : SiteState) (read : x ≡ get_or w.sites place x) where
   written_follows : (change : SiteState → SiteState) → SiteRuns name change → y ≡ change x → Follows w (record w { sites = set w.sites place y })
   written_follows change does is =
-      subst (λ (sites : List SiteState). Follows w (record w { sites = sites })) (sym (at_site-written name w.sites place found x read change y is)) (follows_site name change does w)
+      subst (λ (sites : List SiteState). Follows w (record w { sites = sites })) (sym (at_site-written name w.sites w.sites place x refl found read change y is)) (follows_site name change does w)
 
   -- passes of the receiver are events
   pub settling_follows : IsSettling origin x y → Follows w (record w { sites = set w.sites place y })
@@ -125,8 +125,8 @@ module _ (origin name : SiteName) (w : WorldState) (place : ℕ) (found : IsAt n
 
   -- all of them settle what came
   pub settled_world : y ≡ site_settle origin x → record w { sites = set w.sites place y } ≡ world_settle origin name w
-  settled_world is = ap (λ (sites : List SiteState). record w { sites = sites }) (at_site-written name w.sites place found x read (site_settle origin) y is)
+  settled_world is = ap (λ (sites : List SiteState). record w { sites = sites }) (at_site-written name w.sites w.sites place x refl found read (site_settle origin) y is)
 
   -- what is told of the receiver
   pub told-there : (to : SiteName) (sent : ℕ) → told_text origin to sent (Some x) ≡ told_text origin to sent (site_of name w.sites)
-  told-there to sent = ap (told_text origin to sent) (sym (site_of-read name w.sites place found x read))
+  told-there to sent = ap (told_text origin to sent) (sym (site_of-read name w.sites w.sites place x refl found read))

@@ -11,7 +11,7 @@ use Rattle.world_state.specs.Pushes.{world_release, sent_on, world_send, world_t
 use Rattle.world_laws.proofs.Pieces.{release_leads, send_leads, send_mark_leads}
 use Rattle.world_laws.proofs.Calling.{take_leads, lose_leads}
 use Rattle.environment.specs.Following.{Follows}
-use Rattle.environment.proofs.Directions.{HasDirection-at, with_sent_keeps}
+use Rattle.environment.proofs.Directions.{HasDirection-at, ends-with_sent}
 
 -- what is held goes on the way
 pub release_follows : (from to : SiteName) (w : WorldState) → Follows w (world_release from to w)
@@ -22,12 +22,12 @@ release_follows from to w = record {
   base = refl;
   snapshots = refl;
   block = refl;
-  directions = λ a b has. HasDirection-at a b from to released (λ _ _ _. refl) w.net has;
+  directions = λ a b has. HasDirection-at from to a b released (λ _ _ _. refl) w.net has;
 }
 
 HasDirection-sent_on : (packet : Option Packet) (from to a b : SiteName) (net : List Direction) → HasDirection net a b → HasDirection (sent_on packet from to net) a b
 HasDirection-sent_on None from to a b net has = has
-HasDirection-sent_on (Some packet) from to a b net has = HasDirection-at a b from to (with_sent packet) (with_sent_keeps packet) net has
+HasDirection-sent_on (Some packet) from to a b net has = HasDirection-at from to a b (with_sent packet) (ends-with_sent packet) net has
 
 -- a packet is sent
 pub send_follows : (from to : SiteName) (position : ℕ) (w : WorldState) → Follows w (world_send from to position w)
@@ -62,7 +62,7 @@ take_follows from to w = record {
   base = refl;
   snapshots = refl;
   block = refl;
-  directions = λ a b has. HasDirection-at a b from to delivered (λ _ _ _. refl) w.net has;
+  directions = λ a b has. HasDirection-at from to a b delivered (λ _ _ _. refl) w.net has;
 }
 
 -- or is lost where it should be
@@ -74,5 +74,5 @@ lose_follows from to w = record {
   base = refl;
   snapshots = refl;
   block = refl;
-  directions = λ a b has. HasDirection-at a b from to delivered (λ _ _ _. refl) w.net has;
+  directions = λ a b has. HasDirection-at from to a b delivered (λ _ _ _. refl) w.net has;
 }

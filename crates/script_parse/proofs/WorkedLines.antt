@@ -20,7 +20,6 @@ use Rattle.script_parse.specs.declared.command.Command.TheVariants as command
 use Rattle.script_parse.specs.Columns.{column}
 use Rattle.script_parse.specs.Parts.{site_of, table_of, row_test, set_part}
 use Rattle.script_parse.specs.Parsed.{form_of, command_of, parsed}
-use Rattle.script_parse.specs.Young.{parsed_young}
 
 -- Setup.
 
@@ -299,37 +298,3 @@ shown_log_and_more = refl
 joining : parsed (codes "join D A") ≡ Err 5
 unfolding lexed tokens_from longest_up_to has_form token_of one mark many form_of command_of column row_test set_part
 joining = refl
-
--- The first program's forms and rules.
-
-young_odd_symbol : parsed_young (codes "frob !") ≡ Err 5
-unfolding lexed tokens_from longest_up_to has_form token_of
-young_odd_symbol = refl
-
-young_third_site : parsed_young (codes "push A B C") ≡ Err 5
-unfolding lexed tokens_from longest_up_to has_form token_of one mark many form_of column row_test set_part
-young_third_site = refl
-
-young_date : parsed_young (codes "table T ID:NUMBER:key AT:DATE") ≡ Err 5
-unfolding lexed tokens_from longest_up_to has_form token_of one mark many form_of column row_test set_part
-young_date = refl
-
-young_count : parsed_young (codes "push A B count 3") ≡ Err 5
-unfolding lexed tokens_from longest_up_to has_form token_of one mark many form_of column row_test set_part
-young_count = refl
-
-young_update : parsed_young (codes "update T 1 : A = 1") ≡ Err 5
-unfolding lexed tokens_from longest_up_to has_form token_of one mark many form_of column row_test set_part
-young_update = refl
-
-young_suspend : parsed_young (codes "suspend") ≡ Err 5
-unfolding lexed tokens_from longest_up_to has_form token_of one mark many form_of column row_test set_part
-young_suspend = refl
-
-young_tab : parsed_young (9 ∷ []) ≡ Err 3
-unfolding lexed
-young_tab = refl
-
-young_site : parsed_young (codes "site A") ≡ Ok (command.Declare (declare.Site (site_of (codes "A"))))
-unfolding lexed tokens_from longest_up_to has_form token_of one mark many form_of column row_test set_part
-young_site = refl

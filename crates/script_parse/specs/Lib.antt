@@ -10,4 +10,3 @@ pub mod Named
 pub mod Parsed
 pub mod Spelled
 pub mod Laws
-pub mod Young

@@ -66,7 +66,7 @@ fn form(alloc: Global, head: Head, tokens: &mut Reader<'_>) -> Result<Command, L
 
 /// The command that the tokens are, of any form.
 #[tactic(auto, unfolding(crate::specs::Parsed::form_of))]
-pub fn form_of(alloc: Global, tokens: &mut Reader<'_>) -> Result<Command, LineStop>
+fn form_of(alloc: Global, tokens: &mut Reader<'_>) -> Result<Command, LineStop>
     ensures read { Gives (HasForm tokens.old) (λ command. command) result (form_of tokens.old) }
     ensures named { IfOk result NamesColumn }
 {

@@ -11,9 +11,7 @@ mod heads;
 mod laws;
 mod methods;
 mod parts;
-mod young;
 
 pub use command::{Command, Link, Refresh, Shown, TestWords};
 pub use forms::parse_line;
 pub use laws::form_laws;
-pub use young::parse_first;

@@ -9,11 +9,13 @@ use case_lines::CaseStop;
 use local_txn::{Here, LocalStop, put_base_row};
 use rep_calls::Statement;
 use rep_laws::sound_schemas_have_keys;
+use rep_lists::Items;
 use rep_schema::{RowStore, Schema, TableSet};
 use rep_values::{Literal, Refusal, SiteName};
 use row_tables::ListTables;
 use schema_rules::check;
-use site_core::{Site, destinations_of, is_master_site, senders_of};
+use schema_sites::{destinations_of, is_master_site, senders_of};
+use site_core::Site;
 use site_state::PassCount;
 use std::alloc::Global;
 use stock_table::stock;
@@ -25,7 +27,7 @@ pub const ROWS: u32 = 100;
 #[derive(Drop)]
 pub struct Master {
     pub name: SiteName,
-    pub senders: Vec<SiteName>,
+    pub senders: Items<SiteName>,
     pub site: Site<ListTables>,
 }
 
@@ -96,7 +98,13 @@ impl Master {
         let here = here_of(store.schema(), name);
         let senders = senders_of(alloc, store.schema(), &name)?;
         let destinations = destinations_of(alloc, store.schema(), &name)?;
-        let site = Site::make(alloc, store, here, &senders, &destinations)?;
+        let site = Site::make(
+            alloc,
+            store,
+            here,
+            senders.as_slice(),
+            destinations.as_slice(),
+        )?;
         Ok(Master {
             name,
             senders,

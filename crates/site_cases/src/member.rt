@@ -12,7 +12,8 @@ use rep_schema::{Schema, TableSet};
 use rep_values::{Literal, Refusal, SiteName, TableName};
 use row_tables::ListTables;
 use schema_rules::check;
-use site_core::{Site, destinations_of, first_master, is_master_site, senders_of};
+use schema_sites::{destinations_of, first_master, is_master_site, senders_of};
+use site_core::Site;
 use std::alloc::Global;
 
 /// A row that each site has when it is opened.
@@ -26,8 +27,8 @@ pub struct BaseRow {
 #[derive(Drop)]
 pub struct Member {
     pub name: SiteName,
-    pub senders: Vec<SiteName>,
-    pub destinations: Vec<SiteName>,
+    pub senders: Items<SiteName>,
+    pub destinations: Items<SiteName>,
     pub site: Site<ListTables>,
 }
 
@@ -82,7 +83,7 @@ fn base_store(
     let mut store = ListTables::make(alloc, schema.copy(alloc)?)?;
     put_rows(alloc, &mut store, rows)?;
     if let Some(master) = first_master(schema) {
-        fill_base_rows(&mut store, &master.name)?;
+        fill_base_rows(&mut store, &master)?;
     }
     Ok(Ok(store))
 }
@@ -104,7 +105,13 @@ impl Member {
         let here = here_of(schema, name);
         let senders = senders_of(alloc, schema, &name)?;
         let destinations = destinations_of(alloc, schema, &name)?;
-        let site = Site::make(alloc, store, here, &senders, &destinations)?;
+        let site = Site::make(
+            alloc,
+            store,
+            here,
+            senders.as_slice(),
+            destinations.as_slice(),
+        )?;
         Ok(Ok(Member {
             name,
             senders,

@@ -59,13 +59,13 @@ pub fn shown(alloc: Global, word: &[u8], member: &Member) -> Result<String, Case
     let (name, site) = (&member.name, &member.site);
     match word {
         b"tables" => add_rows(&mut lines, member)?,
-        b"queue" => add_queue(&mut lines, name, &member.destinations, site)?,
+        b"queue" => add_queue(&mut lines, name, member.destinations.as_slice(), site)?,
         b"errors" => add_errors(&mut lines, name, site)?,
         b"marks" => add_marks(
             &mut lines,
             name,
-            &member.senders,
-            &member.destinations,
+            member.senders.as_slice(),
+            member.destinations.as_slice(),
             site,
         )?,
         b"journal" => add_journal(&mut lines, name, site)?,

@@ -6,11 +6,9 @@ mod committing;
 mod inboxes;
 mod journal;
 mod laws;
-mod neighbours;
 mod rows;
 mod seen;
 mod site;
 
 pub use laws::outcomes_hold_where_rows_are_as_they_were;
-pub use neighbours::{destinations_of, first_master, is_master_site, senders_of};
 pub use site::Site;

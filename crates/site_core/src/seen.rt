@@ -5,11 +5,11 @@ ghost use Rattle.rep_lists.specs.Rising.{IsRising, IsThere, IsGap, put_at};
 ghost use Rattle.site_state.specs.Pasts.{beside_name};
 ghost use Rattle.site_core.specs.Seen.{by_name, seen_from, past_from};
 
-use crate::neighbours::is_master_site;
 use rep_calls::Past;
 use rep_lists::{Items, NoMemory};
 use rep_schema::Schema;
 use rep_values::{SiteName, compare_names};
+use schema_sites::is_master_site;
 use sender_inbox::Inbox;
 use std::alloc::Global;
 use std::cmp::Ordering;

@@ -45,7 +45,7 @@ use Rattle.world_laws.proofs.RefusedLines.{refused_leaves, refused_block}
 no_pair : {X : Type 0} (R : X → X → Type 0) → AllPairs R []
 no_pair R i j e before within = absurd (omega (arith, before, within))
 
-HasShape-no_schema : HasShape no_schema
+pub HasShape-no_schema : HasShape no_schema
 HasShape-no_schema = record {
   masters = omega arith;
   snapshots = omega arith;

@@ -10,13 +10,13 @@ ghost use Rattle.site_core.specs.Keeping.{IsSized};
 
 use super::Site;
 use crate::inboxes::{inbox_from, place_from};
-use crate::neighbours::is_master_site;
 use conflict_detect::fits;
 use packet_code::Packet;
 use rep_calls::{Past, Txn};
 use rep_lists::{Items, NoMemory};
 use rep_schema::RowStore;
 use rep_values::SiteName;
+use schema_sites::is_master_site;
 use site_state::{Accepted, Arrival};
 
 impl<R: RowStore> Site<R> {
