@@ -1,3 +1,1 @@
--- The lemmas of this crate.
-pub mod YoungSteps
-mod WorkedScripts
+-- The lemmas of this crate; it needs none.

@@ -1,10 +1,9 @@
 //! The program that runs a script of replication and writes its report.
 #![tactic(auto)]
 
-mod alone;
 mod program;
 
-pub use program::{run_alone, run_program};
+pub use program::run_program;
 use rep_io::{StdSink, StdSource};
 pub use script_drive::Status;
 use std::alloc::{AllocError, Global};

@@ -1,35 +1,18 @@
-//! The calls that run a whole script.
+//! What the program does with the words of its command line.
 ghost use Rattle.std.specs.Prelude.{◌≡◌, ◌≢◌, ◌↔◌, true, false};
 ghost use Rattle.rep_io.specs.Faults.{Rose};
 ghost use Rattle.rep_lines.specs.Told.{Tells};
-ghost use Rattle.world_run.specs.World.{first_world};
+ghost use Rattle.world_state.specs.World.{first_world};
 ghost use Rattle.script_drive.specs.Lines.{line_step};
 ghost use Rattle.script_drive.specs.Outcome.{Told};
-ghost use Rattle.replication_cli.specs.Young.{young_step};
+ghost use Rattle.script_run.specs.Completeness.{RunsToItsEnd};
+ghost use Rattle.script_run.specs.Scripts.{script_step};
 ghost use Rattle.replication_cli.specs.Words.{are_run};
 
-use crate::alone::Alone;
 use rep_io::{Sink, Source};
-use script_drive::{Status, drive};
+use script_drive::Status;
+use script_run::run_alone;
 use std::alloc::Global;
-use world_run::World;
-
-/// Runs a script from the source and writes its report to the sink. It takes no lock, and always returns.
-///
-/// `Done`: the script was read to its end, no line is malformed, and the whole report was written. `Malformed`: a
-/// line is malformed, and the report up to it and with it was written. `ReadFault`, `WriteFault`, `Memory`: a front of
-/// the report was written; after a read fault it is the report of all whole lines read.
-pub fn run_alone<S: Source, K: Sink>(alloc: Global, source: &mut S, sink: &mut K) -> Status
-    ensures told { Tells (Told (line_step young_step) first_world result) (S.left source.old) (S.left source.new) (K.taken sink.old) (K.taken sink.new) }
-    ensures read { result ≡ Status.ReadFault → Rose (S.faults source.old) (S.faults source.new) }
-    ensures write { result ≡ Status.WriteFault → Rose (K.faults sink.old) (K.faults sink.new) }
-    ensures ran { result ≢ Status.Usage }
-{
-    let alone = Alone {
-        world: World::make(alloc),
-    };
-    drive(alloc, alone, source, sink)
-}
 
 /// Whether the words of the command line are the one word `run`.
 fn are_run(words: &[&str]) -> bool
@@ -52,10 +35,11 @@ pub fn run_program<S: Source, K: Sink>(
     ensures usage { (result ≡ Status.Usage) ↔ (are_run words.now ≡ false) }
     ensures unread { result ≡ Status.Usage → source.new ≡ source.old }
     ensures unwritten { result ≡ Status.Usage → sink.new ≡ sink.old }
-    ensures told { result ≢ Status.Usage → Tells (Told (line_step young_step) first_world result)
+    ensures told { result ≢ Status.Usage → Tells (Told (line_step script_step) first_world result)
         (S.left source.old) (S.left source.new) (K.taken sink.old) (K.taken sink.new) }
     ensures read { result ≡ Status.ReadFault → Rose (S.faults source.old) (S.faults source.new) }
     ensures write { result ≡ Status.WriteFault → Rose (K.faults sink.old) (K.faults sink.new) }
+    ensures complete { result ≢ Status.Usage → RunsToItsEnd (S.left source.old) (K.taken sink.old) (S.faults source.old) (S.faults source.new) (K.faults sink.old) (K.faults sink.new) result }
 {
     if !are_run(words) {
         return Status::Usage;

@@ -1,4 +1,2 @@
 -- The lemmas of this crate.
-pub mod Worlds
-pub mod Seen
-pub mod StepAnswers
+mod Stepping

@@ -1,16 +1,7 @@
-//! The world that a script's commands change, and what they print.
+//! The world of a script: a replication environment, and each line of the script as one step of it.
 #![tactic(auto)]
 
-mod block;
-mod insertion;
-mod phase;
-mod setup;
-mod site;
-mod sites;
-mod stated;
-mod stop;
+mod lines;
 mod world;
 
-pub use insertion::Insertion;
-pub use stop::Stop;
 pub use world::World;

@@ -1,0 +1,23 @@
+//! Runs the scripts of its input as the program runs them, and prints the report and the status of each. A line that begins
+//! with `== ` begins a script and names it, and `* COUNT LINE` stands for so many lines. With a name that begins with `cut `
+//! the script is also run cut behind each byte.
+#![tactic(auto)]
+
+mod cases;
+mod cuts;
+mod runs;
+
+use std::io;
+
+fn main(rt: HostRuntime) -> io::Result<()> {
+    let mut cases = Vec::new(rt.alloc());
+    for line in rt.lines(rt.alloc()) {
+        let line = line?;
+        cases::take_line(rt.alloc(), &mut cases, line.as_str())?;
+    }
+    for case in &cases {
+        let told = cases::outcome(rt.alloc(), case)?;
+        print!(rt; "{told}")?;
+    }
+    Ok(())
+}

@@ -1,0 +1,4 @@
+-- The proofs of this crate.
+mod Steps
+mod Completeness
+mod Worlds

@@ -1,0 +1,62 @@
+-- The world behind lines of a script is one of a script's, of forms that are built.
+use Rattle.std.proofs.Common.{◌≡◌, ℕ, ◌+◌, List, [], ◌∷◌, length, Bool, true, false, Some, None, refl, ap, inr}
+use Rattle.std.specs.Prelude.{nat_lt, if◌then◌else◌, Option, Result, Ok, Err}
+use Rattle.rep_values.specs.declared.refusal.Refusal.{Refusal}
+use Rattle.rep_lines.specs.Runs.{halts, state_after}
+use Rattle.rep_lines.specs.Limits.{limited}
+use Rattle.report_text.specs.Texts.{malformed_text}
+use Rattle.script_parse.specs.declared.command.Command.{Command}
+use Rattle.script_parse.specs.Built.{is_built}
+use Rattle.script_parse.specs.Named.{NamesColumn}
+use Rattle.script_parse.specs.Parsed.{parsed}
+use Rattle.script_parse.proofs.NamedLines.{parsed-Ok}
+use Rattle.world_state.specs.declared.refused.Refused.{Refused}
+use Rattle.world_state.specs.World.{WorldState, first_world}
+use Rattle.world_state.specs.Refusals.{world_refusal}
+use Rattle.world_state.specs.Steps.{world_done, world_refused, world_step, step_by, told_by, told_line}
+use Rattle.world_laws.proofs.Scripts.{of_script_holds, reported_pushes_leave_nothing_ready}
+use Rattle.environment.specs.Following.{IsBuilt}
+use Rattle.environment.specs.Texts.{world_text}
+use Rattle.environment.proofs.Keeping.{lines_keep_built, first_built}
+use Rattle.script_drive.specs.Lines.{most_lines, most_bytes, line_step}
+use Rattle.script_run.specs.Scripts.{stepped_by, script_step, world_behind, ReportedWorldsHold, PushesOfScriptsLeaveNothingReady}
+
+-- after a line of a form that is built, whatever refusal it meets
+step_built : (number : ℕ) (c : Command) (w : WorldState) → is_built c ≡ true → NamesColumn c → IsBuilt w → IsBuilt (world_step number c w)
+step_built number c w form named built = go (world_refusal c w) refl
+  where
+    go : (o : Option Refusal) → world_refusal c w ≡ o → IsBuilt (step_by o number c w)
+    go None passes = lines_keep_built number c w (world_done number c w) (Ok (record { bytes = world_text c w; room = 0 })) form named (record { passes = passes; world = refl; text = refl }) built
+    go (Some why) met =
+        let told : Refused = record { line = told_line number c w; refusal = why } in
+        lines_keep_built number c w (world_refused c w) (Err told) form named (inr (record { told = ap (λ (o : Option Refusal). told_by o number c w) met; world = refl })) built
+
+stepped_built : (w : WorldState) (number : ℕ) (line : List ℕ) → IsBuilt w → IsBuilt (script_step w number line).state
+unfolding script_step
+stepped_built w number line built = go (parsed line) refl
+  where
+    go : (o : Result Command ℕ) → parsed line ≡ o → IsBuilt (stepped_by w number o).state
+    go (Err rule) read = built
+    go (Ok c) read = step_built number c w (parsed-Ok line c read).0 (parsed-Ok line c read).1 built
+
+limited_built : (w : WorldState) (number : ℕ) (line : List ℕ) → IsBuilt w → IsBuilt (line_step script_step w number line).state
+unfolding limited
+limited_built w number line built = go (nat_lt most_lines number) (nat_lt most_bytes (length line))
+  where
+    go : (a b : Bool) → IsBuilt (if a then halts w (malformed_text number 2) else if b then halts w (malformed_text number 1) else script_step w number line).state
+    go true b = built
+    go false true = built
+    go false false = stepped_built w number line built
+
+behind_built : (w : WorldState) (number : ℕ) (lines : List (List ℕ)) → IsBuilt w → IsBuilt (state_after (line_step script_step) w number lines)
+behind_built w number [] built = built
+behind_built w number (line ∷ lines) built = behind_built (line_step script_step w number line).state (number + 1) lines (limited_built w number line built)
+
+pub reported_worlds_hold : ReportedWorldsHold
+reported_worlds_hold lines = of_script_holds _ (behind_built first_world 1 lines first_built).of_script
+
+pub pushes_leave_nothing_ready : PushesOfScriptsLeaveNothingReady
+unfolding script_step
+pushes_leave_nothing_ready lines number line from to count x read passes there =
+    let found = rw read at there in
+    reported_pushes_leave_nothing_ready number from to count (world_behind lines) x (behind_built first_world 1 lines first_built).shape passes found

@@ -1,0 +1,53 @@
+-- What a script prints: each of its lines is read as a command and done to the world, or refused there.
+use Rattle.std.specs.Prelude.{◌≡◌, ℕ, List, Option, Some, None, Result, Ok, Err}
+use Rattle.rep_values.specs.declared.name.SiteName.{SiteName}
+use Rattle.rep_lines.specs.Runs.{Stepped, goes, halts, state_after}
+use Rattle.rep_lines.specs.Told.{report}
+use Rattle.report_text.specs.Texts.{malformed_text}
+use Rattle.report_text.specs.Refusals.{refused_text}
+use Rattle.script_parse.specs.declared.command.Command.{Command}
+use Rattle.script_parse.specs.declared.command.Command.TheVariants as command
+use Rattle.script_parse.specs.Parsed.{parsed}
+use Rattle.site_state.specs.State.{SiteState}
+use Rattle.event_laws.specs.Core.{site_of}
+use Rattle.world_state.specs.declared.refused.Refused.{Refused}
+use Rattle.world_state.specs.World.{WorldState, first_world}
+use Rattle.world_state.specs.Refusals.{world_refusal}
+use Rattle.world_state.specs.Steps.{world_step, step_refused}
+use Rattle.world_laws.specs.Worlds.{WorldHolds, NothingReady}
+use Rattle.environment.specs.Texts.{world_text}
+use Rattle.script_drive.specs.Lines.{line_step}
+
+abbrev pub told_text : Option Refused → Command → WorldState → List ℕ
+told_text None command w = world_text command w
+told_text (Some r) command w = refused_text r.line r.refusal
+
+-- what the line of a number prints: what its command tells, or why it is refused
+abbrev pub line_text : ℕ → Command → WorldState → List ℕ
+line_text number command w = told_text (step_refused number command w) command w
+
+abbrev pub stepped_by : WorldState → ℕ → Result Command ℕ → Stepped WorldState
+stepped_by w number (Err rule) = halts w (malformed_text number rule)
+stepped_by w number (Ok command) = goes (world_step number command w) (line_text number command w)
+
+-- what a line within the limits does
+unfoldable pub script_step : WorldState → ℕ → List ℕ → Stepped WorldState
+script_step w number line = stepped_by w number (parsed line)
+
+-- what a script prints: what its lines print in order, up to the first malformed line and with its own
+abbrev pub script_report : List ℕ → List ℕ
+script_report script = report (line_step script_step) first_world script
+
+-- the world behind lines of a script
+abbrev pub world_behind : List (List ℕ) → WorldState
+world_behind lines = state_after (line_step script_step) first_world 1 lines
+
+-- the laws over events hold of the world behind whatever lines of a script, so of each world that a report tells of
+abbrev pub ReportedWorldsHold : Type 0
+ReportedWorldsHold = (lines : List (List ℕ)) → WorldHolds (world_behind lines)
+
+-- behind lines of a script, once a push is reported no position of any sender is ready at the receiver
+abbrev pub PushesOfScriptsLeaveNothingReady : Type 0
+PushesOfScriptsLeaveNothingReady = (lines : List (List ℕ)) (number : ℕ) (line : List ℕ) (from to : SiteName) (count : Option ℕ) (x : SiteState)
+    → parsed line ≡ Ok (command.Push from to count) → world_refusal (command.Push from to count) (world_behind lines) ≡ None
+    → site_of to (script_step (world_behind lines) number line).state.sites ≡ Some x → NothingReady x

@@ -1,0 +1,36 @@
+-- What comes of a line that was tried, or that was refused before.
+use Rattle.std.proofs.Common.{◌≡◌, ℕ, Some, None, sym, ap, subst, ◌∙◌}
+use Rattle.std.specs.Prelude.{Option, Result, Ok, Err}
+use Rattle.rep_values.specs.declared.refusal.Refusal.{Refusal}
+use Rattle.report_text.specs.Sheet.{Sheet}
+use Rattle.script_parse.specs.declared.command.Command.{Command}
+use Rattle.script_parse.specs.declared.command.Command.TheVariants as command
+use Rattle.event_laws.specs.Core.{site_of}
+use Rattle.world_state.specs.declared.refused.Refused.{Refused}
+use Rattle.world_state.specs.World.{WorldState}
+use Rattle.world_state.specs.Refusals.{world_refusal}
+use Rattle.world_state.specs.Steps.{world_done, step_by, world_step}
+use Rattle.world_laws.proofs.Scripts.{reported_pushes_leave_nothing_ready}
+use Rattle.environment.specs.Following.{IsBuilt}
+use Rattle.environment.specs.Known.{known_refusal}
+use Rattle.environment.specs.Doing.{Does, AnswersKnown}
+use Rattle.world_run.specs.Reporting.{PushLeavesNothingReady}
+
+-- no refusal is known
+pub known-None : (number : ℕ) (c : Command) (w : WorldState) (result : Result Sheet Refused) → known_refusal c w ≡ None → AnswersKnown number c w result
+known-None number c w result none why is = absurd (cc (none, is))
+
+-- one is known, and answered
+pub known-Some : (number : ℕ) (c : Command) (w : WorldState) (told : Refusal) → known_refusal c w ≡ Some told → AnswersKnown number c w (Err (record { line = number; refusal = told }))
+known-Some number c w told is why known =
+    let same : told ≡ why = cc (is, known) in
+    ap (λ (refusal : Refusal). Err (record { line = number; refusal = refusal })) same
+
+-- a line that was tried
+pub ready-done : (number : ℕ) (c : Command) (old new : WorldState) (result : Result Sheet Refused) → IsBuilt old → Does number c old new result → PushLeavesNothingReady c new result
+ready-done number c old new (Err r) built does from to count x is ok there = absurd (cc ok)
+ready-done number c old new (Ok sheet) built done from to count x is ok there =
+    let passes : world_refusal (command.Push from to count) old ≡ None = subst (λ (k : Command). world_refusal k old ≡ None) is done.passes in
+    let stepped : world_step number (command.Push from to count) old ≡ new =
+    ap (λ (o : Option Refusal). step_by o number (command.Push from to count) old) passes ∙ sym (subst (λ (k : Command). new ≡ world_done number k old) is done.world) in
+    reported_pushes_leave_nothing_ready number from to count old x built.shape passes (subst (λ (y : WorldState). site_of to y.sites ≡ Some x) (sym stepped) there)

@@ -1,0 +1,16 @@
+-- What is so where a push is reported.
+use Rattle.std.specs.Prelude.{◌≡◌, ℕ, Option, Some, Result, IsOk}
+use Rattle.rep_values.specs.declared.name.SiteName.{SiteName}
+use Rattle.report_text.specs.Sheet.{Sheet}
+use Rattle.script_parse.specs.declared.command.Command.{Command}
+use Rattle.script_parse.specs.declared.command.Command.TheVariants as command
+use Rattle.site_state.specs.State.{SiteState}
+use Rattle.event_laws.specs.Core.{site_of}
+use Rattle.world_state.specs.declared.refused.Refused.{Refused}
+use Rattle.world_state.specs.World.{WorldState}
+use Rattle.world_laws.specs.Worlds.{NothingReady}
+
+-- once a push is reported no position of any sender is ready at the receiver
+abbrev pub PushLeavesNothingReady : Command → WorldState → Result Sheet Refused → Type 0
+PushLeavesNothingReady line new result = (from to : SiteName) (count : Option ℕ) (x : SiteState) → line ≡ command.Push from to count → IsOk result
+    → site_of to new.sites ≡ Some x → NothingReady x

@@ -1,0 +1,78 @@
+//! Each line of a script by its command.
+ghost use Rattle.std.specs.Prelude.{◌≡◌, true, None};
+ghost use Rattle.script_parse.specs.Built.{is_built};
+ghost use Rattle.script_parse.specs.Named.{NamesColumn};
+ghost use Rattle.environment.specs.Following.{IsBuilt};
+ghost use Rattle.environment.specs.Known.{known_refusal};
+ghost use Rattle.environment.specs.Doing.{Does};
+
+use environment::Environment;
+use environment_lines::{
+    abandon, add_fates, add_row, clear_fates, commit, declare, drop_error, execute, open_block,
+    purge, resume, set_clock, set_link, show, state, suspend,
+};
+use environment_push::push;
+use report_text::Lines;
+use script_parse::Command;
+use std::alloc::Global;
+use world_state::Refused;
+
+/// Runs a line of a form that is built, which meets no refusal that is known before it is tried.
+pub fn run_line(
+    environment: &mut Environment,
+    alloc: Global,
+    line: u32,
+    command: &Command,
+) -> Result<Lines, Refused>
+    requires built { IsBuilt environment.old }
+    requires form { is_built command.now ≡ true }
+    requires named { NamesColumn command.now }
+    requires passes { known_refusal command.now environment.old ≡ None }
+    ensures { Does line command.now environment.old environment.new result }
+{
+    match command {
+        Command::Nothing => Ok(Lines::make(alloc)),
+        Command::Declare(declaration) => declare(environment, alloc, line, declaration),
+        Command::Row { table, values } => add_row(
+            environment,
+            alloc,
+            line,
+            table,
+            values.as_slice(),
+        ),
+        Command::Resume => resume(environment, alloc, line),
+        Command::Statement(statement) => state(environment, alloc, line, statement),
+        Command::Txn { site } => open_block(environment, alloc, line, site),
+        Command::Commit => commit(environment, alloc, line),
+        Command::Abandon => abandon(environment, alloc, line),
+        Command::Push { from, to, count } => push(environment, alloc, line, from, to, *count),
+        Command::Fates { from, to, fates } => add_fates(
+            environment,
+            alloc,
+            line,
+            from,
+            to,
+            fates.as_slice(),
+        ),
+        Command::ClearFates { from, to } => clear_fates(environment, alloc, line, from, to),
+        Command::Link { from, to, link } => set_link(environment, alloc, line, from, to, *link),
+        Command::Clock { site, time } => set_clock(environment, alloc, line, site, *time),
+        Command::Purge { site } => purge(environment, alloc, line, site),
+        Command::Execute {
+            site,
+            origin,
+            position,
+        } => execute(environment, alloc, line, site, origin, *position),
+        Command::DropError {
+            site,
+            origin,
+            position,
+        } => drop_error(environment, alloc, line, site, origin, *position),
+        Command::Suspend => suspend(environment, alloc, line),
+        Command::Show { what, site } => show(environment, alloc, line, *what, site),
+        Command::Snapshot { .. }
+        | Command::Refresh { .. }
+        | Command::PurgeLog { .. }
+        | Command::Join { .. } => unreachable!(),
+    }
+}
