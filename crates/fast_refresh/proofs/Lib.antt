@@ -1,0 +1,11 @@
+-- The lemmas of this crate, from the bottom up.
+mod KeysAmong
+mod RowsFound
+mod QueriedTables
+mod ShownRows
+mod PlannedKeys
+mod Replacing
+mod ChangesMade
+mod StepTables
+mod AsRefreshed
+mod WorkedRefreshes

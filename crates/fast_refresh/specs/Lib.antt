@@ -1,0 +1,5 @@
+-- The definitions of this crate.
+pub mod Views
+pub mod Showing
+pub mod Planned
+pub mod Refreshed

@@ -1,0 +1,12 @@
+//! Refreshes of a snapshot's table: by the keys that may have changed, or whole.
+#![tactic(auto)]
+
+mod change;
+mod plan;
+mod refresh;
+mod showing;
+mod view;
+
+pub use refresh::{refresh_complete, refresh_fast};
+pub use showing::{query_laws, rows_shown, shows_others};
+pub use view::{CountedView, MasterView};

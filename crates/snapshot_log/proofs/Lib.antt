@@ -1,0 +1,4 @@
+-- The lemmas of this crate, from the bottom up.
+mod WorkedLogs
+mod KeysLeft
+mod LastMoments

@@ -1,0 +1,188 @@
+//! The log of one table.
+ghost use Rattle.std.specs.Prelude.{◌≡◌, ◌+◌, ◌≤◌, ◌↔◌, [], length, slice_get, insert, option_copied, vec_len, vec_capacity, IsTrue, IsOk, IfOk, IfErr, OnOk};
+ghost use Rattle.rep_lists.specs.Rising.{IsRising, IsThere, IsGap, put_at};
+ghost use Rattle.rep_values.specs.Order.{key_cmp};
+ghost use Rattle.site_state.specs.Making.{new_log};
+ghost use Rattle.site_state.specs.Notes.{beside_key, logged_above};
+ghost use Rattle.site_state.specs.Purges.{log_purged};
+ghost use Rattle.snapshot_log.specs.Logs.{by_key, key_noted, moment_in, count_up_to};
+
+use crate::LogEntry;
+use rep_lists::{Items, NoMemory};
+use rep_values::{Key, compare_keys};
+use std::alloc::Global;
+use std::cmp::Ordering;
+use std::marker::Model;
+
+/// The log of one table of a master: the keys of its changed rows in rising order, each with its last moment, and how
+/// far it was purged. Only `reserve` and `pending` take memory.
+#[derive(Drop)]
+pub struct Log {
+    table: u32,
+    purged: u64,
+    entries: Vec<LogEntry>,
+}
+
+impl Model for Log {
+    ghost use Rattle.std.specs.Prelude.{◌-◌, vec_len, vec_capacity};
+    ghost use Rattle.rep_lists.specs.Rising.{IsRising};
+    ghost use Rattle.snapshot_log.specs.Logs.{RoomyLog, by_key};
+
+    ghost Value = { RoomyLog };
+
+    ghost view = { λ l. record {
+      log = record { table = l.table; keys = l.entries.items; purged = l.purged };
+      spare = vec_capacity l.entries - vec_len l.entries;
+    } };
+
+    ghost invariant = { λ l. IsRising by_key l.entries.items };
+}
+
+/// The place of a key, or else the place where it would stand.
+fn search(entries: &[LogEntry], key: &Key) -> Result<usize, usize>
+    requires { IsRising by_key entries.now }
+    ensures found { IfOk result (IsThere (beside_key key.now) entries.now) }
+    ensures absent { IfErr result (IsGap (beside_key key.now) entries.now) }
+{
+    entries.binary_search_by(
+        |entry: &LogEntry| -> Ordering
+            ensures { result ≡ beside_key key.entry.now entry.now }
+        { compare_keys(entry.key(), key) },
+    )
+}
+
+/// Adds a key at a place. There is room for it, so this never fails.
+fn insert_in_room(entries: &mut Vec<LogEntry>, place: usize, entry: LogEntry)
+    requires place { place ≤ vec_len entries.old }
+    requires room { vec_len entries.old + 1 ≤ vec_capacity entries.old }
+    ensures items { entries.new.items ≡ insert entries.old.items place entry }
+    ensures capacity { vec_capacity entries.new ≡ vec_capacity entries.old }
+    ensures number { vec_len entries.new ≡ vec_len entries.old + 1 }
+{
+    let _ = entries.insert(place, entry);
+}
+
+/// Keeps a key with a moment, which takes the place of an earlier one.
+fn put_in(entries: &mut Vec<LogEntry>, key: Key, moment: u64)
+    requires rising { IsRising by_key entries.old.items }
+    requires room { vec_len entries.old + 1 ≤ vec_capacity entries.old }
+    ensures items { entries.new.items ≡ put_at (beside_key key) (record { key = key; moment = moment }) entries.old.items }
+    ensures capacity { vec_capacity entries.new ≡ vec_capacity entries.old }
+    ensures number { vec_len entries.new ≤ vec_len entries.old + 1 }
+{
+    match search(entries, &key) {
+        Ok(place) => entries[place] = LogEntry::of(key, moment),
+        Err(place) => insert_in_room(entries, place, LogEntry::of(key, moment)),
+    }
+}
+
+/// The keys with a moment above a mark, in their order.
+fn keys_above(alloc: Global, entries: &[LogEntry], mark: u64) -> Result<Items<Key>, NoMemory>
+    ensures { IfOk result (λ keys. keys ≡ logged_above mark entries.now) }
+{
+    let mut keys = Items::new(alloc);
+    for entry in entries {
+        if mark < entry.moment() {
+            keys.push(*entry.key())?;
+        }
+    }
+    Ok(keys)
+}
+
+impl Log {
+    /// The log of a table, without a key and never purged. It takes no memory.
+    pub fn make(alloc: Global, table: u32) -> Log
+        ensures { result.log ≡ new_log table }
+    {
+        Log {
+            table,
+            purged: 0,
+            entries: Vec::new(alloc),
+        }
+    }
+
+    /// The table whose changes are noted here.
+    pub fn table(&self) -> u32
+        ensures { result ≡ self.now.log.table }
+    {
+        self.table
+    }
+
+    /// Takes the room to note so many keys. Room that is there is never given up.
+    pub fn reserve(&mut self, keys: u64) -> Result<(), NoMemory>
+        ensures ok { OnOk result (keys ≤ self.new.spare) }
+        ensures succeeds { keys ≤ self.old.spare → IsOk result }
+        ensures log { self.new.log ≡ self.old.log }
+        ensures spare { self.old.spare ≤ self.new.spare }
+    {
+        self.entries.reserve(keys as usize)?;
+        Ok(())
+    }
+
+    /// Notes the key of a row that was changed at a moment. It takes no memory.
+    pub fn note(&mut self, key: Key, moment: u64)
+        requires { 1 ≤ self.old.spare }
+        ensures log { self.new.log ≡ key_noted moment key self.old.log }
+        ensures spare { self.old.spare ≤ self.new.spare + 1 }
+    {
+        put_in(&mut self.entries, key, moment);
+    }
+
+    /// The keys with a moment above the mark, in rising order.
+    pub fn pending(&self, alloc: Global, mark: u64) -> Result<Items<Key>, NoMemory>
+        ensures keys { IfOk result (λ keys. keys ≡ logged_above mark self.now.log.keys) }
+        ensures rising { IfOk result (IsRising key_cmp) }
+    {
+        keys_above(alloc, &self.entries, mark)
+    }
+
+    /// Drops the keys with a moment up to the mark, and answers how many they were. Their room stays.
+    pub fn purge(&mut self, mark: u64) -> u64
+        ensures log { self.new.log ≡ log_purged mark self.old.log }
+        ensures count { result ≡ count_up_to mark self.old.log.keys }
+        ensures spare { self.new.spare ≡ self.old.spare + result }
+    {
+        let before = self.entries.len();
+        self.entries.retain(|entry| mark < entry.moment());
+        self.purged = self.purged.max(mark);
+        (before - self.entries.len()) as u64
+    }
+
+    /// The greatest mark up to which it was purged, at first 0.
+    pub fn purged(&self) -> u64
+        ensures { result ≡ self.now.log.purged }
+    {
+        self.purged
+    }
+
+    /// The last moment of a key; None exactly where the key isn't here.
+    pub fn moment_of(&self, key: &Key) -> Option<u64>
+        ensures { result ≡ moment_in key.now self.now.log }
+    {
+        match search(&self.entries, key) {
+            Ok(place) => Some(self.entries[place].moment()),
+            Err(_) => None,
+        }
+    }
+
+    /// How many keys there are.
+    pub fn len(&self) -> u64
+        ensures { result ≡ length self.now.log.keys }
+    {
+        self.entries.len() as u64
+    }
+
+    /// Whether there is no key.
+    pub fn is_empty(&self) -> bool
+        ensures { IsTrue result ↔ (self.now.log.keys ≡ []) }
+    {
+        self.entries.is_empty()
+    }
+
+    /// The key at a place in rising order, from 0; None exactly where the place is at or behind the end.
+    pub fn entry(&self, place: u64) -> Option<&LogEntry>
+        ensures { option_copied result ≡ slice_get self.now.log.keys place }
+    {
+        self.entries.get(place as usize)
+    }
+}
