@@ -1,0 +1,69 @@
+-- After every list of events each snapshot keeps up with its master.
+use Rattle.std.proofs.Common.{ℕ, List, ◌∷◌, true, refl, ◌∙◌, arith, inl}
+use Rattle.rep_values.specs.declared.name.SiteName.{SiteName}
+use Rattle.rep_schema.specs.declared.schema.Schema.{Schema}
+use Rattle.site_state.specs.State.{SiteState}
+use Rattle.site_state.specs.Steps.{begun}
+use Rattle.site_state.specs.Purges.{site_purge_log}
+use Rattle.event_laws.specs.Core.{Core, site_of}
+use Rattle.event_laws.specs.Events.{Event, without, refreshed, begun_after, run}
+use Rattle.snapshot_laws.specs.Starts.{IsSnapshotStart}
+use Rattle.snapshot_laws.proofs.Keys.{is_some-purged, told-purged}
+use Rattle.snapshot_laws.proofs.Moves.{all_weaker, KeepsUp, own_moves}
+use Rattle.snapshot_laws.proofs.Calls.{begun_quiet}
+use Rattle.snapshot_laws.proofs.Keeping.{HaveTables, SitesKeepUp, Keeps, keep_up_changed, moves_keep}
+use Rattle.snapshot_laws.proofs.Begun.{is_among-more, is_among-without}
+use Rattle.snapshot_laws.proofs.Refreshing.{fewer_begun, refresh_keeps}
+use Rattle.snapshot_laws.proofs.RunsFit.{SitesFit}
+use Rattle.snapshot_laws.proofs.Starting.{start_keeps_up}
+use Rattle.snapshot_laws.proofs.SnapshotEvents.{Becomes, run_becomes}
+use Rattle.snapshot_laws.proofs.SnapshotEvents as events
+use Rattle.snapshot_laws.proofs.Joining.{with_joined_keeps_up}
+
+module _ (schema : Schema) where
+  -- ---- a pass is begun
+
+  begin_keeps : (sites : List SiteState) (names : List SiteName) (name : SiteName) → HaveTables schema sites → Keeps schema sites names (name ∷ names) name begun
+  begin_keeps sites names name have = record {
+    here = λ x. refl;
+    apart = λ x at_x apart. apart;
+    none = λ x at_x none. none;
+    master = λ m x s at_m h. record { master = h.master; logged = h.logged; below = omega (arith, h.below); before = λ is. omega (arith, h.below); within = h.within; others = h.others };
+    other = λ m x s isnt h. record { master = h.master; logged = h.logged; below = h.below; before = λ is. h.before (is_among-more name m.here.site names isnt is); within = h.within; others = h.others };
+    own = λ x m n at_x there apart up either new. own_moves schema (name ∷ names) true n x (begun x) (inl (begun_quiet x)) (have name x at_x) new;
+  }
+
+  -- ---- a log is purged
+
+  purge_log_keeps : (sites : List SiteState) (names : List SiteName) (name : SiteName) (table : ℕ) → Keeps schema sites names (without name names) name (site_purge_log table)
+  purge_log_keeps sites names name table = record {
+    here = λ x. refl;
+    apart = λ x at_x apart. apart;
+    none = λ x at_x none. none;
+    master = λ m x s at_m h. record {
+      master = h.master;
+      logged = is_some-purged table m.moment s.table m.logs ∙ h.logged;
+      below = h.below;
+      before = λ is. h.before (is_among-without name m.here.site names is);
+      within = h.within;
+      others = λ key le untold untouched. let both = told-purged table m.moment s.table s.mark key m.logs le untold in h.others key both.0 both.1 untouched;
+    };
+    other = λ m x s isnt h. fewer_begun schema names (without name names) m x s (is_among-without name m.here.site names) h;
+    own = λ x m n at_x there apart up either new. all_weaker (KeepsUp schema (without name names) n x) (KeepsUp schema (without name names) n (site_purge_log table x)) x.snapshots
+        (λ s h. record { master = h.master; logged = h.logged; below = h.below; before = h.before; within = h.within; others = h.others }) new;
+  }
+
+  -- ---- every event
+
+  becomes_keeps_up : (xs : List SiteState) (names : List SiteName) (ys : List SiteState) (later : List SiteName) → SitesFit schema xs → Becomes schema xs names ys later → SitesKeepUp schema xs names → SitesKeepUp schema ys later
+  becomes_keeps_up xs names _ _ fit events.Stays all = all
+  becomes_keeps_up xs names _ _ fit (events.Calls name change here moves) all = keep_up_changed schema xs names names name change (moves_keep schema xs names name change fit.have here moves) all
+  becomes_keeps_up xs names _ _ fit (events.Begins name) all = keep_up_changed schema xs names (name ∷ names) name begun (begin_keeps xs names name fit.have) all
+  becomes_keeps_up xs names _ _ fit (events.PurgesLog name table) all = keep_up_changed schema xs names (without name names) name (site_purge_log table) (purge_log_keeps xs names name table) all
+  becomes_keeps_up xs names _ _ fit (events.Refreshes name) all =
+      keep_up_changed schema xs names (begun_after name (site_of name xs) names) name (refreshed xs) (refresh_keeps schema xs names name fit.have fit.of_schema) all
+  becomes_keeps_up xs names _ _ fit (events.Joins site source) all = with_joined_keeps_up schema xs names fit.have all site source
+
+  -- so it is after every list of events
+  pub run_keeps_up : (start : Core) (es : List Event) → IsSnapshotStart schema start → SitesKeepUp schema (run es start).sites (run es start).begun
+  run_keeps_up start es is = run_becomes schema (SitesKeepUp schema) becomes_keeps_up start is.fit es (start_keeps_up schema start is)

@@ -1,0 +1,18 @@
+-- The lemmas of this crate, from the bottom up.
+pub mod Keys
+pub mod QueriedRows
+pub mod ChangedRows
+pub mod Moves
+pub mod Calls
+pub mod Keeping
+pub mod Begun
+pub mod Refreshing
+pub mod RunsFit
+pub mod SnapshotEvents
+pub mod Joining
+pub mod Starting
+pub mod Events
+pub mod SnapshotLaws
+pub mod LogLaws
+mod WorkedSnapshots
+mod WorkedStarts

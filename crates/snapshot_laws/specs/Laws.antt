@@ -1,0 +1,47 @@
+-- What snapshots show of their masters, whatever happens.
+use Rattle.std.specs.Prelude.{◌≡◌, true, false, List, [], ◌∷◌, Some}
+use Rattle.std.specs.List.{AllByRecursion}
+use Rattle.rep_values.specs.declared.name.SiteName.{SiteName}
+use Rattle.rep_schema.specs.declared.schema.Schema.{Schema}
+use Rattle.rep_schema.specs.Tables.{columns_of, rows_of}
+use Rattle.snapshot_query.specs.declared.snapshot.Snapshot.{Snapshot}
+use Rattle.snapshot_query.specs.Queries.{query_rows}
+use Rattle.site_state.specs.State.{SiteState}
+use Rattle.site_state.specs.Contents.{tables_of}
+use Rattle.site_state.specs.Notes.{pending_keys, is_too_young}
+use Rattle.site_state.specs.Refreshes.{rows_shown}
+use Rattle.event_laws.specs.Core.{Core, site_of}
+use Rattle.event_laws.specs.Events.{Event, Refresh, is_all_acked, run}
+use Rattle.fast_refresh.specs.Showing.{ShowsOthers}
+use Rattle.snapshot_laws.specs.Pending.{pending_rows}
+use Rattle.snapshot_laws.specs.Starts.{master_at, IsSnapshotStart}
+
+-- so it is with every master and each site that has snapshots of it, after every list of events
+abbrev pub WithEveryMaster : (SiteState → SiteState → Type 0) → Type 0
+WithEveryMaster Holds = (schema : Schema) (start : Core) (events : List Event) → IsSnapshotStart schema start → (site : SiteName) (x m : SiteState)
+    → site_of site (run events start).sites ≡ Some x → master_at (run events start).sites x ≡ Some m → Holds m x
+
+-- where its log isn't too young, a snapshot's table has under each key that isn't pending what the query shows of the
+-- master's row
+abbrev pub OthersAreShown : SiteState → SiteState → Snapshot → Type 0
+OthersAreShown m x s = is_too_young m.logs s ≡ false
+    → ShowsOthers (columns_of x.schema s.table) s.query (pending_keys m.logs s) (rows_of (tables_of m) s.table) (rows_of (tables_of x) s.table)
+
+abbrev pub OtherKeysAreTheMasters : Type 0
+OtherKeysAreTheMasters = WithEveryMaster (λ m x. AllByRecursion (OthersAreShown m x) x.snapshots)
+
+-- where no log is too young, the rows that the pending keys make are the rows of the queries
+abbrev pub FastIsComplete : Type 0
+FastIsComplete = WithEveryMaster (λ m x. AllByRecursion (λ (s : Snapshot). is_too_young m.logs s ≡ false) x.snapshots → pending_rows m x ≡ rows_shown (tables_of m) x.snapshots)
+
+-- a snapshot's table is the query of the master's table, its mark is the master's moment, and nothing is touched
+pub record ShowsTheMaster (m y : SiteState) (s : Snapshot) : Type 0 where
+  pub rows : rows_of (tables_of y) s.table ≡ query_rows s.query (rows_of (tables_of m) s.table)
+  pub mark : s.mark ≡ m.moment
+  pub touched : s.touched ≡ []
+
+-- so it is after every refresh of a snapshot site whose transactions are all acknowledged
+abbrev pub RefreshedIsTheQuery : Type 0
+RefreshedIsTheQuery = (schema : Schema) (start : Core) (events : List Event) → IsSnapshotStart schema start → (site : SiteName) (x m y : SiteState)
+    → site_of site (run events start).sites ≡ Some x → master_at (run events start).sites x ≡ Some m → x.here.is_master ≡ false → is_all_acked x ≡ true
+    → site_of site (run (Refresh site ∷ events) start).sites ≡ Some y → AllByRecursion (ShowsTheMaster m y) y.snapshots

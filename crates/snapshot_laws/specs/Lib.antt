@@ -1,0 +1,5 @@
+-- The definitions of this crate.
+pub mod Pending
+pub mod Starts
+pub mod Laws
+pub mod Logs

@@ -1,0 +1,53 @@
+-- Where runs with snapshots begin.
+use Rattle.std.specs.Prelude.{◌≡◌, ◌≢◌, ◌≤◌, true, List, [], ◌∷◌, Option, Some, None, is_some}
+use Rattle.std.specs.List.{AllByRecursion}
+use Rattle.rep_schema.specs.declared.schema.Schema.{Schema}
+use Rattle.rep_schema.specs.Tables.{rows_of}
+use Rattle.snapshot_query.specs.declared.snapshot.Snapshot.{Snapshot}
+use Rattle.snapshot_query.specs.Queries.{query_rows}
+use Rattle.site_state.specs.State.{LogState, SiteState}
+use Rattle.site_state.specs.Notes.{log_of}
+use Rattle.event_laws.specs.Core.{Core}
+use Rattle.event_laws.specs.Events.{master_of, found_site}
+use Rattle.event_laws.specs.Fitting.{IsFitStart}
+
+-- the master of a site, where it is there
+abbrev pub master_at : List SiteState → SiteState → Option SiteState
+master_at sites x = found_site sites (master_of x.schema x.here.site)
+
+-- no table has two snapshots
+abbrev pub AreApart : List Snapshot → Type 0
+AreApart [] = Unit {0}
+AreApart (s ∷ ss) = AllByRecursion (λ (t : Snapshot). t.table ≢ s.table) ss × AreApart ss
+
+-- a snapshot as it is made: its master is a master and has a log of its table, and its rows are the query of the master's
+pub record StartsShown (m x : SiteState) (s : Snapshot) : Type 0 where
+  pub master : m.here.is_master ≡ true
+  pub logged : is_some (log_of s.table m.logs) ≡ true
+  pub below : s.mark ≤ m.moment
+  pub rows : rows_of x.base s.table ≡ query_rows s.query (rows_of m.base s.table)
+
+-- and its master is there
+abbrev pub StartsFrom : Option SiteState → SiteState → Snapshot → Type 0
+StartsFrom None x s = ⊥
+StartsFrom (Some m) x s = StartsShown m x s
+
+pub record StartsWithSnapshots (sites : List SiteState) (x : SiteState) : Type 0 where
+  pub apart : AreApart x.snapshots
+  pub shown : AllByRecursion (StartsFrom (master_at sites x) x) x.snapshots
+
+-- the sites fit, each snapshot shows its master's table, and no pass was begun
+pub record IsSnapshotStart (schema : Schema) (w : Core) : Type 0 where
+  pub fit : IsFitStart schema w
+  pub sites : AllByRecursion (StartsWithSnapshots w.sites) w.sites
+  pub begun : w.begun ≡ []
+
+-- a log of which nothing was noted or purged
+abbrev pub IsNewLog : LogState → Type 0
+IsNewLog log = (log.keys ≡ []) × (log.purged ≡ 0)
+
+-- the sites fit, their logs are new, and no pass was begun
+pub record IsLogStart (schema : Schema) (w : Core) : Type 0 where
+  pub fit : IsFitStart schema w
+  pub logs : AllByRecursion (λ (x : SiteState). AllByRecursion IsNewLog x.logs) w.sites
+  pub begun : w.begun ≡ []
