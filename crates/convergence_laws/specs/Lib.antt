@@ -1,0 +1,9 @@
+-- The definitions of this crate.
+pub mod GroupForms
+pub mod Joins
+pub mod Collections
+pub mod Journals
+pub mod Laws
+pub mod Agreement
+pub mod Excuses
+pub mod Faults

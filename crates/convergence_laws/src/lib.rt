@@ -1,0 +1,9 @@
+//! Laws of convergent tables, over every list of events: what each group of a row comes to, and where masters agree.
+#![tactic(auto)]
+
+mod laws;
+
+pub use laws::{
+    blocks_keep_forms, convergent_calls_fail_so, groups_are_joined, groups_are_joined_in_journals,
+    groups_are_joined_since, joins_are_one, row_changes_keep_forms, same_calls_give_same_rows,
+};
