@@ -5,5 +5,4 @@ pub mod Collections
 pub mod Journals
 pub mod Laws
 pub mod Agreement
-pub mod Excuses
 pub mod Faults
