@@ -56,7 +56,7 @@ sum_of_moves-reordered (Then p q) = sum_of_moves-reordered p ∙ sum_of_moves-re
 
 -- ---- winners
 
-among_any : (now : Cells) (candidates : List Cells) → list_any (λ values. are_same values now) candidates ≡ true → Among now candidates
+pub among_any : (now : Cells) (candidates : List Cells) → list_any (λ values. are_same values now) candidates ≡ true → Among now candidates
 among_any now [] any = cc
 among_any now (c ∷ cs) any = go (are_same c now) refl any (among_any now cs)
   where

@@ -37,36 +37,36 @@ pub reordered_same : {X : Type 0} (xs : List X) → IsReordered xs xs
 reordered_same [] = collections.None
 reordered_same (x ∷ xs) = Skip x (reordered_same xs)
 
-reordered_behind : {X : Type 0} (zs : List X) {xs ys : List X} → IsReordered xs ys → IsReordered (zs ++ xs) (zs ++ ys)
+pub reordered_behind : {X : Type 0} (zs : List X) {xs ys : List X} → IsReordered xs ys → IsReordered (zs ++ xs) (zs ++ ys)
 reordered_behind [] p = p
 reordered_behind (z ∷ zs) p = Skip z (reordered_behind zs p)
 
-reordered_middle : {X : Type 0} (xs : List X) (x : X) (ys : List X) → IsReordered (x ∷ (xs ++ ys)) (xs ++ x ∷ ys)
+pub reordered_middle : {X : Type 0} (xs : List X) (x : X) (ys : List X) → IsReordered (x ∷ (xs ++ ys)) (xs ++ x ∷ ys)
 reordered_middle [] x ys = reordered_same (x ∷ ys)
 reordered_middle (z ∷ xs) x ys = Then (Swap x z (xs ++ ys)) (Skip z (reordered_middle xs x ys))
 
-reordered_front : {X : Type 0} (xs ys zs : List X) → IsReordered (xs ++ (ys ++ zs)) (ys ++ (xs ++ zs))
+pub reordered_front : {X : Type 0} (xs ys zs : List X) → IsReordered (xs ++ (ys ++ zs)) (ys ++ (xs ++ zs))
 reordered_front [] ys zs = reordered_same (ys ++ zs)
 reordered_front (x ∷ xs) ys zs = Then (Skip x (reordered_front xs ys zs)) (reordered_middle ys x (xs ++ zs))
 
-parts_reordered : (table : ℕ) (key : Cells) (group : ℕ) {calls others : List Call} → IsReordered calls others → IsReordered (parts_in table key group calls) (parts_in table key group others)
+pub parts_reordered : (table : ℕ) (key : Cells) (group : ℕ) {calls others : List Call} → IsReordered calls others → IsReordered (parts_in table key group calls) (parts_in table key group others)
 parts_reordered table key group collections.None = collections.None
 parts_reordered table key group (Skip x p) = reordered_behind (parts_for table key group x) (parts_reordered table key group p)
 parts_reordered table key group (Swap x y xs) = reordered_front (parts_for table key group x) (parts_for table key group y) (parts_in table key group xs)
 parts_reordered table key group (Then p q) = Then (parts_reordered table key group p) (parts_reordered table key group q)
 
-inserts_reordered : (schema : Schema) (table : ℕ) (key : Cells) {calls others : List Call} → IsReordered calls others → IsReordered (inserts_in schema table key calls) (inserts_in schema table key others)
+pub inserts_reordered : (schema : Schema) (table : ℕ) (key : Cells) {calls others : List Call} → IsReordered calls others → IsReordered (inserts_in schema table key calls) (inserts_in schema table key others)
 inserts_reordered schema table key collections.None = collections.None
 inserts_reordered schema table key (Skip x p) = reordered_behind (inserts_for schema table key x) (inserts_reordered schema table key p)
 inserts_reordered schema table key (Swap x y xs) = reordered_front (inserts_for schema table key x) (inserts_for schema table key y) (inserts_in schema table key xs)
 inserts_reordered schema table key (Then p q) = Then (inserts_reordered schema table key p) (inserts_reordered schema table key q)
 
-parts_in-append : (table : ℕ) (key : Cells) (group : ℕ) (calls others : List Call) → parts_in table key group (calls ++ others) ≡ parts_in table key group calls ++ parts_in table key group others
+pub parts_in-append : (table : ℕ) (key : Cells) (group : ℕ) (calls others : List Call) → parts_in table key group (calls ++ others) ≡ parts_in table key group calls ++ parts_in table key group others
 parts_in-append table key group [] others = refl
 parts_in-append table key group (c ∷ cs) others = ap (λ ps. parts_for table key group c ++ ps) (parts_in-append table key group cs others)
     ∙ sym (append_assoc (parts_for table key group c) (parts_in table key group cs) (parts_in table key group others))
 
-inserts_in-append : (schema : Schema) (table : ℕ) (key : Cells) (calls others : List Call) → inserts_in schema table key (calls ++ others) ≡ inserts_in schema table key calls ++ inserts_in schema table key others
+pub inserts_in-append : (schema : Schema) (table : ℕ) (key : Cells) (calls others : List Call) → inserts_in schema table key (calls ++ others) ≡ inserts_in schema table key calls ++ inserts_in schema table key others
 inserts_in-append schema table key [] others = refl
 inserts_in-append schema table key (c ∷ cs) others = ap (λ rs. inserts_for schema table key c ++ rs) (inserts_in-append schema table key cs others)
     ∙ sym (append_assoc (inserts_for schema table key c) (inserts_in schema table key cs) (inserts_in schema table key others))
@@ -86,7 +86,7 @@ length-reordered (Swap x y xs) = refl
 length-reordered (Then p q) = length-reordered p ∙ length-reordered q
 
 -- where there is at most one element, the lists are the same
-one_element : {X : Type 0} (xs ys : List X) → IsReordered xs ys → length xs ≤ 1 → xs ≡ ys
+pub one_element : {X : Type 0} (xs ys : List X) → IsReordered xs ys → length xs ≤ 1 → xs ≡ ys
 one_element _ _ collections.None few = refl
 one_element _ _ (Skip x {xs} {ys} p) few = ap (λ zs. x ∷ zs) (none xs ys (omega (arith, few)) (length-reordered p))
   where
@@ -97,7 +97,7 @@ one_element _ _ (Skip x {xs} {ys} p) few = ap (λ zs. x ∷ zs) (none xs ys (ome
 one_element _ _ (Swap x y zs) few = absurd (omega (arith, few))
 one_element _ _ (Then {xs} {ys} {zs} p q) few = one_element xs ys p few ∙ one_element ys zs q (let long = length-reordered p in omega (arith, few, long))
 
-filter_none : (test : ℕ → Bool) (xs : List ℕ) → ((x : ℕ) → test x ≡ false) → filter test xs ≡ []
+pub filter_none : (test : ℕ → Bool) (xs : List ℕ) → ((x : ℕ) → test x ≡ false) → filter test xs ≡ []
 filter_none test [] none = refl
 filter_none test (x ∷ xs) none = rw (none x) (filter_none test xs none)
 

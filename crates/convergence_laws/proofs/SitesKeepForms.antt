@@ -65,11 +65,11 @@ module _ (P : Txn → Type 0) where
   behind_has opened [] all = tt
   behind_has opened (t ∷ ts) all = one_has P (nat_lt opened (length ts + 1)) t (queued_behind opened ts) all.0 (behind_has opened ts all.1)
 
-  stream_has : (opened : Option ℕ) (queue : List Txn) → AllByRecursion P queue → AllByRecursion P (stream_in opened queue)
+  pub stream_has : (opened : Option ℕ) (queue : List Txn) → AllByRecursion P queue → AllByRecursion P (stream_in opened queue)
   stream_has None queue all = tt
   stream_has (Some n) queue all = behind_has n queue all
 
-  position_has : (position : ℕ) (stream : List Txn) (txn : Txn) → AllByRecursion P stream → at_position position stream ≡ Some txn → P txn
+  pub position_has : (position : ℕ) (stream : List Txn) (txn : Txn) → AllByRecursion P stream → at_position position stream ≡ Some txn → P txn
   position_has position [] txn all found = cc
   position_has position (t ∷ ts) txn all found = go (position == length ts + 1) (position_has position ts txn all.1) found
     where

@@ -17,7 +17,7 @@ use Rattle.site_state.specs.Refreshes.{rows_shown, with_tables}
 use Rattle.site_state.specs.Fits.{AreWithin}
 
 -- what holds of each holds of those that are picked
-all_filter : {X : Type 0} (P : X → Type 0) (test : X → Bool) (xs : List X) → AllByRecursion P xs → AllByRecursion P (filter test xs)
+pub all_filter : {X : Type 0} (P : X → Type 0) (test : X → Bool) (xs : List X) → AllByRecursion P xs → AllByRecursion P (filter test xs)
 all_filter P test [] all = tt
 all_filter P test (x ∷ xs) all = go (test x) (all_filter P test xs all.1)
   where
@@ -25,7 +25,7 @@ all_filter P test (x ∷ xs) all = go (test x) (all_filter P test xs all.1)
     go true later = (all.0, later)
     go false later = later
 
-rising_query : (columns : List Column) (query : Query) (rows : Rows) → IsRising (row_cmp columns) rows → IsRising (row_cmp columns) (query_rows query rows)
+pub rising_query : (columns : List Column) (query : Query) (rows : Rows) → IsRising (row_cmp columns) rows → IsRising (row_cmp columns) (query_rows query rows)
 rising_query columns query [] rising = tt
 rising_query columns query (r ∷ rs) rising = go (matches query r) (rising_query columns query rs rising.1)
   where

@@ -1,7 +1,7 @@
 -- The lemmas of this crate, from the bottom up.
 mod KeysAmong
 mod RowsFound
-mod QueriedTables
+pub mod QueriedTables
 mod ShownRows
 mod PlannedKeys
 mod Replacing

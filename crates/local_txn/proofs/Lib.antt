@@ -11,12 +11,12 @@ mod NewRows
 mod StampedKeys
 mod ModifiedColumns
 mod ApartGroups
-mod ModifiedRows
-mod StatementRows
+pub mod ModifiedRows
+pub mod StatementRows
 mod StatementSteps
 pub mod StatementEffects
 pub mod BlockSteps
-mod RisingStamps
+pub mod RisingStamps
 mod BaseRefusals
 mod BaseFilling
 mod BaseTables

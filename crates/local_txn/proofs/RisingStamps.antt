@@ -43,7 +43,7 @@ use Rattle.local_txn.proofs.StatementEffects.{place-held, refusal-held, changes-
 use Rattle.local_txn.proofs.BlockSteps.{place_within}
 
 -- stamps that rise, and then go on rising
-StampsRise-append : (schema : Schema) (site : SiteName) (low mid high : ℕ) (changes others : List Change) → StampsRise schema site low mid changes → StampsRise schema site mid high others → StampsRise schema site low high (changes ++ others)
+pub StampsRise-append : (schema : Schema) (site : SiteName) (low mid high : ℕ) (changes others : List Change) → StampsRise schema site low mid changes → StampsRise schema site mid high others → StampsRise schema site low high (changes ++ others)
 StampsRise-append schema site low mid high [] others rise later = subst (λ n. StampsRise schema site n high others) (sym rise) later
 StampsRise-append schema site low mid high (change ∷ changes) others rise later =
     (rise.0, rise.1, go (gives_stamp schema change) rise.2 (λ n rest. StampsRise-append schema site n mid high changes others rest later))
@@ -63,10 +63,10 @@ last_stamp : (b : Bool) (low stamp : ℕ) → low < stamp → MatchBool b ((low 
 last_stamp true low stamp above = (above, refl)
 last_stamp false low stamp above = refl
 
-above_last : (stamps : Stamps) (bound : ℕ) → stamps.last < next_stamp stamps bound
+pub above_last : (stamps : Stamps) (bound : ℕ) → stamps.last < next_stamp stamps bound
 above_last stamps bound = omega arith
 
-least_bound : (stamps : Stamps) (bound : ℕ) → bound ≤ next_stamp stamps bound
+pub least_bound : (stamps : Stamps) (bound : ℕ) → bound ≤ next_stamp stamps bound
 least_bound stamps bound = omega arith
 
 module _ (schema : Schema) (here : Here) (shape : HasShape schema) (standing : Standing) (table : ℕ) (is_table : IsTable schema table (rows_of standing.tables table)) where

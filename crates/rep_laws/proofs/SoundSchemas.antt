@@ -19,17 +19,17 @@ use Rattle.schema_rules.specs.Soundness.{IsSound}
 use Rattle.schema_rules.proofs.SoundRules.{IsSound-unbroken}
 use Rattle.txn_effects.specs.Calls.{HasKeys, IsOffTheKey, KeysStandAlone}
 
-both_hold : (a b : Bool) → (a && b) ≡ true → (a ≡ true) × (b ≡ true)
+pub both_hold : (a b : Bool) → (a && b) ≡ true → (a ≡ true) × (b ≡ true)
 both_hold true b holds = (refl, holds)
 both_hold false b holds = cc
 
 -- what all pass, each that is found passes
-passes : {X : Type 0} (test : X → Bool) (xs : List X) (i : ℕ) (x : X) → list_all test xs ≡ true → slice_get xs i ≡ Some x → test x ≡ true
+pub passes : {X : Type 0} (test : X → Bool) (xs : List X) (i : ℕ) (x : X) → list_all test xs ≡ true → slice_get xs i ≡ Some x → test x ≡ true
 passes test [] i x all found = cc
 passes test (y ∷ ys) zero x all found = let same : y ≡ x = cc in rw (← same) (both_hold (test y) (list_all test ys) all).0
 passes test (y ∷ ys) (suc i) x all found = passes test ys i x (both_hold (test y) (list_all test ys) all).1 found
 
-off_the_key : (columns : List Column) (places : List ℕ) → list_all (λ place. not (is_key_at columns place)) places ≡ true → AllByRecursion (IsOffTheKey columns) places
+pub off_the_key : (columns : List Column) (places : List ℕ) → list_all (λ place. not (is_key_at columns place)) places ≡ true → AllByRecursion (IsOffTheKey columns) places
 off_the_key columns [] all = tt
 off_the_key columns (p ∷ ps) all =
     let both = both_hold (not (is_key_at columns p)) (list_all (λ place. not (is_key_at columns place)) ps) all in

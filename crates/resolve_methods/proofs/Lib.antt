@@ -4,6 +4,6 @@ mod Over
 mod InRange
 pub mod TakenNumber
 mod Orders
-mod Sequences
+pub mod Sequences
 mod NewRanks
 mod WorkedDecisions

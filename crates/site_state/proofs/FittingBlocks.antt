@@ -64,7 +64,7 @@ module _ (schema : Schema) (keyed : IsKeyed schema) where
 
   module _ (here : Here) where
     -- a statement makes its changes
-    tables-standing_after : (standing : Standing) (statement : Statement) → (standing_after schema here standing statement).tables ≡ made_all schema (statement_changes schema here standing statement) standing.tables
+    pub tables-standing_after : (standing : Standing) (statement : Statement) → (standing_after schema here standing statement).tables ≡ made_all schema (statement_changes schema here standing statement) standing.tables
     tables-standing_after standing statement = go (table_place schema (table_name statement))
       where
         go : (place : Option ℕ) → (standing_at schema here standing place statement).tables ≡ made_all schema (changes_at schema here standing place statement) standing.tables

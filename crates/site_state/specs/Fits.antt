@@ -1,5 +1,5 @@
 -- What fits at a site: its content, and each transaction that it holds.
-use Rattle.std.specs.Prelude.{◌≡◌, ◌≢◌, ℕ, ◌<◌, true, List, length, None}
+use Rattle.std.specs.Prelude.{◌≡◌, ◌≢◌, ℕ, ◌<◌, true, List, [], ◌∷◌, length, None}
 use Rattle.std.specs.List.{AllByRecursion}
 use Rattle.rep_values.specs.declared.name.SiteName.{SiteName}
 use Rattle.rep_schema.specs.declared.schema.Schema.{Schema}
@@ -51,6 +51,11 @@ FinishedHaveArrived journal senders = (origin : SiteName) (p : ℕ) → finished
 -- snapshots are of the schema's tables
 abbrev pub AreWithin : Schema → List Snapshot → Type 0
 AreWithin schema snapshots = AllByRecursion (λ (s : Snapshot). s.table < length schema.tables) snapshots
+
+-- no table has two snapshots
+abbrev pub AreApart : List Snapshot → Type 0
+AreApart [] = Unit {0}
+AreApart (s ∷ ss) = AllByRecursion (λ (t : Snapshot). t.table ≢ s.table) ss × AreApart ss
 
 -- tables and counters are those of the schema, and what is queued, arrived or journalled fits it
 pub record SiteFits (x : SiteState) : Type 0 where

@@ -13,7 +13,7 @@ use Rattle.site_state.specs.State.{SiteState, is_among}
 use Rattle.site_state.specs.Contents.{tables_of}
 use Rattle.site_state.specs.Notes.{keys_changed, logged_in, touched_in, log_of, purged_of}
 use Rattle.fast_refresh.specs.Showing.{shown, has_key}
-use Rattle.snapshot_laws.specs.Starts.{AreApart}
+use Rattle.site_state.specs.Fits.{AreApart}
 use Rattle.snapshot_laws.proofs.Keys.{has_key-with_keys, told, is_some-logged, purged_of-logged, told-logged}
 use Rattle.snapshot_laws.proofs.ChangedRows.{find_row-led}
 

@@ -17,7 +17,7 @@ use Rattle.event_laws.proofs.Sites.{KeepsHere, found_name}
 use Rattle.event_laws.proofs.Happening.{IsRefreshed, refreshed_is}
 use Rattle.event_laws.proofs.Happening as happening
 use Rattle.event_laws.proofs.DeclaredSites.{refreshed_names}
-use Rattle.snapshot_laws.specs.Starts.{AreApart}
+use Rattle.site_state.specs.Fits.{AreApart}
 use Rattle.snapshot_laws.proofs.QueriedRows.{find_row-query_rows}
 use Rattle.snapshot_laws.proofs.Moves.{all_map, all_weaker, KeepsUp, AllKeepUp}
 use Rattle.snapshot_laws.proofs.Keeping.{HaveTables, master_in, Keeps}

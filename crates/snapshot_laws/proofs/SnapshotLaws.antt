@@ -17,8 +17,9 @@ use Rattle.site_state.specs.Refreshes.{rows_shown, with_tables, renewed, site_re
 use Rattle.event_laws.specs.Core.{Core, site_of, at_site}
 use Rattle.event_laws.specs.Events.{Event, master_of, found_site, is_all_acked, refreshed_from, refreshed, run}
 use Rattle.fast_refresh.specs.Showing.{ShowsOthers}
+use Rattle.site_state.specs.Fits.{AreApart}
 use Rattle.snapshot_laws.specs.Pending.{rows_from_keys, pending_table, pending_rows}
-use Rattle.snapshot_laws.specs.Starts.{AreApart, master_at, IsSnapshotStart}
+use Rattle.snapshot_laws.specs.Starts.{master_at, IsSnapshotStart}
 use Rattle.snapshot_laws.specs.Laws.{OthersAreShown, OtherKeysAreTheMasters, FastIsComplete, ShowsTheMaster, RefreshedIsTheQuery}
 use Rattle.snapshot_laws.proofs.Keys.{has_key-with_keys, told}
 use Rattle.snapshot_laws.proofs.QueriedRows.{rows_from_keys-query}

@@ -1,5 +1,5 @@
 -- Where runs with snapshots begin.
-use Rattle.std.specs.Prelude.{◌≡◌, ◌≢◌, ◌≤◌, true, List, [], ◌∷◌, Option, Some, None, is_some}
+use Rattle.std.specs.Prelude.{◌≡◌, ◌≤◌, true, List, [], ◌∷◌, Option, Some, None, is_some}
 use Rattle.std.specs.List.{AllByRecursion}
 use Rattle.rep_schema.specs.declared.schema.Schema.{Schema}
 use Rattle.rep_schema.specs.Tables.{rows_of}
@@ -7,6 +7,7 @@ use Rattle.snapshot_query.specs.declared.snapshot.Snapshot.{Snapshot}
 use Rattle.snapshot_query.specs.Queries.{query_rows}
 use Rattle.site_state.specs.State.{LogState, SiteState}
 use Rattle.site_state.specs.Notes.{log_of}
+use Rattle.site_state.specs.Fits.{AreApart}
 use Rattle.event_laws.specs.Core.{Core}
 use Rattle.event_laws.specs.Events.{master_of, found_site}
 use Rattle.event_laws.specs.Fitting.{IsFitStart}
@@ -14,11 +15,6 @@ use Rattle.event_laws.specs.Fitting.{IsFitStart}
 -- the master of a site, where it is there
 abbrev pub master_at : List SiteState → SiteState → Option SiteState
 master_at sites x = found_site sites (master_of x.schema x.here.site)
-
--- no table has two snapshots
-abbrev pub AreApart : List Snapshot → Type 0
-AreApart [] = Unit {0}
-AreApart (s ∷ ss) = AllByRecursion (λ (t : Snapshot). t.table ≢ s.table) ss × AreApart ss
 
 -- a snapshot as it is made: its master is a master and has a log of its table, and its rows are the query of the master's
 pub record StartsShown (m x : SiteState) (s : Snapshot) : Type 0 where

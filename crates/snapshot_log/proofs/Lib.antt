@@ -1,4 +1,4 @@
 -- The lemmas of this crate, from the bottom up.
 mod WorkedLogs
-mod KeysLeft
+pub mod KeysLeft
 mod LastMoments

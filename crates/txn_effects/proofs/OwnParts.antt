@@ -57,7 +57,7 @@ shadow_alone groups n (c ∷ cs) x i below is = go (c.key || is_grouped groups n
     go false out zero below is later = subst (λ m. is_grouped groups m ≡ false) is (alone c.key (is_grouped groups n) out)
     go false out (suc j) below is later = later j (omega (arith, below)) is
 
-slice_get-set_other : (xs : Cells) (p q : ℕ) (y : Value) → q ≢ p → slice_get (set xs p y) q ≡ slice_get xs q
+pub slice_get-set_other : (xs : Cells) (p q : ℕ) (y : Value) → q ≢ p → slice_get (set xs p y) q ≡ slice_get xs q
 slice_get-set_other [] p q y other = refl
 slice_get-set_other (x ∷ xs) zero zero y other = absurd (other refl)
 slice_get-set_other (x ∷ xs) zero (suc q) y other = refl
@@ -65,14 +65,14 @@ slice_get-set_other (x ∷ xs) (suc p) zero y other = refl
 slice_get-set_other (x ∷ xs) (suc p) (suc q) y other = slice_get-set_other xs p q y (λ same. other (ap suc same))
 
 -- a write at other places
-values_at-set_other : (places : List ℕ) (xs : Cells) (p : ℕ) (y : Value) → ¬ Contains places p → values_at places (set xs p y) ≡ values_at places xs
+pub values_at-set_other : (places : List ℕ) (xs : Cells) (p : ℕ) (y : Value) → ¬ Contains places p → values_at places (set xs p y) ≡ values_at places xs
 values_at-set_other [] xs p y none = refl
 values_at-set_other (q ∷ qs) xs p y none =
     let other : q ≢ p = λ same. none (0, omega arith, same) in
     let later = values_at-set_other qs xs p y (λ has. none (suc has.0, omega (arith, has.1), has.2)) in
     rw (slice_get-set_other xs p q y other, later) refl
 
-values_at-with_values : (places : List ℕ) (values row : Cells) (others : List ℕ) → ShareNone places others → values_at others (with_values places values row) ≡ values_at others row
+pub values_at-with_values : (places : List ℕ) (values row : Cells) (others : List ℕ) → ShareNone places others → values_at others (with_values places values row) ≡ values_at others row
 values_at-with_values [] values row others apart = refl
 values_at-with_values (p ∷ ps) [] row others apart = refl
 values_at-with_values (p ∷ ps) (v ∷ vs) row others apart =

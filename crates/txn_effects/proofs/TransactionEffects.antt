@@ -41,12 +41,12 @@ behind-behind changes others (Ok effect) = ap (λ cs. Ok (record { changes = cs;
 behind-behind changes others (Err failure) = refl
 
 -- where something comes out behind earlier changes, it came out before
-behind-Ok : (changes : List Change) (result : Result Effect Failure) (effect : Effect) → behind changes result ≡ Ok effect
+pub behind-Ok : (changes : List Change) (result : Result Effect Failure) (effect : Effect) → behind changes result ≡ Ok effect
     → (later : Effect) × (result ≡ Ok later) × (record { changes = changes ++ later.changes; numbers = later.numbers } ≡ effect)
 behind-Ok changes (Ok later) effect gives = (later, refl, cc)
 behind-Ok changes (Err failure) effect gives = cc
 
-failing_at-Ok : {A : Type 0} (number : ℕ) (result : Result A ApplyError) (a : A) → failing_at number result ≡ Ok a → result ≡ Ok a
+pub failing_at-Ok : {A : Type 0} (number : ℕ) (result : Result A ApplyError) (a : A) → failing_at number result ≡ Ok a → result ≡ Ok a
 failing_at-Ok number (Ok b) a gives = cc
 failing_at-Ok number (Err error) a gives = cc
 
