@@ -104,6 +104,8 @@ impl Master {
             here,
             senders.as_slice(),
             destinations.as_slice(),
+            &TableSet::below(0),
+            Items::new(alloc),
         )?;
         Ok(Master {
             name,

@@ -111,6 +111,8 @@ impl Member {
             here,
             senders.as_slice(),
             destinations.as_slice(),
+            &TableSet::below(0),
+            Items::new(alloc),
         )?;
         Ok(Ok(Member {
             name,

@@ -24,7 +24,7 @@ fn add_rows(lines: &mut Lines, member: &Member) -> Result<(), CaseStop> {
     if !has_few_tables(store.schema()) {
         return Err(CaseStop::NoCase);
     }
-    add_tables(lines, member.name, store)?;
+    add_tables(lines, member.name, member.site.held(), store)?;
     Ok(())
 }
 

@@ -46,6 +46,8 @@ use Rattle.site_state.specs.Contents.{content_of, tables_of, txn_of, changes_by}
 use Rattle.site_state.specs.Streams.{with_one, queue_of, count_of, stream_to}
 use Rattle.site_state.specs.Pasts.{past_of, pasts_of}
 use Rattle.site_state.specs.Packets.{past_in, with_arrival, acknowledged, is_known_past, is_foreign, site_packet, site_accept, accept_answer}
+use Rattle.site_state.specs.Notes.{logged_in, touched_in}
+use Rattle.site_state.specs.Notes.{noted as noted_at}
 use Rattle.site_state.specs.Ready.{stale_of}
 use Rattle.site_state.specs.Steps.{is_empty, journalled}
 use Rattle.site_state.specs.Passes.{effect_here, finished_by, site_apply, apply_answer_by, apply_answer}
@@ -64,8 +66,10 @@ use Rattle.site_state.proofs.DeclaredSites.{sites_in, sites_in-at_destination, s
 use Rattle.site_state.proofs.FittingSites.{commit_fits, apply_fits, execute_fits, drop_fits, accept_fits}
 use Rattle.site_state.proofs.FittingSites as fitting
 use Rattle.sender_inbox.specs.Incoming.{Incoming, by_position}
+use Rattle.site_notes.specs.Noted.{NotesState}
 use Rattle.site_outbox.specs.Outgoing.{Outgoing, Keeps}
 use Rattle.site_core.specs.Keeping.{senders_in, sender_in, inbox_of, state_of, IsSized, Follows, Holds}
+use Rattle.site_core.specs.Noting.{IsNoted}
 use Rattle.site_core.specs.Applying.{goes_on, onward_of, entry_by, error_by, with_error, onward_past, refusal_of}
 use Rattle.site_core.proofs.StandingErrors.{StandApart, HasCome, lists_by, errors-added, errors-removed, error_in-lists, error_at-finished, error_at-unfinished, count-added, count-removed, errors-arrival, list_of-sender}
 use Rattle.site_core.proofs.Apart.{NamesApart, senders_apart, senders_stand_apart, destinations_apart, destinations_stand_apart}
@@ -74,6 +78,7 @@ use Rattle.site_core.proofs.Reading.{stale_none, sender_is, stale_finished, stal
 use Rattle.site_core.proofs.Sending.{last_is, no_packet, packet_is, sent_has}
 use Rattle.site_core.proofs.ChangedInbox.{is_from, inbox_of-place, inbox_of-none, senders_in-same, senders_in-changed, Finishes, follow_same, follow_finished}
 use Rattle.site_core.proofs.FinishedOnce.{once_more, no_onward, entry_stays}
+use Rattle.site_core.proofs.NotedRows.{nothing_logged, nothing_touched, apart_noted}
 use Rattle.site_core.proofs.Onward.{onward_is, went_is, pasts_with, sized_changes}
 
 -- what a call that only journals leaves of what holds
@@ -89,10 +94,10 @@ still_holds x y s fits declared arrived = record {
   arrived = rw (s.journals.journal, s.senders) (finished_have_arrived x s.journals.entry s.journals.follows arrived);
 }
 
-module _ (schema : Schema) (here : Here) (base : List Rows) (journal : List Entry) (inboxes : List Incoming) (out : Outgoing) (stamps : Stamps) (moment : ℕ)
-    (rows : List Rows) (numbers : Numbers) (lists : List ErrorList) (room : ℕ) (h : Holds (state_of schema here base journal inboxes out stamps moment) rows numbers inboxes out lists room) where
+module _ (schema : Schema) (here : Here) (base : List Rows) (journal : List Entry) (inboxes : List Incoming) (out : Outgoing) (notes : NotesState) (stamps : Stamps) (moment : ℕ)
+    (rows : List Rows) (numbers : Numbers) (lists : List ErrorList) (room : ℕ) (h : Holds (state_of schema here base journal inboxes out notes stamps moment) rows numbers inboxes out lists room) where
   abbrev x : SiteState
-  x = state_of schema here base journal inboxes out stamps moment
+  x = state_of schema here base journal inboxes out notes stamps moment
 
   -- ---- a block
 
@@ -101,20 +106,21 @@ module _ (schema : Schema) (here : Here) (base : List Rows) (journal : List Entr
   commit_answer_is statements block gives some n number = rw (gives, some, number) refl
 
   module _ (statements : List Statement) (block : BlockEffect) (gives : block_at statements x ≡ Ok block) (some : is_empty block.changes ≡ false)
-      (n : ℕ) (number : n ≡ count_of x + 1) (txn : Txn) (calls : txn.calls ≡ map (call_of schema) block.changes) (out' : Outgoing) (same : out'.destinations ≡ out.destinations) (gone : out'.purged ≡ out.purged) where
+      (n : ℕ) (number : n ≡ count_of x + 1) (txn : Txn) (calls : txn.calls ≡ map (call_of schema) block.changes) (out' : Outgoing) (same : out'.destinations ≡ out.destinations) (gone : out'.purged ≡ out.purged)
+      (notes' : NotesState) (noted : IsNoted schema (moment + 1) block.changes notes notes') where
     -- the fields after a block are the state after it
-    pub commit_state : state_of schema here base (Local n txn ∷ journal) inboxes out' block.stamps (moment + 1) ≡ site_commit statements x
+    pub commit_state : state_of schema here base (Local n txn ∷ journal) inboxes out' notes' block.stamps (moment + 1) ≡ site_commit statements x
     commit_state =
         let whole : txn ≡ txn_of schema block.changes = ap (λ (cs : _). record { calls = cs }) calls in
-        rw (gives, some, same, gone, number, whole) refl
+        rw (gives, some, same, gone, number, whole, noted.logs, noted.snapshots) refl
 
     -- with the journal and the schema known by equations
-    pub commit_state_is : (schema' : Schema) (journal' : List Entry) → schema' ≡ schema → journal' ≡ Local n txn ∷ journal → state_of schema' here base journal' inboxes out' block.stamps (moment + 1) ≡ site_commit statements x
+    pub commit_state_is : (schema' : Schema) (journal' : List Entry) → schema' ≡ schema → journal' ≡ Local n txn ∷ journal → state_of schema' here base journal' inboxes out' notes' block.stamps (moment + 1) ≡ site_commit statements x
     commit_state_is schema' journal' schema_is journal_is = rw (schema_is, journal_is) commit_state
 
     pub commit_holds : (rows' : List Rows) (room' : ℕ) → rows' ≡ made_all schema block.changes rows → txn_effect schema here.site txn rows numbers ≡ Ok (record { changes = block.changes; numbers = numbers })
         → length txn.calls ≤ 1000 → Keeps schema (past_of x ∷ pasts_of x) (txn ∷ queue_of x) out' → length (in_order lists) ≤ room'
-        → Holds (state_of schema here base (Local n txn ∷ journal) inboxes out' block.stamps (moment + 1)) rows' numbers inboxes out' lists room'
+        → Holds (state_of schema here base (Local n txn ∷ journal) inboxes out' notes' block.stamps (moment + 1)) rows' numbers inboxes out' lists room'
     commit_holds rows' room' made applies few keeps droppable =
         let still = still_holds x _ (commit_steps statements x) (commit_fits statements x h.fits) h.declared h.arrived in
         let after = subst (StillHolds x) (sym commit_state) still in
@@ -126,6 +132,7 @@ module _ (schema : Schema) (here : Here) (base : List Rows) (journal : List Entr
           arrived = after.arrived;
           once = h.once;
           stays = (tt, h.stays);
+          apart = apart_noted schema (moment + 1) block.changes notes notes' noted h.apart;
           tables_are = made ∙ ap (λ (r : Result Effect Failure). tables_by schema r rows) (sym applies) ∙ rw (← h.tables_are, ← h.numbers_are) refl;
           numbers_are = ap (λ (r : Result Effect Failure). numbers_by r numbers) (sym applies) ∙ rw (← h.tables_are, ← h.numbers_are) refl;
           follow = h.follow;
@@ -151,7 +158,8 @@ module _ (schema : Schema) (here : Here) (base : List Rows) (journal : List Entr
 
   module _ (origin : SiteName) (position : ℕ) (a : Arrival) (stale : stale_of origin position x ≡ None) (there : arrived_at origin position x.senders ≡ Some a)
       (past : Option (List Past)) (past_is : past ≡ onward_past origin x) (count : ℕ) (count_is : count ≡ count_of x) (out' : Outgoing) (same : out'.destinations ≡ out.destinations) (gone : out'.purged ≡ out.purged)
-      (inboxes' : List Incoming) (senders : senders_in inboxes' ≡ senders_in inboxes) where
+      (inboxes' : List Incoming) (senders : senders_in inboxes' ≡ senders_in inboxes)
+      (notes' : NotesState) (noted : IsNoted schema moment (changes_by (txn_effect schema origin a.txn rows numbers)) notes notes') where
     abbrev effect : Result Effect Failure
     effect = txn_effect schema origin a.txn rows numbers
 
@@ -172,14 +180,21 @@ module _ (schema : Schema) (here : Here) (base : List Rows) (journal : List Entr
         go true is = let why : stale_of origin position x ≡ Some why.Finished = rw is refl in absurd (cc (why, stale))
 
     -- the fields after a position are the state after it
-    pub apply_state : state_of schema here base (entry ∷ journal) inboxes' out' stamps moment ≡ site_apply origin position x
-    apply_state = rw (stale, there, ← effect_is, senders, same, gone) (go effect)
+    pub apply_state : state_of schema here base (entry ∷ journal) inboxes' out' notes' stamps moment ≡ site_apply origin position x
+    apply_state = rw (stale, there, ← effect_is, senders, same, gone, noted.logs, noted.snapshots) (go effect)
       where
-        go : (r : Result Effect Failure) → record x { journal = entry_by past origin a count r ∷ journal } ≡ finished_by origin a r x
-        go (Ok done) = ap (λ (n : ℕ). journalled (Done origin a.position n a.txn) x) (onward_is origin x past past_is count count_is done.changes)
-        go (Err failure) = refl
+        with_notes : (r : Result Effect Failure) → SiteState
+        with_notes r = record x {
+          journal = entry_by past origin a count r ∷ journal;
+          logs = map (logged_in schema moment (changes_by r)) notes.logs;
+          snapshots = map (touched_in schema (changes_by r)) notes.snapshots;
+        }
 
-    pub apply_state_is : (schema' : Schema) (journal' : List Entry) (e : Entry) → schema' ≡ schema → journal' ≡ e ∷ journal → e ≡ entry → state_of schema' here base journal' inboxes' out' stamps moment ≡ site_apply origin position x
+        go : (r : Result Effect Failure) → with_notes r ≡ finished_by origin a r x
+        go (Ok done) = ap (λ (n : ℕ). noted_at done.changes (journalled (Done origin a.position n a.txn) x)) (onward_is origin x past past_is count count_is done.changes)
+        go (Err failure) = rw (← nothing_logged schema moment notes.logs, ← nothing_touched schema notes.snapshots) refl
+
+    pub apply_state_is : (schema' : Schema) (journal' : List Entry) (e : Entry) → schema' ≡ schema → journal' ≡ e ∷ journal → e ≡ entry → state_of schema' here base journal' inboxes' out' notes' stamps moment ≡ site_apply origin position x
     apply_state_is schema' journal' e schema_is journal_is e_is = rw (schema_is, journal_is, e_is) apply_state
 
     -- the answer
@@ -197,7 +212,7 @@ module _ (schema : Schema) (here : Here) (base : List Rows) (journal : List Entr
         → lists' ≡ with_error (error_by origin a effect) lists → length (changes_by effect) ≤ length a.txn.calls → ((s : SenderState) → sender_of origin x.senders ≡ Some s → IsRising by_position s.arrived)
         → Keeps schema (with_one (goes_on past (changes_by effect)) (past_in past) (pasts_of x)) (with_one (goes_on past (changes_by effect)) (txn_of schema (changes_by effect)) (queue_of x)) out'
         → AllByRecursion (Follows (entry ∷ journal)) inboxes' → length (in_order lists') ≤ room'
-        → Holds (state_of schema here base (entry ∷ journal) inboxes' out' stamps moment) rows' numbers' inboxes' out' lists' room'
+        → Holds (state_of schema here base (entry ∷ journal) inboxes' out' notes' stamps moment) rows' numbers' inboxes' out' lists' room'
     apply_holds rows' numbers' lists' room' rows_are numbers_are lists_are few rising keeps follow droppable =
         let still = still_holds x _ (apply_steps origin position x) (apply_fits origin position x h.fits) h.declared h.arrived in
         let after = subst (StillHolds x) (sym apply_state) still in
@@ -209,6 +224,7 @@ module _ (schema : Schema) (here : Here) (base : List Rows) (journal : List Entr
           arrived = after.arrived;
           once = once_more entry origin position journal entry_finishes unfinished h.once;
           stays = (entry_stays origin x past past_is a count count_is effect, h.stays);
+          apart = apart_noted schema moment (changes_by effect) notes notes' noted h.apart;
           tables_are = rows_are ∙ tables effect effect_is;
           numbers_are = numbers_are ∙ counters effect effect_is;
           follow = follow;
@@ -224,16 +240,16 @@ module _ (schema : Schema) (here : Here) (base : List Rows) (journal : List Entr
         own_sized (Ok done) = sized
         own_sized (Err failure) = sized
 
-        tables : (r : Result Effect Failure) → r ≡ effect_here origin a x → tables_by schema r rows ≡ tables_of (state_of schema here base (entry_by past origin a count r ∷ journal) inboxes' out' stamps moment)
+        tables : (r : Result Effect Failure) → r ≡ effect_here origin a x → tables_by schema r rows ≡ tables_of (state_of schema here base (entry_by past origin a count r ∷ journal) inboxes' out' notes' stamps moment)
         tables (Ok done) is = rw (← is, ← h.tables_are) refl
         tables (Err failure) is = h.tables_are
 
-        counters : (r : Result Effect Failure) → r ≡ effect_here origin a x → numbers_by r numbers ≡ (content_of (state_of schema here base (entry_by past origin a count r ∷ journal) inboxes' out' stamps moment)).numbers
+        counters : (r : Result Effect Failure) → r ≡ effect_here origin a x → numbers_by r numbers ≡ (content_of (state_of schema here base (entry_by past origin a count r ∷ journal) inboxes' out' notes' stamps moment)).numbers
         counters (Ok done) is = rw (← is) refl
         counters (Err failure) is = h.numbers_are
 
         queued : (r : Result Effect Failure) → r ≡ effect_here origin a x → length (changes_by r) ≤ 1000 → AllByRecursion IsSized (queue_of x)
-            → AllByRecursion IsSized (queue_of (state_of schema here base (entry_by past origin a count r ∷ journal) inboxes' out' stamps moment))
+            → AllByRecursion IsSized (queue_of (state_of schema here base (entry_by past origin a count r ∷ journal) inboxes' out' notes' stamps moment))
         queued (Ok done) is few all = rw (went_is origin x past past_is count count_is done.changes, ← is) (sized_changes schema past done.changes (queue_of x) few all)
         queued (Err failure) is few all = all
 
@@ -256,7 +272,7 @@ module _ (schema : Schema) (here : Here) (base : List Rows) (journal : List Entr
         → lists' ≡ with_error (error_by origin a effect) lists → length (changes_by effect) ≤ length a.txn.calls → ((s : SenderState) → sender_of origin x.senders ≡ Some s → IsRising by_position s.arrived)
         → Keeps schema (with_one (goes_on past (changes_by effect)) (past_in past) (pasts_of x)) (with_one (goes_on past (changes_by effect)) (txn_of schema (changes_by effect)) (queue_of x)) out'
         → AllByRecursion (Follows (entry ∷ journal)) inboxes' → length (in_order lists') ≤ room'
-        → Holds (state_of schema' here base journal' inboxes' out' stamps moment) rows' numbers' inboxes' out' lists' room'
+        → Holds (state_of schema' here base journal' inboxes' out' notes' stamps moment) rows' numbers' inboxes' out' lists' room'
     apply_holds_is schema' journal' e rows' numbers' lists' room' schema_is journal_is e_is rows_are numbers_are lists_are few rising keeps follow droppable =
         rw (schema_is, journal_is, e_is) (apply_holds rows' numbers' lists' room' rows_are numbers_are lists_are few rising keeps follow droppable)
 
@@ -298,15 +314,15 @@ module _ (schema : Schema) (here : Here) (base : List Rows) (journal : List Entr
     -- ---- it is executed
 
     module _ (past : Option (List Past)) (past_is : past ≡ onward_past origin x) (count : ℕ) (count_is : count ≡ count_of x) (out' : Outgoing) (same : out'.destinations ≡ out.destinations) (gone : out'.purged ≡ out.purged)
-        (done : Effect) (gives : txn_effect schema origin e.txn rows numbers ≡ Ok done) where
+        (done : Effect) (gives : txn_effect schema origin e.txn rows numbers ≡ Ok done) (notes' : NotesState) (noted : IsNoted schema (moment + 1) done.changes notes notes') where
       abbrev executed : Entry
       executed = Executed origin position (onward_of past done.changes count) e.txn
 
       gives_now : Ok done ≡ effect_of_error e x
       gives_now = sym gives ∙ rw (named.0, h.tables_are, h.numbers_are) refl
 
-      pub execute_state : state_of schema here base (executed ∷ journal) inboxes out' stamps (moment + 1) ≡ site_execute origin position x
-      execute_state = rw (stands, ← gives_now, named.0, named.1, same, gone, onward_is origin x past past_is count count_is done.changes) refl
+      pub execute_state : state_of schema here base (executed ∷ journal) inboxes out' notes' stamps (moment + 1) ≡ site_execute origin position x
+      execute_state = rw (stands, ← gives_now, named.0, named.1, same, gone, noted.logs, noted.snapshots, onward_is origin x past past_is count count_is done.changes) refl
 
       pub execute_refusal_is : execute_refusal origin position x ≡ None
       execute_refusal_is = rw (stands, ← gives_now) refl
@@ -314,7 +330,7 @@ module _ (schema : Schema) (here : Here) (base : List Rows) (journal : List Entr
       pub execute_holds : (rows' : List Rows) (numbers' : Numbers) (room' : ℕ) → rows' ≡ made_all schema done.changes rows → numbers' ≡ done.numbers → length done.changes ≤ 1000
           → Keeps schema (with_one (goes_on past done.changes) (past_in past) (pasts_of x)) (with_one (goes_on past done.changes) (txn_of schema done.changes) (queue_of x)) out'
           → length (in_order lists) ≤ room' + 1
-          → Holds (state_of schema here base (executed ∷ journal) inboxes out' stamps (moment + 1)) rows' numbers' inboxes out' (removed origin position lists) room'
+          → Holds (state_of schema here base (executed ∷ journal) inboxes out' notes' stamps (moment + 1)) rows' numbers' inboxes out' (removed origin position lists) room'
       execute_holds rows' numbers' room' rows_are numbers_are few keeps enough =
           let still = still_holds x _ (execute_steps origin position x) (execute_fits origin position x h.fits) h.declared h.arrived in
           let after = subst (StillHolds x) (sym execute_state) still in
@@ -331,6 +347,7 @@ module _ (schema : Schema) (here : Here) (base : List Rows) (journal : List Entr
             arrived = after.arrived;
             once = h.once;
             stays = (no_onward origin x past past_is count count_is done.changes, h.stays);
+            apart = apart_noted schema (moment + 1) done.changes notes notes' noted h.apart;
             tables_are = rows_are ∙ rw (now, ← h.tables_are) refl;
             numbers_are = numbers_are ∙ rw now refl;
             follow = h.follow;
@@ -340,14 +357,14 @@ module _ (schema : Schema) (here : Here) (base : List Rows) (journal : List Entr
           }
 
       pub execute_state_is : (schema' : Schema) (journal' : List Entry) (onward : ℕ) (txn : Txn) → schema' ≡ schema → journal' ≡ Executed origin position onward txn ∷ journal → onward ≡ onward_of past done.changes count → txn ≡ e.txn
-          → state_of schema' here base journal' inboxes out' stamps (moment + 1) ≡ site_execute origin position x
+          → state_of schema' here base journal' inboxes out' notes' stamps (moment + 1) ≡ site_execute origin position x
       execute_state_is schema' journal' onward txn schema_is journal_is onward_is txn_is = rw (schema_is, journal_is, onward_is, txn_is) execute_state
 
       pub execute_holds_is : (schema' : Schema) (journal' : List Entry) (onward : ℕ) (txn : Txn) (rows' : List Rows) (numbers' : Numbers) (lists' : List ErrorList) (room' : ℕ) → schema' ≡ schema → journal' ≡ Executed origin position onward txn ∷ journal
           → onward ≡ onward_of past done.changes count → txn ≡ e.txn → lists' ≡ removed origin position lists → rows' ≡ made_all schema done.changes rows → numbers' ≡ done.numbers → length done.changes ≤ length e.txn.calls
           → Keeps schema (with_one (goes_on past done.changes) (past_in past) (pasts_of x)) (with_one (goes_on past done.changes) (txn_of schema done.changes) (queue_of x)) out'
           → length (in_order lists) ≤ room' + 1
-          → Holds (state_of schema' here base journal' inboxes out' stamps (moment + 1)) rows' numbers' inboxes out' lists' room'
+          → Holds (state_of schema' here base journal' inboxes out' notes' stamps (moment + 1)) rows' numbers' inboxes out' lists' room'
       execute_holds_is schema' journal' onward txn rows' numbers' lists' room' schema_is journal_is onward_is txn_is lists_are rows_are numbers_are few keeps enough =
           rw (schema_is, journal_is, onward_is, txn_is, lists_are) (execute_holds rows' numbers' room' rows_are numbers_are (omega (arith, few, error_sized.most)) keeps enough)
 
@@ -363,17 +380,17 @@ module _ (schema : Schema) (here : Here) (base : List Rows) (journal : List Entr
 
     -- ---- it is dropped
 
-    pub drop_state : state_of schema here base (Dropped origin position ∷ journal) inboxes out stamps (moment + 1) ≡ site_drop origin position x
+    pub drop_state : state_of schema here base (Dropped origin position ∷ journal) inboxes out notes stamps (moment + 1) ≡ site_drop origin position x
     drop_state = rw (stands, named.0, named.1) refl
 
-    pub drop_state_is : (journal' : List Entry) → journal' ≡ Dropped origin position ∷ journal → state_of schema here base journal' inboxes out stamps (moment + 1) ≡ site_drop origin position x
+    pub drop_state_is : (journal' : List Entry) → journal' ≡ Dropped origin position ∷ journal → state_of schema here base journal' inboxes out notes stamps (moment + 1) ≡ site_drop origin position x
     drop_state_is journal' journal_is = rw journal_is drop_state
 
     pub drops : drop_refusal origin position x ≡ None
     drops = rw stands refl
 
     pub drop_holds : (room' : ℕ) → length (in_order lists) ≤ room' + 1
-        → Holds (state_of schema here base (Dropped origin position ∷ journal) inboxes out stamps (moment + 1)) rows numbers inboxes out (removed origin position lists) room'
+        → Holds (state_of schema here base (Dropped origin position ∷ journal) inboxes out notes stamps (moment + 1)) rows numbers inboxes out (removed origin position lists) room'
     drop_holds room' enough =
         let still = still_holds x _ (drop_steps origin position x) (drop_fits origin position x h.fits) h.declared h.arrived in
         let after = subst (StillHolds x) (sym drop_state) still in
@@ -385,6 +402,7 @@ module _ (schema : Schema) (here : Here) (base : List Rows) (journal : List Entr
           arrived = after.arrived;
           once = h.once;
           stays = (tt, h.stays);
+          apart = h.apart;
           tables_are = h.tables_are;
           numbers_are = h.numbers_are;
           follow = h.follow;
@@ -394,7 +412,7 @@ module _ (schema : Schema) (here : Here) (base : List Rows) (journal : List Entr
         }
 
     pub drop_holds_is : (journal' : List Entry) (lists' : List ErrorList) (room' : ℕ) → journal' ≡ Dropped origin position ∷ journal → lists' ≡ removed origin position lists → length (in_order lists) ≤ room' + 1
-        → Holds (state_of schema here base journal' inboxes out stamps (moment + 1)) rows numbers inboxes out lists' room'
+        → Holds (state_of schema here base journal' inboxes out notes stamps (moment + 1)) rows numbers inboxes out lists' room'
     drop_holds_is journal' lists' room' journal_is lists_are enough = rw (journal_is, lists_are) (drop_holds room' enough)
 
   -- no error stands where the error queue has none
@@ -413,17 +431,18 @@ module _ (schema : Schema) (here : Here) (base : List Rows) (journal : List Entr
 
   -- ---- what only changes numbers, marks and room
 
-  pub same_holds : (inboxes' : List Incoming) (out' : Outgoing) (stamps' : Stamps) (moment' room' : ℕ) → senders_in inboxes' ≡ senders_in inboxes → AllByRecursion (Follows journal) inboxes'
-      → sites_in out'.destinations ≡ sites_in out.destinations → Keeps schema (pasts_of x) (queue_of x) out' → length (in_order lists) ≤ room'
-      → Holds (state_of schema here base journal inboxes' out' stamps' moment') rows numbers inboxes' out' lists room'
-  same_holds inboxes' out' stamps' moment' room' senders follow sites keeps droppable = record {
+  pub same_holds : (inboxes' : List Incoming) (out' : Outgoing) (notes' : NotesState) (stamps' : Stamps) (moment' room' : ℕ) → senders_in inboxes' ≡ senders_in inboxes → AllByRecursion (Follows journal) inboxes'
+      → notes'.snapshots ≡ notes.snapshots → sites_in out'.destinations ≡ sites_in out.destinations → Keeps schema (pasts_of x) (queue_of x) out' → length (in_order lists) ≤ room'
+      → Holds (state_of schema here base journal inboxes' out' notes' stamps' moment') rows numbers inboxes' out' lists room'
+  same_holds inboxes' out' notes' stamps' moment' room' senders follow snapshots sites keeps droppable = record {
     based = h.based;
-    fits = record { keyed = h.fits.keyed; content = h.fits.content; queued = h.fits.queued; senders = rw senders h.fits.senders; journal = h.fits.journal; within = tt };
+    fits = record { keyed = h.fits.keyed; content = h.fits.content; queued = h.fits.queued; senders = rw senders h.fits.senders; journal = h.fits.journal; within = rw snapshots h.fits.within };
     sized = record { queued = h.sized.queued; arrived = rw senders h.sized.arrived; journal = h.sized.journal };
     declared = record { is_master = h.declared.is_master; senders = rw senders h.declared.senders; destinations = sites ∙ h.declared.destinations };
     arrived = rw senders h.arrived;
     once = h.once;
     stays = h.stays;
+    apart = rw snapshots h.apart;
     tables_are = h.tables_are;
     numbers_are = h.numbers_are;
     follow = follow;
@@ -433,11 +452,11 @@ module _ (schema : Schema) (here : Here) (base : List Rows) (journal : List Entr
   }
 
   -- the same, with what a call hands back known by equations
-  pub kept_holds_is : (schema' : Schema) (journal' : List Entry) (out' : Outgoing) (rows' : List Rows) (numbers' : Numbers) (lists' : List ErrorList) (stamps' : Stamps) (room' : ℕ) → schema' ≡ schema → journal' ≡ journal → rows' ≡ rows → numbers' ≡ numbers → lists' ≡ lists
-      → out'.destinations ≡ out.destinations → Keeps schema (pasts_of x) (queue_of x) out' → length (in_order lists) ≤ room'
-      → Holds (state_of schema' here base journal' inboxes out' stamps' moment) rows' numbers' inboxes out' lists' room'
-  kept_holds_is schema' journal' out' rows' numbers' lists' stamps' room' schema_is journal_is rows_are numbers_are lists_are same keeps droppable =
-      rw (schema_is, journal_is, rows_are, numbers_are, lists_are) (same_holds inboxes out' stamps' moment room' refl h.follow (ap sites_in same) keeps droppable)
+  pub kept_holds_is : (schema' : Schema) (journal' : List Entry) (out' : Outgoing) (notes' : NotesState) (rows' : List Rows) (numbers' : Numbers) (lists' : List ErrorList) (stamps' : Stamps) (room' : ℕ) → schema' ≡ schema → journal' ≡ journal → rows' ≡ rows → numbers' ≡ numbers → lists' ≡ lists
+      → notes'.snapshots ≡ notes.snapshots → out'.destinations ≡ out.destinations → Keeps schema (pasts_of x) (queue_of x) out' → length (in_order lists) ≤ room'
+      → Holds (state_of schema' here base journal' inboxes out' notes' stamps' moment) rows' numbers' inboxes out' lists' room'
+  kept_holds_is schema' journal' out' notes' rows' numbers' lists' stamps' room' schema_is journal_is rows_are numbers_are lists_are snapshots same keeps droppable =
+      rw (schema_is, journal_is, rows_are, numbers_are, lists_are) (same_holds inboxes out' notes' stamps' moment room' refl h.follow snapshots (ap sites_in same) keeps droppable)
 
   -- as many are queued as the outbox has
   pub count_is : length out.deferred ≡ count_of x
@@ -467,10 +486,10 @@ module _ (schema : Schema) (here : Here) (base : List Rows) (journal : List Entr
       senders : senders_in (set inboxes place new) ≡ at_sender from (with_arrival arrival) (senders_in inboxes)
       senders = senders_in-changed from (with_arrival arrival) inboxes place i new found is changed
 
-      pub accept_state : state_of schema here base journal (set inboxes place new) out stamps moment ≡ site_accept (Carry from to number position dep seen txn) x
+      pub accept_state : state_of schema here base journal (set inboxes place new) out notes stamps moment ≡ site_accept (Carry from to number position dep seen txn) x
       accept_state = rw (known, none, senders) refl
 
-      pub accept_holds : IsSized txn → Holds (state_of schema here base journal (set inboxes place new) out stamps moment) rows numbers (set inboxes place new) out lists room
+      pub accept_holds : IsSized txn → Holds (state_of schema here base journal (set inboxes place new) out notes stamps moment) rows numbers (set inboxes place new) out lists room
       accept_holds sized =
           let packet : Packet = Carry from to number position dep seen txn in
           let names = still_declared schema x (site_accept packet x) (accept_names packet x) h.declared in
@@ -482,6 +501,7 @@ module _ (schema : Schema) (here : Here) (base : List Rows) (journal : List Entr
             arrived = rw senders (λ origin p f. arrived_at-put origin from p arrival x.senders (h.arrived origin p f));
             once = h.once;
             stays = h.stays;
+            apart = h.apart;
             tables_are = h.tables_are;
             numbers_are = h.numbers_are;
             follow = follow_same from journal inboxes place i new found is h.follow (ap (λ (s : SenderState). s.origin) changed) (λ q. ap (λ (m : marks.Marked). marks.finished m q) marked);
@@ -497,7 +517,7 @@ module _ (schema : Schema) (here : Here) (base : List Rows) (journal : List Entr
   destinations_are_apart = destinations_stand_apart x.destinations (subst NamesApart (sym h.declared.destinations) (destinations_apart schema h.fits.keyed.shape here.site))
 
   pub purge_state : (out' : Outgoing) → out'.destinations ≡ out.destinations → out'.purged ≡ max out.purged (acknowledged_by_all (length out.deferred) out.destinations)
-      → state_of schema here base journal inboxes out' stamps moment ≡ site_purge x
+      → state_of schema here base journal inboxes out' notes stamps moment ≡ site_purge x
   purge_state out' same gone = rw (same, gone, count_is) refl
 
   pub purge_count : (out' : Outgoing) → out'.purged ≡ max out.purged (acknowledged_by_all (length out.deferred) out.destinations) → out'.purged - out.purged ≡ purge_answer x
@@ -543,24 +563,27 @@ module _ (schema : Schema) (here : Here) (base : List Rows) (journal : List Entr
     kept_senders : senders_in (set inboxes place new) ≡ senders_in inboxes
     kept_senders = senders_in-same inboxes place new i (kept ∙ ap sender_in is)
 
-    pub room_state : (out' : Outgoing) → out'.destinations ≡ out.destinations → out'.purged ≡ out.purged → state_of schema here base journal (set inboxes place new) out' stamps moment ≡ x
-    room_state out' same gone = rw (kept_senders, same, gone) refl
+    pub room_state : (out' : Outgoing) (notes' : NotesState) → out'.destinations ≡ out.destinations → out'.purged ≡ out.purged → notes'.logs ≡ notes.logs → notes'.snapshots ≡ notes.snapshots
+        → state_of schema here base journal (set inboxes place new) out' notes' stamps moment ≡ x
+    room_state out' notes' same gone logs snapshots = rw (kept_senders, same, gone, logs, snapshots) refl
 
-    pub room_holds : ((q : ℕ) → marks.finished new.marked q ≡ marks.finished i.marked q) → (out' : Outgoing) → out'.destinations ≡ out.destinations → Keeps schema (pasts_of x) (queue_of x) out' → (room' : ℕ) → length (in_order lists) ≤ room'
-        → Holds (state_of schema here base journal (set inboxes place new) out' stamps moment) rows numbers (set inboxes place new) out' lists room'
-    room_holds marked out' same keeps room' droppable = same_holds (set inboxes place new) out' stamps moment room' kept_senders
-        (follow_same origin journal inboxes place i new found is h.follow (ap (λ (s : SenderState). s.origin) kept) marked) (ap sites_in same) keeps droppable
+    pub room_holds : ((q : ℕ) → marks.finished new.marked q ≡ marks.finished i.marked q) → (out' : Outgoing) (notes' : NotesState) → notes'.snapshots ≡ notes.snapshots → out'.destinations ≡ out.destinations → Keeps schema (pasts_of x) (queue_of x) out'
+        → (room' : ℕ) → length (in_order lists) ≤ room'
+        → Holds (state_of schema here base journal (set inboxes place new) out' notes' stamps moment) rows numbers (set inboxes place new) out' lists room'
+    room_holds marked out' notes' snapshots same keeps room' droppable = same_holds (set inboxes place new) out' notes' stamps moment room' kept_senders
+        (follow_same origin journal inboxes place i new found is h.follow (ap (λ (s : SenderState). s.origin) kept) marked) snapshots (ap sites_in same) keeps droppable
 
     -- the same, with what a call hands back known by equations
-    pub room_state_is : (schema' : Schema) (journal' : List Entry) (out' : Outgoing) → schema' ≡ schema → journal' ≡ journal → out'.destinations ≡ out.destinations → out'.purged ≡ out.purged
-        → state_of schema' here base journal' (set inboxes place new) out' stamps moment ≡ x
-    room_state_is schema' journal' out' schema_is journal_is same gone = rw (schema_is, journal_is) (room_state out' same gone)
+    pub room_state_is : (schema' : Schema) (journal' : List Entry) (out' : Outgoing) (notes' : NotesState) → schema' ≡ schema → journal' ≡ journal → out'.destinations ≡ out.destinations → out'.purged ≡ out.purged
+        → notes'.logs ≡ notes.logs → notes'.snapshots ≡ notes.snapshots
+        → state_of schema' here base journal' (set inboxes place new) out' notes' stamps moment ≡ x
+    room_state_is schema' journal' out' notes' schema_is journal_is same gone logs snapshots = rw (schema_is, journal_is) (room_state out' notes' same gone logs snapshots)
 
-    pub room_holds_is : (schema' : Schema) (journal' : List Entry) (out' : Outgoing) (rows' : List Rows) (numbers' : Numbers) (lists' : List ErrorList) (room' : ℕ) → schema' ≡ schema → journal' ≡ journal → rows' ≡ rows → numbers' ≡ numbers → lists' ≡ lists
-        → ((q : ℕ) → marks.finished new.marked q ≡ marks.finished i.marked q) → out'.destinations ≡ out.destinations → Keeps schema (pasts_of x) (queue_of x) out' → length (in_order lists) ≤ room'
-        → Holds (state_of schema' here base journal' (set inboxes place new) out' stamps moment) rows' numbers' (set inboxes place new) out' lists' room'
-    room_holds_is schema' journal' out' rows' numbers' lists' room' schema_is journal_is rows_are numbers_are lists_are marked same keeps droppable =
-        rw (schema_is, journal_is, rows_are, numbers_are, lists_are) (room_holds marked out' same keeps room' droppable)
+    pub room_holds_is : (schema' : Schema) (journal' : List Entry) (out' : Outgoing) (notes' : NotesState) (rows' : List Rows) (numbers' : Numbers) (lists' : List ErrorList) (room' : ℕ) → schema' ≡ schema → journal' ≡ journal → rows' ≡ rows → numbers' ≡ numbers → lists' ≡ lists
+        → ((q : ℕ) → marks.finished new.marked q ≡ marks.finished i.marked q) → notes'.snapshots ≡ notes.snapshots → out'.destinations ≡ out.destinations → Keeps schema (pasts_of x) (queue_of x) out' → length (in_order lists) ≤ room'
+        → Holds (state_of schema' here base journal' (set inboxes place new) out' notes' stamps moment) rows' numbers' (set inboxes place new) out' lists' room'
+    room_holds_is schema' journal' out' notes' rows' numbers' lists' room' schema_is journal_is rows_are numbers_are lists_are marked snapshots same keeps droppable =
+        rw (schema_is, journal_is, rows_are, numbers_are, lists_are) (room_holds marked out' notes' snapshots same keeps room' droppable)
 
   -- ---- an arrival that is one of a sender
 
@@ -614,11 +637,11 @@ module _ (schema : Schema) (here : Here) (base : List Rows) (journal : List Entr
     mark_answer = rw known refl
 
     module _ (out' : Outgoing) (changed : out'.destinations ≡ at_destination from (acknowledged mark) out.destinations) (gone : out'.purged ≡ out.purged) where
-      pub mark_state : state_of schema here base journal inboxes out' stamps moment ≡ site_accept (Mark from to mark) x
+      pub mark_state : state_of schema here base journal inboxes out' notes stamps moment ≡ site_accept (Mark from to mark) x
       mark_state = rw (known, changed, gone) refl
 
-      pub mark_holds : Keeps schema (pasts_of x) (queue_of x) out' → Holds (state_of schema here base journal inboxes out' stamps moment) rows numbers inboxes out' lists room
-      mark_holds keeps = same_holds inboxes out' stamps moment room refl h.follow
+      pub mark_holds : Keeps schema (pasts_of x) (queue_of x) out' → Holds (state_of schema here base journal inboxes out' notes stamps moment) rows numbers inboxes out' lists room
+      mark_holds keeps = same_holds inboxes out' notes stamps moment room refl h.follow refl
           (ap sites_in changed ∙ sites_in-at_destination (acknowledged mark) (λ d. refl) from out.destinations) keeps h.droppable
 
   -- ---- a position that is ready

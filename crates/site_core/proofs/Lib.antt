@@ -10,9 +10,12 @@ pub mod Reading
 pub mod Foreign
 pub mod Sending
 pub mod Onward
+pub mod NotedRows
+pub mod FewChanges
 pub mod Installing
 pub mod FinishedOnce
 pub mod Holding
 pub mod Passing
 pub mod Beginning
 pub mod SettledSite
+pub mod RefreshedSite

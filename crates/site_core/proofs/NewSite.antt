@@ -10,11 +10,13 @@ use Rattle.unique_resolve.specs.Numbers.{Numbers, first_numbers}
 use Rattle.unique_resolve.proofs.Settlements.{AreCounters-first}
 use Rattle.local_txn.specs.declared.local.Here.{Here}
 use Rattle.origin_marks.specs.Marks as marks
+use Rattle.snapshot_query.specs.declared.snapshot.Snapshot.{Snapshot}
 use Rattle.error_queue.specs.ErrorLists.{ErrorList, no_errors, in_order}
 use Rattle.site_state.specs.State.{is_master_site}
 use Rattle.site_state.specs.Deferrals as queue
 use Rattle.site_state.specs.Making.{new_sender, new_destination}
-use Rattle.site_state.specs.Fits.{IsKeyed, SendersHave}
+use Rattle.site_state.specs.Fits.{IsKeyed, SendersHave, AreWithin, AreApart}
+use Rattle.site_notes.specs.Noted.{NotesState}
 use Rattle.site_state.proofs.DeclaredSites.{origins, sites_in}
 use Rattle.sender_inbox.specs.Incoming.{Incoming}
 use Rattle.site_outbox.specs.Outgoing.{Outgoing, Keeps}
@@ -50,18 +52,20 @@ follow_nothing : (inboxes : List Incoming) → AllByRecursion (λ (i : Incoming)
 follow_nothing [] none = tt
 follow_nothing (i ∷ is) none = (none.0, follow_nothing is none.1)
 
-pub new_holds : (schema : Schema) (here : Here) (rows base : List Rows) (inboxes : List Incoming) (out : Outgoing) (numbers : Numbers) (lists : List ErrorList) (room : ℕ) → IsKeyed schema → AreTables schema rows → base ≡ rows
+pub new_holds : (schema : Schema) (here : Here) (rows base : List Rows) (inboxes : List Incoming) (out : Outgoing) (notes : NotesState) (snapshots : List Snapshot) (numbers : Numbers) (lists : List ErrorList) (room : ℕ) → IsKeyed schema → AreTables schema rows → base ≡ rows
     → here.is_master ≡ is_master_site schema here.site → senders_in inboxes ≡ map new_sender (senders_of schema here.site) → AllByRecursion (λ (i : Incoming). (p : ℕ) → marks.finished i.marked p ≡ false) inboxes
     → out.destinations ≡ map (new_destination schema) (destinations_of schema here.site) → Keeps schema [] [] out → numbers ≡ first_numbers schema → lists ≡ map no_errors (senders_of schema here.site)
-    → Holds (state_of schema here base [] inboxes out (record { clock = 0; last = 0 }) 0) rows numbers inboxes out lists room
-new_holds schema here rows base inboxes out numbers lists room keyed are same master senders unfinished destinations keeps first none = record {
+    → notes.snapshots ≡ snapshots → AreWithin schema snapshots → AreApart snapshots
+    → Holds (state_of schema here base [] inboxes out notes (record { clock = 0; last = 0 }) 0) rows numbers inboxes out lists room
+new_holds schema here rows base inboxes out notes snapshots numbers lists room keyed are same master senders unfinished destinations keeps first none shows within apart = record {
   based = rw same are;
-  fits = record { keyed = keyed; content = record { tables = rw same are; counters = AreCounters-first schema }; queued = tt; senders = rw senders (none_arrived _ (senders_of schema here.site)); journal = tt; within = tt };
+  fits = record { keyed = keyed; content = record { tables = rw same are; counters = AreCounters-first schema }; queued = tt; senders = rw senders (none_arrived _ (senders_of schema here.site)); journal = tt; within = rw shows within };
   sized = record { queued = tt; arrived = rw senders (none_arrived _ (senders_of schema here.site)); journal = tt };
   declared = record { is_master = master; senders = rw senders (origins-new (senders_of schema here.site)); destinations = rw destinations (sites_in-new schema (destinations_of schema here.site)) };
   arrived = λ origin p is. absurd (cc is);
   once = λ origin p. omega arith;
   stays = tt;
+  apart = rw shows apart;
   tables_are = sym same;
   numbers_are = first;
   follow = follow_nothing inboxes unfinished;

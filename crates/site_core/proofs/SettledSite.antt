@@ -17,6 +17,7 @@ use Rattle.site_state.specs.State.{SenderState, SiteState}
 use Rattle.site_state.specs.Journal.{finished, error_at}
 use Rattle.site_state.specs.Fits.{EntryHas}
 use Rattle.sender_inbox.specs.Incoming.{Incoming}
+use Rattle.site_notes.specs.Noted.{NotesState}
 use Rattle.site_outbox.specs.Outgoing.{Outgoing}
 use Rattle.journal_order.specs.Settling.{StaysWithMasters, IsSettleable, IsSettled, IsOneSite}
 use Rattle.journal_order.proofs.SettledJournals.{AllByRecursion-settled, IsFinishedOnce-settled}
@@ -38,20 +39,20 @@ module _ (journal journal' : List Entry) where
     lists_alike [] = refl
     lists_alike (s ∷ ss) = rw (errors_alike s.origin s.arrived, lists_alike ss) refl
 
-module _ (schema : Schema) (here : Here) (base : List Rows) (journal : List Entry) (inboxes : List Incoming) (out : Outgoing) (stamps : Stamps) (moment : ℕ)
-    (rows : List Rows) (numbers : Numbers) (lists : List ErrorList) (room : ℕ) (h : Holds (state_of schema here base journal inboxes out stamps moment) rows numbers inboxes out lists room)
+module _ (schema : Schema) (here : Here) (base : List Rows) (journal : List Entry) (inboxes : List Incoming) (out : Outgoing) (notes : NotesState) (stamps : Stamps) (moment : ℕ)
+    (rows : List Rows) (numbers : Numbers) (lists : List ErrorList) (room : ℕ) (h : Holds (state_of schema here base journal inboxes out notes stamps moment) rows numbers inboxes out lists room)
     (origin : SiteName) (place : ℕ) (sound : IsSound schema) (can : IsSettleable schema origin place journal) where
   abbrev x : SiteState
-  x = state_of schema here base journal inboxes out stamps moment
+  x = state_of schema here base journal inboxes out notes stamps moment
 
   module _ (journal' : List Entry) (settled : IsSettled place journal journal') where
     one : IsOneSite x (record x { journal = journal' })
     one = settling_changes_no_more origin place x journal' sound h.fits h.based h.stays can settled
 
-    pub settled_site : IsSettledSite place x (state_of schema here base journal' inboxes out stamps moment)
+    pub settled_site : IsSettledSite place x (state_of schema here base journal' inboxes out notes stamps moment)
     settled_site = record { journal = settled; kept = refl; same = one }
 
-    pub settled_holds : (room' : ℕ) → room ≤ room' → Holds (state_of schema here base journal' inboxes out stamps moment) rows numbers inboxes out lists room'
+    pub settled_holds : (room' : ℕ) → room ≤ room' → Holds (state_of schema here base journal' inboxes out notes stamps moment) rows numbers inboxes out lists room'
     settled_holds room' more = record {
       based = h.based;
       fits = SiteFits-settled place x journal' h.fits settled one;
@@ -64,6 +65,7 @@ module _ (schema : Schema) (here : Here) (base : List Rows) (journal : List Entr
       arrived = λ o p f. h.arrived o p (one.finished_alike o p ∙ f);
       once = IsFinishedOnce-settled place journal journal' settled h.once;
       stays = AllByRecursion-settled (StaysWithMasters schema) place journal journal' settled h.stays;
+      apart = h.apart;
       tables_are = h.tables_are ∙ ap (λ (c : Content). c.tables) one.content;
       numbers_are = h.numbers_are ∙ ap (λ (c : Content). c.numbers) one.content;
       follow = follow_alike journal journal' inboxes one.finished_alike h.follow;

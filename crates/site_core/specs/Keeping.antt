@@ -1,5 +1,5 @@
 -- What the fields of a site mean, and that what it keeps beside its state is what the state says.
-use Rattle.std.specs.Prelude.{◌≡◌, ℕ, ◌≤◌, List, [], length, map, Option}
+use Rattle.std.specs.Prelude.{◌≡◌, ℕ, ◌≤◌, List, length, map, Option}
 use Rattle.std.specs.List.{find, AllByRecursion}
 use Rattle.rep_values.specs.declared.name.SiteName.{SiteName}
 use Rattle.rep_schema.specs.declared.schema.Schema.{Schema}
@@ -19,7 +19,8 @@ use Rattle.site_state.specs.Streams.{queue_of}
 use Rattle.site_state.specs.Pasts.{pasts_of}
 use Rattle.site_state.specs.Errors.{errors_from}
 use Rattle.site_state.specs.DeclaredSites.{IsDeclared}
-use Rattle.site_state.specs.Fits.{EntryHas, SendersHave, FinishedHaveArrived, SiteFits}
+use Rattle.site_state.specs.Fits.{EntryHas, SendersHave, FinishedHaveArrived, AreApart, SiteFits}
+use Rattle.site_notes.specs.Noted.{NotesState}
 use Rattle.sender_inbox.specs.Incoming.{Incoming}
 use Rattle.site_outbox.specs.Outgoing.{Outgoing, Keeps}
 use Rattle.journal_order.specs.Settling.{IsFinishedOnce, StaysWithMasters}
@@ -35,8 +36,8 @@ abbrev pub sender_in : Incoming → SenderState
 sender_in i = i.sender
 
 -- the site that the fields mean
-abbrev pub state_of : Schema → Here → List Rows → List Entry → List Incoming → Outgoing → Stamps → ℕ → SiteState
-state_of schema here base journal inboxes out stamps moment = record {
+abbrev pub state_of : Schema → Here → List Rows → List Entry → List Incoming → Outgoing → NotesState → Stamps → ℕ → SiteState
+state_of schema here base journal inboxes out notes stamps moment = record {
   schema = schema;
   here = here;
   base = base;
@@ -45,8 +46,8 @@ state_of schema here base journal inboxes out stamps moment = record {
   destinations = out.destinations;
   purged = out.purged;
   stamps = stamps;
-  logs = [];
-  snapshots = [];
+  logs = notes.logs;
+  snapshots = notes.snapshots;
   moment = moment;
 }
 
@@ -69,7 +70,7 @@ Follows journal i = (position : ℕ) → marks.finished i.marked position ≡ fi
 abbrev pub error_list : List Entry → SenderState → ErrorList
 error_list journal s = record { origin = s.origin; entries = errors_from journal s }
 
--- what a site keeps: base rows that are tables, and beside its state the tables and counters of its store, its inboxes, its
+-- what a site keeps: base rows that are tables, at most one snapshot of a table, and beside its state the tables and counters of its store, its inboxes, its
 -- outbox, its error queue, and so much room in its journal that each error can be dropped
 pub record Holds (x : SiteState) (rows : List Rows) (numbers : Numbers) (inboxes : List Incoming) (out : Outgoing) (lists : List ErrorList) (room : ℕ) : Type 0 where
   pub based : AreTables x.schema x.base
@@ -79,6 +80,7 @@ pub record Holds (x : SiteState) (rows : List Rows) (numbers : Numbers) (inboxes
   pub arrived : FinishedHaveArrived x.journal x.senders
   pub once : IsFinishedOnce x.journal
   pub stays : AllByRecursion (StaysWithMasters x.schema) x.journal
+  pub apart : AreApart x.snapshots
   pub tables_are : rows ≡ tables_of x
   pub numbers_are : numbers ≡ (content_of x).numbers
   pub follow : AllByRecursion (Follows x.journal) inboxes

@@ -2,6 +2,7 @@
 pub mod Keeping
 pub mod Seen
 pub mod Applying
+pub mod Noting
 pub mod Committing
 pub mod Working
 pub mod Ordering

@@ -20,6 +20,7 @@ ghost use Rattle.site_state.specs.Fits.{IsKeyed};
 ghost use Rattle.site_outbox.specs.Outgoing.{Keeps};
 ghost use Rattle.txn_work.specs.Endings.{effect_of};
 ghost use Rattle.site_core.specs.Applying.{goes_on, onward_of, entry_by, error_by};
+ghost use Rattle.site_core.specs.Noting.{IsNoted};
 
 use conflict_detect::txn_of;
 use error_queue::ErrorEntry;
@@ -27,6 +28,7 @@ use rep_calls::{Past, Txn};
 use rep_lists::{Items, NoMemory};
 use rep_schema::{Change, Changes, RowStore, Schema, holds_tables};
 use rep_values::{ApplyError, SiteName};
+use site_notes::Notes;
 use site_outbox::Outbox;
 use site_state::{Applied, Arrival, Entry};
 use std::alloc::Global;
@@ -147,6 +149,7 @@ pub(crate) fn apply_onward<R: RowStore>(
     ensures tables { IfOk result (λ done. R.tables store.new ≡ made_all (R.schema store.old) done.changes.rows (R.tables store.old)) }
     ensures onward { IfOk result (λ done. done.onward ≡ onward_of past done.changes.rows (length outbox.old.deferred)) }
     ensures few { IfOk result (λ done. length done.changes.rows ≤ length txn.now.calls) }
+    ensures fits { IfOk result (λ done. AllByRecursion (ChangeFits (R.schema store.old)) done.changes.rows) }
     ensures queue { IfOk result (λ done. (pasts : List (List PastValue)) (txns : List TxnValue) → Keeps (R.schema store.old) pasts txns outbox.old
         → Keeps (R.schema store.old) (with_one (goes_on past done.changes.rows) (past_in past) pasts) (with_one (goes_on past done.changes.rows) (txn_of (R.schema store.old) done.changes.rows) txns) outbox.new) }
     ensures err { IfErr result (StopsAs (txn_effect (R.schema store.old) origin.now txn.now (R.tables store.old) counters.old)) }
@@ -176,23 +179,28 @@ pub(crate) fn apply_onward<R: RowStore>(
     }
 }
 
-/// Makes changed rows that were evaluated before, and queues them onward where there is a past to send with them. It
-/// answers their number, 0 where they aren't queued.
+/// Makes changed rows that were evaluated before, notes them at a moment, and queues them onward where there is a past to
+/// send with them. It answers their number, 0 where they aren't queued.
 fn install_onward<R: RowStore>(
     alloc: Global,
     store: &mut R,
     outbox: &mut Outbox,
+    notes: &mut Notes,
+    moment: u64,
     past: Option<Items<Past>>,
     changes: Changes,
 ) -> Result<u64, NoMemory>
     requires keyed { IsKeyed (R.schema store.old) }
     requires leads { LeadsTo (R.schema store.old) changes.rows (R.tables store.old) (made_all (R.schema store.old) changes.rows (R.tables store.old)) }
     requires differ { AllByRecursion (λ change. change.before ≢ change.after) changes.rows }
+    requires room { length changes.rows ≤ notes.old.room }
     ensures tables { OnOk result (R.tables store.new ≡ made_all (R.schema store.old) changes.rows (R.tables store.old)) }
+    ensures noted { OnOk result (IsNoted (R.schema store.old) moment changes.rows notes.old notes.new) }
     ensures onward { IfOk result (λ onward. onward ≡ onward_of past changes.rows (length outbox.old.deferred)) }
     ensures queue { OnOk result ((pasts : List (List PastValue)) (txns : List TxnValue) → Keeps (R.schema store.old) pasts txns outbox.old
         → Keeps (R.schema store.old) (with_one (goes_on past changes.rows) (past_in past) pasts) (with_one (goes_on past changes.rows) (txn_of (R.schema store.old) changes.rows) txns) outbox.new) }
     ensures kept { OnErr result (R.tables store.new ≡ R.tables store.old) }
+    ensures notes_kept { OnErr result (notes.new ≡ notes.old) }
     ensures queue_kept { OnErr result ((pasts : List (List PastValue)) (txns : List TxnValue) → Keeps (R.schema store.old) pasts txns outbox.old → Keeps (R.schema store.old) pasts txns outbox.new) }
     ensures destinations { outbox.new.destinations ≡ outbox.old.destinations }
     ensures purged { outbox.new.purged ≡ outbox.old.purged }
@@ -202,16 +210,20 @@ fn install_onward<R: RowStore>(
     // The room comes first, so that what follows the queue can't fail.
     make_room(store, &changes)?;
     let onward = send_onward(alloc, store.schema(), outbox, past, changes.rows.as_slice())?;
+    notes.note(store.schema(), changes.rows.as_slice(), moment);
     make_changes(store, changes);
     Ok(onward)
 }
 
-/// Applies what arrived, which ends as it was evaluated before where it was, and says what it adds to the site.
+/// Applies what arrived, which ends as it was evaluated before where it was, notes its changed rows at a moment, and says
+/// what it adds to the site.
 pub(crate) fn apply_arrival<R: RowStore>(
     alloc: Global,
     store: &mut R,
     counters: &mut Counters,
     outbox: &mut Outbox,
+    notes: &mut Notes,
+    moment: u64,
     past: Option<Items<Past>>,
     origin: &SiteName,
     arrival: &Arrival,
@@ -228,12 +240,15 @@ pub(crate) fn apply_arrival<R: RowStore>(
     ensures error { IfOk result (λ step. step.error ≡ error_by origin.now arrival.now (txn_effect (R.schema store.old) origin.now arrival.now.txn (R.tables store.old) counters.old)) }
     ensures tables { OnOk result (R.tables store.new ≡ tables_by (R.schema store.old) (txn_effect (R.schema store.old) origin.now arrival.now.txn (R.tables store.old) counters.old) (R.tables store.old)) }
     ensures numbers { OnOk result (counters.new ≡ numbers_by (txn_effect (R.schema store.old) origin.now arrival.now.txn (R.tables store.old) counters.old) counters.old) }
+    ensures noted { OnOk result (IsNoted (R.schema store.old) moment (changes_by (txn_effect (R.schema store.old) origin.now arrival.now.txn (R.tables store.old) counters.old)) notes.old notes.new) }
     ensures queue { OnOk result ((pasts : List (List PastValue)) (txns : List TxnValue) → Keeps (R.schema store.old) pasts txns outbox.old
         → Keeps (R.schema store.old) (with_one (goes_on past (changes_by (txn_effect (R.schema store.old) origin.now arrival.now.txn (R.tables store.old) counters.old))) (past_in past) pasts)
         (with_one (goes_on past (changes_by (txn_effect (R.schema store.old) origin.now arrival.now.txn (R.tables store.old) counters.old)))
         (txn_of (R.schema store.old) (changes_by (txn_effect (R.schema store.old) origin.now arrival.now.txn (R.tables store.old) counters.old))) txns) outbox.new) }
     ensures few { OnOk result (length (changes_by (txn_effect (R.schema store.old) origin.now arrival.now.txn (R.tables store.old) counters.old)) ≤ length arrival.now.txn.calls) }
     ensures kept { OnErr result (R.tables store.new ≡ R.tables store.old) }
+    ensures logs_kept { OnErr result (notes.new.logs ≡ notes.old.logs) }
+    ensures snapshots_kept { OnErr result (notes.new.snapshots ≡ notes.old.snapshots) }
     ensures counters_kept { OnErr result (counters.new ≡ counters.old) }
     ensures queue_kept { OnErr result ((pasts : List (List PastValue)) (txns : List TxnValue) → Keeps (R.schema store.old) pasts txns outbox.old → Keeps (R.schema store.old) pasts txns outbox.new) }
     ensures destinations { outbox.new.destinations ≡ outbox.old.destinations }
@@ -241,19 +256,24 @@ pub(crate) fn apply_arrival<R: RowStore>(
     ensures schema { R.schema store.new ≡ R.schema store.old }
 {
     holds_tables(store);
+    // A call changes one row at most.
+    notes.reserve(arrival.txn.calls.len() as u64)?;
     // One for the journal, and one for the error queue.
     let txn = arrival.txn.share()?;
     let failed = arrival.txn.share()?;
     match ending {
         Some(Ending::Changed(changes)) => {
-            let onward = install_onward(alloc, store, outbox, past, changes)?;
+            let onward = install_onward(alloc, store, outbox, notes, moment, past, changes)?;
             Ok(done_step(origin, arrival, onward, txn))
         }
         Some(Ending::Failed { call, error }) => {
             Ok(failed_step(origin, arrival, call, &error, txn, failed))
         }
         None => match apply_onward(alloc, store, counters, outbox, past, origin, &arrival.txn) {
-            Ok(done) => Ok(done_step(origin, arrival, done.onward, txn)),
+            Ok(done) => {
+                notes.note(store.schema(), done.changes.rows.as_slice(), moment);
+                Ok(done_step(origin, arrival, done.onward, txn))
+            }
             Err(ApplyStop::Failed { call, error }) => {
                 Ok(failed_step(origin, arrival, call, &error, txn, failed))
             }

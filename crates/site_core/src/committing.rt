@@ -1,5 +1,7 @@
 //! A block of statements on what a site keeps of its rows.
-ghost use Rattle.std.specs.Prelude.{◌≡◌, ◌+◌, ◌∷◌, true, List, length, IfOk, IfErr, IfSome, OnOk, OnErr, Ok, None};
+ghost use Rattle.std.specs.Prelude.{◌≡◌, ◌+◌, ◌≤◌, ◌∷◌, true, List, length, IfOk, IfErr, IfSome, OnOk, OnErr, Ok, None};
+ghost use Rattle.std.specs.List.{AllByRecursion};
+ghost use Rattle.rep_schema.specs.Changes.{ChangeFits};
 ghost use Rattle.rep_schema.specs.Putting.{made_all};
 ghost use Rattle.rep_calls.specs.declared.call.Txn.{Txn as TxnValue};
 ghost use Rattle.rep_calls.specs.declared.past.Past.{Past as PastValue};
@@ -81,6 +83,9 @@ pub(crate) fn run_block<R: RowStore>(
     ensures ok { IfOk result (λ block. local_effect (R.schema store.old) here.now stamps.now statements.now (R.tables store.old)
         ≡ Ok (record { changes = block.changes.rows; stamps = block.stamps })) }
     ensures tables { IfOk result (λ block. R.tables store.new ≡ made_all (R.schema store.old) block.changes.rows (R.tables store.old)) }
+    ensures fits { IfOk result (λ block. AllByRecursion (ChangeFits (R.schema store.old)) block.changes.rows) }
+    ensures few { IfOk result (λ block. length block.changes.rows ≤ length statements.now) }
+    ensures most { IfOk result (λ block. length block.changes.rows ≤ 1000) }
     ensures queued { IfOk result (λ block. IfSome block.queued (IsQueued (R.schema store.old) here.now (R.tables store.old) past block.changes.rows outbox.old outbox.new)) }
     ensures none { IfOk result (λ block. block.queued ≡ None → (is_empty block.changes.rows ≡ true) × (outbox.new ≡ outbox.old)) }
     ensures err { IfErr result (EndsAs (local_effect (R.schema store.old) here.now stamps.now statements.now (R.tables store.old))) }

@@ -1,10 +1,11 @@
-//! The journal of a site beside its error queue.
+//! The room that a site takes before it changes: in its journal, beside its error queue, and at its notes.
 ghost use Rattle.std.specs.Prelude.{◌≡◌, ◌+◌, ◌≤◌, length, None, IfSome, OnOk};
 ghost use Rattle.error_queue.specs.ErrorLists.{IsOrigin, error_in, in_order};
 ghost use Rattle.site_core.specs.Applying.{with_error};
 
 use error_queue::{ErrorEntry, Errors};
 use rep_lists::{NoMemory, RoomyList};
+use site_notes::Notes;
 use site_state::Entry;
 
 /// Takes room in a journal for so many entries beside those that drop the errors that stand.
@@ -21,6 +22,25 @@ pub(crate) fn reserve_beside(
         return Err(NoMemory);
     };
     journal.reserve(room)?;
+    Ok(())
+}
+
+/// Takes room in a journal for one entry beside those that drop the errors that stand, and to note so many changed rows.
+pub(crate) fn reserve_noting(
+    journal: &mut RoomyList<Entry>,
+    errors: &Errors,
+    notes: &mut Notes,
+    changes: u64,
+) -> Result<(), NoMemory>
+    ensures ok { OnOk result (length (in_order errors.now.lists) + 1 ≤ journal.new.spare) }
+    ensures room { OnOk result (changes ≤ notes.new.room) }
+    ensures items { journal.new.items ≡ journal.old.items }
+    ensures spare { journal.old.spare ≤ journal.new.spare }
+    ensures logs { notes.new.logs ≡ notes.old.logs }
+    ensures snapshots { notes.new.snapshots ≡ notes.old.snapshots }
+{
+    reserve_beside(journal, errors, 1)?;
+    notes.reserve(changes)?;
     Ok(())
 }
 

@@ -1,4 +1,5 @@
-//! One site: its rows and what leads to them, what it sends, and what it took in. Each call is one event of the site.
+//! One site: its rows and what leads to them, what it sends, what it took in, and what it notes of changed rows. Each call is
+//! one event of the site.
 #![tactic(auto)]
 
 mod applying;
@@ -6,7 +7,6 @@ mod committing;
 mod inboxes;
 mod journal;
 mod laws;
-mod rows;
 mod seen;
 mod site;
 

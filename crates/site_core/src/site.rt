@@ -1,6 +1,6 @@
 //! One site over a store of rows.
-ghost use Rattle.std.specs.Prelude.{◌≡◌, ◌+◌, ◌<◌, ◌^◌, [], length, reverse, slice_get, option_copied, IfOk};
-ghost use Rattle.rep_schema.specs.Sites.{senders_of, destinations_of};
+ghost use Rattle.std.specs.Prelude.{◌≡◌, ℕ, ◌+◌, ◌<◌, ◌^◌, true, length, reverse, slice_get, option_copied, IfOk};
+ghost use Rattle.rep_schema.specs.Sites.{senders_of, destinations_of, has_table};
 ghost use Rattle.error_queue.specs.ErrorLists.{in_order};
 ghost use Rattle.site_state.specs.State.{is_master_site};
 ghost use Rattle.site_state.specs.Contents.{tables_of};
@@ -9,34 +9,38 @@ ghost use Rattle.site_state.specs.Deferrals.{deferred_of, marks_of};
 ghost use Rattle.site_state.specs.Errors.{errors_of};
 ghost use Rattle.site_state.specs.Making.{new_site};
 ghost use Rattle.site_state.specs.Steps.{begun};
-ghost use Rattle.site_state.specs.Fits.{IsKeyed};
+ghost use Rattle.site_state.specs.Fits.{IsKeyed, AreWithin, AreApart};
 
 mod commit;
 mod errors;
+mod noting;
 mod passes;
 mod ready;
 mod receive;
+mod refresh;
 mod send;
 mod settle;
 mod work;
 
 use crate::inboxes::new_inboxes;
-use crate::rows::all_rows;
 use deferred_queue::Queue;
 use error_queue::Errors;
 use local_txn::{Here, Stamps};
 use rep_lists::{Items, NoMemory, RoomyList};
-use rep_schema::RowStore;
+use rep_schema::{RowStore, TableSet};
 use rep_values::{Row, SiteName};
 use sender_inbox::Inbox;
+use site_notes::{Notes, tables_of};
 use site_outbox::Outbox;
+use site_refresh::all_rows;
 use site_state::Entry;
+use snapshot_query::Snapshot;
 use std::alloc::Global;
 use std::marker::Model;
 use unique_resolve::Counters;
 
 /// A site: a store of rows with its counters, the rows that it began with, the journal of what led from them to these, what
-/// arrived from each sender, what it sends to its destinations, and the errors that stand.
+/// arrived from each sender, what it sends to its destinations, the errors that stand, and what it notes of changed rows.
 #[derive(Drop)]
 pub struct Site<R: RowStore> {
     store: R,
@@ -48,6 +52,7 @@ pub struct Site<R: RowStore> {
     inboxes: Vec<Inbox>,
     outbox: Outbox,
     errors: Errors,
+    notes: Notes,
     stamps: Stamps,
     moment: u64,
 }
@@ -59,9 +64,9 @@ impl<R: RowStore> Model for Site<R> {
 
     ghost Value = { SiteState };
 
-    ghost view = { λ s. state_of (R.schema s.store) s.here s.base (reverse s.journal.items) s.inboxes.items s.outbox s.stamps s.moment };
+    ghost view = { λ s. state_of (R.schema s.store) s.here s.base (reverse s.journal.items) s.inboxes.items s.outbox s.notes s.stamps s.moment };
 
-    ghost invariant = { λ s. Holds (state_of (R.schema s.store) s.here s.base (reverse s.journal.items) s.inboxes.items s.outbox s.stamps s.moment)
+    ghost invariant = { λ s. Holds (state_of (R.schema s.store) s.here s.base (reverse s.journal.items) s.inboxes.items s.outbox s.notes s.stamps s.moment)
         (R.tables s.store) s.counters s.inboxes.items s.outbox s.errors.lists s.journal.spare };
 }
 
@@ -74,25 +79,33 @@ fn entry_at(journal: &[Entry], place: u64) -> Option<&Entry>
 
 impl<R: RowStore> Site<R> {
     /// A site of the store's schema whose rows are the store's, and at which nothing happened yet. Senders and destinations
-    /// are those that the schema gives the site, in declared order.
+    /// are those that the schema gives the site, in declared order. It logs the changed rows of some tables, and has these
+    /// snapshots.
     pub fn make(
         alloc: Global,
         store: R,
         here: Here,
         senders: &[SiteName],
         destinations: &[SiteName],
+        logged: &TableSet,
+        snapshots: Items<Snapshot>,
     ) -> Result<Site<R>, NoMemory>
         requires keyed { IsKeyed (R.schema store) }
         requires master { here.is_master ≡ is_master_site (R.schema store) here.site }
         requires senders { senders.now ≡ senders_of (R.schema store) here.site }
         requires destinations { destinations.now ≡ destinations_of (R.schema store) here.site }
-        ensures { IfOk result (λ site. site ≡ new_site (R.schema store) here [] [] (R.tables store)) }
+        requires logged { (table : ℕ) → has_table logged.now table ≡ true → table < 32 }
+        requires within { AreWithin (R.schema store) snapshots }
+        requires apart { AreApart snapshots }
+        ensures { IfOk result (λ site. site ≡ new_site (R.schema store) here logged.now snapshots (R.tables store)) }
     {
         let base = all_rows(alloc, &store)?;
         let counters = Counters::make(alloc, store.schema())?;
         let inboxes = new_inboxes(alloc, senders)?;
         let outbox = Outbox::make(alloc, store.schema(), destinations)?;
         let errors = Errors::make(alloc, senders)?;
+        let logs = tables_of(alloc, logged, 32)?;
+        let notes = Notes::make(alloc, logs.as_slice(), snapshots)?;
         Ok(Site {
             store,
             counters,
@@ -102,6 +115,7 @@ impl<R: RowStore> Site<R> {
             inboxes,
             outbox,
             errors,
+            notes,
             stamps: Stamps { clock: 0, last: 0 },
             moment: 0,
         })
@@ -112,6 +126,13 @@ impl<R: RowStore> Site<R> {
         ensures { result.now ≡ self.now.here.site }
     {
         &self.here.site
+    }
+
+    /// The tables that the site holds.
+    pub fn held(&self) -> &TableSet
+        ensures { result.now ≡ self.now.here.tables }
+    {
+        &self.here.tables
     }
 
     /// The store of rows.

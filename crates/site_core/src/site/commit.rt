@@ -5,7 +5,7 @@ ghost use Rattle.site_state.specs.Commits.{block_at, site_commit, commit_answer}
 
 use super::Site;
 use crate::committing::{Block, no_memory, run_block};
-use crate::journal::reserve_beside;
+use crate::journal::reserve_noting;
 use local_txn::LocalStop;
 use rep_calls::Statement;
 use rep_schema::RowStore;
@@ -13,9 +13,9 @@ use site_state::Entry;
 use std::alloc::Global;
 
 impl<R: RowStore> Site<R> {
-    /// Commits a block of statements as one transaction of the site's own: it is queued, and journalled. It answers the
-    /// number under which it is queued, 0 where no row changed and nothing happened. Where a statement is refused, or there
-    /// is no memory, all is as before.
+    /// Commits a block of statements as one transaction of the site's own: it is queued and journalled, and its changed rows
+    /// are noted. It answers the number under which it is queued, 0 where no row changed and nothing happened. Where a
+    /// statement is refused, or there is no memory, all is as before.
     pub fn commit(&mut self, alloc: Global, statements: &[Statement]) -> Result<u64, LocalStop>
         requires { self.old.moment + 1 < 2 ^ 64 }
         ensures ok { OnOk result (self.new ≡ site_commit statements.now self.old) }
@@ -26,8 +26,9 @@ impl<R: RowStore> Site<R> {
         let Ok(past) = self.past(alloc) else {
             return Err(no_memory());
         };
-        // The room comes first, so that what follows the block can't fail.
-        let Ok(()) = reserve_beside(&mut self.journal, &self.errors, 1) else {
+        // The room comes first, so that what follows the block can't fail: a statement changes one row at most.
+        let rows = statements.len().min(1_000) as u64;
+        let Ok(()) = reserve_noting(&mut self.journal, &self.errors, &mut self.notes, rows) else {
             return Err(no_memory());
         };
         let block = run_block(
@@ -39,7 +40,11 @@ impl<R: RowStore> Site<R> {
             past,
             statements,
         )?;
-        let Block { stamps, queued, .. } = block;
+        let Block {
+            changes,
+            stamps,
+            queued,
+        } = block;
         let Some(queued) = queued else {
             return Ok(0);
         };
@@ -50,6 +55,8 @@ impl<R: RowStore> Site<R> {
         });
         self.stamps = stamps;
         self.moment += 1;
+        self.notes
+            .note(self.store.schema(), changes.rows.as_slice(), self.moment);
         Ok(number)
     }
 }

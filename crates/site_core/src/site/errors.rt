@@ -6,7 +6,7 @@ ghost use Rattle.site_core.specs.Applying.{refusal_of};
 
 use super::Site;
 use crate::applying::apply_onward;
-use crate::journal::reserve_beside;
+use crate::journal::reserve_noting;
 use rep_schema::RowStore;
 use rep_values::{Refusal, SiteName};
 use site_state::Entry;
@@ -24,8 +24,8 @@ fn refusal_of(stop: ApplyStop) -> Refusal
 }
 
 impl<R: RowStore> Site<R> {
-    /// Executes the error of a position again, on the rows of now: it no longer stands then, and is journalled. Where none
-    /// stands, where it still fails, or where there is no memory, all is as before.
+    /// Executes the error of a position again, on the rows of now: it no longer stands then, is journalled, and its changed
+    /// rows are noted. Where none stands, where it still fails, or where there is no memory, all is as before.
     pub fn execute_error(
         &mut self,
         alloc: Global,
@@ -44,7 +44,9 @@ impl<R: RowStore> Site<R> {
         };
         let txn = error.txn.share()?;
         let past = self.past_onward(alloc, origin)?;
-        reserve_beside(&mut self.journal, &self.errors, 1)?;
+        // The room comes first, so that what follows the transaction can't fail: a call changes one row at most.
+        let rows = txn.calls.len() as u64;
+        reserve_noting(&mut self.journal, &self.errors, &mut self.notes, rows)?;
         let done = match apply_onward(
             alloc,
             &mut self.store,
@@ -65,6 +67,11 @@ impl<R: RowStore> Site<R> {
             txn,
         });
         self.moment += 1;
+        self.notes.note(
+            self.store.schema(),
+            done.changes.rows.as_slice(),
+            self.moment,
+        );
         Ok(())
     }
 

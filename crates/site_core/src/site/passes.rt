@@ -104,6 +104,8 @@ impl<R: RowStore> Site<R> {
             &mut self.store,
             &mut self.counters,
             &mut self.outbox,
+            &mut self.notes,
+            self.moment,
             past,
             origin,
             arrival,

@@ -22,10 +22,10 @@ take_in-requires-clause-known g c = λ κs lives. rw c.as_slice.ensures at (sym 
 pub acknowledge-requires : goal.acknowledge-requires
 acknowledge-requires g c =
     let known = rw (← c.self.view_is) at (sym c.if-is_foreign_mark.ensures) in
-    mark_within _ _ _ _ _ _ _ _ _ _ _ _ c.self.invariant c.in-Mark.from c.in-Mark.to c.in-Mark.mark known
+    mark_within _ _ _ _ _ _ c.self.inside.notes _ _ _ _ _ _ c.self.invariant c.in-Mark.from c.in-Mark.to c.in-Mark.mark known
 
 pub invariant_of-self : goal.invariant_of-self
 invariant_of-self g c =
     let known = rw (← c.self.view_is) at (sym c.if-is_foreign_mark.ensures) in
     let h = c.self.invariant in
-    mark_holds _ _ _ _ _ _ _ _ _ _ _ _ h c.in-Mark.from c.in-Mark.to c.in-Mark.mark known c.acknowledge.new.self c.acknowledge.ensures.destinations c.acknowledge.ensures.purged (c.acknowledge.ensures.keeps _ _ _ h.keeps)
+    mark_holds _ _ _ _ _ _ c.self.inside.notes _ _ _ _ _ _ h c.in-Mark.from c.in-Mark.to c.in-Mark.mark known c.acknowledge.new.self c.acknowledge.ensures.destinations c.acknowledge.ensures.purged (c.acknowledge.ensures.keeps _ _ _ h.keeps)

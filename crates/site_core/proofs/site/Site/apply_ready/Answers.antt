@@ -13,7 +13,7 @@ use Rattle.site_core.proofs.site.Site.apply_ready.Goals as goal
 pub unreachable-requires : goal.unreachable-requires
 unreachable-requires g c =
     let stale = rw (← c.self.view_is) at c.requires.ready in
-    ready_known _ _ _ _ _ _ _ _ _ _ _ _ c.self.invariant c.args.origin.now c.args.position stale (rw c.deref.ensures.value at c.in_default.ensures)
+    ready_known _ _ _ _ _ _ c.self.inside.notes _ _ _ _ _ _ c.self.invariant c.args.origin.now c.args.position stale (rw c.deref.ensures.value at c.in_default.ensures)
 
 pub invariant_of-self-in_err-reserve-2 : goal.invariant_of-self-in_err-reserve-2
 invariant_of-self-in_err-reserve-2 g c =
@@ -22,8 +22,8 @@ invariant_of-self-in_err-reserve-2 g c =
     let found = rw c.deref.ensures.value at c.in-Some.ensures in
     let i = c.index_mut-inbox.result.now in
     let is = c.index_mut-inbox.ensures.value in
-    room_holds_is _ _ _ _ _ _ _ _ _ _ _ _ h c.args.origin.now c.in-Some.place i c.reserve-2.new.self found is c.reserve-2.ensures.sender _ _ s.outbox _ _ _ _ refl (ap reverse c.reserve_beside.ensures.items) refl refl c.reserve.ensures.lists
-    (λ q. ap (λ edges. is_between edges q) c.reserve-2.ensures.finished) refl h.keeps (omega (arith, h.droppable, c.reserve_beside.ensures.spare))
+    room_holds_is _ _ _ _ _ _ c.self.inside.notes _ _ _ _ _ _ h c.args.origin.now c.in-Some.place i c.reserve-2.new.self found is c.reserve-2.ensures.sender _ _ s.outbox s.notes _ _ _ _ refl (ap reverse c.reserve_beside.ensures.items) refl refl c.reserve.ensures.lists
+    (λ q. ap (λ edges. is_between edges q) c.reserve-2.ensures.finished) refl refl h.keeps (omega (arith, h.droppable, c.reserve_beside.ensures.spare))
 
 pub returns-in_err-reserve-2-clause-err : goal.returns-in_err-reserve-2-clause-err
 returns-in_err-reserve-2-clause-err g c =
@@ -33,16 +33,16 @@ returns-in_err-reserve-2-clause-err g c =
     let i = c.index_mut-inbox.result.now in
     let is = c.index_mut-inbox.ensures.value in
     let p = err_from_is_err_and c.from_residual-in_err-reserve-2.result c.from_residual-in_err-reserve-2.ensures.1 in
-    let new = state_of (g.R.RowStore.schema s.store) s.here s.base (reverse c.reserve_beside.new.journal.items) (set s.inboxes.items c.in-Some.place c.reserve-2.new.self) s.outbox s.stamps s.moment in
+    let new = state_of (g.R.RowStore.schema s.store) s.here s.base (reverse c.reserve_beside.new.journal.items) (set s.inboxes.items c.in-Some.place c.reserve-2.new.self) s.outbox s.notes s.stamps s.moment in
     rw p.1
     (subst (λ y. new ≡ y) c.self.view_is
-    (room_state_is _ _ _ _ _ _ _ _ _ _ _ _ h c.args.origin.now c.in-Some.place i c.reserve-2.new.self found is c.reserve-2.ensures.sender _ _ s.outbox refl (ap reverse c.reserve_beside.ensures.items) refl refl))
+    (room_state_is _ _ _ _ _ _ c.self.inside.notes _ _ _ _ _ _ h c.args.origin.now c.in-Some.place i c.reserve-2.new.self found is c.reserve-2.ensures.sender _ _ s.outbox s.notes refl (ap reverse c.reserve_beside.ensures.items) refl refl refl refl))
 
 pub unreachable-requires-in_default-find : goal.unreachable-requires-in_default-find
 unreachable-requires-in_default-find g c =
     let stale = rw (← c.self.view_is) at c.requires.ready in
     let found = rw c.deref.ensures.value at c.in-Some.ensures in
-    ready_arrived _ _ _ _ _ _ _ _ _ _ _ _ c.self.invariant c.args.origin.now c.args.position stale c.in-Some.place c.index_mut-inbox.result.now found c.index_mut-inbox.ensures.value (rw c.reserve-2.ensures.sender at c.in_default-find.ensures)
+    ready_arrived _ _ _ _ _ _ c.self.inside.notes _ _ _ _ _ _ c.self.invariant c.args.origin.now c.args.position stale c.in-Some.place c.index_mut-inbox.result.now found c.index_mut-inbox.ensures.value (rw c.reserve-2.ensures.sender at c.in_default-find.ensures)
 
 pub apply_arrival-requires-clause-fits : goal.apply_arrival-requires-clause-fits
 apply_arrival-requires-clause-fits g c = λ κs lives.
@@ -54,7 +54,7 @@ apply_arrival-requires-clause-fits g c = λ κs lives.
     let stale = rw (← c.self.view_is) at c.requires.ready in
     let a = c.in-Some-find.arrival.now in
     let there = rw c.reserve-2.ensures.sender at c.in-Some-find.ensures in
-    ready_fits _ _ _ _ _ _ _ _ _ _ _ _ h c.args.origin.now c.args.position stale c.in-Some.place i found is a there
+    ready_fits _ _ _ _ _ _ c.self.inside.notes _ _ _ _ _ _ h c.args.origin.now c.args.position stale c.in-Some.place i found is a there
 
 pub apply_arrival-requires-clause-few : goal.apply_arrival-requires-clause-few
 apply_arrival-requires-clause-few g c = λ κs lives.
@@ -66,7 +66,7 @@ apply_arrival-requires-clause-few g c = λ κs lives.
     let stale = rw (← c.self.view_is) at c.requires.ready in
     let a = c.in-Some-find.arrival.now in
     let there = rw c.reserve-2.ensures.sender at c.in-Some-find.ensures in
-    (ready_sized _ _ _ _ _ _ _ _ _ _ _ _ h c.args.origin.now c.args.position stale c.in-Some.place i found is a there).most
+    (ready_sized _ _ _ _ _ _ c.self.inside.notes _ _ _ _ _ _ h c.args.origin.now c.args.position stale c.in-Some.place i found is a there).most
 
 pub apply_arrival-requires-clause-ending : goal.apply_arrival-requires-clause-ending
 apply_arrival-requires-clause-ending g c = λ κs lives.
@@ -79,7 +79,7 @@ apply_arrival-requires-clause-ending g c = λ κs lives.
     let ends = rw (← c.self.view_is) at c.requires.ending in
     let a = c.in-Some-find.arrival.now in
     let there = rw c.reserve-2.ensures.sender at c.in-Some-find.ensures in
-    let arrived = ready_there _ _ _ _ _ _ _ _ _ _ _ _ h c.args.origin.now c.args.position stale c.in-Some.place i found is a there in
+    let arrived = ready_there _ _ _ _ _ _ c.self.inside.notes _ _ _ _ _ _ h c.args.origin.now c.args.position stale c.in-Some.place i found is a there in
     ends_on_rows _ _ _ _ _ _ _ h c.args.origin.now c.args.position a arrived c.args.ending ends
 
 pub invariant_of-self-in_err-step : goal.invariant_of-self-in_err-step
@@ -89,9 +89,9 @@ invariant_of-self-in_err-step g c =
     let found = rw c.deref.ensures.value at c.in-Some.ensures in
     let i = c.index_mut-inbox.result.now in
     let is = c.index_mut-inbox.ensures.value in
-    room_holds_is _ _ _ _ _ _ _ _ _ _ _ _ h c.args.origin.now c.in-Some.place i c.reserve-2.new.self found is c.reserve-2.ensures.sender _ _ c.apply_arrival.new.outbox _ _ _ _ c.apply_arrival.ensures.schema (ap reverse c.reserve_beside.ensures.items)
+    room_holds_is _ _ _ _ _ _ c.self.inside.notes _ _ _ _ _ _ h c.args.origin.now c.in-Some.place i c.reserve-2.new.self found is c.reserve-2.ensures.sender _ _ c.apply_arrival.new.outbox c.apply_arrival.new.notes _ _ _ _ c.apply_arrival.ensures.schema (ap reverse c.reserve_beside.ensures.items)
     c.in_err-step.ensures.kept c.in_err-step.ensures.counters_kept c.reserve.ensures.lists
-    (λ q. ap (λ edges. is_between edges q) c.reserve-2.ensures.finished) c.apply_arrival.ensures.destinations (c.in_err-step.ensures.queue_kept _ _ h.keeps) (omega (arith, h.droppable, c.reserve_beside.ensures.spare))
+    (λ q. ap (λ edges. is_between edges q) c.reserve-2.ensures.finished) c.in_err-step.ensures.snapshots_kept c.apply_arrival.ensures.destinations (c.in_err-step.ensures.queue_kept _ _ h.keeps) (omega (arith, h.droppable, c.reserve_beside.ensures.spare))
 
 pub returns-in_err-step-clause-err : goal.returns-in_err-step-clause-err
 returns-in_err-step-clause-err g c =
@@ -101,11 +101,11 @@ returns-in_err-step-clause-err g c =
     let i = c.index_mut-inbox.result.now in
     let is = c.index_mut-inbox.ensures.value in
     let p = err_from_is_err_and c.from_residual-in_err-step.result c.from_residual-in_err-step.ensures.1 in
-    let new = state_of (g.R.RowStore.schema c.apply_arrival.new.store) s.here s.base (reverse c.reserve_beside.new.journal.items) (set s.inboxes.items c.in-Some.place c.reserve-2.new.self) c.apply_arrival.new.outbox s.stamps s.moment in
+    let new = state_of (g.R.RowStore.schema c.apply_arrival.new.store) s.here s.base (reverse c.reserve_beside.new.journal.items) (set s.inboxes.items c.in-Some.place c.reserve-2.new.self) c.apply_arrival.new.outbox c.apply_arrival.new.notes s.stamps s.moment in
     rw p.1
     (subst (λ y. new ≡ y) c.self.view_is
-    (room_state_is _ _ _ _ _ _ _ _ _ _ _ _ h c.args.origin.now c.in-Some.place i c.reserve-2.new.self found is c.reserve-2.ensures.sender _ _ c.apply_arrival.new.outbox c.apply_arrival.ensures.schema (ap reverse c.reserve_beside.ensures.items)
-    c.apply_arrival.ensures.destinations c.apply_arrival.ensures.purged))
+    (room_state_is _ _ _ _ _ _ c.self.inside.notes _ _ _ _ _ _ h c.args.origin.now c.in-Some.place i c.reserve-2.new.self found is c.reserve-2.ensures.sender _ _ c.apply_arrival.new.outbox c.apply_arrival.new.notes c.apply_arrival.ensures.schema (ap reverse c.reserve_beside.ensures.items)
+    c.apply_arrival.ensures.destinations c.apply_arrival.ensures.purged c.in_err-step.ensures.logs_kept c.in_err-step.ensures.snapshots_kept))
 
 pub finish-requires-clause-unfinished : goal.finish-requires-clause-unfinished
 finish-requires-clause-unfinished g c =
@@ -116,7 +116,7 @@ finish-requires-clause-unfinished g c =
     let is = c.index_mut-inbox.ensures.value in
     let stale = rw (← c.self.view_is) at c.requires.ready in
     ap (λ edges. is_between edges c.args.position) c.reserve-2.ensures.finished
-    ∙ ready_unfinished _ _ _ _ _ _ _ _ _ _ _ _ h c.args.origin.now c.args.position stale c.in-Some.place i found is
+    ∙ ready_unfinished _ _ _ _ _ _ c.self.inside.notes _ _ _ _ _ _ h c.args.origin.now c.args.position stale c.in-Some.place i found is
 
 pub add_error-requires-clause-origin : goal.add_error-requires-clause-origin
 add_error-requires-clause-origin g c =
@@ -129,7 +129,7 @@ add_error-requires-clause-origin g c =
     let a = c.in-Some-find.arrival.now in
     let there = rw c.reserve-2.ensures.sender at c.in-Some-find.ensures in
     rw (c.reserve.ensures.lists, c.in_ok-step.ensures.error)
-    (error_origin _ _ _ _ _ _ _ _ _ _ _ _ h c.args.origin.now c.args.position stale c.in-Some.place i found is a there _)
+    (error_origin _ _ _ _ _ _ c.self.inside.notes _ _ _ _ _ _ h c.args.origin.now c.args.position stale c.in-Some.place i found is a there _)
 
 pub add_error-requires-clause-absent : goal.add_error-requires-clause-absent
 add_error-requires-clause-absent g c =
@@ -143,7 +143,7 @@ add_error-requires-clause-absent g c =
     let there = rw c.reserve-2.ensures.sender at c.in-Some-find.ensures in
     let rising = rw (← c.self.view_is) at c.arrivals_rise.ensures in
     rw (c.reserve.ensures.lists, c.in_ok-step.ensures.error)
-    (error_absent _ _ _ _ _ _ _ _ _ _ _ _ h c.args.origin.now c.args.position stale c.in-Some.place i found is a there rising _)
+    (error_absent _ _ _ _ _ _ c.self.inside.notes _ _ _ _ _ _ h c.args.origin.now c.args.position stale c.in-Some.place i found is a there rising _)
 
 pub invariant_of-self-2 : goal.invariant_of-self-2
 invariant_of-self-2 g c =
@@ -155,20 +155,20 @@ invariant_of-self-2 g c =
     let stale = rw (← c.self.view_is) at c.requires.ready in
     let a = c.in-Some-find.arrival.now in
     let there = rw c.reserve-2.ensures.sender at c.in-Some-find.ensures in
-    let arrived = ready_there _ _ _ _ _ _ _ _ _ _ _ _ h c.args.origin.now c.args.position stale c.in-Some.place i found is a there in
+    let arrived = ready_there _ _ _ _ _ _ c.self.inside.notes _ _ _ _ _ _ h c.args.origin.now c.args.position stale c.in-Some.place i found is a there in
     let seen = rw (← c.self.view_is) at c.in_ok-past.ensures in
-    let count = count_is _ _ _ _ _ _ _ _ _ _ _ _ h in
+    let count = count_is _ _ _ _ _ _ c.self.inside.notes _ _ _ _ _ _ h in
     let kept = c.finish.ensures.sender ∙ c.reserve-2.ensures.sender in
     let senders = senders_in-same s.inboxes.items c.in-Some.place c.finish.new.self i (kept ∙ ap sender_in is) in
     let journal = one_entry_more _ _ _ _ c.push.ensures.items c.reserve_beside.ensures.items in
     let rising = rw (← c.self.view_is) at c.arrivals_rise.ensures in
     let lists = c.add_error.ensures ∙ rw (c.reserve.ensures.lists, c.in_ok-step.ensures.error) refl in
     let more = λ (q : ℕ). c.finish.ensures.finished q ∙ ap (λ b. q == c.args.position || b) (ap (λ edges. is_between edges q) c.reserve-2.ensures.finished) in
-    let follow = ready_follow _ _ _ _ _ _ _ _ _ _ _ _ h c.args.origin.now c.args.position stale c.in-Some.place i found is a there c.in_ok-past.past _ _ c.finish.new.self kept more in
-    apply_holds_is _ _ _ _ _ _ _ _ _ _ _ _ h c.args.origin.now c.args.position a stale arrived c.in_ok-past.past seen _ count c.apply_arrival.new.outbox c.apply_arrival.ensures.destinations c.apply_arrival.ensures.purged
-    (set s.inboxes.items c.in-Some.place c.finish.new.self) senders _ _ c.in_ok-step.step.entry _ _ _ _ c.apply_arrival.ensures.schema journal c.in_ok-step.ensures.entry c.in_ok-step.ensures.tables c.in_ok-step.ensures.numbers lists
-    c.in_ok-step.ensures.few rising (c.in_ok-step.ensures.queue _ _ h.keeps) follow (droppable_with _ _ _ _ _ _ _ _ _ _ _ _ h c.args.origin.now c.args.position a stale arrived c.in_ok-past.past seen _ count c.apply_arrival.new.outbox c.apply_arrival.ensures.destinations c.apply_arrival.ensures.purged
-    (set s.inboxes.items c.in-Some.place c.finish.new.self) senders _ lists _ (omega (arith, c.in_ok-reserve_beside.ensures.ok, c.push.ensures.spare)))
+    let follow = ready_follow _ _ _ _ _ _ c.self.inside.notes _ _ _ _ _ _ h c.args.origin.now c.args.position stale c.in-Some.place i found is a there c.in_ok-past.past _ _ c.finish.new.self kept more in
+    apply_holds_is _ _ _ _ _ _ c.self.inside.notes _ _ _ _ _ _ h c.args.origin.now c.args.position a stale arrived c.in_ok-past.past seen _ count c.apply_arrival.new.outbox c.apply_arrival.ensures.destinations c.apply_arrival.ensures.purged
+    (set s.inboxes.items c.in-Some.place c.finish.new.self) senders c.apply_arrival.new.notes c.in_ok-step.ensures.noted _ _ c.in_ok-step.step.entry _ _ _ _ c.apply_arrival.ensures.schema journal c.in_ok-step.ensures.entry c.in_ok-step.ensures.tables c.in_ok-step.ensures.numbers lists
+    c.in_ok-step.ensures.few rising (c.in_ok-step.ensures.queue _ _ h.keeps) follow (droppable_with _ _ _ _ _ _ c.self.inside.notes _ _ _ _ _ _ h c.args.origin.now c.args.position a stale arrived c.in_ok-past.past seen _ count c.apply_arrival.new.outbox c.apply_arrival.ensures.destinations c.apply_arrival.ensures.purged
+    (set s.inboxes.items c.in-Some.place c.finish.new.self) senders c.apply_arrival.new.notes c.in_ok-step.ensures.noted _ lists _ (omega (arith, c.in_ok-reserve_beside.ensures.ok, c.push.ensures.spare)))
 
 pub returns-clause-ok : goal.returns-clause-ok
 returns-clause-ok g c =
@@ -180,16 +180,16 @@ returns-clause-ok g c =
     let stale = rw (← c.self.view_is) at c.requires.ready in
     let a = c.in-Some-find.arrival.now in
     let there = rw c.reserve-2.ensures.sender at c.in-Some-find.ensures in
-    let arrived = ready_there _ _ _ _ _ _ _ _ _ _ _ _ h c.args.origin.now c.args.position stale c.in-Some.place i found is a there in
+    let arrived = ready_there _ _ _ _ _ _ c.self.inside.notes _ _ _ _ _ _ h c.args.origin.now c.args.position stale c.in-Some.place i found is a there in
     let seen = rw (← c.self.view_is) at c.in_ok-past.ensures in
-    let count = count_is _ _ _ _ _ _ _ _ _ _ _ _ h in
+    let count = count_is _ _ _ _ _ _ c.self.inside.notes _ _ _ _ _ _ h in
     let kept = c.finish.ensures.sender ∙ c.reserve-2.ensures.sender in
     let senders = senders_in-same s.inboxes.items c.in-Some.place c.finish.new.self i (kept ∙ ap sender_in is) in
     let journal = one_entry_more _ _ _ _ c.push.ensures.items c.reserve_beside.ensures.items in
-    let new = state_of (g.R.RowStore.schema c.apply_arrival.new.store) s.here s.base (reverse c.push.new.self.items) (set s.inboxes.items c.in-Some.place c.finish.new.self) c.apply_arrival.new.outbox s.stamps s.moment in
+    let new = state_of (g.R.RowStore.schema c.apply_arrival.new.store) s.here s.base (reverse c.push.new.self.items) (set s.inboxes.items c.in-Some.place c.finish.new.self) c.apply_arrival.new.outbox c.apply_arrival.new.notes s.stamps s.moment in
     subst (λ y. new ≡ site_apply c.args.origin.now c.args.position y) c.self.view_is
-    (apply_state_is _ _ _ _ _ _ _ _ _ _ _ _ h c.args.origin.now c.args.position a stale arrived c.in_ok-past.past seen _ count c.apply_arrival.new.outbox c.apply_arrival.ensures.destinations c.apply_arrival.ensures.purged
-    (set s.inboxes.items c.in-Some.place c.finish.new.self) senders _ _ c.in_ok-step.step.entry c.apply_arrival.ensures.schema journal c.in_ok-step.ensures.entry)
+    (apply_state_is _ _ _ _ _ _ c.self.inside.notes _ _ _ _ _ _ h c.args.origin.now c.args.position a stale arrived c.in_ok-past.past seen _ count c.apply_arrival.new.outbox c.apply_arrival.ensures.destinations c.apply_arrival.ensures.purged
+    (set s.inboxes.items c.in-Some.place c.finish.new.self) senders c.apply_arrival.new.notes c.in_ok-step.ensures.noted _ _ c.in_ok-step.step.entry c.apply_arrival.ensures.schema journal c.in_ok-step.ensures.entry)
 
 pub returns-clause-answer : goal.returns-clause-answer
 returns-clause-answer g c =
@@ -201,22 +201,22 @@ returns-clause-answer g c =
     let stale = rw (← c.self.view_is) at c.requires.ready in
     let a = c.in-Some-find.arrival.now in
     let there = rw c.reserve-2.ensures.sender at c.in-Some-find.ensures in
-    let arrived = ready_there _ _ _ _ _ _ _ _ _ _ _ _ h c.args.origin.now c.args.position stale c.in-Some.place i found is a there in
+    let arrived = ready_there _ _ _ _ _ _ c.self.inside.notes _ _ _ _ _ _ h c.args.origin.now c.args.position stale c.in-Some.place i found is a there in
     let seen = rw (← c.self.view_is) at c.in_ok-past.ensures in
-    let count = count_is _ _ _ _ _ _ _ _ _ _ _ _ h in
+    let count = count_is _ _ _ _ _ _ c.self.inside.notes _ _ _ _ _ _ h in
     let kept = c.finish.ensures.sender ∙ c.reserve-2.ensures.sender in
     let senders = senders_in-same s.inboxes.items c.in-Some.place c.finish.new.self i (kept ∙ ap sender_in is) in
     let journal = one_entry_more _ _ _ _ c.push.ensures.items c.reserve_beside.ensures.items in
-    let answer = c.in_ok-step.ensures.answer ∙ apply_answer_is _ _ _ _ _ _ _ _ _ _ _ _ h c.args.origin.now c.args.position a stale arrived c.in_ok-past.past seen _ count c.apply_arrival.new.outbox c.apply_arrival.ensures.destinations c.apply_arrival.ensures.purged
-    (set s.inboxes.items c.in-Some.place c.finish.new.self) senders in
+    let answer = c.in_ok-step.ensures.answer ∙ apply_answer_is _ _ _ _ _ _ c.self.inside.notes _ _ _ _ _ _ h c.args.origin.now c.args.position a stale arrived c.in_ok-past.past seen _ count c.apply_arrival.new.outbox c.apply_arrival.ensures.destinations c.apply_arrival.ensures.purged
+    (set s.inboxes.items c.in-Some.place c.finish.new.self) senders c.apply_arrival.new.notes c.in_ok-step.ensures.noted in
     subst (λ y. c.in_ok-step.step.answer ≡ apply_answer c.args.origin.now c.args.position y) c.self.view_is answer
 
 pub invariant_of-self : goal.invariant_of-self
 invariant_of-self g c =
     let h = c.self.invariant in
-    kept_holds_is _ _ _ _ _ _ _ _ _ _ _ _ h _ _ c.self.inside.outbox _ _ _ c.self.inside.stamps _ refl (ap reverse c.reserve_beside.ensures.items) refl refl refl refl h.keeps (omega (arith, h.droppable, c.reserve_beside.ensures.spare))
+    kept_holds_is _ _ _ _ _ _ c.self.inside.notes _ _ _ _ _ _ h _ _ c.self.inside.outbox c.self.inside.notes _ _ _ c.self.inside.stamps _ refl (ap reverse c.reserve_beside.ensures.items) refl refl refl refl refl h.keeps (omega (arith, h.droppable, c.reserve_beside.ensures.spare))
 
 pub invariant_of-self-in_err-reserve : goal.invariant_of-self-in_err-reserve
 invariant_of-self-in_err-reserve g c =
     let h = c.self.invariant in
-    kept_holds_is _ _ _ _ _ _ _ _ _ _ _ _ h _ _ c.self.inside.outbox _ _ _ c.self.inside.stamps _ refl (ap reverse c.reserve_beside.ensures.items) refl refl c.reserve.ensures.lists refl h.keeps (omega (arith, h.droppable, c.reserve_beside.ensures.spare))
+    kept_holds_is _ _ _ _ _ _ c.self.inside.notes _ _ _ _ _ _ h _ _ c.self.inside.outbox c.self.inside.notes _ _ _ c.self.inside.stamps _ refl (ap reverse c.reserve_beside.ensures.items) refl refl c.reserve.ensures.lists refl refl h.keeps (omega (arith, h.droppable, c.reserve_beside.ensures.spare))
