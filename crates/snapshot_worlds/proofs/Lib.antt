@@ -1,0 +1,13 @@
+-- The lemmas of this crate, from the bottom up.
+mod Each
+mod WrittenRows
+mod FilledTables
+mod Entries
+mod DeclaredSnapshots
+mod Logging
+pub mod Starting
+mod Holding
+mod Staying
+mod Declaring
+pub mod Scripts
+mod WorkedSnapshots

@@ -1,0 +1,80 @@
+-- A master logs each table of which one of its snapshot sites has a snapshot.
+use Rattle.std.proofs.Common.{◌≡◌, ℕ, zero, suc, ◌+◌, ◌<◌, ◌≤◌, ◌==◌, List, ◌∷◌, length, map, Bool, true, false, cond, Some, refl, sym, ap, ◌∙◌, arith, add-zero}
+use Rattle.std.specs.Prelude.{◌&&◌, filter, is_some}
+use Rattle.std.specs.List.{range_with_len}
+use Rattle.std.proofs.lemmas.Bool.{and_from}
+use Rattle.std.proofs.lemmas.Bool.Decides.{nat_tests}
+use Rattle.rep_values.specs.declared.name.SiteName.{SiteName}
+use Rattle.rep_schema.specs.declared.schema.Schema.{Schema}
+use Rattle.rep_schema.specs.declared.schema.SiteEntry.{SiteEntry}
+use Rattle.rep_schema.specs.Shape.{HasShape}
+use Rattle.rep_schema.specs.Named.{is_site}
+use Rattle.rep_schema.specs.Sites.{has_table}
+use Rattle.deferred_queue.proofs.Sites.{is_same_site-refl}
+use Rattle.site_state.specs.State.{LogState}
+use Rattle.site_state.specs.Notes.{log_of}
+use Rattle.site_state.specs.Making.{new_log, tables_in}
+use Rattle.event_laws.specs.Events.{master_of}
+use Rattle.world_state.specs.declared.declared_snapshot.DeclaredSnapshot.{DeclaredSnapshot}
+use Rattle.world_state.specs.Declaring.{has_snapshot}
+use Rattle.world_state.specs.Making.{is_snapshot_site_of, is_logged, logged_at}
+use Rattle.snapshot_worlds.proofs.Entries.{any_found_passes, HasEntry, entry_of}
+
+has_table-range : (f : ℕ → Bool) (a n table : ℕ) → table < n → has_table (map f (range_with_len a n)) table ≡ f (a + table)
+has_table-range f a zero table below = absurd (omega (arith, below))
+has_table-range f a (suc n) zero below = ap f (sym (add-zero a))
+has_table-range f a (suc n) (suc table) below = let next : a + 1 + table ≡ a + suc table = omega arith in has_table-range f (a + 1) n table (omega (arith, below)) ∙ ap f next
+
+length-range : (f : ℕ → Bool) (a n : ℕ) → length (map f (range_with_len a n)) ≡ n
+length-range f a zero = refl
+length-range f a (suc n) = ap suc (length-range f (a + 1) n)
+
+-- of new logs of the numbers that are kept, there is one of each
+log_of-new : (keep : ℕ → Bool) (a n table : ℕ) → a ≤ table → table < a + n → keep table ≡ true → is_some (log_of table (map new_log (filter keep (range_with_len a n)))) ≡ true
+log_of-new keep a zero table from below kept = absurd (omega (arith, from, below))
+log_of-new keep a (suc n) table from below kept = go (keep a) refl (a == table) refl (log_of-new keep (a + 1) n table)
+  where
+    rest : List LogState
+    rest = map new_log (filter keep (range_with_len (a + 1) n))
+
+    same : (a == table) ≡ true → a ≡ table
+    same is = grind (arith, nat_tests, is)
+
+    next : (a == table) ≡ false → a + 1 ≤ table
+    next is = grind (arith, nat_tests, from, is)
+
+    here : (c : Bool) → (a == table) ≡ c → is_some (cond c (Some (new_log a)) (log_of table rest)) ≡ true → is_some (cond (a == table) (Some (new_log a)) (log_of table rest)) ≡ true
+    here c is holds = ap (λ (d : Bool). is_some (cond d (Some (new_log a)) (log_of table rest))) is ∙ holds
+
+    go : (b : Bool) → keep a ≡ b → (c : Bool) → (a == table) ≡ c → (a + 1 ≤ table → table < a + 1 + n → keep table ≡ true → is_some (log_of table rest) ≡ true)
+        → is_some (log_of table (map new_log (cond b (a ∷ filter keep (range_with_len (a + 1) n)) (filter keep (range_with_len (a + 1) n))))) ≡ true
+    go true is true is_c later = here true is_c refl
+    go true is false is_c later = here false is_c (later (next is_c) (omega (arith, below)) kept)
+    go false is true is_c later = absurd (cc (is, ap keep (same is_c), kept))
+    go false is false is_c later = later (next is_c) (omega (arith, below)) kept
+
+module _ (schema : Schema) (shape : HasShape schema) (snapshots : List DeclaredSnapshot) (site master : SiteName) (of_site : master_of schema site ≡ Some master) (table : ℕ) where
+  is_logged_there : has_snapshot snapshots site table ≡ true → is_logged schema.sites snapshots master table ≡ true
+  is_logged_there has = any_found_passes (is_site site) (λ (e : SiteEntry). is_snapshot_site_of master e.master && has_snapshot snapshots e.name table) schema.sites e.entry e.found
+      (and_from (is_snapshot_site_of master e.entry.master) (has_snapshot snapshots e.entry.name table) own named)
+    where
+      e : HasEntry schema shape site master
+      e = entry_of schema shape site master of_site
+
+      own : is_snapshot_site_of master e.entry.master ≡ true
+      own = ap (is_snapshot_site_of master) e.is ∙ is_same_site-refl master
+
+      named : has_snapshot snapshots e.entry.name table ≡ true
+      named = ap (λ (n : SiteName). has_snapshot snapshots n table) e.named ∙ has
+
+  pub has_log : table < length schema.tables → has_snapshot snapshots site table ≡ true → is_some (log_of table (map new_log (tables_in (logged_at schema snapshots master)))) ≡ true
+  has_log below has = log_of-new (has_table (logged_at schema snapshots master)) 0 (length (logged_at schema snapshots master)) table (omega arith) (omega (arith, within, long)) kept
+    where
+      within : table < 32
+      within = omega (arith, below, shape.table_number)
+
+      long : length (logged_at schema snapshots master) ≡ 32
+      long = length-range (is_logged schema.sites snapshots master) 0 32
+
+      kept : has_table (logged_at schema snapshots master) table ≡ true
+      kept = let same : 0 + table ≡ table = omega arith in has_table-range (is_logged schema.sites snapshots master) 0 32 table within ∙ ap (is_logged schema.sites snapshots master) same ∙ is_logged_there has

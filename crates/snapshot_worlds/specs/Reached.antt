@@ -1,0 +1,32 @@
+-- What the type of a world keeps so that the laws of snapshots hold of it.
+use Rattle.std.specs.Prelude.{◌<◌, length}
+use Rattle.std.specs.List.{AllByRecursion}
+use Rattle.rep_schema.specs.Tables.{AreTables}
+use Rattle.event_laws.specs.Core.{Core}
+use Rattle.event_laws.specs.Waiting.{AreMeshed}
+use Rattle.world_state.specs.declared.declared_snapshot.DeclaredSnapshot.{DeclaredSnapshot}
+use Rattle.world_state.specs.World.{WorldState}
+use Rattle.world_laws.specs.Simulation.{Leads}
+use Rattle.world_laws.specs.Reached.{IsInSetup}
+use Rattle.snapshot_laws.specs.Starts.{IsSnapshotStart, IsLogStart}
+use Rattle.snapshot_worlds.specs.WellDeclared.{AreDeclaredOnce}
+
+-- in Setup the rows are tables, the snapshots are of tables of the schema, and no site has two of one
+pub record DeclaresSoFar (w : WorldState) : Type 0 where
+  pub setup : IsInSetup w
+  pub rows : AreTables w.schema w.base
+  pub within : AllByRecursion (λ (s : DeclaredSnapshot). s.table < length w.schema.tables) w.snapshots
+  pub once : AreDeclaredOnce w.snapshots
+
+-- behind Setup events lead here from where the laws of snapshots and of logs begin, with sites as the schema declares them
+pub record GoesOn (w : WorldState) : Type 0 where
+  pub start : Core
+  pub snapshots : IsSnapshotStart w.schema start
+  pub logs : IsLogStart w.schema start
+  pub meshed : AreMeshed w.schema start.sites
+  pub leads : Leads w start
+
+-- a world of some script: in Setup, or behind it
+pub data IsOfSnapshots (w : WorldState) : Type 0 where
+  Declares : DeclaresSoFar w → IsOfSnapshots w
+  Goes : GoesOn w → IsOfSnapshots w

@@ -1,0 +1,44 @@
+//! Laws over all scripts. The functions are empty: their contracts are the laws.
+ghost use Rattle.snapshot_worlds.specs.WellDeclared.{ScriptsDeclareWell};
+ghost use Rattle.snapshot_worlds.specs.Starts.{MadeWorldsAreSnapshotStarts, MadeWorldsAreLogStarts};
+ghost use Rattle.snapshot_worlds.specs.Sites.{EachCanRefresh, EachIsNotedSince, SnapshotsHold};
+ghost use Rattle.snapshot_worlds.specs.Refreshes.{RefreshesShowTheQuery};
+ghost use Rattle.snapshot_worlds.specs.Worlds.{InScripts, InWorlds};
+
+/// What a script declares is sound and has no snapshot twice, where it has declared a schema that breaks no rule.
+pub fn scripts_declare_well()
+    ensures { ScriptsDeclareWell }
+{}
+
+/// The world that Setup's end makes of that is where the laws of snapshots and of logs begin.
+pub fn made_worlds_are_starts()
+    ensures snapshots { MadeWorldsAreSnapshotStarts }
+    ensures logs { MadeWorldsAreLogStarts }
+{}
+
+/// At each snapshot site of every world there is what a refresh from its master asks for, by the logs where none of them is
+/// too young.
+pub fn sites_of_worlds_can_refresh()
+    ensures scripts { InScripts EachCanRefresh }
+    ensures worlds { InWorlds EachCanRefresh }
+{}
+
+/// After a line that refreshes a site of a world, each of its snapshots is its query of the master's table of that moment,
+/// and the master is as before.
+pub fn refreshes_show_the_query()
+    ensures scripts { InScripts RefreshesShowTheQuery }
+    ensures worlds { InWorlds RefreshesShowTheQuery }
+{}
+
+/// In every world a key in a log of a master is noted behind the moment up to which the log is purged, and not behind the
+/// present one.
+pub fn logs_of_worlds_are_noted_since()
+    ensures scripts { InScripts EachIsNotedSince }
+    ensures worlds { InWorlds EachIsNotedSince }
+{}
+
+/// All of this holds of every world.
+pub fn snapshots_hold()
+    ensures scripts { InScripts SnapshotsHold }
+    ensures worlds { InWorlds SnapshotsHold }
+{}
