@@ -1,5 +1,5 @@
 -- The lines of a report.
-use Rattle.std.specs.Prelude.{ℕ, List, [], ◌∷◌, ◌++◌, map, length, decimal, codes}
+use Rattle.std.specs.Prelude.{ℕ, ◌+◌, Bool, cond, List, [], ◌∷◌, ◌++◌, map, length, decimal, codes}
 use Rattle.std.specs.Fmt.{signed_decimal}
 use Rattle.std.specs.List.{flat_map}
 use Rattle.rep_values.specs.declared.value.Value.{Value}
@@ -7,6 +7,7 @@ use Rattle.rep_values.specs.declared.value.Value.TheVariants as value
 use Rattle.rep_schema.specs.declared.schema.Schema.{Schema}
 use Rattle.rep_schema.specs.declared.schema.TableEntry.{TableEntry}
 use Rattle.rep_schema.specs.Tables.{Rows}
+use Rattle.rep_schema.specs.Sites.{has_table}
 use Rattle.report_text.specs.declared.printed.PushCount.{PushCount}
 use Rattle.report_text.specs.Sheet.{line, quoted}
 
@@ -21,6 +22,18 @@ nothing_committed_text site = line (codes "commit") (site ∷ codes "none" ∷ [
 -- purge SITE N
 abbrev pub purge_text : List ℕ → ℕ → List ℕ
 purge_text site count = line (codes "purge") (site ∷ decimal count ∷ [])
+
+-- purge-log SITE TABLE N
+abbrev pub purge_log_text : List ℕ → List ℕ → ℕ → List ℕ
+purge_log_text site table count = line (codes "purge-log") (site ∷ table ∷ decimal count ∷ [])
+
+-- refresh SITE fast keys K rows R
+abbrev pub refresh_fast_text : List ℕ → ℕ → ℕ → List ℕ
+refresh_fast_text site keys rows = line (codes "refresh") (site ∷ codes "fast" ∷ codes "keys" ∷ decimal keys ∷ codes "rows" ∷ decimal rows ∷ [])
+
+-- refresh SITE complete rows R
+abbrev pub refresh_complete_text : List ℕ → ℕ → List ℕ
+refresh_complete_text site rows = line (codes "refresh") (site ∷ codes "complete" ∷ codes "rows" ∷ decimal rows ∷ [])
 
 -- execute SITE ORIGIN POSITION done
 abbrev pub execute_text : List ℕ → List ℕ → ℕ → List ℕ
@@ -53,12 +66,16 @@ row_text values = line (codes "row") (map value_text values)
 abbrev pub table_text : List ℕ → List (List Value) → List ℕ
 table_text name rows = line (codes "table") (name ∷ decimal (length rows) ∷ []) ++ flat_map row_text rows
 
--- each table with its rows
-abbrev pub each_table : List TableEntry → List Rows → List ℕ
-each_table [] rows = []
-each_table (t ∷ ts) [] = []
-each_table (t ∷ ts) (r ∷ rs) = table_text t.name.0 r ++ each_table ts rs
+-- each table that is held, with its rows; they count from a number
+abbrev pub each_table : List Bool → ℕ → List TableEntry → List Rows → List ℕ
+each_table held number [] rows = []
+each_table held number (t ∷ ts) [] = []
+each_table held number (t ∷ ts) (r ∷ rs) = cond (has_table held number) (table_text t.name.0 r) [] ++ each_table held (number + 1) ts rs
 
--- tables SITE, and each table in declared order
-abbrev pub tables_text : List ℕ → Schema → List Rows → List ℕ
-tables_text site schema tables = line (codes "tables") (site ∷ []) ++ each_table schema.tables tables
+-- tables SITE, and each table that it holds in declared order
+abbrev pub tables_text : List ℕ → List Bool → Schema → List Rows → List ℕ
+tables_text site held schema tables = line (codes "tables") (site ∷ []) ++ each_table held 0 schema.tables tables
+
+-- key VALUES moment M
+abbrev pub logged_key_text : List Value → ℕ → List ℕ
+logged_key_text values moment = line (codes "key") (map value_text values ++ (codes "moment" ∷ decimal moment ∷ []))

@@ -12,8 +12,8 @@ pub use calls::add_calls;
 pub use lines::{Lines, MOST_LINE};
 pub use printed::{
     PushCount, commit_line, drop_error_line, execute_line, malformed_line, nothing_committed_line,
-    purge_line, push_line,
+    purge_line, purge_log_line, push_line, refresh_complete_line, refresh_fast_line,
 };
 pub use refusals::{error_line, refused_line};
-pub use shown::add_tables;
+pub use shown::{add_logged_key, add_tables};
 pub use word::Word;

@@ -1,10 +1,10 @@
 //! Lines of at most 256 bytes, which are put into room that is there.
 ghost use Rattle.std.specs.Prelude.{◌≤◌};
 ghost use Rattle.report_text.specs.Sheet.{Appends, most_line};
-ghost use Rattle.report_text.specs.Texts.{commit_text, nothing_committed_text, purge_text, execute_text, drop_error_text, push_text, malformed_text};
+ghost use Rattle.report_text.specs.Texts.{commit_text, nothing_committed_text, purge_text, purge_log_text, execute_text, drop_error_text, push_text, refresh_fast_text, refresh_complete_text, malformed_text};
 
 use crate::{Lines, Word};
-use rep_values::SiteName;
+use rep_values::{SiteName, TableName};
 
 /// What a push tells: how many transactions were sent, one that went twice counted once; how many were applied at the
 /// receiver and how many are in error there; and the receiver's low-water mark for the sender.
@@ -38,6 +38,51 @@ pub fn purge_line(lines: &mut Lines, site: SiteName, count: u64)
     ensures { Appends lines.old lines.new (purge_text site.0 count) }
 {
     lines.put_line(b"purge", &[Word::Name(site.0), Word::Number(count)]);
+}
+
+/// `purge-log SITE TABLE N`
+pub fn purge_log_line(lines: &mut Lines, site: SiteName, table: TableName, count: u64)
+    requires { most_line ≤ lines.old.room }
+    ensures { Appends lines.old lines.new (purge_log_text site.0 table.0 count) }
+{
+    lines.put_line(
+        b"purge-log",
+        &[Word::Name(site.0), Word::Name(table.0), Word::Number(count)],
+    );
+}
+
+/// `refresh SITE fast keys K rows R`
+pub fn refresh_fast_line(lines: &mut Lines, site: SiteName, keys: u64, rows: u64)
+    requires { most_line ≤ lines.old.room }
+    ensures { Appends lines.old lines.new (refresh_fast_text site.0 keys rows) }
+{
+    lines.put_line(
+        b"refresh",
+        &[
+            Word::Name(site.0),
+            Word::Plain(b"fast"),
+            Word::Plain(b"keys"),
+            Word::Number(keys),
+            Word::Plain(b"rows"),
+            Word::Number(rows),
+        ],
+    );
+}
+
+/// `refresh SITE complete rows R`
+pub fn refresh_complete_line(lines: &mut Lines, site: SiteName, rows: u64)
+    requires { most_line ≤ lines.old.room }
+    ensures { Appends lines.old lines.new (refresh_complete_text site.0 rows) }
+{
+    lines.put_line(
+        b"refresh",
+        &[
+            Word::Name(site.0),
+            Word::Plain(b"complete"),
+            Word::Plain(b"rows"),
+            Word::Number(rows),
+        ],
+    );
 }
 
 /// `execute SITE ORIGIN POSITION done`

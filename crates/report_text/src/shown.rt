@@ -1,18 +1,22 @@
 //! What the show commands print, which takes memory.
-ghost use Rattle.std.specs.Prelude.{◌≡◌, ◌≤◌, ◌<◌, ◌+◌, ◌*◌, ◌∷◌, ◌++◌, length, drop, map, OnOk, OnErr};
+ghost use Rattle.std.specs.Prelude.{◌≡◌, ◌≤◌, ◌<◌, ◌+◌, ◌*◌, [], ◌∷◌, ◌++◌, cond, length, drop, map, OnOk, OnErr};
 ghost use Rattle.std.specs.List.{flat_map};
 ghost use Rattle.rep_values.specs.Number.{IsRowLen};
 ghost use Rattle.rep_schema.specs.Tables.{rows_of};
+ghost use Rattle.rep_schema.specs.Sites.{has_table};
 ghost use Rattle.report_text.specs.Sheet.{Appends, StandBefore, spaced, most_value};
-ghost use Rattle.report_text.specs.Texts.{value_text, row_text, table_text, tables_text};
+ghost use Rattle.report_text.specs.Texts.{value_text, row_text, logged_key_text, table_text, tables_text};
 
 use crate::lines::MOST_LINE;
 use crate::{Lines, Word};
-use rep_schema::RowStore;
-use rep_values::{NoMemory, Row, SiteName, TableName, Value};
+use rep_schema::{RowStore, TableSet};
+use rep_values::{Key, NoMemory, Row, SiteName, TableName, Value};
 
 /// The most bytes of a row's line: its word, 32 values of at most 67 bytes with their spaces, and its end.
 const MOST_ROW: u64 = 2_148;
+
+/// The most bytes of a logged key's line: its words, 4 values of at most 67 bytes with their spaces, a moment, and its end.
+const MOST_KEY: u64 = 300;
 
 /// Each value behind a space.
 pub(crate) fn put_values(lines: &mut Lines, values: &[Value])
@@ -37,6 +41,19 @@ fn add_row(lines: &mut Lines, values: &[Value]) -> Result<(), NoMemory>
     lines.reserve(MOST_ROW)?;
     lines.put(b"row");
     put_values(lines, values);
+    lines.put(b"\n");
+    Ok(())
+}
+
+/// `key VALUES moment M`
+pub fn add_logged_key(lines: &mut Lines, key: &Key, moment: u64) -> Result<(), NoMemory>
+    ensures ok { OnOk result (lines.new.bytes ≡ lines.old.bytes ++ logged_key_text key.now moment) }
+    ensures err { OnErr result (lines.new.bytes ≡ lines.old.bytes) }
+{
+    lines.reserve(MOST_KEY)?;
+    lines.put(b"key");
+    put_values(lines, key.values());
+    lines.put_words(&[Word::Plain(b"moment"), Word::Number(moment)]);
     lines.put(b"\n");
     Ok(())
 }
@@ -73,18 +90,47 @@ fn add_table<R: RowStore>(
     Ok(())
 }
 
-/// What `show tables` prints of a site: its name, and each table in declared order with its rows. Where there is no
-/// memory, what stood in the lines still stands in front, and part of this may stand behind it.
-pub fn add_tables<R: RowStore>(lines: &mut Lines, site: SiteName, store: &R) -> Result<(), NoMemory>
+/// The lines of a table, where it is held.
+fn add_held<R: RowStore>(
+    lines: &mut Lines,
+    held: &TableSet,
+    name: TableName,
+    store: &R,
+    table: u32,
+) -> Result<(), NoMemory>
+    requires { table < length (R.schema store.now).tables }
+    ensures ok { OnOk result (lines.new.bytes ≡ lines.old.bytes ++ cond (has_table held.now table) (table_text name.0 (rows_of (R.tables store.now) table)) []) }
+    ensures err { OnErr result (StandBefore lines.old.bytes lines.new.bytes) }
+{
+    if !held.has(table) {
+        return Ok(());
+    }
+    add_table(lines, name, store, table)
+}
+
+/// What `show tables` prints of a site: its name, and each table that it holds in declared order with its rows. Where there
+/// is no memory, what stood in the lines still stands in front, and part of this may stand behind it.
+pub fn add_tables<R: RowStore>(
+    lines: &mut Lines,
+    site: SiteName,
+    held: &TableSet,
+    store: &R,
+) -> Result<(), NoMemory>
     requires { length (R.schema store.now).tables ≤ 32 }
-    ensures ok { OnOk result (lines.new.bytes ≡ lines.old.bytes ++ tables_text site.0 (R.schema store.now) (R.tables store.now)) }
+    ensures ok { OnOk result (lines.new.bytes ≡ lines.old.bytes ++ tables_text site.0 held.now (R.schema store.now) (R.tables store.now)) }
     ensures err { OnErr result (StandBefore lines.old.bytes lines.new.bytes) }
 {
     lines.reserve(MOST_LINE)?;
     lines.put_line(b"tables", &[Word::Name(site.0)]);
     let schema = store.schema();
     for table in 0..schema.tables.len() {
-        add_table(lines, schema.tables.at(table).name, store, table as u32)?;
+        add_held(
+            lines,
+            held,
+            schema.tables.at(table).name,
+            store,
+            table as u32,
+        )?;
     }
     Ok(())
 }

@@ -175,7 +175,7 @@ declaration_gated : (d : Declare) → form_of (spelled (command.Declare d)) ≡ 
 unfolding command_of
 declaration_gated (declare.Site name) read = rw read refl
 declaration_gated (declare.LateSite name) read = refl
-declaration_gated (declare.SnapSite name master) read = refl
+declaration_gated (declare.SnapSite name master) read = rw read refl
 declaration_gated (declare.Table name columns) read = rw read refl
 declaration_gated (declare.Group table group columns) read = rw read refl
 declaration_gated (declare.Method table group method) read = rw read refl
@@ -198,7 +198,7 @@ pub command_gated : (c : Command) → form_of (spelled c) ≡ Ok c → command_o
 unfolding command_of
 command_gated command.Nothing read = rw read refl
 command_gated (command.Declare d) read = declaration_gated d read
-command_gated (command.Snapshot site table tests) read = refl
+command_gated (command.Snapshot site table tests) read = rw read refl
 command_gated (command.Row table values) read = rw read refl
 command_gated command.Resume read = rw read refl
 command_gated (command.Statement s) read = statement_gated s read
@@ -213,8 +213,8 @@ command_gated (command.Clock site time) read = rw read refl
 command_gated (command.Purge site) read = rw read refl
 command_gated (command.Execute site origin position) read = rw read refl
 command_gated (command.DropError site origin position) read = rw read refl
-command_gated (command.Refresh site how) read = refl
-command_gated (command.PurgeLog master table) read = refl
+command_gated (command.Refresh site how) read = rw read refl
+command_gated (command.PurgeLog master table) read = rw read refl
 command_gated command.Suspend read = rw read refl
 command_gated (command.Join site source) read = refl
 command_gated (command.Show what site) read = rw read refl

@@ -16,6 +16,7 @@ use Rattle.script_lex.specs.Lines.{lexed}
 use Rattle.script_words.specs.Reading.{one, mark, many}
 use Rattle.script_parse.specs.declared.command.Link.TheVariants as link
 use Rattle.script_parse.specs.declared.command.Shown.TheVariants as shown
+use Rattle.script_parse.specs.declared.command.Refresh.TheVariants as refresh_how
 use Rattle.script_parse.specs.declared.command.Command.TheVariants as command
 use Rattle.script_parse.specs.Columns.{column}
 use Rattle.script_parse.specs.Parts.{site_of, table_of, row_test, set_part}
@@ -261,31 +262,34 @@ shown_other : parsed (codes "show sites A") ≡ Err 6
 unfolding lexed tokens_from longest_up_to has_form token_of one mark many form_of command_of column row_test set_part
 shown_other = refl
 
--- Forms that aren't built: rule 5 where the whole line is one, or where its word has no form that is built, and else rule 6.
+-- Forms of snapshots.
 
-snapshot_site : parsed (codes "snapsite S A") ≡ Err 5
+snapshot_site : parsed (codes "snapsite S A") ≡ Ok (command.Declare (declare.SnapSite (site_of (codes "S")) (site_of (codes "A"))))
 unfolding lexed tokens_from longest_up_to has_form token_of one mark many form_of command_of column row_test set_part
 snapshot_site = refl
 
-snapshot : parsed (codes "snapshot S T where Q > 5 and Q < 9") ≡ Err 5
+snapshot : parsed (codes "snapshot S T where Q > 5 and Q < 9") ≡ Ok (command.Snapshot (site_of (codes "S")) (table_of (codes "T")) (Some (
+    record { column = codes "Q"; rel = rel.Gt; value = literal.Num (pos 5) } ∷ record { column = codes "Q"; rel = rel.Lt; value = literal.Num (pos 9) } ∷ [])))
 unfolding lexed tokens_from longest_up_to has_form token_of one mark many form_of command_of column row_test set_part
 snapshot = refl
 
-snapshot_word : parsed (codes "snapshot") ≡ Err 5
+snapshot_word : parsed (codes "snapshot") ≡ Err 6
 unfolding lexed tokens_from longest_up_to has_form token_of one mark many form_of command_of column row_test set_part
 snapshot_word = refl
 
-refresh : parsed (codes "refresh S fast") ≡ Err 5
+refresh : parsed (codes "refresh S fast") ≡ Ok (command.Refresh (site_of (codes "S")) refresh_how.Fast)
 unfolding lexed tokens_from longest_up_to has_form token_of one mark many form_of command_of column row_test set_part
 refresh = refl
 
-purged_log : parsed (codes "purge-log A T") ≡ Err 5
+purged_log : parsed (codes "purge-log A T") ≡ Ok (command.PurgeLog (site_of (codes "A")) (table_of (codes "T")))
 unfolding lexed tokens_from longest_up_to has_form token_of one mark many form_of command_of column row_test set_part
 purged_log = refl
 
-shown_log : parsed (codes "show log A") ≡ Err 5
+shown_log : parsed (codes "show log A") ≡ Ok (command.Show shown.Log (site_of (codes "A")))
 unfolding lexed tokens_from longest_up_to has_form token_of one mark many form_of command_of column row_test set_part
 shown_log = refl
+
+-- Forms that aren't built: rule 5 where the whole line is one, or where its word has no form that is built, and else rule 6.
 
 shown_calls : parsed (codes "show calls A") ≡ Err 5
 unfolding lexed tokens_from longest_up_to has_form token_of one mark many form_of command_of column row_test set_part

@@ -7,11 +7,11 @@ use Rattle.script_parse.specs.declared.command.Shown.TheVariants as shown
 use Rattle.script_parse.specs.declared.command.Command.{Command}
 use Rattle.script_parse.specs.declared.command.Command.TheVariants as command
 
--- a declaration of anything but a snapshot site and a late master
+-- a declaration of anything but a late master
 abbrev pub is_built_declaration : Declare → Bool
 is_built_declaration (declare.Site name) = true
 is_built_declaration (declare.LateSite name) = false
-is_built_declaration (declare.SnapSite name master) = false
+is_built_declaration (declare.SnapSite name master) = true
 is_built_declaration (declare.Table name columns) = true
 is_built_declaration (declare.Group table group columns) = true
 is_built_declaration (declare.Method table group method) = true
@@ -22,21 +22,21 @@ is_built_declaration (declare.UniqueMethod table constraint method) = true
 is_built_declaration (declare.Check table check column rel value) = true
 is_built_declaration (declare.Convergent table) = true
 
--- anything but the logs and the calls
+-- anything but the calls
 abbrev pub is_built_show : Shown → Bool
 is_built_show shown.Tables = true
 is_built_show shown.Queue = true
 is_built_show shown.Errors = true
 is_built_show shown.Marks = true
 is_built_show shown.Journal = true
-is_built_show shown.Log = false
+is_built_show shown.Log = true
 is_built_show shown.Calls = false
 
--- a command of a form that is built: no snapshots, no logs of tables, and no late masters
+-- a command of a form that is built: no late masters
 abbrev pub is_built : Command → Bool
 is_built command.Nothing = true
 is_built (command.Declare declaration) = is_built_declaration declaration
-is_built (command.Snapshot site table tests) = false
+is_built (command.Snapshot site table tests) = true
 is_built (command.Row table values) = true
 is_built command.Resume = true
 is_built (command.Statement statement) = true
@@ -51,8 +51,8 @@ is_built (command.Clock site time) = true
 is_built (command.Purge site) = true
 is_built (command.Execute site origin position) = true
 is_built (command.DropError site origin position) = true
-is_built (command.Refresh site how) = false
-is_built (command.PurgeLog master table) = false
+is_built (command.Refresh site how) = true
+is_built (command.PurgeLog master table) = true
 is_built command.Suspend = true
 is_built (command.Join site source) = false
 is_built (command.Show what site) = is_built_show what
@@ -64,4 +64,4 @@ gated passes (Ok c) = if passes c then Ok c else Err 5
 
 -- the words of which no form is built
 abbrev pub later_words : List (List ℕ × Unit {0})
-later_words = (codes "latesite", tt) ∷ (codes "snapsite", tt) ∷ (codes "snapshot", tt) ∷ (codes "refresh", tt) ∷ (codes "purge-log", tt) ∷ (codes "join", tt) ∷ []
+later_words = (codes "latesite", tt) ∷ (codes "join", tt) ∷ []

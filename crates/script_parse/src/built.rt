@@ -11,8 +11,9 @@ fn is_built_declaration(declaration: &Declare) -> bool
     ensures { result ≡ is_built_declaration declaration.now }
 {
     match declaration {
-        Declare::SnapSite { .. } | Declare::LateSite { .. } => false,
+        Declare::LateSite { .. } => false,
         Declare::Site { .. }
+        | Declare::SnapSite { .. }
         | Declare::Table { .. }
         | Declare::Group { .. }
         | Declare::Method { .. }
@@ -29,8 +30,9 @@ fn is_built_show(what: Shown) -> bool
     ensures { result ≡ is_built_show what }
 {
     match what {
-        Shown::Tables | Shown::Queue | Shown::Errors | Shown::Marks | Shown::Journal => true,
-        Shown::Log | Shown::Calls => false,
+        Shown::Tables | Shown::Queue | Shown::Errors | Shown::Marks | Shown::Journal | Shown::Log =>
+            true,
+        Shown::Calls => false,
     }
 }
 
@@ -40,11 +42,11 @@ fn is_built(command: &Command) -> bool
     match command {
         Command::Declare(declaration) => is_built_declaration(declaration),
         Command::Show { what, .. } => is_built_show(*what),
-        Command::Snapshot { .. }
+        Command::Join { .. } => false,
+        Command::Nothing
+        | Command::Snapshot { .. }
         | Command::Refresh { .. }
         | Command::PurgeLog { .. }
-        | Command::Join { .. } => false,
-        Command::Nothing
         | Command::Row { .. }
         | Command::Resume
         | Command::Statement(_)

@@ -79,14 +79,7 @@ fn form_of(alloc: Global, tokens: &mut Reader<'_>) -> Result<Command, LineStop>
     form(alloc, head, tokens)
 }
 
-const LATER: [(&[u8], ()); 6] = [
-    (b"latesite", ()),
-    (b"snapsite", ()),
-    (b"snapshot", ()),
-    (b"refresh", ()),
-    (b"purge-log", ()),
-    (b"join", ()),
-];
+const LATER: [(&[u8], ()); 2] = [(b"latesite", ()), (b"join", ())];
 
 fn is_later(tokens: &Reader<'_>) -> bool
     ensures { result ≡ begins (is_chosen later_words) tokens.now }

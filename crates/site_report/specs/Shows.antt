@@ -6,10 +6,11 @@ use Rattle.error_queue.specs.declared.entry.ErrorEntry.{ErrorEntry}
 use Rattle.rep_calls.specs.declared.past.Past.{Past}
 use Rattle.report_text.specs.Sheet.{line}
 use Rattle.report_text.specs.Refusals.{error_text}
-use Rattle.report_text.specs.Calls.{calls_text}
+use Rattle.report_text.specs.Texts.{logged_key_text}
+use Rattle.report_text.specs.Calls.{table_name, calls_text}
 use Rattle.site_state.specs.declared.entry.Entry.{Entry}
 use Rattle.site_state.specs.declared.entry.Entry.TheVariants.{Local, Done, Error, Executed, Dropped, Refreshed}
-use Rattle.site_state.specs.State.{SiteState, arrivals}
+use Rattle.site_state.specs.State.{LoggedKey, LogState, SiteState, arrivals}
 use Rattle.site_state.specs.Journal.{low_water}
 use Rattle.site_state.specs.Errors.{errors_of}
 use Rattle.site_state.specs.Deferrals.{deferred_of, marks_of}
@@ -90,3 +91,17 @@ queued_text destinations x n =
 -- queue SITE, and each transaction that isn't purged, in rising number, with these destinations
 abbrev pub queue_text : List ℕ → List SiteName → SiteState → List ℕ
 queue_text name destinations x = line (codes "queue") (name ∷ []) ++ flat_map (queued_text destinations x) (reverse (numbered (deferred_of x)))
+
+-- ---- logs
+
+-- key VALUES moment M
+abbrev pub noted_text : LoggedKey → List ℕ
+noted_text k = logged_key_text k.key k.moment
+
+-- table T purged P, and its keys in rising order
+abbrev pub table_log_text : Schema → LogState → List ℕ
+table_log_text schema log = line (codes "table") (table_name schema log.table ∷ codes "purged" ∷ decimal log.purged ∷ []) ++ flat_map noted_text log.keys
+
+-- log SITE, and the log of each table that has one, as declared
+abbrev pub log_text : List ℕ → SiteState → List ℕ
+log_text name x = line (codes "log") (name ∷ []) ++ flat_map (table_log_text x.schema) x.logs

@@ -10,6 +10,6 @@ invariant-loop-table g l =
     let schema = g.R.RowStore.schema l.store in
     let tables = g.R.RowStore.tables l.store in
     record {
-      text : l.lines.bytes ++ each_table (drop l.table schema.tables) (drop l.table tables) ≡ l.fn.lines.bytes ++ tables_text l.fn.site.0 schema tables;
+      text : l.lines.bytes ++ each_table l.held l.table (drop l.table schema.tables) (drop l.table tables) ≡ l.fn.lines.bytes ++ tables_text l.fn.site.0 l.held schema tables;
       front : StandBefore l.fn.lines.bytes l.lines.bytes;
     }
