@@ -3,8 +3,7 @@
 use Rattle.std.proofs.Common.{◌≡◌, ◌++◌, true, false, refl, sym, ◌∙◌, subst}
 use Rattle.rep_values.specs.declared.name.SiteName.{SiteName}
 use Rattle.rep_schema.specs.declared.schema.Schema.{Schema}
-use Rattle.rep_schema.specs.declared.schema.SiteEntry.{SiteEntry}
-use Rattle.rep_schema.specs.Shape.{HasShape, is_early_master}
+use Rattle.rep_schema.specs.Shape.{HasShape}
 use Rattle.rep_schema.specs.Sites.{senders_of}
 use Rattle.std.specs.List.{AllByRecursion}
 use Rattle.site_state.specs.State.{SiteState, is_among}
@@ -16,6 +15,9 @@ use Rattle.world_laws.specs.Simulation.{Simulates, Leads}
 use Rattle.world_laws.specs.Reached.{IsOfScript, InSetup, Behind}
 use Rattle.world_laws.proofs.SiteSteps.{run-append, SiteRuns}
 use Rattle.world_laws.proofs.Pieces.{none_lead, site_leads}
+use Rattle.site_making.specs.Entries.{IsThere}
+use Rattle.snapshot_worlds.specs.Reached.{IsOfSnapshots, Declares, Goes}
+use Rattle.snapshot_worlds.proofs.Scripts.{goes_on}
 use Rattle.environment.specs.Following.{Follows, IsBuilt}
 
 -- nothing happens
@@ -69,12 +71,17 @@ of_script_follows w y behind (Behind r) follows = Behind (record {
   leads = leads_then w y r.start r.leads (follows.leads (run r.leads.events r.start) r.leads.simulates);
 })
 
+of_snapshots_follows : (w y : WorldState) → is_setup w.phase ≡ false → IsOfSnapshots w → Follows w y → IsOfSnapshots y
+of_snapshots_follows w y behind (Declares so_far) follows = absurd (cc (behind, so_far.setup.setup))
+of_snapshots_follows w y behind (Goes g) follows = Goes (goes_on w y follows.schema follows.leads g)
+
 -- behind Setup, what follows a world of the forms that are built is such a world
 pub built_follows : (w y : WorldState) → is_setup w.phase ≡ false → IsBuilt w → Follows w y → IsBuilt y
 built_follows w y behind built follows = record {
   of_script = of_script_follows w y behind built.of_script follows;
+  of_snapshots = of_snapshots_follows w y behind built.of_snapshots follows;
   shape = subst HasShape (sym follows.schema) built.shape;
-  masters = subst (λ (s : Schema). AllByRecursion (λ (e : SiteEntry). is_early_master e ≡ true) s.sites) (sym follows.schema) built.masters;
+  early = subst (λ (s : Schema). AllByRecursion IsThere s.sites) (sym follows.schema) built.early;
   linked = λ later site origin gets.
       let both = built.linked behind site origin (subst (λ (s : Schema). is_among (senders_of s site) origin ≡ true) follows.schema gets) in
       (follows.directions site origin both.0, follows.directions origin site both.1);

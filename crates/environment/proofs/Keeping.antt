@@ -11,9 +11,9 @@ use Rattle.rep_values.proofs.RefusalSteps.{or_then-None}
 use Rattle.rep_schema.specs.declared.schema.SiteEntry.{SiteEntry}
 use Rattle.rep_schema.specs.declared.schema.Schema.{Schema}
 use Rattle.rep_schema.specs.Shape.{HasShape}
-use Rattle.rep_schema.specs.Entries.{master_site}
+use Rattle.rep_schema.specs.Entries.{master_site, snapshot_site}
 use Rattle.rep_schema.specs.Sites.{senders_of}
-use Rattle.rep_schema.specs.Named.{is_site}
+use Rattle.rep_schema.specs.Named.{is_site, table_place}
 use Rattle.rep_declare.specs.declared.declaration.Declare.{Declare}
 use Rattle.rep_declare.specs.declared.declaration.Declare.TheVariants as declare
 use Rattle.rep_declare.specs.Additions.{with_changed, with_site_level, declared}
@@ -23,9 +23,9 @@ use Rattle.net_plan.specs.Directions.{Direction, HasDirection, direction_of, is_
 use Rattle.script_parse.specs.declared.command.Command.{Command}
 use Rattle.script_parse.specs.declared.command.Command.TheVariants as command
 use Rattle.script_parse.specs.Built.{is_built, is_built_declaration}
+use Rattle.script_parse.specs.declared.command.TestWords.{TestWords}
 use Rattle.script_parse.specs.Named.{NamesColumn}
 use Rattle.site_state.specs.State.{is_among}
-use Rattle.event_laws.specs.Events.{run}
 use Rattle.world_state.specs.declared.phase.Phase.{Phase}
 use Rattle.world_state.specs.declared.phase.Phase.TheVariants as phase
 use Rattle.world_state.specs.declared.block.Block.{Block}
@@ -33,23 +33,25 @@ use Rattle.world_state.specs.declared.refused.Refused.{Refused}
 use Rattle.world_state.specs.World.{WorldState, first_world, gets_from}
 use Rattle.world_state.specs.Phases.{is_setup, has_block, setup_step, declare_step, phase_step, behind_setup_step}
 use Rattle.world_state.specs.Blocks.{committed_block}
+use Rattle.world_state.specs.Declaring.{with_snapshot_at, tests_in}
 use Rattle.world_state.specs.Pushes.{world_release, world_send, world_send_each, positions_above, world_bring_mark, world_answer, world_settle, pushed_in, world_push}
 use Rattle.world_state.specs.Making.{world_made}
 use Rattle.world_state.specs.Refusals.{world_refusal}
-use Rattle.world_state.specs.Steps.{resumed, is_up_word, world_done, world_refused, step_by, step_refused, told_by}
-use Rattle.world_laws.specs.Simulation.{Simulates}
+use Rattle.world_state.specs.Steps.{resumed, log_purged_at, is_up_word, world_done, world_refused, step_by, step_refused, told_by}
 use Rattle.world_laws.specs.Scripts.{LeavesAllButTheBlock}
-use Rattle.world_laws.specs.Reached.{IsOfScript, InSetup, Behind}
-use Rattle.world_laws.proofs.SiteSteps.{run-append}
+use Rattle.world_laws.specs.Reached.{IsOfScript}
 use Rattle.world_laws.proofs.Scripts.{HasShape-no_schema, step_of_script, first_of_script}
 use Rattle.world_laws.proofs.RefusedLines.{refused_leaves}
 use Rattle.site_making.proofs.SenderDirections.{direction_to_sender, direction_from_sender}
-use Rattle.site_making.specs.Masters.{IsEarlyMaster}
-use Rattle.environment.specs.Following.{Follows, IsBuilt}
+use Rattle.site_making.specs.Entries.{IsThere}
+use Rattle.snapshot_worlds.specs.Reached.{IsOfSnapshots}
+use Rattle.snapshot_worlds.proofs.Scripts.{step_of_snapshots, first_of_snapshots}
+use Rattle.environment.specs.Following.{IsBuilt}
 use Rattle.environment.specs.Doing.{IsShort, is_push}
 use Rattle.environment.specs.Known.{is_tried}
 use Rattle.environment.specs.Keeping.{LinesKeepBuilt}
 use Rattle.environment.proofs.Directions.{Stay, stay-at, stays, stay-push}
+use Rattle.environment.proofs.Following.{built_follows}
 
 -- ---- lines that declare nothing and end no Setup
 
@@ -65,6 +67,14 @@ same w = record { schema = refl; setup = refl; net = λ a b. refl }
 keeps_committed : (block : Option Block) (w : WorldState) → Keeps w (committed_block block w)
 keeps_committed None w = same w
 keeps_committed (Some block) w = record { schema = refl; setup = refl; net = λ a b. refl }
+
+keeps_snapshot : (site : SiteName) (table : Option ℕ) (tests : List TestWords) (w : WorldState) → Keeps w (with_snapshot_at site table tests w)
+keeps_snapshot site None tests w = same w
+keeps_snapshot site (Some table) tests w = record { schema = refl; setup = refl; net = λ a b. refl }
+
+keeps_log_purged : (site : SiteName) (table : Option ℕ) (w : WorldState) → Keeps w (log_purged_at site table w)
+keeps_log_purged site None w = same w
+keeps_log_purged site (Some table) w = record { schema = refl; setup = refl; net = λ a b. refl }
 
 keeps_answered : (from to : SiteName) (w : WorldState) → ((world_answer from to w).schema ≡ w.schema) × ((world_answer from to w).phase ≡ w.phase)
 keeps_answered from to w = go (is_up from to w.net)
@@ -97,7 +107,7 @@ keeps_resumed phase.Suspended w is behind = record { schema = refl; setup = sym 
 abbrev IsPlain : Command → WorldState → Type 0
 IsPlain command.Nothing w = Unit {0}
 IsPlain (command.Declare declaration) w = ⊥
-IsPlain (command.Snapshot site table tests) w = ⊥
+IsPlain (command.Snapshot site table tests) w = Unit {0}
 IsPlain (command.Row table values) w = Unit {0}
 IsPlain command.Resume w = is_setup w.phase ≡ false
 IsPlain (command.Statement statement) w = Unit {0}
@@ -112,8 +122,8 @@ IsPlain (command.Clock site time) w = Unit {0}
 IsPlain (command.Purge site) w = Unit {0}
 IsPlain (command.Execute site origin position) w = Unit {0}
 IsPlain (command.DropError site origin position) w = Unit {0}
-IsPlain (command.Refresh site how) w = ⊥
-IsPlain (command.PurgeLog master table) w = ⊥
+IsPlain (command.Refresh site how) w = Unit {0}
+IsPlain (command.PurgeLog master table) w = Unit {0}
 IsPlain command.Suspend w = is_setup w.phase ≡ false
 IsPlain (command.Join site source) w = ⊥
 IsPlain (command.Show what site) w = Unit {0}
@@ -121,7 +131,7 @@ IsPlain (command.Show what site) w = Unit {0}
 keeps_done : (number : ℕ) (c : Command) (w : WorldState) → IsPlain c w → Keeps w (world_done number c w)
 keeps_done number command.Nothing w plain = same w
 keeps_done number (command.Declare declaration) w plain = absurd plain
-keeps_done number (command.Snapshot site table tests) w plain = absurd plain
+keeps_done number (command.Snapshot site table tests) w plain = keeps_snapshot site (table_place w.schema table) (tests_in tests) w
 keeps_done number (command.Row table values) w plain = record { schema = refl; setup = refl; net = λ a b. refl }
 keeps_done number command.Resume w plain = keeps_resumed w.phase w refl plain
 keeps_done number (command.Statement statement) w plain = record { schema = refl; setup = refl; net = λ a b. refl }
@@ -136,8 +146,8 @@ keeps_done number (command.Clock site time) w plain = record { schema = refl; se
 keeps_done number (command.Purge site) w plain = record { schema = refl; setup = refl; net = λ a b. refl }
 keeps_done number (command.Execute site origin position) w plain = record { schema = refl; setup = refl; net = λ a b. refl }
 keeps_done number (command.DropError site origin position) w plain = record { schema = refl; setup = refl; net = λ a b. refl }
-keeps_done number (command.Refresh site how) w plain = absurd plain
-keeps_done number (command.PurgeLog master table) w plain = absurd plain
+keeps_done number (command.Refresh site how) w plain = record { schema = refl; setup = refl; net = λ a b. refl }
+keeps_done number (command.PurgeLog master table) w plain = keeps_log_purged master (table_place w.schema table) w
 keeps_done number command.Suspend w plain = record { schema = refl; setup = sym plain; net = λ a b. refl }
 keeps_done number (command.Join site source) w plain = absurd plain
 keeps_done number (command.Show what site) w plain = same w
@@ -145,8 +155,12 @@ keeps_done number (command.Show what site) w plain = same w
 -- ---- what stays built
 
 -- the world that a step leads to is one of a script
-step_is : (number : ℕ) (c : Command) (w : WorldState) (r : Option Refusal) → NamesColumn c → IsOfScript w → world_refusal c w ≡ r → IsOfScript (step_by r number c w)
-step_is number c w r named is met = subst (λ (o : Option Refusal). IsOfScript (step_by o number c w)) met (step_of_script number c w named is)
+step_is : (number : ℕ) (c : Command) (w : WorldState) (r : Option Refusal) → NamesColumn c → IsBuilt w → world_refusal c w ≡ r → IsOfScript (step_by r number c w)
+step_is number c w r named built met = subst (λ (o : Option Refusal). IsOfScript (step_by o number c w)) met (step_of_script number c w named built.of_script)
+
+-- and its snapshots are such a world's
+step_has : (number : ℕ) (c : Command) (w : WorldState) (r : Option Refusal) → NamesColumn c → IsBuilt w → world_refusal c w ≡ r → IsOfSnapshots (step_by r number c w)
+step_has number c w r named built met = subst (λ (o : Option Refusal). IsOfSnapshots (step_by o number c w)) met (step_of_snapshots number c w named built.of_snapshots)
 
 linked_behind : (w y : WorldState) → IsBuilt w → Keeps w y → is_setup y.phase ≡ false → (site origin : SiteName) → gets_from y site origin ≡ true
     → HasDirection y.net site origin × HasDirection y.net origin site
@@ -154,38 +168,39 @@ linked_behind w y built kept behind site origin gets =
     let had = built.linked (sym kept.setup ∙ behind) site origin (subst (λ (s : Schema). is_among (senders_of s site) origin ≡ true) kept.schema gets) in
     (stays w.net y.net kept.net site origin had.0, stays w.net y.net kept.net origin site had.1)
 
-built_kept : (w y : WorldState) → IsBuilt w → IsOfScript y → Keeps w y → IsBuilt y
-built_kept w y built is kept = record {
+built_kept : (w y : WorldState) → IsBuilt w → IsOfScript y → IsOfSnapshots y → Keeps w y → IsBuilt y
+built_kept w y built is has kept = record {
   of_script = is;
+  of_snapshots = has;
   shape = subst HasShape (sym kept.schema) built.shape;
-  masters = subst (λ (s : Schema). AllByRecursion IsEarlyMaster s.sites) (sym kept.schema) built.masters;
+  early = subst (λ (s : Schema). AllByRecursion IsThere s.sites) (sym kept.schema) built.early;
   linked = linked_behind w y built kept;
 }
 
 -- ---- declarations
 
-levels_keep : (site : SiteName) (level : ℤ) (es : List SiteEntry) → AllByRecursion IsEarlyMaster es → AllByRecursion IsEarlyMaster (with_changed (is_site site) (with_site_level level) es)
+levels_keep : (site : SiteName) (level : ℤ) (es : List SiteEntry) → AllByRecursion IsThere es → AllByRecursion IsThere (with_changed (is_site site) (with_site_level level) es)
 levels_keep site level [] all = tt
 levels_keep site level (e ∷ es) all = go (is_site site e) (levels_keep site level es all.1)
   where
-    go : (b : Bool) → AllByRecursion IsEarlyMaster (with_changed (is_site site) (with_site_level level) es)
-        → AllByRecursion IsEarlyMaster (cond b (with_site_level level e ∷ es) (e ∷ with_changed (is_site site) (with_site_level level) es))
+    go : (b : Bool) → AllByRecursion IsThere (with_changed (is_site site) (with_site_level level) es)
+        → AllByRecursion IsThere (cond b (with_site_level level e ∷ es) (e ∷ with_changed (is_site site) (with_site_level level) es))
     go true later = (all.0, all.1)
     go false later = (all.0, later)
 
-masters_declared : (d : Declare) (schema : Schema) → is_built_declaration d ≡ true → AllByRecursion IsEarlyMaster schema.sites → AllByRecursion IsEarlyMaster (declared d schema).sites
-masters_declared (declare.Site name) schema form all = each_push IsEarlyMaster schema.sites (master_site name) all refl
-masters_declared (declare.LateSite name) schema form all = absurd (cc form)
-masters_declared (declare.SnapSite name master) schema form all = absurd (cc form)
-masters_declared (declare.Table name columns) schema form all = all
-masters_declared (declare.Group table group columns) schema form all = all
-masters_declared (declare.Method table group method) schema form all = all
-masters_declared (declare.Priority group value level) schema form all = all
-masters_declared (declare.SiteLevel site level) schema form all = levels_keep site level schema.sites all
-masters_declared (declare.Unique table constraint columns) schema form all = all
-masters_declared (declare.UniqueMethod table constraint method) schema form all = all
-masters_declared (declare.Check table check column rel value) schema form all = all
-masters_declared (declare.Convergent table) schema form all = all
+early_declared : (d : Declare) (schema : Schema) → is_built_declaration d ≡ true → AllByRecursion IsThere schema.sites → AllByRecursion IsThere (declared d schema).sites
+early_declared (declare.Site name) schema form all = each_push IsThere schema.sites (master_site name) all refl
+early_declared (declare.LateSite name) schema form all = absurd (cc form)
+early_declared (declare.SnapSite name master) schema form all = each_push IsThere schema.sites (snapshot_site name master) all refl
+early_declared (declare.Table name columns) schema form all = all
+early_declared (declare.Group table group columns) schema form all = all
+early_declared (declare.Method table group method) schema form all = all
+early_declared (declare.Priority group value level) schema form all = all
+early_declared (declare.SiteLevel site level) schema form all = levels_keep site level schema.sites all
+early_declared (declare.Unique table constraint columns) schema form all = all
+early_declared (declare.UniqueMethod table constraint method) schema form all = all
+early_declared (declare.Check table check column rel value) schema form all = all
+early_declared (declare.Convergent table) schema form all = all
 
 in_setup : (p : Phase) (b : Bool) → refused (not (is_setup p) || b) refusal.WrongPhase ≡ None → is_setup p ≡ true
 in_setup phase.Setup b none = refl
@@ -198,19 +213,21 @@ built_declared number d w form named passes built =
     let steps = or_then-None (declare_step d w) _ passes in
     let setup : is_setup w.phase ≡ true = in_setup w.phase (has_block w) (or_then-None (setup_step w) _ steps.0).0 in
     record {
-      of_script = step_is number (command.Declare d) w None named built.of_script passes;
+      of_script = step_is number (command.Declare d) w None named built passes;
+      of_snapshots = step_has number (command.Declare d) w None named built passes;
       shape = HasShape-declared d w.schema built.shape named (or_then-None (refusal_of w.schema d) None steps.1).0;
-      masters = masters_declared d w.schema form built.masters;
+      early = early_declared d w.schema form built.early;
       linked = λ behind. absurd (cc (setup, behind));
     }
 
 -- ---- Setup's end
 
-built_made : (w : WorldState) → IsOfScript (world_made w) → IsBuilt w → IsBuilt (world_made w)
-built_made w is built = record {
+built_made : (w : WorldState) → IsOfScript (world_made w) → IsOfSnapshots (world_made w) → IsBuilt w → IsBuilt (world_made w)
+built_made w is has built = record {
   of_script = is;
+  of_snapshots = has;
   shape = built.shape;
-  masters = built.masters;
+  early = built.early;
   linked = λ behind site origin gets. (direction_to_sender w.schema site origin gets, direction_from_sender w.schema site origin gets);
 }
 
@@ -218,17 +235,20 @@ built_resumed : (number : ℕ) (w : WorldState) → world_refusal command.Resume
 built_resumed number w passes built = go w.phase refl
   where
     is : IsOfScript (resumed w.phase w)
-    is = step_is number command.Resume w None tt built.of_script passes
+    is = step_is number command.Resume w None tt built passes
+
+    has : IsOfSnapshots (resumed w.phase w)
+    has = step_has number command.Resume w None tt built passes
 
     go : (now : Phase) → w.phase ≡ now → IsBuilt (resumed w.phase w)
-    go phase.Setup at = subst (λ (p : Phase). IsBuilt (resumed p w)) (sym at) (built_made w (subst (λ (p : Phase). IsOfScript (resumed p w)) at is) built)
-    go phase.Running at = built_kept w (resumed w.phase w) built is (keeps_resumed w.phase w refl (ap is_setup at))
-    go phase.Suspended at = built_kept w (resumed w.phase w) built is (keeps_resumed w.phase w refl (ap is_setup at))
+    go phase.Setup at = subst (λ (p : Phase). IsBuilt (resumed p w)) (sym at) (built_made w (subst (λ (p : Phase). IsOfScript (resumed p w)) at is) (subst (λ (p : Phase). IsOfSnapshots (resumed p w)) at has) built)
+    go phase.Running at = built_kept w (resumed w.phase w) built is has (keeps_resumed w.phase w refl (ap is_setup at))
+    go phase.Suspended at = built_kept w (resumed w.phase w) built is has (keeps_resumed w.phase w refl (ap is_setup at))
 
 -- ---- each line
 
 plain_done : (number : ℕ) (c : Command) (w : WorldState) → IsPlain c w → NamesColumn c → world_refusal c w ≡ None → IsBuilt w → IsBuilt (world_done number c w)
-plain_done number c w plain named passes built = built_kept w (world_done number c w) built (step_is number c w None named built.of_script passes) (keeps_done number c w plain)
+plain_done number c w plain named passes built = built_kept w (world_done number c w) built (step_is number c w None named built passes) (step_has number c w None named built passes) (keeps_done number c w plain)
 
 behind_of : (p : Phase) (b : Bool) → refused (is_setup p || b) refusal.WrongPhase ≡ None → is_setup p ≡ false
 behind_of phase.Setup b none = absurd (cc none)
@@ -238,9 +258,9 @@ behind_of phase.Suspended b none = refl
 built_done : (number : ℕ) (c : Command) (w : WorldState) → is_built c ≡ true → NamesColumn c → world_refusal c w ≡ None → IsBuilt w → IsBuilt (world_done number c w)
 built_done number (command.Declare declaration) w form named passes built = built_declared number declaration w form named passes built
 built_done number command.Resume w form named passes built = built_resumed number w passes built
-built_done number (command.Snapshot site table tests) w form named passes built = absurd (cc form)
-built_done number (command.Refresh site how) w form named passes built = absurd (cc form)
-built_done number (command.PurgeLog master table) w form named passes built = absurd (cc form)
+built_done number (command.Snapshot site table tests) w form named passes built = plain_done number (command.Snapshot site table tests) w tt named passes built
+built_done number (command.Refresh site how) w form named passes built = plain_done number (command.Refresh site how) w tt named passes built
+built_done number (command.PurgeLog master table) w form named passes built = plain_done number (command.PurgeLog master table) w tt named passes built
 built_done number (command.Join site source) w form named passes built = absurd (cc form)
 built_done number command.Suspend w form named passes built =
     plain_done number command.Suspend w (behind_of w.phase (has_block w) (or_then-None (behind_setup_step w) _ (or_then-None (phase_step command.Suspend w) _ passes).0).0) named passes built
@@ -271,28 +291,7 @@ built_refused number c w r named told built = go (world_refusal c w) refl told
 
     go : (o : Option Refusal) → world_refusal c w ≡ o → told_by o number c w ≡ Some r → IsBuilt (world_refused c w)
     go None met told = absurd (cc told)
-    go (Some why) met told = built_kept w (world_refused c w) built (step_is number c w (Some why) named built.of_script met) kept
-
--- events lead on from a world behind Setup
-script_follows : (old new : WorldState) → is_setup old.phase ≡ false → Follows old new → IsOfScript old → IsOfScript new
-script_follows old new behind follows (InSetup s) = absurd (cc (s.setup, behind))
-script_follows old new behind follows (Behind r) = let a = follows.leads (run r.leads.events r.start) r.leads.simulates in Behind (record {
-  schema = r.schema;
-  start = r.start;
-  is = r.is;
-  meshed = r.meshed;
-  leads = record { events = a.events ++ r.leads.events; simulates = subst (Simulates new) (sym (run-append a.events r.leads.events r.start)) a.simulates };
-})
-
-built_follows : (old new : WorldState) → is_setup old.phase ≡ false → Follows old new → IsBuilt old → IsBuilt new
-built_follows old new behind follows built = record {
-  of_script = script_follows old new behind follows built.of_script;
-  shape = subst HasShape (sym follows.schema) built.shape;
-  masters = subst (λ (s : Schema). AllByRecursion IsEarlyMaster s.sites) (sym follows.schema) built.masters;
-  linked = λ set site origin gets.
-      let had = built.linked behind site origin (subst (λ (s : Schema). is_among (senders_of s site) origin ≡ true) follows.schema gets) in
-      (follows.directions site origin had.0, follows.directions origin site had.1);
-}
+    go (Some why) met told = built_kept w (world_refused c w) built (step_is number c w (Some why) named built met) (step_has number c w (Some why) named built met) kept
 
 -- a push that isn't refused is behind Setup
 push_behind : (c : Command) (w : WorldState) → is_push c ≡ true → (is_tried c ≡ false → world_refusal c w ≡ None) → is_setup w.phase ≡ false
@@ -325,7 +324,7 @@ built_short number c old new r short built = go (is_push c) refl
   where
     go : (b : Bool) → is_push c ≡ b → IsBuilt new
     go false is = subst IsBuilt (sym (short.kept is)) built
-    go true is = built_follows old new (push_behind c old is short.passes) short.follows built
+    go true is = built_follows old new (push_behind c old is short.passes) built short.follows
 
 pub lines_keep_built : LinesKeepBuilt
 lines_keep_built number c old new (Ok sheet) form named does built = subst IsBuilt (sym does.world) (built_done number c old form named does.passes built)
@@ -334,4 +333,4 @@ lines_keep_built number c old new (Err r) form named (inr refused) built = subst
 
 -- where nothing is declared
 pub first_built : IsBuilt first_world
-first_built = record { of_script = first_of_script; shape = HasShape-no_schema; masters = tt; linked = λ behind site origin gets. absurd (cc behind) }
+first_built = record { of_script = first_of_script; of_snapshots = first_of_snapshots; shape = HasShape-no_schema; early = tt; linked = λ behind site origin gets. absurd (cc behind) }

@@ -2,6 +2,9 @@
 pub mod Places
 pub mod Directions
 pub mod Following
+mod Queued
+mod Young
 pub mod Written
+pub mod Masters
 pub mod Keeping
 pub mod KnownRefusals

@@ -2,10 +2,12 @@
 use Rattle.std.specs.Prelude.{ℕ, ◌==◌, cond, List, [], ◌++◌, filter, Option, Some, None}
 use Rattle.std.specs.List.{flat_map}
 use Rattle.rep_values.specs.declared.name.SiteName.{SiteName}
+use Rattle.rep_values.specs.declared.name.TableName.{TableName}
+use Rattle.rep_schema.specs.Named.{table_place}
 use Rattle.rep_schema.specs.Sites.{senders_of, destinations_of}
-use Rattle.report_text.specs.Texts.{commit_text, nothing_committed_text, purge_text, execute_text, drop_error_text, push_text, tables_text}
+use Rattle.report_text.specs.Texts.{commit_text, nothing_committed_text, purge_text, purge_log_text, refresh_fast_text, refresh_complete_text, execute_text, drop_error_text, push_text, tables_text}
 use Rattle.report_text.specs.Refusals.{error_text}
-use Rattle.site_report.specs.Shows.{errors_text, journal_text, marks_text, queue_text}
+use Rattle.site_report.specs.Shows.{errors_text, journal_text, log_text, marks_text, queue_text}
 use Rattle.error_queue.specs.declared.entry.ErrorEntry.{ErrorEntry}
 use Rattle.script_parse.specs.declared.command.Shown.{Shown}
 use Rattle.script_parse.specs.declared.command.Shown.TheVariants as shown
@@ -16,7 +18,7 @@ use Rattle.site_state.specs.Contents.{tables_of}
 use Rattle.event_laws.specs.Core.{site_of}
 use Rattle.world_state.specs.declared.block.Block.{Block}
 use Rattle.world_state.specs.World.{WorldState, is_there}
-use Rattle.world_state.specs.Answers.{commit_number, purge_count}
+use Rattle.world_state.specs.Answers.{RefreshTold, commit_number, purge_count, log_purge_count, refresh_answer}
 use Rattle.world_state.specs.PushAnswers.{push_count, push_errors}
 
 -- a commit's number, or that nothing was committed
@@ -35,6 +37,16 @@ new_error_text e = error_text e.origin.0 e.position e.call e.error
 abbrev pub pushed_text : SiteName → SiteName → Option ℕ → WorldState → List ℕ
 pushed_text from to count w = push_text from.0 to.0 (push_count from to count w) ++ flat_map new_error_text (push_errors from to count w)
 
+-- a refresh by the logs, with the keys that were looked up, or by all rows; and the rows that the snapshots have
+abbrev pub refreshed_text : SiteName → Option RefreshTold → List ℕ
+refreshed_text site None = []
+refreshed_text site (Some told) = cond told.by_logs (refresh_fast_text site.0 told.count.keys told.count.rows) (refresh_complete_text site.0 told.count.rows)
+
+-- a purge of the log of a table at its place
+abbrev pub log_purged_text : SiteName → TableName → Option ℕ → WorldState → List ℕ
+log_purged_text master table None w = []
+log_purged_text master table (Some place) w = purge_log_text master.0 table.0 (log_purge_count master place w)
+
 -- the senders and destinations of a site that are there
 abbrev pub senders_there : WorldState → SiteName → List SiteName
 senders_there w site = filter (is_there w) (senders_of w.schema site)
@@ -42,21 +54,21 @@ senders_there w site = filter (is_there w) (senders_of w.schema site)
 abbrev pub destinations_there : WorldState → SiteName → List SiteName
 destinations_there w site = filter (is_there w) (destinations_of w.schema site)
 
--- what is shown of a site; logs and the calls of procedures come with them
+-- what is shown of a site; the calls of procedures come with them
 abbrev pub shown_text : Shown → SiteName → SiteState → WorldState → List ℕ
-shown_text shown.Tables site x w = tables_text site.0 x.schema (tables_of x)
+shown_text shown.Tables site x w = tables_text site.0 x.here.tables x.schema (tables_of x)
 shown_text shown.Queue site x w = queue_text site.0 (destinations_there w site) x
 shown_text shown.Errors site x w = errors_text site.0 x
 shown_text shown.Marks site x w = marks_text site.0 (senders_there w site) (destinations_there w site) x
 shown_text shown.Journal site x w = journal_text site.0 x
-shown_text shown.Log site x w = []
+shown_text shown.Log site x w = log_text site.0 x
 shown_text shown.Calls site x w = []
 
 abbrev pub shown_found : Shown → SiteName → Option SiteState → WorldState → List ℕ
 shown_found what site None w = []
 shown_found what site (Some x) w = shown_text what site x w
 
--- what a line prints; those of snapshots and of joins come with them
+-- what a line prints; those of joins come with them
 abbrev pub world_text : Command → WorldState → List ℕ
 world_text command.Nothing w = []
 world_text (command.Declare declaration) w = []
@@ -75,8 +87,8 @@ world_text (command.Clock site time) w = []
 world_text (command.Purge site) w = purge_text site.0 (purge_count site w)
 world_text (command.Execute site origin position) w = execute_text site.0 origin.0 position
 world_text (command.DropError site origin position) w = drop_error_text site.0 origin.0 position
-world_text (command.Refresh site how) w = []
-world_text (command.PurgeLog master table) w = []
+world_text (command.Refresh site how) w = refreshed_text site (refresh_answer site how w)
+world_text (command.PurgeLog master table) w = log_purged_text master table (table_place w.schema table) w
 world_text command.Suspend w = []
 world_text (command.Join site source) w = []
 world_text (command.Show what site) w = shown_found what site (site_of site w.sites) w

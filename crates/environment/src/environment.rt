@@ -6,28 +6,28 @@ ghost use Rattle.world_state.specs.World.{first_world};
 ghost use Rattle.environment.specs.Finding.{FindsSite};
 
 use net_plan::Net;
-use rep_lists::NoMemory;
+use rep_lists::{Items, NoMemory};
 use rep_schema::Schema;
 use rep_values::SiteName;
 use row_tables::ListTables;
 use site_core::Site;
 use std::alloc::Global;
 use std::marker::Model;
-use world_state::{Block, Phase};
+use world_state::{Block, DeclaredSnapshot, Phase};
 
 /// A replication environment: the phase of its script, the store of what is declared and of the rows that masters begin
-/// with, its sites in declared order, the net between them, and the open block.
+/// with, the declared snapshots, its sites in declared order, the net between them, and the open block.
 #[derive(Drop)]
 pub struct Environment {
     pub phase: Phase,
     pub store: ListTables,
+    pub snapshots: Items<DeclaredSnapshot>,
     pub sites: Vec<Site<ListTables>>,
     pub net: Net,
     pub block: Option<Block>,
 }
 
 impl Model for Environment {
-    ghost use Rattle.std.specs.Prelude.{[]};
     ghost use Rattle.world_state.specs.World.{WorldState};
 
     ghost Value = { WorldState };
@@ -36,7 +36,7 @@ impl Model for Environment {
       phase = e.phase;
       schema = e.store.schema;
       base = e.store.tables;
-      snapshots = [];
+      snapshots = e.snapshots;
       sites = e.sites.items;
       net = e.net;
       block = e.block;
@@ -51,6 +51,7 @@ impl Environment {
         Ok(Environment {
             phase: Phase::Setup,
             store: ListTables::make(alloc, Schema::empty(alloc))?,
+            snapshots: Items::new(alloc),
             sites: Vec::new(alloc),
             net: Net::make(alloc, &[])?,
             block: None,

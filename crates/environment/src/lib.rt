@@ -6,7 +6,11 @@ mod environment;
 mod laws;
 mod names;
 mod phases;
+mod refreshes;
 mod refusals;
+mod snapshots;
 
 pub use environment::{Environment, place_of};
 pub use laws::lines_keep_worlds_of_scripts;
+pub use refreshes::young_step;
+pub use snapshots::{master_of, tests_in};

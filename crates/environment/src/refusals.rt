@@ -9,6 +9,7 @@ ghost use Rattle.environment.specs.Following.{IsBuilt};
 ghost use Rattle.environment.specs.Known.{known_steps, known_refusal};
 
 use crate::Environment;
+use crate::snapshots::tests_in;
 use rep_declare::refusal_of;
 use rep_schema::RowStore;
 use rep_values::{Refusal, SiteName};
@@ -93,6 +94,13 @@ impl Environment {
                 self.error_refusal(site, origin),
             Command::Txn { site } | Command::Purge { site } | Command::Show { site, .. } =>
                 self.unknown_site(site),
+            Command::Snapshot { site, table, tests } => self.snapshot_refusal(
+                site,
+                table,
+                tests_in(tests),
+            ),
+            Command::Refresh { site, how } => self.refresh_refusal(site, *how),
+            Command::PurgeLog { master, table } => self.purge_log_refusal(master, table),
             Command::Nothing
             | Command::Row { .. }
             | Command::Resume
@@ -100,10 +108,7 @@ impl Environment {
             | Command::Commit
             | Command::Abandon
             | Command::Suspend => None,
-            Command::Snapshot { .. }
-            | Command::Refresh { .. }
-            | Command::PurgeLog { .. }
-            | Command::Join { .. } => unreachable!(),
+            Command::Join { .. } => unreachable!(),
         }
     }
 

@@ -3,13 +3,17 @@
 
 mod blocks;
 mod links;
+mod refreshing;
 mod room;
 mod setup;
 mod shown;
 mod sites;
+mod snapshots;
 
 pub use blocks::{abandon, commit, open_block, state};
 pub use links::{add_fates, clear_fates, set_link};
+pub use refreshing::{purge_log, refresh};
 pub use setup::{add_row, declare, resume, suspend};
 pub use shown::show;
 pub use sites::{drop_error, execute, purge, set_clock};
+pub use snapshots::add_snapshot;

@@ -1,8 +1,9 @@
 //! Declarations, rows that masters begin with, and the phases of a script.
-ghost use Rattle.std.specs.Prelude.{◌≡◌, None, OnOk, OnErr};
+ghost use Rattle.std.specs.Prelude.{◌≡◌, true, None, OnOk, OnErr};
 ghost use Rattle.schema_rules.specs.Rules.{broken_rule};
 ghost use Rattle.script_parse.specs.Named.{NamesColumn};
 ghost use Rattle.world_state.specs.Making.{world_made};
+ghost use Rattle.world_state.specs.Phases.{is_setup};
 ghost use Rattle.environment.specs.Following.{IsBuilt};
 ghost use Rattle.environment.specs.Known.{known_refusal};
 ghost use Rattle.environment.specs.Doing.{Does};
@@ -59,11 +60,12 @@ pub fn add_row(
 /// Setup ends: the sites are made, and the net between them.
 fn end_setup(environment: &mut Environment, alloc: Global) -> Result<(), NoMemory>
     requires built { IsBuilt environment.old }
+    requires setup { is_setup environment.old.phase ≡ true }
     requires sound { broken_rule environment.old.schema ≡ None }
     ensures ok { OnOk result (environment.new ≡ world_made environment.old) }
     ensures err { OnErr result (environment.new ≡ environment.old) }
 {
-    let sites = make_sites(alloc, &environment.store)?;
+    let sites = make_sites(alloc, &environment.store, environment.snapshots.as_slice())?;
     let net = make_net(alloc, environment.store.schema())?;
     environment.sites = sites;
     environment.net = net;

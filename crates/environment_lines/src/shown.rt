@@ -16,7 +16,7 @@ use row_tables::ListTables;
 use schema_sites::{destinations_of, senders_of};
 use script_parse::{Command, Shown};
 use site_core::Site;
-use site_report::{add_errors, add_journal, add_marks, add_queue};
+use site_report::{add_errors, add_journal, add_log, add_marks, add_queue};
 use std::alloc::Global;
 use world_state::Refused;
 
@@ -111,12 +111,13 @@ fn add_shown(
     ensures { OnOk result (lines.new.bytes ≡ lines.old.bytes ++ shown_text what name.now site.now environment.now) }
 {
     match what {
-        Shown::Tables => add_tables(lines, *name, site.store()),
+        Shown::Tables => add_tables(lines, *name, site.held(), site.store()),
         Shown::Queue => add_queue_there(lines, alloc, environment, name, site),
         Shown::Errors => add_errors(lines, name, site),
         Shown::Marks => add_marks_there(lines, alloc, environment, name, site),
         Shown::Journal => add_journal(lines, name, site),
-        Shown::Log | Shown::Calls => unreachable!(),
+        Shown::Log => add_log(lines, name, site),
+        Shown::Calls => unreachable!(),
     }
 }
 

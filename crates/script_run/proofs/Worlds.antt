@@ -15,11 +15,13 @@ use Rattle.world_state.specs.World.{WorldState, first_world}
 use Rattle.world_state.specs.Refusals.{world_refusal}
 use Rattle.world_state.specs.Steps.{world_done, world_refused, world_step, step_by, told_by, told_line}
 use Rattle.world_laws.proofs.Scripts.{of_script_holds, reported_pushes_leave_nothing_ready}
+use Rattle.snapshot_worlds.specs.Refreshes.{ShowsItsMaster}
+use Rattle.snapshot_worlds.proofs.Scripts.{snapshots_hold_of, refreshes_show_of}
 use Rattle.environment.specs.Following.{IsBuilt}
 use Rattle.environment.specs.Texts.{world_text}
 use Rattle.environment.proofs.Keeping.{lines_keep_built, first_built}
 use Rattle.script_drive.specs.Lines.{most_lines, most_bytes, line_step}
-use Rattle.script_run.specs.Scripts.{stepped_by, script_step, world_behind, ReportedWorldsHold, PushesOfScriptsLeaveNothingReady}
+use Rattle.script_run.specs.Scripts.{stepped_by, script_step, world_behind, ReportedWorldsHold, ReportedSnapshotsHold, PushesOfScriptsLeaveNothingReady, RefreshesOfScriptsShowTheQuery}
 
 -- after a line of a form that is built, whatever refusal it meets
 step_built : (number : ℕ) (c : Command) (w : WorldState) → is_built c ≡ true → NamesColumn c → IsBuilt w → IsBuilt (world_step number c w)
@@ -60,3 +62,11 @@ unfolding script_step
 pushes_leave_nothing_ready lines number line from to count x read passes there =
     let found = rw read at there in
     reported_pushes_leave_nothing_ready number from to count (world_behind lines) x (behind_built first_world 1 lines first_built).shape passes found
+
+pub reported_snapshots_hold : ReportedSnapshotsHold
+reported_snapshots_hold lines = snapshots_hold_of _ (behind_built first_world 1 lines first_built).of_snapshots
+
+pub refreshes_show_the_query : RefreshesOfScriptsShowTheQuery
+unfolding script_step
+refreshes_show_the_query lines number line site how read passes =
+    rw read (refreshes_show_of (world_behind lines) (behind_built first_world 1 lines first_built).of_snapshots number site how passes)

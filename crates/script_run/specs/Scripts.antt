@@ -5,6 +5,7 @@ use Rattle.rep_lines.specs.Runs.{Stepped, goes, halts, state_after}
 use Rattle.rep_lines.specs.Told.{report}
 use Rattle.report_text.specs.Texts.{malformed_text}
 use Rattle.report_text.specs.Refusals.{refused_text}
+use Rattle.script_parse.specs.declared.command.Refresh.{Refresh}
 use Rattle.script_parse.specs.declared.command.Command.{Command}
 use Rattle.script_parse.specs.declared.command.Command.TheVariants as command
 use Rattle.script_parse.specs.Parsed.{parsed}
@@ -15,6 +16,8 @@ use Rattle.world_state.specs.World.{WorldState, first_world}
 use Rattle.world_state.specs.Refusals.{world_refusal}
 use Rattle.world_state.specs.Steps.{world_step, step_refused}
 use Rattle.world_laws.specs.Worlds.{WorldHolds, NothingReady}
+use Rattle.snapshot_worlds.specs.Sites.{SnapshotsHold}
+use Rattle.snapshot_worlds.specs.Refreshes.{ShowsItsMaster}
 use Rattle.environment.specs.Texts.{world_text}
 use Rattle.script_drive.specs.Lines.{line_step}
 
@@ -51,3 +54,14 @@ abbrev pub PushesOfScriptsLeaveNothingReady : Type 0
 PushesOfScriptsLeaveNothingReady = (lines : List (List ℕ)) (number : ℕ) (line : List ℕ) (from to : SiteName) (count : Option ℕ) (x : SiteState)
     → parsed line ≡ Ok (command.Push from to count) → world_refusal (command.Push from to count) (world_behind lines) ≡ None
     → site_of to (script_step (world_behind lines) number line).state.sites ≡ Some x → NothingReady x
+
+-- the laws of snapshots hold of it too
+abbrev pub ReportedSnapshotsHold : Type 0
+ReportedSnapshotsHold = (lines : List (List ℕ)) → SnapshotsHold (world_behind lines)
+
+-- behind lines of a script, once a refresh is reported each snapshot of the site is its query of its master's table, and the
+-- master is as before
+abbrev pub RefreshesOfScriptsShowTheQuery : Type 0
+RefreshesOfScriptsShowTheQuery = (lines : List (List ℕ)) (number : ℕ) (line : List ℕ) (site : SiteName) (how : Refresh)
+    → parsed line ≡ Ok (command.Refresh site how) → world_refusal (command.Refresh site how) (world_behind lines) ≡ None
+    → ShowsItsMaster site (world_behind lines) (script_step (world_behind lines) number line).state

@@ -1,4 +1,5 @@
 -- The lemmas of this crate, from the bottom up.
 mod MappedMore
-mod EarlyMasters
+mod TablesMarked
+mod EarlySites
 pub mod SenderDirections

@@ -2,7 +2,9 @@
 #![tactic(auto)]
 
 mod net;
+mod shown;
 mod sites;
+mod table_sets;
 
 pub use net::make_net;
 pub use sites::make_sites;

@@ -1,22 +1,28 @@
 //! The sites that the end of Setup makes.
-ghost use Rattle.std.specs.Prelude.{◌≡◌, true, [], map, IfOk, OnOk};
+ghost use Rattle.std.specs.Prelude.{◌≡◌, ◌<◌, ℕ, true, false, [], length, map, None, IfOk, OnOk};
 ghost use Rattle.std.specs.List.{AllByRecursion};
+ghost use Rattle.rep_values.specs.declared.name.SiteName.{SiteName as SiteNameValue};
+ghost use Rattle.rep_schema.specs.Sites.{has_table};
 ghost use Rattle.rep_laws.specs.Commuting.{IsSound};
 ghost use Rattle.site_state.specs.State.{is_master_site};
-ghost use Rattle.site_state.specs.Making.{master_here};
-ghost use Rattle.site_state.specs.Fits.{IsKeyed};
-ghost use Rattle.world_state.specs.Making.{rows_made, sites_made};
-ghost use Rattle.site_making.specs.Masters.{IsEarlyMaster, IsMasterOf, master_made};
+ghost use Rattle.site_state.specs.Making.{master_here, new_site};
+ghost use Rattle.site_state.specs.Fits.{IsKeyed, AreWithin, AreApart};
+ghost use Rattle.world_state.specs.Making.{rows_made, snapshots_at, snapshot_here, rows_of_snapshots, site_made, entry_made, sites_made};
+ghost use Rattle.site_making.specs.Entries.{IsThere, IsEntryOf};
 
+use crate::shown::show_each;
+use crate::table_sets::{logged_at, snapshot_here};
 use local_txn::{Here, fill_base_rows, sound_schemas_fill_freely};
 use rep_laws::sound_schemas_have_keys;
-use rep_lists::NoMemory;
+use rep_lists::{Copies, Items, NoMemory};
 use rep_schema::{RowStore, Schema, SiteEntry, TableSet};
 use rep_values::SiteName;
 use row_tables::ListTables;
 use schema_sites::{destinations_of, first_master, senders_of};
 use site_core::Site;
+use snapshot_query::Snapshot;
 use std::alloc::Global;
+use world_state::DeclaredSnapshot;
 
 /// A master site, which holds every table.
 fn master_here(schema: &Schema, site: SiteName) -> Here
@@ -56,53 +62,124 @@ fn filled_copy(alloc: Global, store: &ListTables) -> Result<ListTables, NoMemory
     Ok(filled)
 }
 
-/// A master site with the rows of a store, at which nothing happened yet.
-fn master_made(
+/// A site of a store, with the senders and destinations that its schema gives it.
+fn new_site(
     alloc: Global,
-    store: &ListTables,
-    site: SiteName,
+    store: ListTables,
+    here: Here,
+    logged: &TableSet,
+    snapshots: Items<Snapshot>,
 ) -> Result<Site<ListTables>, NoMemory>
-    requires keyed { IsKeyed store.now.schema }
-    requires master { is_master_site store.now.schema site ≡ true }
-    ensures { IfOk result (λ made. made ≡ master_made store.now.schema store.now.tables site) }
+    requires keyed { IsKeyed store.schema }
+    requires master { here.is_master ≡ is_master_site store.schema here.site }
+    requires logged { (table : ℕ) → has_table logged.now table ≡ true → table < 32 }
+    requires within { AreWithin store.schema snapshots }
+    requires apart { AreApart snapshots }
+    ensures { IfOk result (λ made. made ≡ new_site store.schema here logged.now snapshots store.tables) }
 {
-    let store = store.copy(alloc)?;
-    let here = master_here(store.schema(), site);
-    let senders = senders_of(alloc, store.schema(), &site)?;
-    let destinations = destinations_of(alloc, store.schema(), &site)?;
+    let senders = senders_of(alloc, store.schema(), &here.site)?;
+    let destinations = destinations_of(alloc, store.schema(), &here.site)?;
     Site::make(
         alloc,
         store,
         here,
         senders.as_slice(),
         destinations.as_slice(),
+        logged,
+        snapshots,
     )
 }
 
-/// Master sites with the rows of a store, one for each entry.
-fn masters_made(
+/// A master site with the rows of a store, at which nothing happened yet. It logs the tables of which a snapshot site of
+/// its has a snapshot.
+fn master_made(
     alloc: Global,
-    store: &ListTables,
-    entries: &[SiteEntry],
-) -> Result<Vec<Site<ListTables>>, NoMemory>
-    requires keyed { IsKeyed store.now.schema }
-    requires masters { AllByRecursion (IsMasterOf store.now.schema) entries.now }
-    ensures { IfOk result (λ made. made.items ≡ map (λ entry. master_made store.now.schema store.now.tables entry.name) entries.now) }
+    filled: &ListTables,
+    snapshots: &[DeclaredSnapshot],
+    site: SiteName,
+) -> Result<Site<ListTables>, NoMemory>
+    requires keyed { IsKeyed filled.now.schema }
+    requires master { is_master_site filled.now.schema site ≡ true }
+    ensures { IfOk result (λ made. made ≡ site_made filled.now.schema filled.now.tables snapshots.now site None) }
 {
+    let store = filled.copy(alloc)?;
+    let here = master_here(store.schema(), site);
+    let logged = logged_at(alloc, store.schema(), snapshots, &site)?;
+    new_site(alloc, store, here, &logged, Items::new(alloc))
+}
+
+/// A snapshot site with the rows that its snapshots show of a store's, at which nothing happened yet.
+fn snapshot_site_made(
+    alloc: Global,
+    filled: &ListTables,
+    snapshots: &[DeclaredSnapshot],
+    site: SiteName,
+) -> Result<Site<ListTables>, NoMemory>
+    requires keyed { IsKeyed filled.now.schema }
+    requires master { is_master_site filled.now.schema site ≡ false }
+    requires within { AllByRecursion (λ s. s.table < length filled.now.schema.tables) snapshots.now }
+    requires apart { AreApart (snapshots_at snapshots.now site) }
+    ensures { IfOk result (λ made. made ≡ new_site filled.now.schema (snapshot_here snapshots.now site) [] (snapshots_at snapshots.now site)
+        (rows_of_snapshots filled.now.schema filled.now.tables (snapshots_at snapshots.now site))) }
+{
+    let mut store = ListTables::make(alloc, filled.schema().copy(alloc)?)?;
+    let shown = show_each(alloc, snapshots, &site, filled, &mut store)?;
+    let here = snapshot_here(alloc, snapshots, site)?;
+    new_site(alloc, store, here, &TableSet::below(0), shown)
+}
+
+/// The site of an entry.
+fn entry_made(
+    alloc: Global,
+    filled: &ListTables,
+    snapshots: &[DeclaredSnapshot],
+    entry: &SiteEntry,
+) -> Result<Site<ListTables>, NoMemory>
+    requires keyed { IsKeyed filled.now.schema }
+    requires entry { IsEntryOf filled.now.schema entry.now }
+    requires within { AllByRecursion (λ s. s.table < length filled.now.schema.tables) snapshots.now }
+    requires apart { AreApart (snapshots_at snapshots.now entry.now.name) }
+    ensures { IfOk result (λ made. made ≡ entry_made filled.now.schema filled.now.tables snapshots.now entry.now) }
+{
+    match &entry.master {
+        None => master_made(alloc, filled, snapshots, entry.name),
+        Some(_) => snapshot_site_made(alloc, filled, snapshots, entry.name),
+    }
+}
+
+/// The sites of all entries.
+fn entries_made(
+    alloc: Global,
+    filled: &ListTables,
+    snapshots: &[DeclaredSnapshot],
+) -> Result<Vec<Site<ListTables>>, NoMemory>
+    requires keyed { IsKeyed filled.now.schema }
+    requires within { AllByRecursion (λ s. s.table < length filled.now.schema.tables) snapshots.now }
+    requires apart { (site : SiteNameValue) → AreApart (snapshots_at snapshots.now site) }
+    ensures { IfOk result (λ made. made.items ≡ map (entry_made filled.now.schema filled.now.tables snapshots.now) filled.now.schema.sites) }
+{
+    let entries = filled.schema().sites.as_slice();
     let mut made = Vec::new(alloc);
     for entry in entries {
-        made.push(master_made(alloc, store, entry.name)?)?;
+        made.push(entry_made(alloc, filled, snapshots, entry)?)?;
     }
     Ok(made)
 }
 
-/// The declared sites, in declared order, each with a copy of the store's rows, filled in with stamp 0 and the first
-/// declared master. The store stays as it is.
-pub fn make_sites(alloc: Global, store: &ListTables) -> Result<Vec<Site<ListTables>>, NoMemory>
+/// The declared sites, in declared order, made of a store whose rows are filled in with stamp 0 and the first declared
+/// master: masters have all of them, and log the tables of which a snapshot site of theirs has a snapshot, snapshot sites
+/// have what their snapshots show. The store stays as it is.
+pub fn make_sites(
+    alloc: Global,
+    store: &ListTables,
+    snapshots: &[DeclaredSnapshot],
+) -> Result<Vec<Site<ListTables>>, NoMemory>
     requires sound { IsSound store.now.schema }
-    requires masters { AllByRecursion IsEarlyMaster store.now.schema.sites }
-    ensures { IfOk result (λ sites. sites.items ≡ sites_made store.now.schema (rows_made store.now.schema store.now.tables) []) }
+    requires early { AllByRecursion IsThere store.now.schema.sites }
+    requires within { AllByRecursion (λ s. s.table < length store.now.schema.tables) snapshots.now }
+    requires apart { (site : SiteNameValue) → AreApart (snapshots_at snapshots.now site) }
+    ensures { IfOk result (λ sites. sites.items ≡ sites_made store.now.schema (rows_made store.now.schema store.now.tables) snapshots.now) }
 {
     let filled = filled_copy(alloc, store)?;
-    masters_made(alloc, &filled, filled.schema().sites.as_slice())
+    entries_made(alloc, &filled, snapshots)
 }

@@ -1,6 +1,7 @@
 -- What comes of a line that was tried, or that was refused before.
 use Rattle.std.proofs.Common.{◌≡◌, ℕ, Some, None, sym, ap, subst, ◌∙◌}
 use Rattle.std.specs.Prelude.{Option, Result, Ok, Err}
+use Rattle.rep_values.specs.declared.name.SiteName.{SiteName}
 use Rattle.rep_values.specs.declared.refusal.Refusal.{Refusal}
 use Rattle.report_text.specs.Sheet.{Sheet}
 use Rattle.script_parse.specs.declared.command.Command.{Command}
@@ -14,7 +15,9 @@ use Rattle.world_laws.proofs.Scripts.{reported_pushes_leave_nothing_ready}
 use Rattle.environment.specs.Following.{IsBuilt}
 use Rattle.environment.specs.Known.{known_refusal}
 use Rattle.environment.specs.Doing.{Does, AnswersKnown}
-use Rattle.world_run.specs.Reporting.{PushLeavesNothingReady}
+use Rattle.snapshot_worlds.specs.Refreshes.{ShowsItsMaster}
+use Rattle.snapshot_worlds.proofs.Scripts.{refreshes_show_of}
+use Rattle.world_run.specs.Reporting.{PushLeavesNothingReady, RefreshShowsTheQuery}
 
 -- no refusal is known
 pub known-None : (number : ℕ) (c : Command) (w : WorldState) (result : Result Sheet Refused) → known_refusal c w ≡ None → AnswersKnown number c w result
@@ -34,3 +37,12 @@ ready-done number c old new (Ok sheet) built done from to count x is ok there =
     let stepped : world_step number (command.Push from to count) old ≡ new =
     ap (λ (o : Option Refusal). step_by o number (command.Push from to count) old) passes ∙ sym (subst (λ (k : Command). new ≡ world_done number k old) is done.world) in
     reported_pushes_leave_nothing_ready number from to count old x built.shape passes (subst (λ (y : WorldState). site_of to y.sites ≡ Some x) (sym stepped) there)
+
+-- a refresh that was tried
+pub refreshed-done : (number : ℕ) (c : Command) (old new : WorldState) (result : Result Sheet Refused) → IsBuilt old → Does number c old new result → RefreshShowsTheQuery c old new result
+refreshed-done number c old new (Err r) built does site how is ok = absurd (cc ok)
+refreshed-done number c old new (Ok sheet) built done site how is ok =
+    let passes : world_refusal (command.Refresh site how) old ≡ None = subst (λ (k : Command). world_refusal k old ≡ None) is done.passes in
+    let stepped : world_step number (command.Refresh site how) old ≡ new =
+    ap (λ (o : Option Refusal). step_by o number (command.Refresh site how) old) passes ∙ sym (subst (λ (k : Command). new ≡ world_done number k old) is done.world) in
+    subst (λ (y : WorldState). ShowsItsMaster site old y) stepped (refreshes_show_of old built.of_snapshots number site how passes)

@@ -1,7 +1,8 @@
--- What is so where a push is reported.
+-- What is so where a push or a refresh is reported.
 use Rattle.std.specs.Prelude.{◌≡◌, ℕ, Option, Some, Result, IsOk}
 use Rattle.rep_values.specs.declared.name.SiteName.{SiteName}
 use Rattle.report_text.specs.Sheet.{Sheet}
+use Rattle.script_parse.specs.declared.command.Refresh.{Refresh}
 use Rattle.script_parse.specs.declared.command.Command.{Command}
 use Rattle.script_parse.specs.declared.command.Command.TheVariants as command
 use Rattle.site_state.specs.State.{SiteState}
@@ -9,8 +10,13 @@ use Rattle.event_laws.specs.Core.{site_of}
 use Rattle.world_state.specs.declared.refused.Refused.{Refused}
 use Rattle.world_state.specs.World.{WorldState}
 use Rattle.world_laws.specs.Worlds.{NothingReady}
+use Rattle.snapshot_worlds.specs.Refreshes.{ShowsItsMaster}
 
 -- once a push is reported no position of any sender is ready at the receiver
 abbrev pub PushLeavesNothingReady : Command → WorldState → Result Sheet Refused → Type 0
 PushLeavesNothingReady line new result = (from to : SiteName) (count : Option ℕ) (x : SiteState) → line ≡ command.Push from to count → IsOk result
     → site_of to new.sites ≡ Some x → NothingReady x
+
+-- once a refresh is reported each snapshot of the site is its query of its master's table, and the master is as before
+abbrev pub RefreshShowsTheQuery : Command → WorldState → WorldState → Result Sheet Refused → Type 0
+RefreshShowsTheQuery line old new result = (site : SiteName) (how : Refresh) → line ≡ command.Refresh site how → IsOk result → ShowsItsMaster site old new

@@ -8,8 +8,8 @@ ghost use Rattle.environment.specs.Doing.{Does};
 
 use environment::Environment;
 use environment_lines::{
-    abandon, add_fates, add_row, clear_fates, commit, declare, drop_error, execute, open_block,
-    purge, resume, set_clock, set_link, show, state, suspend,
+    abandon, add_fates, add_row, add_snapshot, clear_fates, commit, declare, drop_error, execute,
+    open_block, purge, purge_log, refresh, resume, set_clock, set_link, show, state, suspend,
 };
 use environment_push::push;
 use report_text::Lines;
@@ -68,11 +68,13 @@ pub fn run_line(
             origin,
             position,
         } => drop_error(environment, alloc, line, site, origin, *position),
+        Command::Snapshot { site, table, tests } => {
+            add_snapshot(environment, alloc, line, site, table, tests)
+        }
+        Command::Refresh { site, how } => refresh(environment, alloc, line, site, *how),
+        Command::PurgeLog { master, table } => purge_log(environment, alloc, line, master, table),
         Command::Suspend => suspend(environment, alloc, line),
         Command::Show { what, site } => show(environment, alloc, line, *what, site),
-        Command::Snapshot { .. }
-        | Command::Refresh { .. }
-        | Command::PurgeLog { .. }
-        | Command::Join { .. } => unreachable!(),
+        Command::Join { .. } => unreachable!(),
     }
 }

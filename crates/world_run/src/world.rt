@@ -6,7 +6,8 @@ ghost use Rattle.event_laws.specs.Core.{site_of};
 ghost use Rattle.world_state.specs.World.{first_world};
 ghost use Rattle.world_laws.specs.Worlds.{WorldHolds};
 ghost use Rattle.environment.specs.Doing.{Does, AnswersKnown};
-ghost use Rattle.world_run.specs.Reporting.{PushLeavesNothingReady};
+ghost use Rattle.snapshot_worlds.specs.Sites.{SnapshotsHold};
+ghost use Rattle.world_run.specs.Reporting.{PushLeavesNothingReady, RefreshShowsTheQuery};
 
 use crate::lines::run_line;
 use environment::{Environment, place_of};
@@ -51,7 +52,8 @@ impl World {
     /// What the line of a number does, and what it prints. A line that is refused leaves the world, but that a refused commit
     /// closes its block. Where there is no memory a push may be done in part, and any other line leaves the world; a refusal
     /// that is known before the line is tried is answered all the same. Once a push is reported, no position of any sender is
-    /// ready at the receiver. Whatever came of the line, the laws over events hold of the world.
+    /// ready at the receiver; once a refresh is, each snapshot of the site is its query of its master's table. Whatever came of
+    /// the line, the laws over events hold of the world, and so do those of snapshots.
     ///
     /// The form of the line is one that is built, and a group or constraint that it declares names a column, as `parse_line`
     /// says.
@@ -61,7 +63,9 @@ impl World {
         ensures does { Does line command.now self.old self.new result }
         ensures known { AnswersKnown line command.now self.old result }
         ensures pushed { PushLeavesNothingReady command.now self.new result }
+        ensures refreshed { RefreshShowsTheQuery command.now self.old self.new result }
         ensures laws { WorldHolds self.new }
+        ensures snapshots { SnapshotsHold self.new }
     {
         if let Some(refusal) = self.environment.refusal(command) {
             return Err(Refused { line, refusal });

@@ -1,11 +1,14 @@
 -- A line that is refused before it is tried, and one that was tried.
 use Rattle.std.proofs.Common.{◌≡◌, Some, subst, inr}
+use Rattle.world_state.specs.World.{WorldState}
 use Rattle.environment.specs.Following.{IsBuilt}
 use Rattle.environment.specs.Known.{known_refusal}
 use Rattle.environment.proofs.Keeping.{lines_keep_built}
 use Rattle.environment.proofs.KnownRefusals.{known_refused}
 use Rattle.world_laws.proofs.Scripts.{of_script_holds}
-use Rattle.world_run.proofs.Stepping.{ready-done}
+use Rattle.snapshot_worlds.proofs.Scripts.{snapshots_hold_of}
+use Rattle.world_run.specs.Reporting.{RefreshShowsTheQuery}
+use Rattle.world_run.proofs.Stepping.{ready-done, refreshed-done}
 use Rattle.world_run.proofs.world.World.step.Goals as goal
 
 pub returns-in-Some-clause-does : goal.returns-in-Some-clause-does
@@ -28,3 +31,18 @@ returns-clause-pushed c = ready-done c.args.line c.args.command.now c.self.insid
 pub returns-clause-laws : goal.returns-clause-laws
 returns-clause-laws c =
     of_script_holds _ (lines_keep_built c.args.line c.args.command.now c.self.inside.environment c.run_line.new.environment c.run_line.result c.requires.form c.requires.named c.run_line.ensures c.self.invariant).of_script
+
+pub returns-clause-refreshed : goal.returns-clause-refreshed
+returns-clause-refreshed c =
+    let same : c.self.inside.environment ≡ c.args.self.now = cc c.self.view_is in
+    subst (λ (old : WorldState). RefreshShowsTheQuery c.args.command.now old c.run_line.new.environment c.run_line.result) same
+    (refreshed-done c.args.line c.args.command.now c.self.inside.environment c.run_line.new.environment c.run_line.result c.self.invariant c.run_line.ensures)
+
+pub returns-in-Some-clause-snapshots : goal.returns-in-Some-clause-snapshots
+returns-in-Some-clause-snapshots c =
+    let same : c.self.inside.environment ≡ c.args.self.now = cc c.self.view_is in
+    snapshots_hold_of _ (subst IsBuilt same c.self.invariant).of_snapshots
+
+pub returns-clause-snapshots : goal.returns-clause-snapshots
+returns-clause-snapshots c =
+    snapshots_hold_of _ (lines_keep_built c.args.line c.args.command.now c.self.inside.environment c.run_line.new.environment c.run_line.result c.requires.form c.requires.named c.run_line.ensures c.self.invariant).of_snapshots

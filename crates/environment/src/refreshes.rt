@@ -1,0 +1,140 @@
+//! Why a refresh, or a purge of a log, is refused.
+ghost use Rattle.std.specs.Prelude.{◌≡◌, ◌∷◌, false, [], map, not};
+ghost use Rattle.rep_values.specs.RefusalSteps.{refused, first_refusal};
+ghost use Rattle.rep_schema.specs.Shape.{HasShape};
+ghost use Rattle.net_plan.specs.Directions.{HasDirection};
+ghost use Rattle.site_state.specs.State.{DestinationState};
+ghost use Rattle.site_state.specs.Notes.{purged_of, is_too_young};
+ghost use Rattle.event_laws.specs.Events.{is_all_acked};
+ghost use Rattle.world_state.specs.Phases.{is_setup};
+ghost use Rattle.world_state.specs.Refusals.{waiting_count, young_step, log_step, refresh_steps};
+ghost use Rattle.environment.specs.Following.{IsBuilt};
+ghost use Rattle.environment.specs.Known.{known_steps};
+
+use crate::Environment;
+use crate::environment::place_of;
+use crate::snapshots::master_of;
+use rep_schema::RowStore;
+use rep_values::{Refusal, SiteName, TableName};
+use row_tables::ListTables;
+use schema_names::table_place;
+use script_parse::{Command, Refresh};
+use site_core::Site;
+use site_notes::{Notes, Watched};
+
+fn purged_of(logs: &Notes, table: u32) -> u64
+    ensures { result ≡ purged_of table logs.now.logs }
+{
+    match logs.log(table) {
+        Some(log) => log.purged(),
+        None => 0,
+    }
+}
+
+// Whether the log of a snapshot's table was purged above its mark.
+fn too_young(logs: &Notes, snapshot: &Watched) -> Option<Refusal>
+    ensures { result
+        ≡ refused (is_too_young logs.now.logs snapshot.now.snapshot) (Refusal.LogTooYoung (purged_of snapshot.now.snapshot.table logs.now.logs) snapshot.now.snapshot.mark) }
+{
+    let purged = purged_of(logs, snapshot.table());
+    if snapshot.mark() < purged {
+        Some(Refusal::LogTooYoung(purged, snapshot.mark()))
+    } else {
+        None
+    }
+}
+
+/// The first snapshot of a site of which its master's log was purged above its mark.
+pub fn young_step(logs: &Notes, snapshots: &Notes) -> Option<Refusal>
+    ensures { result ≡ young_step logs.now.logs snapshots.now.snapshots }
+{
+    for place in 0..snapshots.snapshot_count() {
+        if let Some(refusal) = too_young(logs, snapshots.snapshot_at(place)) {
+            return Some(refusal);
+        }
+    }
+    None
+}
+
+// A refresh goes by logs alone where it is asked to.
+fn log_step(how: Refresh, logs: &Notes, snapshots: &Notes) -> Option<Refusal>
+    ensures { result ≡ log_step how logs.now.logs snapshots.now.snapshots }
+{
+    match how {
+        Refresh::Fast => young_step(logs, snapshots),
+        Refresh::Complete | Refresh::Force => None,
+    }
+}
+
+// Whether all that a site queued for its only destination is acknowledged there.
+fn queue_step(site: &Site<ListTables>, to: &SiteName) -> Option<Refusal>
+    requires { map (λ (d : DestinationState). d.site) site.now.destinations ≡ to.now ∷ [] }
+    ensures { result ≡ refused (not (is_all_acked site.now)) (Refusal.QueueNotEmpty (waiting_count site.now)) }
+{
+    let queue = site.queue();
+    if queue.acked(to) == queue.last(to) {
+        None
+    } else {
+        Some(Refusal::QueueNotEmpty(queue.waiting(to)))
+    }
+}
+
+impl Environment {
+    // A refresh of a site from its master: both directions are up, all is acknowledged, and the logs reach back.
+    fn refresh_step(
+        &self,
+        site: &Site<ListTables>,
+        master: &Site<ListTables>,
+        how: Refresh,
+    ) -> Option<Refusal>
+        requires there { HasDirection self.now.net site.now.here.site master.now.here.site }
+        requires back { HasDirection self.now.net master.now.here.site site.now.here.site }
+        requires sends { map (λ (d : DestinationState). d.site) site.now.destinations ≡ master.now.here.site ∷ [] }
+        ensures { result ≡ first_refusal (refresh_steps how site.now master.now self.now) }
+    {
+        let up = self.net.is_up(site.name(), master.name());
+        if !(up && self.net.is_up(master.name(), site.name())) {
+            return Some(Refusal::LinkDown);
+        }
+        if let Some(refusal) = queue_step(site, master.name()) {
+            return Some(refusal);
+        }
+        log_step(how, master.notes(), site.notes())
+    }
+
+    // A refresh of a snapshot site.
+    pub(crate) fn refresh_refusal(&self, site: &SiteName, how: Refresh) -> Option<Refusal>
+        requires built { IsBuilt self.now }
+        requires behind { is_setup self.now.phase ≡ false }
+        ensures { result ≡ first_refusal (known_steps (Command.Refresh site.now how) self.now) }
+    {
+        let Some(here) = place_of(&self.sites, site) else {
+            return Some(Refusal::UnknownName);
+        };
+        let Some(master) = master_of(self.store.schema(), site) else {
+            return Some(Refusal::UnknownName);
+        };
+        let Some(there) = place_of(&self.sites, &master) else {
+            return Some(Refusal::UnknownName);
+        };
+        self.refresh_step(&self.sites[here], &self.sites[there], how)
+    }
+
+    // A purge of the log of a master's table that has one.
+    pub(crate) fn purge_log_refusal(&self, master: &SiteName, table: &TableName) -> Option<Refusal>
+        requires { HasShape self.now.schema }
+        ensures { result ≡ first_refusal (known_steps (Command.PurgeLog master.now table.now) self.now) }
+    {
+        let Some(place) = place_of(&self.sites, master) else {
+            return Some(Refusal::UnknownName);
+        };
+        let schema = self.store.schema();
+        let Some(table) = table_place(schema.tables.as_slice(), table) else {
+            return Some(Refusal::UnknownName);
+        };
+        if self.sites[place].notes().log(table as u32).is_none() {
+            return Some(Refusal::UnknownName);
+        }
+        None
+    }
+}

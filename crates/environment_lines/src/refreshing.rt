@@ -1,0 +1,268 @@
+//! Refreshes of snapshot sites, and purges of logs.
+ghost use Rattle.std.specs.Prelude.{◌≡◌, ◌≤◌, ◌<◌, Some, None, IfOk, OnOk, OnErr};
+ghost use Rattle.report_text.specs.Sheet.{Appends, most_line};
+ghost use Rattle.site_state.specs.Contents.{tables_of};
+ghost use Rattle.site_state.specs.Fits.{AreWithin};
+ghost use Rattle.site_state.specs.Refreshes.{rows_shown, site_refresh, refresh_fast_answer, refresh_complete_answer};
+ghost use Rattle.world_state.specs.Refusals.{young_step, log_step};
+ghost use Rattle.world_state.specs.Answers.{goes_by_logs, refresh_told, refresh_answer};
+ghost use Rattle.world_state.specs.Steps.{world_refresh};
+ghost use Rattle.snapshot_worlds.specs.Sites.{CanRefreshFrom};
+ghost use Rattle.environment.specs.Following.{IsBuilt};
+ghost use Rattle.environment.specs.Known.{known_refusal};
+ghost use Rattle.environment.specs.Texts.{refreshed_text};
+ghost use Rattle.environment.specs.Doing.{Does};
+ghost use Rattle.environment_lines.specs.Refreshing.{CanRefreshAt, refreshed_at, told_at, told_of};
+
+use crate::room::{no_memory, room_for_line};
+use environment::{Environment, master_of, place_of, young_step};
+use fast_refresh::{CountedView, rows_shown};
+use rep_lists::{Items, NoMemory};
+use rep_schema::RowStore;
+use rep_values::{SiteName, TableName};
+use report_text::{Lines, purge_log_line, refresh_complete_line, refresh_fast_line};
+use row_tables::ListTables;
+use schema_names::table_place;
+use script_parse::{Command, Refresh};
+use site_core::Site;
+use site_notes::Notes;
+use site_state::{RefreshCount, TableRows};
+use std::alloc::Global;
+use world_state::Refused;
+
+/// What a refresh tells: whether it went by the logs, how many keys it looked up, and how many rows the snapshots have.
+#[derive(Drop)]
+struct Told {
+    by_logs: bool,
+    count: RefreshCount,
+}
+
+/// Whether a refresh goes by the logs: where it is asked to, or where they reach back far enough.
+fn goes_by_logs(how: Refresh, logs: &Notes, snapshots: &Notes) -> bool
+    ensures { result ≡ goes_by_logs how logs.now.logs snapshots.now.snapshots }
+{
+    match how {
+        Refresh::Fast => true,
+        Refresh::Complete => false,
+        Refresh::Force => young_step(logs, snapshots).is_none(),
+    }
+}
+
+/// What snapshots show of a master's tables.
+fn rows_of_each(
+    alloc: Global,
+    snapshots: &Notes,
+    master: &ListTables,
+) -> Result<Items<TableRows>, NoMemory>
+    requires { AreWithin master.now.schema snapshots.now.snapshots }
+    ensures { IfOk result (λ rows. rows ≡ rows_shown master.now.tables snapshots.now.snapshots) }
+{
+    let mut shown = Items::new(alloc);
+    for place in 0..snapshots.snapshot_count() {
+        let snapshot = snapshots.snapshot_at(place);
+        let table = snapshot.table();
+        let rows = rows_shown(alloc, snapshot.query(), master, table)?;
+        shown.push(TableRows { table, rows })?;
+    }
+    Ok(shown)
+}
+
+/// Refreshes a site by its master's logs.
+fn refresh_fast(
+    site: &mut Site<ListTables>,
+    alloc: Global,
+    master: &Site<ListTables>,
+) -> Result<RefreshCount, NoMemory>
+    requires can { CanRefreshFrom master.now site.old }
+    requires reach { young_step master.now.logs site.old.snapshots ≡ None }
+    ensures ok { OnOk result (site.new ≡ site_refresh (rows_shown (tables_of master.now) site.old.snapshots) master.now.moment site.old) }
+    ensures count { IfOk result (λ count. count ≡ refresh_fast_answer master.now.logs (rows_shown (tables_of master.now) site.old.snapshots) site.old) }
+    ensures kept { OnErr result (site.new ≡ site.old) }
+{
+    let mut view = CountedView::of(master.store());
+    site.refresh_fast_from(alloc, &mut view, master.notes(), master.moment())
+}
+
+/// Refreshes a site by its queries of its master's tables.
+fn refresh_complete(
+    site: &mut Site<ListTables>,
+    alloc: Global,
+    master: &Site<ListTables>,
+) -> Result<RefreshCount, NoMemory>
+    requires { CanRefreshFrom master.now site.old }
+    ensures ok { OnOk result (site.new ≡ site_refresh (rows_shown (tables_of master.now) site.old.snapshots) master.now.moment site.old) }
+    ensures count { IfOk result (λ count. count ≡ refresh_complete_answer (rows_shown (tables_of master.now) site.old.snapshots)) }
+    ensures kept { OnErr result (site.new ≡ site.old) }
+{
+    let rows = rows_of_each(alloc, site.notes(), master.store())?;
+    let count = site.refresh_complete_from(alloc, rows.as_slice(), master.moment())?;
+    Ok(count)
+}
+
+/// Refreshes a site from its master.
+fn refresh_from(
+    site: &mut Site<ListTables>,
+    alloc: Global,
+    master: &Site<ListTables>,
+    how: Refresh,
+) -> Result<Told, NoMemory>
+    requires can { CanRefreshFrom master.now site.old }
+    requires reach { log_step how master.now.logs site.old.snapshots ≡ None }
+    ensures ok { OnOk result (site.new ≡ site_refresh (rows_shown (tables_of master.now) site.old.snapshots) master.now.moment site.old) }
+    ensures told { IfOk result (λ told. told_of told ≡ refresh_told how site.old master.now) }
+    ensures kept { OnErr result (site.new ≡ site.old) }
+{
+    let by_logs = goes_by_logs(how, master.notes(), site.notes());
+    let count = if by_logs {
+        refresh_fast(site, alloc, master)?
+    } else {
+        refresh_complete(site, alloc, master)?
+    };
+    Ok(Told { by_logs, count })
+}
+
+/// Refreshes a site from a master that stands behind it.
+fn refresh_in_front(
+    sites: &mut [Site<ListTables>],
+    alloc: Global,
+    place: usize,
+    master: usize,
+    how: Refresh,
+) -> Result<Told, NoMemory>
+    requires order { place < master }
+    requires can { CanRefreshAt how sites.old place master }
+    ensures ok { OnOk result (sites.new ≡ refreshed_at sites.old place master) }
+    ensures told { IfOk result (λ told. told_at how sites.old place master ≡ Some (told_of told)) }
+    ensures kept { OnErr result (sites.new ≡ sites.old) }
+{
+    let (front, back) = sites.split_at_mut(master);
+    let told = refresh_from(&mut front[place], alloc, &back[0], how)?;
+    Ok(told)
+}
+
+/// Refreshes a site from a master that stands before it.
+fn refresh_behind(
+    sites: &mut [Site<ListTables>],
+    alloc: Global,
+    place: usize,
+    master: usize,
+    how: Refresh,
+) -> Result<Told, NoMemory>
+    requires order { master < place }
+    requires can { CanRefreshAt how sites.old place master }
+    ensures ok { OnOk result (sites.new ≡ refreshed_at sites.old place master) }
+    ensures told { IfOk result (λ told. told_at how sites.old place master ≡ Some (told_of told)) }
+    ensures kept { OnErr result (sites.new ≡ sites.old) }
+{
+    let (front, back) = sites.split_at_mut(place);
+    let told = refresh_from(&mut back[0], alloc, &front[master], how)?;
+    Ok(told)
+}
+
+/// Refreshes the site at a place from the master at another one.
+fn refresh_at(
+    sites: &mut [Site<ListTables>],
+    alloc: Global,
+    place: usize,
+    master: usize,
+    how: Refresh,
+) -> Result<Told, NoMemory>
+    requires { CanRefreshAt how sites.old place master }
+    ensures ok { OnOk result (sites.new ≡ refreshed_at sites.old place master) }
+    ensures told { IfOk result (λ told. told_at how sites.old place master ≡ Some (told_of told)) }
+    ensures kept { OnErr result (sites.new ≡ sites.old) }
+{
+    if place < master {
+        refresh_in_front(sites, alloc, place, master, how)
+    } else {
+        refresh_behind(sites, alloc, place, master, how)
+    }
+}
+
+/// Refreshes a site of an environment.
+fn refresh_site(
+    environment: &mut Environment,
+    alloc: Global,
+    site: &SiteName,
+    how: Refresh,
+) -> Result<Told, NoMemory>
+    requires built { IsBuilt environment.old }
+    requires passes { known_refusal (Command.Refresh site.now how) environment.old ≡ None }
+    ensures ok { OnOk result (environment.new ≡ world_refresh site.now environment.old) }
+    ensures told { IfOk result (λ told. refresh_answer site.now how environment.old ≡ Some (told_of told)) }
+    ensures kept { OnErr result (environment.new ≡ environment.old) }
+{
+    let Some(place) = place_of(&environment.sites, site) else {
+        unreachable!()
+    };
+    let Some(master) = master_of(environment.store.schema(), site) else {
+        unreachable!()
+    };
+    let Some(there) = place_of(&environment.sites, &master) else {
+        unreachable!()
+    };
+    let told = refresh_at(&mut environment.sites, alloc, place, there, how)?;
+    Ok(told)
+}
+
+/// The line of a refresh.
+fn put_told(lines: &mut Lines, site: SiteName, told: &Told)
+    requires { most_line ≤ lines.old.room }
+    ensures { Appends lines.old lines.new (refreshed_text site (Some (told_of told.now))) }
+{
+    let count = told.count;
+    if told.by_logs {
+        refresh_fast_line(lines, site, count.keys, count.rows);
+    } else {
+        refresh_complete_line(lines, site, count.rows);
+    }
+}
+
+/// `refresh`
+pub fn refresh(
+    environment: &mut Environment,
+    alloc: Global,
+    line: u32,
+    site: &SiteName,
+    how: Refresh,
+) -> Result<Lines, Refused>
+    requires built { IsBuilt environment.old }
+    requires passes { known_refusal (Command.Refresh site.now how) environment.old ≡ None }
+    ensures { Does line (Command.Refresh site.now how) environment.old environment.new result }
+{
+    let Ok(mut lines) = room_for_line(alloc) else {
+        return Err(no_memory(line));
+    };
+    let Ok(told) = refresh_site(environment, alloc, site, how) else {
+        return Err(no_memory(line));
+    };
+    put_told(&mut lines, *site, &told);
+    Ok(lines)
+}
+
+/// `purge-log`
+pub fn purge_log(
+    environment: &mut Environment,
+    alloc: Global,
+    line: u32,
+    master: &SiteName,
+    table: &TableName,
+) -> Result<Lines, Refused>
+    requires built { IsBuilt environment.old }
+    requires passes { known_refusal (Command.PurgeLog master.now table.now) environment.old ≡ None }
+    ensures { Does line (Command.PurgeLog master.now table.now) environment.old environment.new result }
+{
+    let Ok(mut lines) = room_for_line(alloc) else {
+        return Err(no_memory(line));
+    };
+    let Some(place) = place_of(&environment.sites, master) else {
+        unreachable!()
+    };
+    let schema = environment.store.schema();
+    let Some(number) = table_place(schema.tables.as_slice(), table) else {
+        unreachable!()
+    };
+    let count = environment.sites[place].purge_log(number as u32);
+    purge_log_line(&mut lines, *master, *table, count);
+    Ok(lines)
+}
