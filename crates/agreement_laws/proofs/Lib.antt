@@ -1,0 +1,21 @@
+-- The lemmas of this crate, from the bottom up.
+pub mod Counting
+pub mod SiteColumns
+pub mod OwnPairs
+pub mod Turns
+pub mod SitesAt
+pub mod PairsMadeOnce
+pub mod OnwardValues
+pub mod Told
+pub mod PairsTell
+pub mod Reordering
+pub mod Applied
+pub mod SameRows
+pub mod MetSites
+pub mod Families
+pub mod Histories
+pub mod QuietPieces
+pub mod QuietMasters
+pub mod Ties
+pub mod Agreeing
+mod WorkedAgreement

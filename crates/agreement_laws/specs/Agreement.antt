@@ -1,0 +1,40 @@
+-- Which masters agree: those that are quiet.
+use Rattle.std.specs.Prelude.{◌≡◌, ℕ, Bool, true, false, List, Some}
+use Rattle.std.specs.List.{list_any}
+use Rattle.rep_values.specs.declared.name.SiteName.{SiteName}
+use Rattle.rep_schema.specs.declared.schema.Schema.{Schema}
+use Rattle.rep_schema.specs.Tables.{rows_of}
+use Rattle.local_txn.specs.Convergent.{is_convergent}
+use Rattle.site_state.specs.declared.entry.Entry.{Entry}
+use Rattle.site_state.specs.declared.entry.Entry.TheVariants.{Local, Done, Error, Executed, Dropped, Refreshed}
+use Rattle.site_state.specs.State.{SiteState, is_master_site}
+use Rattle.site_state.specs.Contents.{tables_of}
+use Rattle.event_laws.specs.Core.{Core, site_of}
+use Rattle.event_laws.specs.Events.{Event, run}
+use Rattle.event_laws.specs.Fitting.{IsFitStart}
+use Rattle.event_laws.specs.Quiet.{are_quiet}
+use Rattle.event_laws.specs.Waiting.{AreMeshed}
+use Rattle.agreement_laws.specs.Beginning.{BeginAlike}
+
+-- an entry drops the error of a master's transaction
+abbrev pub drops_of_master : Schema → Entry → Bool
+drops_of_master schema (Local number txn) = false
+drops_of_master schema (Done origin position onward txn) = false
+drops_of_master schema (Error origin position call error txn) = false
+drops_of_master schema (Executed origin position onward txn) = false
+drops_of_master schema (Dropped origin position) = is_master_site schema origin
+drops_of_master schema (Refreshed moment) = false
+
+-- no error of a master's transaction was ever dropped at a master
+abbrev pub NothingWasDropped : Schema → List SiteState → Type 0
+NothingWasDropped schema sites = (site : SiteName) (x : SiteState) → site_of site sites ≡ Some x → x.here.is_master ≡ true → list_any (drops_of_master schema) x.journal ≡ false
+
+-- all masters have the same rows of every convergent table
+abbrev pub MastersAgree : Schema → List SiteState → Type 0
+MastersAgree schema sites = (one other : SiteName) (x y : SiteState) (table : ℕ) → site_of one sites ≡ Some x → site_of other sites ≡ Some y → x.here.is_master ≡ true → y.here.is_master ≡ true
+    → is_convergent schema table ≡ true → rows_of (tables_of x) table ≡ rows_of (tables_of y) table
+
+-- whatever happened, where all masters are quiet and nothing was dropped, they agree
+abbrev pub QuietMastersAgree : Type 0
+QuietMastersAgree = (schema : Schema) (start : Core) (events : List Event) → IsFitStart schema start → AreMeshed schema start.sites → BeginAlike schema start
+    → are_quiet (run events start).sites ≡ true → NothingWasDropped schema (run events start).sites → MastersAgree schema (run events start).sites

@@ -1,0 +1,4 @@
+-- The definitions of this crate.
+pub mod Beginning
+pub mod Pairs
+pub mod Agreement

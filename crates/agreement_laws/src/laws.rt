@@ -1,0 +1,35 @@
+//! Laws of agreement. A function calls the laws that its own stands on, and does nothing else.
+ghost use Rattle.agreement_laws.specs.Agreement.{QuietMastersAgree};
+ghost use Rattle.agreement_laws.specs.Pairs.{PairsAreMadeOnce, PairsTellValues};
+
+use local_txn::stamps_of_a_block_rise;
+use resolve_methods::{greater_rank_stays, greatest_stays, least_stays, move_is_added};
+
+/// Whatever happens, a site makes no pair of a stamp and its name twice of a group of a row.
+pub fn pairs_are_made_once()
+    ensures { PairsAreMadeOnce }
+{
+    stamps_of_a_block_rise();
+}
+
+/// And in all that masters queue, what came from snapshot sites among it, one pair stands for one list of values.
+pub fn pairs_tell_values()
+    ensures { PairsTellValues }
+{
+    move_is_added();
+    greatest_stays();
+    least_stays();
+    greater_rank_stays();
+    stamps_of_a_block_rise();
+}
+
+/// So whatever happened, and whoever joined, masters that are quiet have the same rows of every convergent table.
+pub fn quiet_masters_agree()
+    ensures { QuietMastersAgree }
+{
+    move_is_added();
+    greatest_stays();
+    least_stays();
+    greater_rank_stays();
+    stamps_of_a_block_rise();
+}

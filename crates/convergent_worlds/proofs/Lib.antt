@@ -1,0 +1,8 @@
+-- The lemmas of this crate, from the bottom up.
+mod FilledRows
+mod MadeMasters
+pub mod Beginning
+mod SetupEnds
+mod Holding
+pub mod Scripts
+mod WorkedConvergence

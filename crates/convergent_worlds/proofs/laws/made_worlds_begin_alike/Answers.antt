@@ -1,0 +1,6 @@
+-- The law of Setup's end.
+use Rattle.convergent_worlds.proofs.Beginning.{made_worlds_begin_alike}
+use Rattle.convergent_worlds.proofs.laws.made_worlds_begin_alike.Goals as goal
+
+pub returns : goal.returns
+returns c = made_worlds_begin_alike

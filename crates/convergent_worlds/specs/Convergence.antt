@@ -1,0 +1,47 @@
+-- What holds of the sites of every world: which masters agree, what excuses an error, and what the groups of rows are.
+use Rattle.std.specs.Prelude.{◌≡◌, true, Some}
+use Rattle.rep_values.specs.declared.name.SiteName.{SiteName}
+use Rattle.site_state.specs.State.{SiteState}
+use Rattle.site_state.specs.Contents.{tables_of}
+use Rattle.event_laws.specs.Core.{site_of}
+use Rattle.event_laws.specs.Quiet.{are_quiet}
+use Rattle.convergence_laws.specs.Laws.{AreJoined, AreJoinedSince}
+use Rattle.agreement_laws.specs.Agreement.{NothingWasDropped, MastersAgree}
+use Rattle.excuse_laws.specs.Excuses.{ErrorsAreSo, RefusalsAreSo, IsExcusedOn}
+use Rattle.world_state.specs.World.{WorldState}
+
+-- where all masters of a world are quiet and no error of a master's transaction was dropped, they agree
+abbrev pub MastersAgreeWhenQuiet : WorldState → Type 0
+MastersAgreeWhenQuiet w = are_quiet w.sites ≡ true → NothingWasDropped w.schema w.sites → MastersAgree w.schema w.sites
+
+-- it is so with each site of a world that is a master
+abbrev pub AtEachMaster : (WorldState → SiteState → Type 0) → WorldState → Type 0
+AtEachMaster Holds w = (site : SiteName) (x : SiteState) → site_of site w.sites ≡ Some x → x.here.is_master ≡ true → Holds w x
+
+-- each error of a transaction on convergent tables is excused, and so is an execution that is refused
+abbrev pub HasExcuses : WorldState → SiteState → Type 0
+HasExcuses w x = ErrorsAreSo (IsExcusedOn w.schema x.base) x.journal × RefusalsAreSo (IsExcusedOn w.schema x.base) x
+
+abbrev pub EachErrorIsExcused : WorldState → Type 0
+EachErrorIsExcused w = AtEachMaster HasExcuses w
+
+-- each group of each row of a convergent table is the join of its first values and of the parts applied there
+abbrev pub HasJoins : WorldState → SiteState → Type 0
+HasJoins w x = AreJoined w.schema x.base x.journal (tables_of x)
+
+abbrev pub EachGroupIsJoined : WorldState → Type 0
+EachGroupIsJoined w = AtEachMaster HasJoins w
+
+-- and so it is from any moment of the journal on
+abbrev pub HasJoinsSince : WorldState → SiteState → Type 0
+HasJoinsSince w x = AreJoinedSince w.schema x.here.site x.base x.journal
+
+abbrev pub EachGroupIsJoinedSince : WorldState → Type 0
+EachGroupIsJoinedSince w = AtEachMaster HasJoinsSince w
+
+-- all of it
+pub record ConvergenceHolds (w : WorldState) : Type 0 where
+  pub agree : MastersAgreeWhenQuiet w
+  pub excused : EachErrorIsExcused w
+  pub joined : EachGroupIsJoined w
+  pub since : EachGroupIsJoinedSince w

@@ -1,0 +1,9 @@
+//! Laws of convergence in worlds: quiet masters of every script agree, and their errors are excused.
+#![tactic(auto)]
+
+mod laws;
+
+pub use laws::{
+    convergence_holds, errors_of_worlds_are_excused, groups_of_worlds_are_joined,
+    made_worlds_begin_alike, quiet_masters_of_worlds_agree,
+};

@@ -1,0 +1,128 @@
+-- What excuses an error of a transaction on a convergent table.
+use Rattle.std.specs.Prelude.{◌≡◌, ℕ, ◌-◌, Bool, true, false, List, [], ◌∷◌, None, Some, Err, pos, slice_get}
+use Rattle.std.specs.List.{list_any}
+use Rattle.rep_values.specs.declared.name.SiteName.{SiteName}
+use Rattle.rep_values.specs.declared.refusal.ApplyError.{ApplyError}
+use Rattle.rep_values.specs.declared.refusal.ApplyError.TheVariants as error
+use Rattle.rep_values.specs.declared.value.Value.TheVariants.{Num, Words}
+use Rattle.rep_schema.specs.declared.schema.Schema.{Schema}
+use Rattle.rep_schema.specs.declared.schema.SiteEntry.{SiteEntry}
+use Rattle.rep_schema.specs.Tables.{Cells, Rows, columns_of, find_row, rows_of}
+use Rattle.rep_schema.specs.Sites.{first_master}
+use Rattle.schema_rules.specs.declared.forms.Form.TheVariants as form
+use Rattle.rep_calls.specs.declared.call.Call.{Call}
+use Rattle.rep_calls.specs.declared.call.Txn.{Txn}
+use Rattle.conflict_detect.specs.Fits.{table_of}
+use Rattle.txn_effects.specs.Calls.{key_named}
+use Rattle.txn_effects.specs.Transactions.{Failure}
+use Rattle.local_txn.specs.Convergent.{is_convergent}
+use Rattle.error_queue.specs.declared.entry.ErrorEntry.{ErrorEntry}
+use Rattle.site_state.specs.declared.entry.Entry.{Entry}
+use Rattle.site_state.specs.declared.entry.Entry.TheVariants.{Local, Done, Error, Executed, Dropped, Refreshed}
+use Rattle.site_state.specs.State.{SiteState}
+use Rattle.site_state.specs.Journal.{error_at}
+use Rattle.site_state.specs.Errors.{effect_of_error}
+use Rattle.event_laws.specs.Core.{site_of}
+use Rattle.convergence_laws.specs.Faults.{ChangesLatest}
+use Rattle.convergence_laws.specs.GroupForms.{form_at}
+use Rattle.convergence_laws.specs.Joins.{applied_inserts}
+
+-- ---- each error of a site
+
+-- what is said of a transaction that fails: of the journal behind it, the number of the call that fails, and why
+abbrev pub OfFailures : Type 1
+OfFailures = List Entry → ℕ → ApplyError → Txn → Type 0
+
+abbrev pub EntryFailsSo : OfFailures → List Entry → Entry → Type 0
+EntryFailsSo Says behind (Local number txn) = Unit {0}
+EntryFailsSo Says behind (Done origin position onward txn) = Unit {0}
+EntryFailsSo Says behind (Error origin position call why txn) = Says behind call why txn
+EntryFailsSo Says behind (Executed origin position onward txn) = Unit {0}
+EntryFailsSo Says behind (Dropped origin position) = Unit {0}
+EntryFailsSo Says behind (Refreshed moment) = Unit {0}
+
+-- it is so with each error of a journal and the entries behind it
+abbrev pub ErrorsAreSo : OfFailures → List Entry → Type 0
+ErrorsAreSo Says [] = Unit {0}
+ErrorsAreSo Says (e ∷ es) = EntryFailsSo Says es e × ErrorsAreSo Says es
+
+-- and with each execution of an error that is refused now
+abbrev pub RefusalsAreSo : OfFailures → SiteState → Type 0
+RefusalsAreSo Says x = (origin : SiteName) (position : ℕ) (e : ErrorEntry) (failure : Failure) → error_at origin position x.journal ≡ Some e
+    → effect_of_error e x ≡ Err failure → Says x.journal failure.call failure.error e.txn
+
+-- ---- excuses
+
+-- the row that a call names is neither a base row nor one that the journal inserted
+pub record IsMissing (schema : Schema) (base : List Rows) (journal : List Entry) (call : Call) : Type 0 where
+  pub base_row : find_row (columns_of schema (table_of call)) (key_named schema call) (rows_of base (table_of call)) ≡ None
+  pub inserted : applied_inserts schema (table_of call) (key_named schema call) journal ≡ []
+
+-- where there is no row for a call on a convergent table, it was never there
+abbrev pub NoRowIsMissing : Schema → List Rows → OfFailures
+NoRowIsMissing schema base behind number why txn = why ≡ error.NoRow → (call : Call) → slice_get txn.calls (number - 1) ≡ Some call
+    → is_convergent schema (table_of call) ≡ true → IsMissing schema base behind call
+
+-- some call is on a convergent table
+abbrev pub is_on_convergent : Schema → Txn → Bool
+is_on_convergent schema txn = list_any (λ (call : Call). is_convergent schema (table_of call)) txn.calls
+
+-- there is no row, or a number leaves its range
+abbrev pub is_row_or_range : ApplyError → Bool
+is_row_or_range error.NoRow = true
+is_row_or_range error.DeleteConflict = false
+is_row_or_range (error.UpdateConflict group) = false
+is_row_or_range (error.UniqueConflict constraint) = false
+is_row_or_range error.ValueRange = true
+is_row_or_range (error.CheckFailed check) = false
+
+-- a failure is excused by the base rows and by the journal behind it: the row is missing, or a range is left
+pub record IsExcused (schema : Schema) (base : List Rows) (journal : List Entry) (number : ℕ) (why : ApplyError) (txn : Txn) : Type 0 where
+  pub kind : is_row_or_range why ≡ true
+  pub missing : why ≡ error.NoRow → (call : Call) → slice_get txn.calls (number - 1) ≡ Some call → IsMissing schema base journal call
+
+-- so it is with a transaction on convergent tables
+abbrev pub IsExcusedOn : Schema → List Rows → OfFailures
+IsExcusedOn schema base behind number why txn = is_on_convergent schema txn ≡ true → IsExcused schema base behind number why txn
+
+-- there is no row, a latest value ties, or a number leaves its range
+abbrev pub is_row_tie_or_range : ApplyError → Bool
+is_row_tie_or_range error.NoRow = true
+is_row_tie_or_range error.DeleteConflict = false
+is_row_tie_or_range (error.UpdateConflict group) = true
+is_row_tie_or_range (error.UniqueConflict constraint) = false
+is_row_tie_or_range error.ValueRange = true
+is_row_tie_or_range (error.CheckFailed check) = false
+
+-- it is one of these, and a tie is one of a group whose latest values stay
+pub record FailsByRowTieOrRange (schema : Schema) (number : ℕ) (why : ApplyError) (txn : Txn) : Type 0 where
+  pub kind : is_row_tie_or_range why ≡ true
+  pub tie : (group : List ℕ) → why ≡ error.UpdateConflict group → (call : Call) → slice_get txn.calls (number - 1) ≡ Some call → ChangesLatest schema call
+
+-- so a transaction on convergent tables fails, and never by a key that is taken
+abbrev pub NoKeyIsTaken : Schema → OfFailures
+NoKeyIsTaken schema behind number why txn = is_on_convergent schema txn ≡ true → FailsByRowTieOrRange schema number why txn
+
+-- ---- starts
+
+-- a key that a master's base rows of a convergent table have is one that each master's have
+abbrev pub MastersShareKeys : Schema → List SiteState → Type 0
+MastersShareKeys schema sites = (site other : SiteName) (x y : SiteState) (table : ℕ) (key : Cells) → site_of site sites ≡ Some x → site_of other sites ≡ Some y → x.here.is_master ≡ true → y.here.is_master ≡ true
+    → is_convergent schema table ≡ true → find_row (columns_of schema table) key (rows_of y.base table) ≡ None → find_row (columns_of schema table) key (rows_of x.base table) ≡ None
+
+-- a row has stamp 0 and the first master's name where a site fills in a stamp and its name
+pub record IsFirstFilled (schema : Schema) (row : Cells) (stamp_column site_column : ℕ) : Type 0 where
+  pub first : SiteEntry
+  pub is_first : first_master schema ≡ Some first
+  pub stamp : slice_get row stamp_column ≡ Some (Num (pos 0))
+  pub name : slice_get row site_column ≡ Some (Words first.name.0)
+
+-- so has each base row of a master in the groups whose latest values stay
+abbrev pub BaseRowsAreFilled : Schema → List SiteState → Type 0
+BaseRowsAreFilled schema sites = (site : SiteName) (x : SiteState) (table : ℕ) (key row : Cells) (group stamp_column site_column : ℕ) → site_of site sites ≡ Some x → x.here.is_master ≡ true → is_convergent schema table ≡ true
+    → find_row (columns_of schema table) key (rows_of x.base table) ≡ Some row → form_at schema table group ≡ Some (form.Latest stamp_column site_column) → IsFirstFilled schema row stamp_column site_column
+
+-- where masters begin: they share the keys of their base rows, and these are filled in as the first master would
+pub record BeginAlike (schema : Schema) (sites : List SiteState) : Type 0 where
+  pub shared : MastersShareKeys schema sites
+  pub filled : BaseRowsAreFilled schema sites
