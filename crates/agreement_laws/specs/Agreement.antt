@@ -31,10 +31,12 @@ NothingWasDropped schema sites = (site : SiteName) (x : SiteState) → site_of s
 
 -- all masters have the same rows of every convergent table
 abbrev pub MastersAgree : Schema → List SiteState → Type 0
-MastersAgree schema sites = (one other : SiteName) (x y : SiteState) (table : ℕ) → site_of one sites ≡ Some x → site_of other sites ≡ Some y → x.here.is_master ≡ true → y.here.is_master ≡ true
+MastersAgree schema sites = (one other : SiteName) (x y : SiteState) (table : ℕ) → site_of one sites ≡ Some x → site_of other sites ≡ Some y
+    → x.here.is_master ≡ true → y.here.is_master ≡ true
     → is_convergent schema table ≡ true → rows_of (tables_of x) table ≡ rows_of (tables_of y) table
 
 -- whatever happened, where all masters are quiet and nothing was dropped, they agree
 abbrev pub QuietMastersAgree : Type 0
-QuietMastersAgree = (schema : Schema) (start : Core) (events : List Event) → IsFitStart schema start → AreMeshed schema start.sites → BeginAlike schema start
-    → are_quiet (run events start).sites ≡ true → NothingWasDropped schema (run events start).sites → MastersAgree schema (run events start).sites
+QuietMastersAgree = (schema : Schema) (start : Core) (events : List Event) → IsFitStart schema start → AreMeshed schema start.sites
+    → BeginAlike schema start → are_quiet (run events start).sites ≡ true → NothingWasDropped schema (run events start).sites
+    → MastersAgree schema (run events start).sites

@@ -19,7 +19,8 @@ IsFirstFilled schema first table row = (group stamp site : ℕ) → form_at sche
 
 -- the masters begin with the same rows of convergent tables, filled in by none of them
 pub record BeginAlike (schema : Schema) (w : Core) : Type 0 where
-  pub alike : (one other : SiteName) (x y : SiteState) (table : ℕ) → site_of one w.sites ≡ Some x → site_of other w.sites ≡ Some y → x.here.is_master ≡ true → y.here.is_master ≡ true
-      → is_convergent schema table ≡ true → rows_of x.base table ≡ rows_of y.base table
-  pub filled : (site : SiteName) (x : SiteState) (first : SiteEntry) (table : ℕ) (key row : Cells) → site_of site w.sites ≡ Some x → x.here.is_master ≡ true → first_master schema ≡ Some first
-      → is_convergent schema table ≡ true → find_row (columns_of schema table) key (rows_of x.base table) ≡ Some row → IsFirstFilled schema first table row
+  pub alike : (one other : SiteName) (x y : SiteState) (table : ℕ) → site_of one w.sites ≡ Some x → site_of other w.sites ≡ Some y
+      → x.here.is_master ≡ true → y.here.is_master ≡ true → is_convergent schema table ≡ true → rows_of x.base table ≡ rows_of y.base table
+  pub filled : (site : SiteName) (x : SiteState) (first : SiteEntry) (table : ℕ) (key row : Cells) → site_of site w.sites ≡ Some x
+      → x.here.is_master ≡ true → first_master schema ≡ Some first → is_convergent schema table ≡ true
+      → find_row (columns_of schema table) key (rows_of x.base table) ≡ Some row → IsFirstFilled schema first table row

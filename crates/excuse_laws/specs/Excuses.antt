@@ -107,8 +107,9 @@ NoKeyIsTaken schema behind number why txn = is_on_convergent schema txn ≡ true
 
 -- a key that a master's base rows of a convergent table have is one that each master's have
 abbrev pub MastersShareKeys : Schema → List SiteState → Type 0
-MastersShareKeys schema sites = (site other : SiteName) (x y : SiteState) (table : ℕ) (key : Cells) → site_of site sites ≡ Some x → site_of other sites ≡ Some y → x.here.is_master ≡ true → y.here.is_master ≡ true
-    → is_convergent schema table ≡ true → find_row (columns_of schema table) key (rows_of y.base table) ≡ None → find_row (columns_of schema table) key (rows_of x.base table) ≡ None
+MastersShareKeys schema sites = (site other : SiteName) (x y : SiteState) (table : ℕ) (key : Cells) → site_of site sites ≡ Some x → site_of other sites ≡ Some y
+    → x.here.is_master ≡ true → y.here.is_master ≡ true → is_convergent schema table ≡ true
+    → find_row (columns_of schema table) key (rows_of y.base table) ≡ None → find_row (columns_of schema table) key (rows_of x.base table) ≡ None
 
 -- a row has stamp 0 and the first master's name where a site fills in a stamp and its name
 pub record IsFirstFilled (schema : Schema) (row : Cells) (stamp_column site_column : ℕ) : Type 0 where
@@ -119,8 +120,10 @@ pub record IsFirstFilled (schema : Schema) (row : Cells) (stamp_column site_colu
 
 -- so has each base row of a master in the groups whose latest values stay
 abbrev pub BaseRowsAreFilled : Schema → List SiteState → Type 0
-BaseRowsAreFilled schema sites = (site : SiteName) (x : SiteState) (table : ℕ) (key row : Cells) (group stamp_column site_column : ℕ) → site_of site sites ≡ Some x → x.here.is_master ≡ true → is_convergent schema table ≡ true
-    → find_row (columns_of schema table) key (rows_of x.base table) ≡ Some row → form_at schema table group ≡ Some (form.Latest stamp_column site_column) → IsFirstFilled schema row stamp_column site_column
+BaseRowsAreFilled schema sites = (site : SiteName) (x : SiteState) (table : ℕ) (key row : Cells) (group stamp_column site_column : ℕ)
+    → site_of site sites ≡ Some x → x.here.is_master ≡ true → is_convergent schema table ≡ true
+    → find_row (columns_of schema table) key (rows_of x.base table) ≡ Some row
+    → form_at schema table group ≡ Some (form.Latest stamp_column site_column) → IsFirstFilled schema row stamp_column site_column
 
 -- where masters begin: they share the keys of their base rows, and these are filled in as the first master would
 pub record BeginAlike (schema : Schema) (sites : List SiteState) : Type 0 where
