@@ -1,10 +1,11 @@
 -- Which positions of a sender a site has applied: those that it finished well, or executed.
 use Rattle.std.proofs.Common.{◌≡◌, ◌≢◌, ℕ, List, [], ◌∷◌, Bool, true, false, cond, Some, None, refl, sym, ap, ◌∙◌}
-use Rattle.std.specs.Prelude.{◌||◌}
+use Rattle.std.specs.Prelude.{◌||◌, Option}
 use Rattle.std.specs.List.{list_any}
 use mathlib.Core.Bool.{true≢false}
 use Rattle.rep_values.specs.declared.name.SiteName.{SiteName}
 use Rattle.rep_schema.specs.declared.schema.Schema.{Schema}
+use Rattle.error_queue.specs.declared.entry.ErrorEntry.{ErrorEntry}
 use Rattle.site_state.specs.declared.entry.Entry.{Entry}
 use Rattle.site_state.specs.declared.entry.Entry.TheVariants.{Local, Done, Error, Executed, Dropped, Refreshed}
 use Rattle.site_state.specs.State.{SiteState, is_master_site}
@@ -122,37 +123,58 @@ shaped_more x (Dropped o p) follows shaped = record {
     go origin position false stands = shaped.open_not origin position stands
 shaped_more x (Refreshed moment) follows shaped = record { finished_too = shaped.finished_too; open_not = shaped.open_not }
 
--- a finished position of a master whose error doesn't stand, where none was dropped, is applied
-pub settled_applied : (schema : Schema) (origin : SiteName) (position : ℕ) (journal : List Entry) → is_master_site schema origin ≡ true → finished origin journal position ≡ true → error_at origin position journal ≡ None
-    → list_any (drops_of_master schema) journal ≡ false → is_applied origin journal position ≡ true
-settled_applied schema origin position [] master done none kept = cc
-settled_applied schema origin position (Local number txn ∷ es) master done none kept = settled_applied schema origin position es master done none kept
-settled_applied schema origin position (Done o p onward txn ∷ es) master done none kept = go (is_position origin position o p) done (λ later. settled_applied schema origin position es master later none kept)
-  where
-    go : (b : Bool) → (b || finished origin es position) ≡ true → (finished origin es position ≡ true → is_applied origin es position ≡ true) → (b || is_applied origin es position) ≡ true
-    go true done later = refl
-    go false done later = later done
-settled_applied schema origin position (Error o p call error txn ∷ es) master done none kept = go (is_position origin position o p) done none (λ done none. settled_applied schema origin position es master done none kept)
-  where
-    go : (b : Bool) → (b || finished origin es position) ≡ true → cond b (Some (record { origin = o; position = p; call = call; error = error; txn = txn })) (error_at origin position es) ≡ None
-        → (finished origin es position ≡ true → error_at origin position es ≡ None → is_applied origin es position ≡ true) → is_applied origin es position ≡ true
-    go true done none later = cc
-    go false done none later = later done none
-settled_applied schema origin position (Executed o p onward txn ∷ es) master done none kept = go (is_position origin position o p) none (λ none. settled_applied schema origin position es master done none kept)
-  where
-    go : (b : Bool) → cond b None (error_at origin position es) ≡ None → (error_at origin position es ≡ None → is_applied origin es position ≡ true) → (b || is_applied origin es position) ≡ true
-    go true none later = refl
-    go false none later = later none
-settled_applied schema origin position (Dropped o p ∷ es) master done none kept = go (is_position origin position o p) refl none (λ none kept. settled_applied schema origin position es master done none kept)
-  where
-    both : (b c : Bool) → (b || c) ≡ false → (b ≡ false) × (c ≡ false)
-    both true c e = cc
-    both false c e = (refl, e)
+-- an error that is settled doesn't stand
+off : (b : Bool) (o : Option ErrorEntry) → o ≡ None → cond b None o ≡ None
+off true o none = refl
+off false o none = none
 
-    go : (b : Bool) → is_position origin position o p ≡ b → cond b None (error_at origin position es) ≡ None
-        → (error_at origin position es ≡ None → list_any (drops_of_master schema) es ≡ false → is_applied origin es position ≡ true) → is_applied origin es position ≡ true
-    go true is none later =
-        let same = is_position-true origin o position p is in
-        absurd (true≢false (sym master ∙ ap (is_master_site schema) (sym same.0) ∙ (both (is_master_site schema o) (list_any (drops_of_master schema) es) kept).0))
-    go false is none later = later none (both (is_master_site schema o) (list_any (drops_of_master schema) es) kept).1
-settled_applied schema origin position (Refreshed moment ∷ es) master done none kept = settled_applied schema origin position es master done none kept
+-- a position is finished, and no error stands there
+pub record IsSettled (origin : SiteName) (position : ℕ) (journal : List Entry) : Type 0 where
+  pub done : finished origin journal position ≡ true
+  pub none : error_at origin position journal ≡ None
+
+-- it remains so
+pub settled_more : (x : SiteState) (e : Entry) → MayFollow x e → (origin : SiteName) (position : ℕ) → IsSettled origin position x.journal → IsSettled origin position (e ∷ x.journal)
+settled_more x (Local number txn) follows origin position is = record { done = is.done; none = is.none }
+settled_more x (Done o p onward txn) follows origin position is = record { done = either (is_position origin position o p) (finished origin x.journal position) is.done; none = is.none }
+  where
+    either : (b c : Bool) → c ≡ true → (b || c) ≡ true
+    either true c e = refl
+    either false c e = e
+settled_more x (Error o p call error txn) follows origin position is = go (is_position origin position o p) refl
+  where
+    go : (b : Bool) → is_position origin position o p ≡ b → IsSettled origin position (Error o p call error txn ∷ x.journal)
+    go true at =
+        let same = is_position-true origin o position p at in
+        absurd (true≢false (sym is.done ∙ rw (← same.0, ← same.1) follows.unfinished))
+    go false at = record { done = rw at is.done; none = rw at is.none }
+settled_more x (Executed o p onward txn) follows origin position is = record { done = is.done; none = off (is_position origin position o p) (error_at origin position x.journal) is.none }
+settled_more x (Dropped o p) follows origin position is = record { done = is.done; none = off (is_position origin position o p) (error_at origin position x.journal) is.none }
+settled_more x (Refreshed moment) follows origin position is = record { done = is.done; none = is.none }
+
+-- what is settled is applied, and so it remains where a master's error isn't dropped
+pub applied_more : (schema : Schema) (e : Entry) (journal : List Entry) → drops_of_master schema e ≡ false → (origin : SiteName) (position : ℕ) → is_master_site schema origin ≡ true
+    → (IsSettled origin position journal → is_applied origin journal position ≡ true) → IsSettled origin position (e ∷ journal) → is_applied origin (e ∷ journal) position ≡ true
+applied_more schema (Local number txn) journal kept origin position named before is = before (record { done = is.done; none = is.none })
+applied_more schema (Done o p onward txn) journal kept origin position named before is = go (is_position origin position o p) is.done
+  where
+    go : (b : Bool) → (b || finished origin journal position) ≡ true → (b || is_applied origin journal position) ≡ true
+    go true done = refl
+    go false done = before (record { done = done; none = is.none })
+applied_more schema (Error o p call error txn) journal kept origin position named before is = go (is_position origin position o p) is.done is.none
+  where
+    go : (b : Bool) → (b || finished origin journal position) ≡ true → cond b (Some (record { origin = o; position = p; call = call; error = error; txn = txn })) (error_at origin position journal) ≡ None
+        → is_applied origin journal position ≡ true
+    go true done none = cc
+    go false done none = before (record { done = done; none = none })
+applied_more schema (Executed o p onward txn) journal kept origin position named before is = go (is_position origin position o p) is.none
+  where
+    go : (b : Bool) → cond b None (error_at origin position journal) ≡ None → (b || is_applied origin journal position) ≡ true
+    go true none = refl
+    go false none = before (record { done = is.done; none = none })
+applied_more schema (Dropped o p) journal kept origin position named before is = go (is_position origin position o p) refl is.none
+  where
+    go : (b : Bool) → is_position origin position o p ≡ b → cond b None (error_at origin position journal) ≡ None → is_applied origin journal position ≡ true
+    go true at none = absurd (true≢false (sym named ∙ ap (is_master_site schema) (sym (is_position-true origin o position p at).0) ∙ kept))
+    go false at none = before (record { done = is.done; none = none })
+applied_more schema (Refreshed moment) journal kept origin position named before is = before (record { done = is.done; none = is.none })

@@ -18,7 +18,7 @@ use Rattle.site_state.specs.declared.entry.Entry.{Entry}
 use Rattle.site_state.specs.declared.entry.Entry.TheVariants.{Local, Done, Error, Executed, Dropped, Refreshed}
 use Rattle.site_state.specs.State.{SenderState, DestinationState, SiteState, is_master_site, is_among, sender_of, arrived_in, beside, arrived_at, destination_of, opened_in, opened_of}
 use Rattle.site_state.specs.Journal.{is_position, finished}
-use Rattle.site_state.specs.Streams.{with_one, queue_of, queued_behind}
+use Rattle.site_state.specs.Streams.{with_one, queue_of, queued_behind, stream_in}
 use Rattle.site_state.specs.Packets.{count_opened}
 use Rattle.site_state.specs.Steps.{is_open}
 use Rattle.site_state.proofs.Growing.{length-queued_behind, queued_behind-none}
@@ -28,7 +28,7 @@ use Rattle.event_laws.specs.Core.{site_of}
 use Rattle.event_laws.specs.Orders.{IsInOrder}
 use Rattle.convergence_laws.specs.Collections.{IsReordered, Then, Among}
 use Rattle.convergence_laws.proofs.SameRows.{reordered_behind, reordered_middle}
-use Rattle.agreement_laws.proofs.Reordering.{reordered_before, chosen}
+use Rattle.agreement_laws.proofs.Reordering.{reordered_before, chosen, chosen-none, above}
 use Rattle.agreement_laws.proofs.Applied.{is_applied}
 use Rattle.agreement_laws.proofs.Told.{IsSentBy, followed}
 
@@ -137,16 +137,36 @@ abbrev pub count_for : SiteName → Option SiteState → ℕ
 count_for to None = 0
 count_for to (Some y) = count_opened (opened_of to y)
 
--- a number of a queue is in the rows that the master began with, or it was applied
-abbrev pub has_number : List Entry → SiteName → ℕ → ℕ → Bool
-has_number journal origin count number = nat_le number count || is_applied origin journal (number - count)
+-- how much a site has queued, 0 where it isn't there
+abbrev pub count_in : Option SiteState → ℕ
+count_in o = length (queue_in o)
 
--- its own queue, or what it has of another one's
-abbrev pub piece_of : SiteState → SiteName → Option SiteState → List Txn
-piece_of x origin o = cond (is_same_site origin x.here.site) (queue_in o) (chosen (has_number x.journal origin (count_for x.here.site o)) (queue_in o))
+-- a number of a queue is in the rows that the master began with, or it was applied, and it is above another number
+abbrev pub has_number : List Entry → SiteName → ℕ → ℕ → ℕ → Bool
+has_number journal origin least count number = (nat_le number count || is_applied origin journal (number - count)) && nat_lt least number
 
-abbrev pub pieces_of : Schema → SiteState → List SiteState → List Txn
-pieces_of schema x sites = joined_by (λ (n : SiteName). piece_of x n (site_of n sites)) (masters_of schema)
+-- above a number, its own queue, or what it has of another one's
+abbrev pub piece_of : ℕ → SiteState → SiteName → Option SiteState → List Txn
+piece_of least x origin o = cond (is_same_site origin x.here.site) (above least (queue_in o)) (chosen (has_number x.journal origin least (count_for x.here.site o)) (queue_in o))
+
+-- all that it has of what masters queued since they were as earlier
+abbrev pub pieces_of : Schema → List SiteState → SiteState → List SiteState → List Txn
+pieces_of schema earlier x sites = joined_by (λ (n : SiteName). piece_of (count_in (site_of n earlier)) x n (site_of n sites)) (masters_of schema)
+
+pub piece_empty : (least : ℕ) (x : SiteState) (n : SiteName) (o : Option SiteState) → count_in o ≤ least → piece_of least x n o ≡ []
+piece_empty least x n o le = go (is_same_site n x.here.site)
+  where
+    off : (m : ℕ) → 1 ≤ m → m ≤ count_in o → nat_lt least m ≡ false
+    off m one within = grind (arith, nat_tests, within, le)
+
+    and_off : (b : Bool) → (b && false) ≡ false
+    and_off true = refl
+    and_off false = refl
+
+    go : (b : Bool) → cond b (above least (queue_in o)) (chosen (has_number x.journal n least (count_for x.here.site o)) (queue_in o)) ≡ []
+    go true = chosen-none (nat_lt least) (queue_in o) off
+    go false = chosen-none (has_number x.journal n least (count_for x.here.site o)) (queue_in o)
+        (λ m one within. rw (off m one within) (and_off (nat_le m (count_for x.here.site o) || is_applied n x.journal (m - count_for x.here.site o))))
 
 -- ---- numbers and positions
 
@@ -178,6 +198,15 @@ at_position-behind {X} opened p (y ∷ ys) x at = go (nat_lt opened (length ys +
         let none : queued_behind opened ys ≡ [] = queued_behind-none opened ys (omega (arith, over)) in
         let nothing : at_position p (queued_behind opened ys) ≡ None = rw none refl in
         absurd (cc (nothing, at))
+
+-- so is one that was sent
+pub sent_number : (sites : List SiteState) (to origin : SiteName) (position : ℕ) (txn : Txn) (sent : IsSentBy sites to origin position txn)
+    → at_position (count_for to (Some sent.sender) + position) (queue_of sent.sender) ≡ Some txn
+sent_number sites to origin position txn sent = go (opened_of to sent.sender) sent.at
+  where
+    go : (c : Option ℕ) → at_position position (stream_in c (queue_of sent.sender)) ≡ Some txn → at_position (count_opened c + position) (queue_of sent.sender) ≡ Some txn
+    go None at = cc
+    go (Some n) at = at_position-behind n position (queue_of sent.sender) txn at
 
 -- a finished position of a sender was sent
 pub finished_sent : (sites : List SiteState) (to origin : SiteName) (position : ℕ) (journal : List Entry) → IsInOrder sites to journal → finished origin journal position ≡ true → (txn : Txn) × IsSentBy sites to origin position txn

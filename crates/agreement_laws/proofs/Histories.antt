@@ -1,14 +1,13 @@
--- A master's history: all that its rows came of, those that it began with among them. After every event it is what the master
--- has of all masters' queues, and what was done before there was another master.
+-- A master's history: all that its rows came of since the sites were as earlier, when all masters had the same rows. After every
+-- event it is what the master has of what all masters queued since, and what was done while there was no other master.
 use Rattle.std.proofs.Common.{◌≡◌, ◌≢◌, ℕ, ◌+◌, ◌-◌, ◌≤◌, ◌==◌, List, [], ◌∷◌, ◌++◌, map, Bool, true, false, cond, Some, None, Ok, refl, sym, ap, ◌∙◌, subst, inl, inr, arith}
-use Rattle.std.specs.Prelude.{◌||◌, ◌&&◌, ◌⊎◌, Option, not, nat_le}
+use Rattle.std.specs.Prelude.{◌||◌, ◌&&◌, ◌⊎◌, not, nat_le, nat_lt}
 use Rattle.std.specs.List.{AllByRecursion, list_any}
 use mathlib.Core.Bool.{true≢false}
 use Rattle.std.proofs.lemmas.Bool.Decides.{nat_tests}
 use Rattle.rep_values.specs.declared.name.SiteName.{SiteName}
 use Rattle.rep_schema.specs.declared.schema.Schema.{Schema}
 use Rattle.rep_schema.specs.Sites.{senders_of}
-use Rattle.rep_schema.specs.Named.{is_site}
 use Rattle.rep_schema.specs.Tables.{Cells, Rows, columns_of, find_row}
 use Rattle.rep_calls.specs.declared.call.Txn.{Txn}
 use Rattle.conflict_detect.specs.ChangeCalls.{call_of}
@@ -25,7 +24,7 @@ use Rattle.convergence_laws.specs.GroupForms.{TxnKeepsForms}
 use Rattle.rep_laws.specs.Commuting.{IsSound}
 use Rattle.site_state.specs.declared.entry.Entry.{Entry}
 use Rattle.site_state.specs.declared.entry.Entry.TheVariants.{Local, Done, Error, Executed, Dropped, Refreshed}
-use Rattle.site_state.specs.State.{SiteState, is_master_site, is_among, arrived_at, opened_of}
+use Rattle.site_state.specs.State.{SiteState, is_master_site, is_among, arrived_at}
 use Rattle.site_state.specs.Journal.{is_position, error_at}
 use Rattle.site_state.specs.Contents.{content_with, tables_of, content_of, txn_of}
 use Rattle.site_state.specs.Commits.{block_at}
@@ -36,7 +35,6 @@ use Rattle.site_state.specs.Steps.{is_empty, is_open, goes_onward, onward_number
 use Rattle.site_state.proofs.Growing.{length-queued_behind}
 use Rattle.site_state.proofs.SchemaSites.{own_is_no_sender}
 use Rattle.event_laws.specs.Core.{site_of}
-use Rattle.event_laws.specs.Orders.{IsInOrder}
 use Rattle.event_laws.proofs.Sites.{found_all, found_name}
 use Rattle.event_laws.proofs.DeclaredSites.{IsSiteOf}
 use Rattle.event_laws.proofs.Meeting.{SiteMeets, MeetsAt}
@@ -51,13 +49,15 @@ use Rattle.convergence_laws.proofs.SameRows.{reordered_behind, reordered_middle,
 use Rattle.agreement_laws.specs.Pairs.{made_in, calls_in, own_calls}
 use Rattle.agreement_laws.proofs.Counting.{among_right}
 use Rattle.agreement_laws.proofs.OwnPairs.{made_in-append}
-use Rattle.agreement_laws.proofs.Reordering.{reordered_as, chosen, chosen-same, chosen-more}
+use Rattle.agreement_laws.proofs.Reordering.{reordered_as, chosen, chosen-same, chosen-more, above, above-more}
 use Rattle.agreement_laws.proofs.Turns.{Turn, Same, Own, Did, Left, Renewed, Frame, Cause, Now, Late, IsLeft}
 use Rattle.agreement_laws.proofs.SitesAt.{turn_frame}
-use Rattle.agreement_laws.proofs.MetSites.{AreMet, IsOpenTo, masters_open}
-use Rattle.agreement_laws.proofs.Applied.{is_applied, IsShaped, error_finished, taken_not_applied}
-use Rattle.agreement_laws.proofs.Told.{TxnIsTold, told_later, all_told_later, sent_has, IsSentBy, cause_sent, queue-did, queue-left, Known, done_sound, QueuesTold, turn_queues, QueueIsTold, onward_told}
-use Rattle.agreement_laws.proofs.Families.{masters_of, StandApart-masters, Among-masters, Are-masters, joined_same, joined_more, queue_in, count_for, has_number, piece_of, pieces_of, at_position-behind, finished_sent, arrived_among, open_any}
+use Rattle.agreement_laws.proofs.MetSites.{IsOpenTo, masters_open}
+use Rattle.agreement_laws.proofs.Applied.{is_applied, IsShaped, IsSettled, error_finished, taken_not_applied}
+use Rattle.agreement_laws.proofs.Told.{TxnIsTold, told_later, all_told_later, sent_has, IsSentBy, cause_sent, queue-did, queue-left, Known, done_sound, QueuesTold, turn_queues, onward_told}
+use Rattle.agreement_laws.proofs.Families.{masters_of, StandApart-masters, Among-masters, Are-masters, joined_same, joined_more, queue_in, count_for, count_in, has_number, piece_of, pieces_of, sent_number, finished_sent, arrived_among, open_any}
+use Rattle.agreement_laws.proofs.Facts.{some_there, is_named, Facts, declared_master}
+use Rattle.agreement_laws.proofs.Since.{IsSince}
 
 -- ---- what a turn applies
 
@@ -83,36 +83,28 @@ cause_unapplied x origin position number txn _ shaped (Now is) = taken_not_appli
     is_position-refl origin position = rw (is_same_site-refl origin) (grind (arith, nat_tests))
 cause_unapplied x origin position number txn _ shaped (Late e at is) = shaped.open_not origin position (λ none. absurd (cc (none, at)))
 
-pub some_there : {X : Type 0} (o : Option X) (x : X) → o ≡ Some x → o ≢ None
-some_there o x is none = absurd (cc (is, none))
+-- what is done wasn't settled
+cause_unsettled : (x : SiteState) (origin : SiteName) (position number : ℕ) (txn : Txn) (e : Entry) → Cause x origin position number txn e → IsSettled origin position x.journal → ⊥
+cause_unsettled x origin position number txn _ (Now at) is = true≢false (sym is.done ∙ at.unfinished)
+cause_unsettled x origin position number txn _ (Late e at same) is = some_there (error_at origin position x.journal) e at is.none
 
--- a site of this name is declared
-abbrev pub is_named : Schema → SiteName → Bool
-is_named schema name = list_any (is_site name) schema.sites
-
-module _ (schema : Schema) (sound : IsSound schema) (decides : DecisionLaws) (first : ℕ → Rows) where
+module _ (schema : Schema) (sound : IsSound schema) (decides : DecisionLaws) (first : ℕ → Rows) (earlier : List SiteState) where
   -- ---- histories
 
   pub record History (extra : List Txn) (sites : List SiteState) (x : SiteState) : Type 0 where
     pub history : List Txn
     pub came : (table group : ℕ) (key : Cells) (convergent : is_convergent schema table ≡ true) → Came schema sound decides table group convergent (find_row (columns_of schema table) key (first table))
         (row_in schema sound decides table group convergent (tables_of x) key) (inserts_in schema table key (calls_in history)) (parts_in table key group (calls_in history))
-    pub same : IsReordered history (extra ++ pieces_of schema x sites)
+    pub same : IsReordered history (extra ++ pieces_of schema earlier x sites)
     pub told : AllByRecursion (TxnIsTold (is_named schema) schema sites) history
 
-  -- ---- all that is known of the sites
+  abbrev least : SiteName → ℕ
+  least n = count_in (site_of n earlier)
 
-  pub record Facts (sites : List SiteState) (sent : List Packet) : Type 0 where
-    pub met : AreMet schema sites sent
-    pub shaped : (name : SiteName) (x : SiteState) → site_of name sites ≡ Some x → IsShaped x.journal
-    pub order : (name : SiteName) (x : SiteState) → site_of name sites ≡ Some x → IsInOrder sites name x.journal
-    pub told : (name : SiteName) (x : SiteState) → site_of name sites ≡ Some x → is_named schema x.here.site ≡ true → QueueIsTold (is_named schema) schema sound decides sites x
+  abbrev piece : SiteState → List SiteState → SiteName → List Txn
+  piece u sites n = piece_of (least n) u n (site_of n sites)
 
-  -- a site that is there and a master is a master of the schema
-  pub declared_master : (sites : List SiteState) (sent : List Packet) → Facts sites sent → (name : SiteName) (x : SiteState) → site_of name sites ≡ Some x → x.here.is_master ≡ is_master_site schema name
-  declared_master sites sent facts name x found = (found_all (IsSiteOf schema) name sites x facts.met.sites_of found).declared.is_master ∙ ap (is_master_site schema) (found_name name sites x found)
-
-  module _ (sites others : List SiteState) (sent : List Packet) (facts : Facts sites sent) (name : SiteName) (x y : SiteState) (known : Known (is_named schema) schema sound decides sites others name x y) (named : x.here.is_master ≡ true → is_named schema name ≡ true) (turn : Turn x y)
+  module _ (sites others : List SiteState) (sent : List Packet) (facts : Facts schema sound decides sites sent) (since : IsSince schema earlier sites) (name : SiteName) (x y : SiteState) (known : Known (is_named schema) schema sound decides sites others name x y) (named : x.here.is_master ≡ true → is_named schema name ≡ true) (turn : Turn x y)
       (elsewhere : (n : SiteName) → is_same_site name n ≡ false → site_of n others ≡ site_of n sites) where
     abbrev IsMasterName : SiteName → Type 0
     IsMasterName n = is_master_site schema n ≡ true
@@ -133,7 +125,7 @@ module _ (schema : Schema) (sound : IsSound schema) (decides : DecisionLaws) (fi
 
     -- it has nothing yet of what this site queues now
     has_not_yet : (other : SiteName) (u : SiteState) → site_of other sites ≡ Some u → u.here.is_master ≡ true → x.here.is_master ≡ true → is_same_site name other ≡ false
-        → has_number u.journal name (count_for u.here.site (Some x)) (count_of x + 1) ≡ false
+        → has_number u.journal name (least name) (count_for u.here.site (Some x)) (count_of x + 1) ≡ false
     has_not_yet other u found master x_master differ =
         let own : u.here.site ≡ other = found_name other sites u found in
         let count : count_for u.here.site (Some x) ≡ open_to.0 = ap (λ (s : SiteName). count_for s (Some x)) own ∙ ap count_opened open_to.1 in
@@ -156,31 +148,31 @@ module _ (schema : Schema) (sound : IsSound schema) (decides : DecisionLaws) (fi
             some_same a b e = cc
 
     piece_other : (other : SiteName) (u : SiteState) → site_of other sites ≡ Some u → u.here.is_master ≡ true → is_same_site name other ≡ false → (n : SiteName) → IsMasterName n
-        → piece_of u n (site_of n others) ≡ piece_of u n (site_of n sites)
+        → piece u others n ≡ piece u sites n
     piece_other other u found master differ n named = go (is_same_site name n) refl
       where
-        here : x.here.is_master ≡ true → piece_of u name (Some y) ≡ piece_of u name (Some x)
+        here : x.here.is_master ≡ true → piece_of (least name) u name (Some y) ≡ piece_of (least name) u name (Some x)
         here x_master =
             let off : is_same_site name u.here.site ≡ false = rw (found_name other sites u found) differ in
             rw (off, f.opened u.here.site, (queued x_master).queue) (by (queued x_master).queues)
           where
-            by : (b : Bool) → chosen (has_number u.journal name (count_for u.here.site (Some x))) (with_one b (queued x_master).txn (queue_of x)) ≡ chosen (has_number u.journal name (count_for u.here.site (Some x))) (queue_of x)
+            by : (b : Bool) → chosen (has_number u.journal name (least name) (count_for u.here.site (Some x))) (with_one b (queued x_master).txn (queue_of x)) ≡ chosen (has_number u.journal name (least name) (count_for u.here.site (Some x))) (queue_of x)
             by false = refl
             by true = rw (has_not_yet other u found master x_master differ) refl
 
-        go : (b : Bool) → is_same_site name n ≡ b → piece_of u n (site_of n others) ≡ piece_of u n (site_of n sites)
-        go false off = ap (piece_of u n) (elsewhere n off)
+        go : (b : Bool) → is_same_site name n ≡ b → piece u others n ≡ piece u sites n
+        go false off = ap (piece_of (least n) u n) (elsewhere n off)
         go true same =
             let is : name ≡ n = is_same_site-true name n same in
-            let x_master : x.here.is_master ≡ true = declared_master sites sent facts name x known.found ∙ ap (is_master_site schema) is ∙ named in
-            subst (λ (m : SiteName). piece_of u m (site_of m others) ≡ piece_of u m (site_of m sites)) is (rw (known.found, known.found_later) (here x_master))
+            let x_master : x.here.is_master ≡ true = declared_master schema sound decides sites sent facts name x known.found ∙ ap (is_master_site schema) is ∙ named in
+            subst (λ (m : SiteName). piece u others m ≡ piece u sites m) is (rw (known.found, known.found_later) (here x_master))
 
     pub history_other : (extra : List Txn) (other : SiteName) (u : SiteState) → site_of other sites ≡ Some u → u.here.is_master ≡ true → is_same_site name other ≡ false → History extra sites u → History extra others u
     history_other extra other u found master differ h = record {
       history = h.history;
       came = h.came;
       same = subst (λ ps. IsReordered h.history (extra ++ ps))
-          (sym (joined_same IsMasterName (λ (n : SiteName). piece_of u n (site_of n others)) (λ (n : SiteName). piece_of u n (site_of n sites)) (masters_of schema) (Are-masters schema) (piece_other other u found master differ))) h.same;
+          (sym (joined_same IsMasterName (piece u others) (piece u sites) (masters_of schema) (Are-masters schema) (piece_other other u found master differ))) h.same;
       told = all_told_later (is_named schema) schema sites others h.history known.later h.told;
     }
 
@@ -188,16 +180,16 @@ module _ (schema : Schema) (sound : IsSound schema) (decides : DecisionLaws) (fi
 
     module _ (master : x.here.is_master ≡ true) where
       is_master_name : IsMasterName name
-      is_master_name = sym (declared_master sites sent facts name x known.found) ∙ master
+      is_master_name = sym (declared_master schema sound decides sites sent facts name x known.found) ∙ master
 
       own_later : y.here.site ≡ name
       own_later = ap (λ h. h.site) f.here ∙ own_name
 
-      -- its own piece is its queue
-      piece_own : piece_of y name (site_of name others) ≡ queue_of y
+      -- its own piece is what it queued since
+      piece_own : piece y others name ≡ above (least name) (queue_of y)
       piece_own = rw (known.found_later, own_later, is_same_site-refl name) refl
 
-      piece_own_before : piece_of x name (site_of name sites) ≡ queue_of x
+      piece_own_before : piece x sites name ≡ above (least name) (queue_of x)
       piece_own_before = rw (known.found, own_name, is_same_site-refl name) refl
 
       not_own : (n : SiteName) → n ≢ name → is_same_site n name ≡ false
@@ -215,31 +207,31 @@ module _ (schema : Schema) (sound : IsSound schema) (decides : DecisionLaws) (fi
           go true is = absurd (differ (sym (is_same_site-true name n is)))
 
       -- another one's piece, as long as the site applies no more of it
-      piece_apart : (n : SiteName) → n ≢ name → ((p : ℕ) → is_applied n y.journal p ≡ is_applied n x.journal p) → piece_of y n (site_of n others) ≡ piece_of x n (site_of n sites)
+      piece_apart : (n : SiteName) → n ≢ name → ((p : ℕ) → is_applied n y.journal p ≡ is_applied n x.journal p) → piece y others n ≡ piece x sites n
       piece_apart n differ same =
           rw (elsewhere n (not_own_too n differ), own_later, own_name, not_own n differ)
-          (chosen-same (has_number y.journal n (count_for name (site_of n sites))) (has_number x.journal n (count_for name (site_of n sites))) (queue_in (site_of n sites))
-          (λ m one le. ap (λ b. nat_le m (count_for name (site_of n sites)) || b) (same (m - count_for name (site_of n sites)))))
+          (chosen-same (has_number y.journal n (least n) (count_for name (site_of n sites))) (has_number x.journal n (least n) (count_for name (site_of n sites))) (queue_in (site_of n sites))
+          (λ m one le. ap (λ b. (nat_le m (count_for name (site_of n sites)) || b) && nat_lt (least n) m) (same (m - count_for name (site_of n sites)))))
 
       abbrev before : SiteName → List Txn
-      before n = piece_of x n (site_of n sites)
+      before n = piece x sites n
 
       abbrev after : SiteName → List Txn
-      after n = piece_of y n (site_of n others)
+      after n = piece y others n
 
       abbrev AppliesSame : Type 0
       AppliesSame = (n : SiteName) → IsMasterName n → (p : ℕ) → is_applied n y.journal p ≡ is_applied n x.journal p
 
-      pieces_kept : queue_of y ≡ queue_of x → AppliesSame → pieces_of schema y others ≡ pieces_of schema x sites
+      pieces_kept : queue_of y ≡ queue_of x → AppliesSame → pieces_of schema earlier y others ≡ pieces_of schema earlier x sites
       pieces_kept queue same = joined_same IsMasterName after before (masters_of schema) (Are-masters schema) (λ n named. go n named (is_same_site n name) refl)
         where
           go : (n : SiteName) → IsMasterName n → (b : Bool) → is_same_site n name ≡ b → after n ≡ before n
-          go n named true is = let own = is_same_site-true n name is in subst (λ (m : SiteName). after m ≡ before m) (sym own) (piece_own ∙ queue ∙ sym piece_own_before)
+          go n named true is = let own = is_same_site-true n name is in subst (λ (m : SiteName). after m ≡ before m) (sym own) (piece_own ∙ ap (above (least name)) queue ∙ sym piece_own_before)
           go n named false is = piece_apart n (λ e. true≢false (sym (is_same_site-refl name) ∙ ap (λ (m : SiteName). is_same_site m name) (sym e) ∙ is)) (same n named)
 
-      pieces_queued : (t : Txn) → queue_of y ≡ t ∷ queue_of x → AppliesSame → IsReordered (t ∷ pieces_of schema x sites) (pieces_of schema y others)
+      pieces_queued : (t : Txn) → queue_of y ≡ t ∷ queue_of x → AppliesSame → IsReordered (t ∷ pieces_of schema earlier x sites) (pieces_of schema earlier y others)
       pieces_queued t queue same = joined_more IsMasterName before after name t (masters_of schema) (Among-masters schema name is_master_name) (StandApart-masters schema sound.shape) (Are-masters schema)
-          (reordered_as (ap (λ ts. t ∷ ts) piece_own_before ∙ sym queue ∙ sym piece_own)) (λ n named differ. sym (piece_apart n differ (same n named)))
+          (reordered_as (ap (λ ts. t ∷ ts) piece_own_before ∙ sym (above-more (least name) t (queue_of x) (since.queued name x known.found master)) ∙ ap (above (least name)) (sym queue) ∙ sym piece_own)) (λ n named differ. sym (piece_apart n differ (same n named)))
 
       -- it applies one more of another master
       module _ (origin : SiteName) (position number : ℕ) (txn : Txn) (e : Entry) (cause : Cause x origin position number txn e) (journal : y.journal ≡ e ∷ x.journal) where
@@ -272,45 +264,54 @@ module _ (schema : Schema) (sound : IsSound schema) (decides : DecisionLaws) (fi
             come (Now is) meets = some_there (arrived_at origin position x.senders) is.arrival is.there
             come (Late er at is) meets = meets.arrived origin position (error_finished origin position x.journal (some_there (error_at origin position x.journal) er at))
 
-        pieces_applied : IsMasterName origin → queue_of y ≡ queue_of x → IsReordered (txn ∷ pieces_of schema x sites) (pieces_of schema y others)
+        pieces_applied : IsMasterName origin → queue_of y ≡ queue_of x → IsReordered (txn ∷ pieces_of schema earlier x sites) (pieces_of schema earlier y others)
         pieces_applied named queue = joined_more IsMasterName before after origin txn (masters_of schema) (Among-masters schema origin named) (StandApart-masters schema sound.shape) (Are-masters schema) more
             (λ n master_name differ. go n differ (is_same_site n name) refl)
           where
             go : (n : SiteName) → n ≢ origin → (b : Bool) → is_same_site n name ≡ b → before n ≡ after n
-            go n differ true is = let own = is_same_site-true n name is in subst (λ (m : SiteName). before m ≡ after m) (sym own) (piece_own_before ∙ sym queue ∙ sym piece_own)
+            go n differ true is = let own = is_same_site-true n name is in subst (λ (m : SiteName). before m ≡ after m) (sym own) (piece_own_before ∙ ap (above (least name)) (sym queue) ∙ sym piece_own)
             go n differ false is = sym (piece_apart n (λ e. true≢false (sym (is_same_site-refl name) ∙ ap (λ (m : SiteName). is_same_site m name) (sym e) ∙ is)) (applied_elsewhere n differ))
 
             o : SiteState
             o = sent_it.sender
 
             count : ℕ
-            count = count_opened (opened_of name o)
+            count = count_for name (Some o)
 
             at_number : at_position (count + position) (queue_of o) ≡ Some txn
-            at_number = by (opened_of name o) refl sent_it.at
-              where
-                by : (c : Option ℕ) → opened_of name o ≡ c → at_position position (stream_in c (queue_of o)) ≡ Some txn → at_position (count_opened c + position) (queue_of o) ≡ Some txn
-                by None is at = cc
-                by (Some n) is at = at_position-behind n position (queue_of o) txn at
+            at_number = sent_number sites name origin position txn sent_it
 
             from_one : 1 ≤ position
             from_one = (found_position position (stream_to name o) txn sent_it.at).0
 
-            off : has_number x.journal origin count (count + position) ≡ false
-            off =
-                let above : nat_le (count + position) count ≡ false = grind (arith, nat_tests, from_one) in
-                let back : count + position - count ≡ position = omega arith in
-                rw (above, back) (cause_unapplied x origin position number txn e (facts.shaped name x known.found) cause)
+            behind : nat_le (count + position) count ≡ false
+            behind = grind (arith, nat_tests, from_one)
 
-            on : has_number y.journal origin count (count + position) ≡ true
+            back : count + position - count ≡ position
+            back = omega arith
+
+            -- what was queued earlier is settled
+            since_then : nat_lt (least origin) (count + position) ≡ true
+            since_then = go (nat_lt (least origin) (count + position)) refl
+              where
+                go : (b : Bool) → nat_lt (least origin) (count + position) ≡ b → b ≡ true
+                go true is = refl
+                go false is =
+                    let le : count + position ≤ least origin = grind (arith, nat_tests) in
+                    absurd (cause_unsettled x origin position number txn e cause
+                    (since.settled name origin x o position (record { found = known.found; master = master; there = sent_it.found; named = named; differ = from_another }) from_one le))
+
+            off : has_number x.journal origin (least origin) count (count + position) ≡ false
+            off = let none = cause_unapplied x origin position number txn e (facts.shaped name x known.found) cause in rw (behind, back, none) refl
+
+            on : has_number y.journal origin (least origin) count (count + position) ≡ true
             on =
-                let above : nat_le (count + position) count ≡ false = grind (arith, nat_tests, from_one) in
-                let back : count + position - count ≡ position = omega arith in
                 let self : is_position origin position origin position ≡ true = rw (is_same_site-refl origin) (grind (arith, nat_tests)) in
-                rw (above, back) (applied_now origin position ∙ (rw self refl))
+                let now : is_applied origin y.journal position ≡ true = applied_now origin position ∙ (rw self refl) in
+                rw (behind, back, now, since_then) refl
 
-            rest : (m : ℕ) → m ≢ count + position → has_number x.journal origin count m ≡ has_number y.journal origin count m
-            rest m differ = at (nat_le m count) refl
+            rest : (m : ℕ) → m ≢ count + position → has_number x.journal origin (least origin) count m ≡ has_number y.journal origin (least origin) count m
+            rest m differ = ap (λ c. c && nat_lt (least origin) m) (at (nat_le m count) refl)
               where
                 at : (b : Bool) → nat_le m count ≡ b → (b || is_applied origin x.journal (m - count)) ≡ (b || is_applied origin y.journal (m - count))
                 at true is = refl
@@ -321,7 +322,7 @@ module _ (schema : Schema) (sound : IsSound schema) (decides : DecisionLaws) (fi
 
             more : IsReordered (txn ∷ before origin) (after origin)
             more = rw (elsewhere origin (not_own_too origin from_another), own_later, own_name, not_own origin from_another, sent_it.found)
-                (chosen-more (has_number x.journal origin count) (has_number y.journal origin count) (queue_of o) (count + position) txn at_number off on rest)
+                (chosen-more (has_number x.journal origin (least origin) count) (has_number y.journal origin (least origin) count) (queue_of o) (count + position) txn at_number off on rest)
 
       -- ---- its history
 
@@ -336,7 +337,7 @@ module _ (schema : Schema) (sound : IsSound schema) (decides : DecisionLaws) (fi
         pub alone : (more ≡ []) ⊎ ((other : SiteName) (u : SiteState) → site_of other sites ≡ Some u → u.here.is_master ≡ true → is_same_site name other ≡ false → ⊥)
         pub history : History (more ++ extra) others y
 
-      no_more : (extra : List Txn) → History extra sites x → tables_of y ≡ tables_of x → pieces_of schema y others ≡ pieces_of schema x sites → Later extra
+      no_more : (extra : List Txn) → History extra sites x → tables_of y ≡ tables_of x → pieces_of schema earlier y others ≡ pieces_of schema earlier x sites → Later extra
       no_more extra h tables pieces = record {
         more = [];
         alone = inl refl;
@@ -349,7 +350,7 @@ module _ (schema : Schema) (sound : IsSound schema) (decides : DecisionLaws) (fi
         };
       }
 
-      with_one_more : (extra more : List Txn) → History extra sites x → (t : Txn) → IsCome t → TxnIsTold (is_named schema) schema others t → IsReordered (t ∷ (extra ++ pieces_of schema x sites)) ((more ++ extra) ++ pieces_of schema y others)
+      with_one_more : (extra more : List Txn) → History extra sites x → (t : Txn) → IsCome t → TxnIsTold (is_named schema) schema others t → IsReordered (t ∷ (extra ++ pieces_of schema earlier x sites)) ((more ++ extra) ++ pieces_of schema earlier y others)
           → History (more ++ extra) others y
       with_one_more extra more h t come told same = record {
         history = t ∷ h.history;
@@ -363,11 +364,11 @@ module _ (schema : Schema) (sound : IsSound schema) (decides : DecisionLaws) (fi
       }
 
       -- one more among the pieces
-      one_piece : (extra : List Txn) → History extra sites x → (t : Txn) → IsCome t → TxnIsTold (is_named schema) schema others t → IsReordered (t ∷ pieces_of schema x sites) (pieces_of schema y others) → Later extra
+      one_piece : (extra : List Txn) → History extra sites x → (t : Txn) → IsCome t → TxnIsTold (is_named schema) schema others t → IsReordered (t ∷ pieces_of schema earlier x sites) (pieces_of schema earlier y others) → Later extra
       one_piece extra h t come told more = record {
         more = [];
         alone = inl refl;
-        history = with_one_more extra [] h t come told (Then (reordered_middle extra t (pieces_of schema x sites)) (reordered_behind extra more));
+        history = with_one_more extra [] h t come told (Then (reordered_middle extra t (pieces_of schema earlier x sites)) (reordered_behind extra more));
       }
 
       -- ---- each turn

@@ -4,6 +4,8 @@ pub mod SiteColumns
 pub mod OwnPairs
 pub mod Turns
 pub mod SitesAt
+pub mod Growing
+pub mod Between
 pub mod PairsMadeOnce
 pub mod OnwardValues
 pub mod Told
@@ -13,6 +15,8 @@ pub mod Applied
 pub mod SameRows
 pub mod MetSites
 pub mod Families
+pub mod Facts
+pub mod Since
 pub mod Histories
 pub mod QuietPieces
 pub mod QuietMasters

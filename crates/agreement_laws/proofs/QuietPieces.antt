@@ -1,6 +1,6 @@
--- What quiet says of a master: it has all of all queues.
+-- What quiet says of a master: it has settled all that other masters queued, and so has all that they queued since.
 use Rattle.std.proofs.Common.{◌≡◌, ◌≢◌, ℕ, zero, suc, ◌+◌, ◌-◌, ◌<◌, ◌≤◌, ◌==◌, List, [], ◌∷◌, ◌++◌, length, map, Bool, true, false, cond, Some, None, refl, sym, ap, ◌∙◌, subst, arith}
-use Rattle.std.specs.Prelude.{◌||◌, Option, not, nat_le, filter, sum, sum_by, count_by, flat_map, filter_map}
+use Rattle.std.specs.Prelude.{◌||◌, ◌&&◌, Option, not, nat_le, nat_lt, filter, sum, sum_by, count_by, flat_map, filter_map}
 use Rattle.std.specs.List.{AllByRecursion, list_all, range_with_len, cons_option}
 use mathlib.Core.Bool.{true≢false}
 use Rattle.std.proofs.lemmas.Bool.Decides.{nat_tests}
@@ -9,7 +9,6 @@ use Rattle.std.proofs.lemmas.Bool.{eqb-true}
 use Rattle.rep_lists.specs.Rising.{find_at}
 use Rattle.rep_values.specs.declared.name.SiteName.{SiteName}
 use Rattle.rep_schema.specs.declared.schema.Schema.{Schema}
-use Rattle.rep_schema.specs.Tables.{Rows}
 use Rattle.rep_calls.specs.declared.past.Past.{Past}
 use Rattle.rep_calls.specs.declared.call.Txn.{Txn}
 use Rattle.rep_laws.specs.Commuting.{IsSound}
@@ -34,12 +33,12 @@ use Rattle.event_laws.proofs.Sites.{found_name}
 use Rattle.event_laws.proofs.Meeting.{SiteMeets, MeetsAt}
 use Rattle.convergence_laws.proofs.Moves.{DecisionLaws}
 use Rattle.convergence_laws.proofs.ConvergentRows.{both_hold}
-use Rattle.agreement_laws.specs.Agreement.{NothingWasDropped}
-use Rattle.agreement_laws.proofs.Reordering.{chosen, chosen-all}
+use Rattle.agreement_laws.proofs.Reordering.{chosen, chosen-same, above}
 use Rattle.agreement_laws.proofs.MetSites.{masters_open}
-use Rattle.agreement_laws.proofs.Applied.{is_applied, error_finished, settled_applied}
-use Rattle.agreement_laws.proofs.Families.{masters_of, Are-masters, joined_by, joined_same, queue_in, count_for, has_number, piece_of, pieces_of}
-use Rattle.agreement_laws.proofs.Histories.{Facts, declared_master}
+use Rattle.agreement_laws.proofs.Applied.{is_applied, IsSettled, error_finished}
+use Rattle.agreement_laws.proofs.Families.{masters_of, Are-masters, joined_by, joined_same, queue_in, count_for, count_in, has_number, piece_of, pieces_of}
+use Rattle.agreement_laws.proofs.Facts.{Facts, declared_master}
+use Rattle.agreement_laws.proofs.Since.{AreTwo, IsSince, since_now}
 
 -- ---- sums that are 0
 
@@ -133,7 +132,7 @@ error_queued P journal origin position (s ∷ ss) a e all there at =
 
 -- ---- a quiet master
 
-module _ (schema : Schema) (sound : IsSound schema) (decides : DecisionLaws) (first : ℕ → Rows) (sites : List SiteState) (sent : List Packet) (facts : Facts schema sound decides first sites sent) (quiet : are_quiet sites ≡ true) (kept : NothingWasDropped schema sites)
+module _ (schema : Schema) (sound : IsSound schema) (decides : DecisionLaws) (sites : List SiteState) (sent : List Packet) (facts : Facts schema sound decides sites sent) (quiet : are_quiet sites ≡ true)
     (name : SiteName) (x : SiteState) (found : site_of name sites ≡ Some x) (of_schema : x.schema ≡ schema) (master : x.here.is_master ≡ true) where
   nothing_hinders : unquiet_at sites x ≡ 0
   nothing_hinders = eqb-true (unquiet_at sites x) 0 (quiet_at sites sites name x quiet found master)
@@ -168,54 +167,88 @@ module _ (schema : Schema) (sound : IsSound schema) (decides : DecisionLaws) (fi
               let own : e.origin ≡ origin = (error_found origin position x.journal e is).0 in
               true≢false (sym named ∙ sym (ap (is_master_site schema) own) ∙ sym (ap (λ (s : Schema). is_master_site s e.origin) of_schema) ∙ off)
 
-  has_all : (n : SiteName) (y : SiteState) → is_master_site schema n ≡ true → site_of n sites ≡ Some y → is_same_site n x.here.site ≡ false → (m : ℕ) → 1 ≤ m → m ≤ count_of y → has_number x.journal n (count_for x.here.site (Some y)) m ≡ true
-  has_all n y named there differ m one le = go (nat_le m (count_for x.here.site (Some y))) refl
+  -- all that another master queued is settled
+  pub all_settled : (origin : SiteName) (o : SiteState) (position : ℕ) → AreTwo schema sites name origin x o → 1 ≤ position → count_for name (Some o) + position ≤ count_of o → IsSettled origin position x.journal
+  all_settled origin o position two one le = record { done = done; none = none_stands origin position two.named }
     where
       own : x.here.site ≡ name
       own = found_name name sites x found
 
-      y_master : y.here.is_master ≡ true
-      y_master = declared_master schema sound decides first sites sent facts n y there ∙ named
+      o_master : o.here.is_master ≡ true
+      o_master = declared_master schema sound decides sites sent facts origin o two.there ∙ two.named
 
-      not_own : n ≢ name
-      not_own same = true≢false (sym (is_same_site-refl name) ∙ sym (ap (λ (k : SiteName). is_same_site k name) same) ∙ sym (ap (is_same_site n) own) ∙ differ)
+      open_to : (count : ℕ) × (opened_of name o ≡ Some count) × (count ≤ count_of o)
+      open_to = masters_open schema sound.shape sites sent facts.met name origin x o found two.there master o_master two.differ
 
-      open_to : (count : ℕ) × (opened_of name y ≡ Some count) × (count ≤ count_of y)
-      open_to = masters_open schema sound.shape sites sent facts.met name n x y found there master y_master not_own
+      long : length (stream_to x.here.site o) + open_to.0 ≡ count_of o
+      long = ap (λ (ts : List Txn). length ts + open_to.0) (ap (λ (s : SiteName). stream_to s o) own ∙ ap (λ c. stream_in c (queue_of o)) open_to.1) ∙ length-queued_behind open_to.0 (queue_of o) open_to.2
 
-      count : count_for x.here.site (Some y) ≡ open_to.0
-      count = ap (λ (s : SiteName). count_for s (Some y)) own ∙ ap count_opened open_to.1
+      within : position ≤ length (stream_to x.here.site o)
+      within = by (count_for name (Some o)) open_to.0 (length (stream_to x.here.site o)) (count_of o) (ap count_opened open_to.1) long le
+        where
+          by : (c d l n : ℕ) → c ≡ d → l + d ≡ n → c + position ≤ n → position ≤ l
+          by c d l n same long le = omega (arith, same, long, le)
 
-      long : length (stream_to x.here.site y) + open_to.0 ≡ count_of y
-      long = ap (λ (ts : List Txn). length ts + open_to.0) (ap (λ (s : SiteName). stream_to s y) own ∙ ap (λ o. stream_in o (queue_of y)) open_to.1) ∙ length-queued_behind open_to.0 (queue_of y) open_to.2
+      other : is_other_master x.here.site o ≡ true
+      other = go (is_same_site origin x.here.site) refl
+        where
+          go : (b : Bool) → is_same_site origin x.here.site ≡ b → is_other_master x.here.site o ≡ true
+          go true is = absurd (two.differ (is_same_site-true origin x.here.site is ∙ own))
+          go false is = rw (o_master, found_name origin sites o two.there, is) refl
 
-      other : is_other_master x.here.site y ≡ true
-      other = rw (y_master, found_name n sites y there, differ) refl
-
-      done : (p : ℕ) → 1 ≤ p → p ≤ length (stream_to x.here.site y) → finished n x.journal p ≡ true
-      done p one within =
-          let none = count_none (λ p. not (finished y.here.site x.journal p)) (range_with_len 1 (length (stream_to x.here.site y))) (last_none x.here.site x sites n y each_finished there other) in
-          let off : not (finished y.here.site x.journal p) ≡ false = in_range (λ p. not (finished y.here.site x.journal p) ≡ false) 1 (length (stream_to x.here.site y)) p none one (omega (arith, within)) in
-          ap (λ (o : SiteName). finished o x.journal p) (sym (found_name n sites y there)) ∙ on (finished y.here.site x.journal p) off
+      done : finished origin x.journal position ≡ true
+      done =
+          let none = count_none (λ p. not (finished o.here.site x.journal p)) (range_with_len 1 (length (stream_to x.here.site o))) (last_none x.here.site x sites origin o each_finished two.there other) in
+          let off : not (finished o.here.site x.journal position) ≡ false = in_range (λ p. not (finished o.here.site x.journal p) ≡ false) 1 (length (stream_to x.here.site o)) position none one (omega (arith, within)) in
+          ap (λ (n : SiteName). finished n x.journal position) (sym (found_name origin sites o two.there)) ∙ on (finished o.here.site x.journal position) off
         where
           on : (b : Bool) → not b ≡ false → b ≡ true
           on true e = refl
           on false e = cc
 
-      go : (b : Bool) → nat_le m (count_for x.here.site (Some y)) ≡ b → (b || is_applied n x.journal (m - count_for x.here.site (Some y))) ≡ true
-      go true is = refl
-      go false is =
-          let above : count_for x.here.site (Some y) < m = grind (arith, nat_tests) in
-          settled_applied schema n (m - count_for x.here.site (Some y)) x.journal named
-          (done (m - count_for x.here.site (Some y)) (omega (arith, above)) (omega (arith, long, count, le, above))) (none_stands n (m - count_for x.here.site (Some y)) named) (kept name x found master)
+  -- so a quiet master has all that was queued since the sites were as earlier
+  module _ (earlier : List SiteState) (since : IsSince schema earlier sites) where
+    abbrev least : SiteName → ℕ
+    least n = count_in (site_of n earlier)
 
-  -- so a quiet master has all of each queue
-  pub quiet_pieces : pieces_of schema x sites ≡ joined_by (λ (n : SiteName). queue_in (site_of n sites)) (masters_of schema)
-  quiet_pieces = joined_same (λ (n : SiteName). is_master_site schema n ≡ true) (λ (n : SiteName). piece_of x n (site_of n sites)) (λ (n : SiteName). queue_in (site_of n sites)) (masters_of schema) (Are-masters schema)
-      (λ n named. go n named (site_of n sites) refl (is_same_site n x.here.site) refl)
-    where
-      go : (n : SiteName) → is_master_site schema n ≡ true → (o : Option SiteState) → site_of n sites ≡ o → (b : Bool) → is_same_site n x.here.site ≡ b
-          → cond b (queue_in o) (chosen (has_number x.journal n (count_for x.here.site o)) (queue_in o)) ≡ queue_in o
-      go n named o there true is = refl
-      go n named None there false is = refl
-      go n named (Some y) there false is = chosen-all (has_number x.journal n (count_for x.here.site (Some y))) (queue_of y) (λ m one le. has_all n y named there is m one le)
+    has_all : (n : SiteName) (o : SiteState) → is_master_site schema n ≡ true → site_of n sites ≡ Some o → n ≢ name → (m : ℕ) → m ≤ count_of o
+        → has_number x.journal n (least n) (count_for name (Some o)) m ≡ nat_lt (least n) m
+    has_all n o named there differ m le = go (nat_lt (least n) m) refl
+      where
+        two : AreTwo schema sites name n x o
+        two = record { found = found; master = master; there = there; named = named; differ = differ }
+
+        none : (b : Bool) → (b && false) ≡ false
+        none true = refl
+        none false = refl
+
+        has : least n < m → (b : Bool) → nat_le m (count_for name (Some o)) ≡ b → (b || is_applied n x.journal (m - count_for name (Some o))) ≡ true
+        has since_then true is = refl
+        has since_then false is =
+            let over : count_for name (Some o) < m = grind (arith, nat_tests) in
+            let back : count_for name (Some o) + (m - count_for name (Some o)) ≡ m = omega (arith, over) in
+            since.applied name n x o (m - count_for name (Some o)) two (rw back since_then)
+            (all_settled n o (m - count_for name (Some o)) two (omega (arith, over)) (rw back le))
+
+        go : (b : Bool) → nat_lt (least n) m ≡ b → ((nat_le m (count_for name (Some o)) || is_applied n x.journal (m - count_for name (Some o))) && b) ≡ b
+        go true is = let since_then : least n < m = grind (arith, nat_tests) in rw (has since_then (nat_le m (count_for name (Some o))) refl) refl
+        go false is = none (nat_le m (count_for name (Some o)) || is_applied n x.journal (m - count_for name (Some o)))
+
+    pub quiet_pieces : pieces_of schema earlier x sites ≡ joined_by (λ (n : SiteName). above (least n) (queue_in (site_of n sites))) (masters_of schema)
+    quiet_pieces = joined_same (λ (n : SiteName). is_master_site schema n ≡ true) (λ (n : SiteName). piece_of (least n) x n (site_of n sites)) (λ (n : SiteName). above (least n) (queue_in (site_of n sites))) (masters_of schema) (Are-masters schema)
+        (λ n named. subst (λ (s : SiteName). cond (is_same_site n s) (above (least n) (queue_in (site_of n sites))) (chosen (has_number x.journal n (least n) (count_for s (site_of n sites))) (queue_in (site_of n sites))) ≡ above (least n) (queue_in (site_of n sites)))
+        (sym (found_name name sites x found)) (go n named (site_of n sites) refl (is_same_site n name) refl))
+      where
+        go : (n : SiteName) → is_master_site schema n ≡ true → (o : Option SiteState) → site_of n sites ≡ o → (b : Bool) → is_same_site n name ≡ b
+            → cond b (above (least n) (queue_in o)) (chosen (has_number x.journal n (least n) (count_for name o)) (queue_in o)) ≡ above (least n) (queue_in o)
+        go n named o there true is = refl
+        go n named None there false is = refl
+        go n named (Some o) there false is =
+            let differ : n ≢ name = λ e. true≢false (sym (is_same_site-refl name) ∙ sym (ap (λ (k : SiteName). is_same_site k name) e) ∙ is) in
+            chosen-same (has_number x.journal n (least n) (count_for name (Some o))) (nat_lt (least n)) (queue_of o) (λ m one le. has_all n o named there differ m le)
+
+-- the sites as they are where the masters are quiet
+pub quiet_since : (schema : Schema) (sound : IsSound schema) (decides : DecisionLaws) (sites : List SiteState) (sent : List Packet) → Facts schema sound decides sites sent → are_quiet sites ≡ true
+    → ((name : SiteName) (x : SiteState) → site_of name sites ≡ Some x → x.schema ≡ schema) → IsSince schema sites sites
+quiet_since schema sound decides sites sent facts quiet of_schema = since_now schema sound decides sites sent facts
+    (λ name origin x o position two one le. all_settled schema sound decides sites sent facts quiet name x two.found (of_schema name x two.found) two.master origin o position two one le)

@@ -1,6 +1,7 @@
 -- Collections without order, and what is chosen from a queue by its numbers.
 use Rattle.std.proofs.Common.{◌≡◌, ◌≢◌, ℕ, ◌+◌, ◌≤◌, List, [], ◌∷◌, ◌++◌, length, Bool, true, false, cond, Some, refl, sym, subst, inl, inr, arith, append_assoc, append-nil}
-use Rattle.std.proofs.lemmas.Bool.Decides.{eqb_tells}
+use Rattle.std.specs.Prelude.{nat_lt}
+use Rattle.std.proofs.lemmas.Bool.Decides.{eqb_tells, nat_tests}
 use Rattle.rep_calls.specs.declared.call.Txn.{Txn}
 use Rattle.deferred_queue.specs.Streams.{at_position}
 use Rattle.convergence_laws.specs.Collections.{IsReordered, Skip, Swap, Then}
@@ -46,10 +47,17 @@ module _ {X : Type 0} where
   chosen-same f g [] same = refl
   chosen-same f g (x ∷ xs) same = rw (same (length xs + 1) (omega arith) (omega arith), chosen-same f g xs (λ n one le. same n one (omega (arith, le)))) refl
 
-  -- all of them
-  pub chosen-all : (f : ℕ → Bool) (xs : List X) → ((n : ℕ) → 1 ≤ n → n ≤ length xs → f n ≡ true) → chosen f xs ≡ xs
-  chosen-all f [] all = refl
-  chosen-all f (x ∷ xs) all = rw (all (length xs + 1) (omega arith) (omega arith), chosen-all f xs (λ n one le. all n one (omega (arith, le)))) refl
+  -- none of them
+  pub chosen-none : (f : ℕ → Bool) (xs : List X) → ((n : ℕ) → 1 ≤ n → n ≤ length xs → f n ≡ false) → chosen f xs ≡ []
+  chosen-none f [] none = refl
+  chosen-none f (x ∷ xs) none = rw (none (length xs + 1) (omega arith) (omega arith)) (chosen-none f xs (λ n one le. none n one (omega (arith, le))))
+
+  -- those whose numbers are above one
+  abbrev pub above : ℕ → List X → List X
+  above least xs = chosen (nat_lt least) xs
+
+  pub above-more : (least : ℕ) (x : X) (xs : List X) → least ≤ length xs → above least (x ∷ xs) ≡ x ∷ above least xs
+  above-more least x xs le = let on : nat_lt least (length xs + 1) ≡ true = grind (arith, nat_tests, le) in rw on refl
 
   -- one more is chosen
   pub chosen-more : (f g : ℕ → Bool) (xs : List X) (n : ℕ) (x : X) → at_position n xs ≡ Some x → f n ≡ false → g n ≡ true → ((m : ℕ) → m ≢ n → f m ≡ g m) → IsReordered (x ∷ chosen f xs) (chosen g xs)

@@ -29,7 +29,7 @@ use Rattle.site_state.specs.State.{is_among}
 use Rattle.convergence_laws.proofs.Moves.{numbers_first, int_tie}
 use Rattle.convergence_laws.proofs.ConvergentRows.{both_hold}
 use Rattle.agreement_laws.specs.Pairs.{listed}
-use Rattle.agreement_laws.proofs.Histories.{is_named}
+use Rattle.agreement_laws.proofs.Facts.{is_named}
 
 -- ---- names
 

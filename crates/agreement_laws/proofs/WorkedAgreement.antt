@@ -1,8 +1,11 @@
--- A worked table with latest values: what calls make of a group, the pairs in it, and masters that begin alike.
-use Rattle.std.specs.Prelude.{◌≡◌, refl, ℕ, zero, suc, ℤ, codes, pos, true, false, List, [], ◌∷◌, Some, None}
+-- A worked table with latest values: what calls make of a group, the pairs in it, and masters that begin alike or unlike.
+use Rattle.std.specs.Prelude.{◌≡◌, refl, ℕ, ℤ, codes, pos, true, false, List, [], ◌∷◌, ◌++◌, Option, Some, None}
 use Rattle.std.specs.List.{list_any}
-use Rattle.std.proofs.Common.{sym, ◌∙◌, subst}
+use Rattle.std.specs.Option.{option_map}
+use Rattle.std.proofs.Common.{sym, ◌∙◌, ap}
+use mathlib.Core.Bool.{true≢false}
 use Rattle.rep_values.specs.declared.name.SiteName.{SiteName}
+use Rattle.rep_values.specs.declared.literal.Literal.TheVariants as literal
 use Rattle.rep_values.specs.declared.value.Value.TheVariants.{Words}
 use Rattle.rep_schema.specs.declared.schema.Schema.{Schema}
 use Rattle.rep_schema.specs.declared.schema.SiteEntry.{SiteEntry}
@@ -10,27 +13,30 @@ use Rattle.rep_schema.specs.declared.schema.Kind.{Kind}
 use Rattle.rep_schema.specs.declared.schema.Kind.TheVariants as kind
 use Rattle.rep_schema.specs.declared.schema.Column.{Column}
 use Rattle.rep_schema.specs.declared.schema.Method.TheVariants as method
-use Rattle.rep_schema.specs.Sites.{first_master}
-use Rattle.rep_schema.specs.Tables.{Cells, Rows, columns_of, find_row, rows_of}
+use Rattle.rep_schema.specs.Tables.{Cells, Rows, rows_of}
 use Rattle.rep_schema.specs.Groups.{group_columns_of}
-use Rattle.rep_schema.proofs.FoundRows.{found_row}
 use Rattle.schema_rules.specs.declared.forms.Form.TheVariants as form
 use Rattle.rep_calls.specs.declared.call.Part.{Part}
 use Rattle.rep_calls.specs.declared.call.Call.{Call}
 use Rattle.rep_calls.specs.declared.call.Call.TheVariants.{Insert, Update}
-use Rattle.local_txn.specs.Convergent.{is_convergent}
+use Rattle.rep_calls.specs.declared.statement.Statement.TheVariants as statement
+use Rattle.rep_calls.specs.declared.statement.How.TheVariants.{To}
+use Rattle.site_state.specs.declared.entry.Entry.{Entry}
 use Rattle.site_state.specs.declared.entry.Entry.TheVariants as entry
 use Rattle.site_state.specs.State.{SiteState}
+use Rattle.site_state.specs.Contents.{tables_of}
 use Rattle.site_state.specs.Steps.{count_where}
 use Rattle.site_state.specs.Making.{master_here, new_site}
 use Rattle.site_state.proofs.WorkedSites.{a, b, n, of_calls}
 use Rattle.event_laws.specs.Core.{Core, site_of}
+use Rattle.event_laws.specs.Events.{Event, Commit, Send, Deliver, Begin, Apply, run}
+use Rattle.event_laws.specs.Marks.{journal_in}
 use Rattle.event_laws.specs.Quiet.{are_quiet}
 use Rattle.event_laws.proofs.Sites.{found_all}
 use Rattle.convergence_laws.specs.GroupForms.{form_at}
-use Rattle.agreement_laws.specs.Beginning.{IsFirstFilled, BeginAlike}
+use Rattle.agreement_laws.specs.Beginning.{BeginAlike}
 use Rattle.agreement_laws.specs.Pairs.{made_in, own_calls, pair_in, has_pair}
-use Rattle.agreement_laws.specs.Agreement.{drops_of_master, NothingWasDropped}
+use Rattle.agreement_laws.specs.Agreement.{drops_of_master, NothingWasDropped, NothingWasDroppedSince}
 
 -- ---- a table of HOME, and a text with its stamp and site
 
@@ -105,24 +111,11 @@ base = ((Words a.0 ∷ values (codes "x") 0 a) ∷ []) ∷ []
 abbrev start : Core
 start = record { sites = new_site schema (master_here schema a) [] [] base ∷ new_site schema (master_here schema b) [] [] base ∷ []; sent = []; begun = [] }
 
-base_row_is_filled : (first : SiteEntry) → first_master schema ≡ Some first → IsFirstFilled schema first 0 (Words a.0 ∷ values (codes "x") 0 a)
-base_row_is_filled first is zero stamp site has = let same : first.name ≡ a = cc in (cc, rw same cc)
-base_row_is_filled first is (suc group) stamp site has = cc
-
 begins_alike : BeginAlike schema start
-begins_alike = record {
-  alike = λ one other x y table found there master other_master convergent. base_of one x table found ∙ sym (base_of other y table there);
-  filled = λ site x first table key row found master is convergent at. go site x first table key row found is convergent at;
-}
+begins_alike one other x y table found there master other_master convergent = base_of one x table found ∙ sym (base_of other y table there)
   where
     base_of : (name : SiteName) (x : SiteState) (table : ℕ) → site_of name start.sites ≡ Some x → rows_of x.base table ≡ rows_of base table
     base_of name x table found = found_all (λ (y : SiteState). rows_of y.base table ≡ rows_of base table) name start.sites x (refl, (refl, tt)) found
-
-    go : (site : SiteName) (x : SiteState) (first : SiteEntry) (table : ℕ) (key row : Cells) → site_of site start.sites ≡ Some x → first_master schema ≡ Some first → is_convergent schema table ≡ true
-        → find_row (columns_of schema table) key (rows_of x.base table) ≡ Some row → IsFirstFilled schema first table row
-    go site x first zero key row found is convergent at =
-        found_row (columns_of schema 0) key row (rows_of base 0) (subst (λ rows. find_row (columns_of schema 0) key rows ≡ Some row) (base_of site x 0 found) at) (IsFirstFilled schema first 0) (base_row_is_filled first is, tt)
-    go site x first (suc table) key row found is convergent at = cc
 
 -- nothing has happened there: the masters are quiet, and nothing was dropped
 are_quiet_at_first : are_quiet start.sites ≡ true
@@ -134,3 +127,60 @@ nothing_dropped_at_first site x found master = found_all (λ (y : SiteState). li
 -- the drop of an error of a master counts
 drop_counts : drops_of_master schema (entry.Dropped b 1) ≡ true
 drop_counts = refl
+
+-- ---- what was dropped earlier, and since
+
+abbrev dropped : SiteState
+dropped = record (new_site schema (master_here schema a) [] [] base) { journal = entry.Dropped b 1 ∷ [] }
+
+-- the drop counts since the start
+drop_counts_since : NothingWasDroppedSince schema start.sites (dropped ∷ []) → ⊥
+drop_counts_since kept = true≢false (kept a dropped (entry.Dropped b 1 ∷ []) refl refl refl)
+
+-- and no more since it is there
+drop_is_over : NothingWasDroppedSince schema (dropped ∷ []) (dropped ∷ [])
+drop_is_over site x newer found master grown = go newer (sym (found_all (λ (y : SiteState). y.journal ≡ entry.Dropped b 1 ∷ []) site (dropped ∷ []) x (refl, tt) found) ∙ grown ∙ ap (λ o. newer ++ journal_in o) found ∙ ap (λ es. newer ++ es) (found_all (λ (y : SiteState). y.journal ≡ entry.Dropped b 1 ∷ []) site (dropped ∷ []) x (refl, tt) found))
+  where
+    go : (newer : List Entry) → entry.Dropped b 1 ∷ [] ≡ newer ++ entry.Dropped b 1 ∷ [] → list_any (drops_of_master schema) newer ≡ false
+    go [] is = refl
+    go (e ∷ []) is = cc
+    go (e ∷ f ∷ es) is = cc
+
+-- ---- masters that begin unlike
+
+abbrev unlike : Core
+unlike = record {
+  sites = new_site schema (master_here schema a) [] [] base ∷ new_site schema (master_here schema b) [] [] (((Words a.0 ∷ values (codes "y") 0 a) ∷ []) ∷ []) ∷ [];
+  sent = [];
+  begun = [];
+}
+
+-- the rows at a site
+abbrev rows_at : SiteName → Core → Option Rows
+rows_at site w = option_map (λ (x : SiteState). rows_of (tables_of x) 0) (site_of site w.sites)
+
+first_at_a : rows_at a unlike ≡ Some ((Words a.0 ∷ values (codes "x") 0 a) ∷ [])
+first_at_a = refl
+
+first_at_b : rows_at b unlike ≡ Some ((Words a.0 ∷ values (codes "y") 0 a) ∷ [])
+first_at_b = refl
+
+-- one change, with a later stamp than both have, comes to both; the latest event stands first
+abbrev change : Event
+change = Commit a (statement.Update (record { 0 = codes "T" }) (literal.Words a.0 ∷ []) (record { column = codes "W"; how = To (literal.Words (codes "z")) } ∷ []) ∷ [])
+
+abbrev after_a_change : Core
+after_a_change = run (Apply b a 1 ∷ Begin b ∷ Deliver 0 ∷ Send a b 1 ∷ change ∷ []) unlike
+
+-- so that they are quiet and agree, as they never did
+quiet_after : are_quiet after_a_change.sites ≡ true
+unfolding group_columns_of
+quiet_after = refl
+
+agree_after_at_a : rows_at a after_a_change ≡ Some ((Words a.0 ∷ values (codes "z") 1 a) ∷ [])
+unfolding group_columns_of
+agree_after_at_a = refl
+
+agree_after_at_b : rows_at b after_a_change ≡ Some ((Words a.0 ∷ values (codes "z") 1 a) ∷ [])
+unfolding group_columns_of
+agree_after_at_b = refl

@@ -1,5 +1,5 @@
 -- Which masters agree: those that are quiet.
-use Rattle.std.specs.Prelude.{◌≡◌, ℕ, Bool, true, false, List, Some}
+use Rattle.std.specs.Prelude.{◌≡◌, ℕ, Bool, true, false, List, ◌++◌, Some}
 use Rattle.std.specs.List.{list_any}
 use Rattle.rep_values.specs.declared.name.SiteName.{SiteName}
 use Rattle.rep_schema.specs.declared.schema.Schema.{Schema}
@@ -12,6 +12,7 @@ use Rattle.site_state.specs.Contents.{tables_of}
 use Rattle.event_laws.specs.Core.{Core, site_of}
 use Rattle.event_laws.specs.Events.{Event, run}
 use Rattle.event_laws.specs.Fitting.{IsFitStart}
+use Rattle.event_laws.specs.Marks.{journal_in}
 use Rattle.event_laws.specs.Quiet.{are_quiet}
 use Rattle.event_laws.specs.Waiting.{AreMeshed}
 use Rattle.agreement_laws.specs.Beginning.{BeginAlike}
@@ -29,6 +30,11 @@ drops_of_master schema (Refreshed moment) = false
 abbrev pub NothingWasDropped : Schema → List SiteState → Type 0
 NothingWasDropped schema sites = (site : SiteName) (x : SiteState) → site_of site sites ≡ Some x → x.here.is_master ≡ true → list_any (drops_of_master schema) x.journal ≡ false
 
+-- none was dropped since the sites were as earlier
+abbrev pub NothingWasDroppedSince : Schema → List SiteState → List SiteState → Type 0
+NothingWasDroppedSince schema earlier sites = (site : SiteName) (x : SiteState) (newer : List Entry) → site_of site sites ≡ Some x → x.here.is_master ≡ true
+    → x.journal ≡ newer ++ journal_in (site_of site earlier) → list_any (drops_of_master schema) newer ≡ false
+
 -- all masters have the same rows of every convergent table
 abbrev pub MastersAgree : Schema → List SiteState → Type 0
 MastersAgree schema sites = (one other : SiteName) (x y : SiteState) (table : ℕ) → site_of one sites ≡ Some x → site_of other sites ≡ Some y
@@ -40,3 +46,11 @@ abbrev pub QuietMastersAgree : Type 0
 QuietMastersAgree = (schema : Schema) (start : Core) (events : List Event) → IsFitStart schema start → AreMeshed schema start.sites
     → BeginAlike schema start → are_quiet (run events start).sites ≡ true → NothingWasDropped schema (run events start).sites
     → MastersAgree schema (run events start).sites
+
+-- whatever had happened, where all masters were quiet and agreed, they agree again where they are quiet and nothing was
+-- dropped since
+abbrev pub QuietMastersAgreeAgain : Type 0
+QuietMastersAgreeAgain = (schema : Schema) (start : Core) (events more : List Event) → IsFitStart schema start → AreMeshed schema start.sites
+    → are_quiet (run events start).sites ≡ true → MastersAgree schema (run events start).sites
+    → are_quiet (run more (run events start)).sites ≡ true → NothingWasDroppedSince schema (run events start).sites (run more (run events start)).sites
+    → MastersAgree schema (run more (run events start)).sites

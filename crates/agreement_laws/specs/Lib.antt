@@ -2,3 +2,4 @@
 pub mod Beginning
 pub mod Pairs
 pub mod Agreement
+pub mod Between

@@ -1,7 +1,9 @@
 //! Laws of agreement. A function calls the laws that its own stands on, and does nothing else.
-ghost use Rattle.agreement_laws.specs.Agreement.{QuietMastersAgree};
+ghost use Rattle.agreement_laws.specs.Agreement.{QuietMastersAgree, QuietMastersAgreeAgain};
+ghost use Rattle.agreement_laws.specs.Between.{GroupsAreJoinedBetween};
 ghost use Rattle.agreement_laws.specs.Pairs.{PairsAreMadeOnce, PairsTellValues};
 
+use convergence_laws::groups_are_joined_since;
 use local_txn::stamps_of_a_block_rise;
 use resolve_methods::{greater_rank_stays, greatest_stays, least_stays, move_is_added};
 
@@ -32,4 +34,23 @@ pub fn quiet_masters_agree()
     least_stays();
     greater_rank_stays();
     stamps_of_a_block_rise();
+}
+
+/// And so it goes on from one quiet moment to the next: where they agreed once, whatever had been dropped or was unlike before,
+/// they agree again.
+pub fn quiet_masters_agree_again()
+    ensures { QuietMastersAgreeAgain }
+{
+    move_is_added();
+    greatest_stays();
+    least_stays();
+    greater_rank_stays();
+    stamps_of_a_block_rise();
+}
+
+/// From any moment to any later one a master's rows become joins of what they were and of what was applied since.
+pub fn groups_are_joined_between()
+    ensures { GroupsAreJoinedBetween }
+{
+    groups_are_joined_since();
 }

@@ -3,4 +3,7 @@
 
 mod laws;
 
-pub use laws::{pairs_are_made_once, pairs_tell_values, quiet_masters_agree};
+pub use laws::{
+    groups_are_joined_between, pairs_are_made_once, pairs_tell_values, quiet_masters_agree,
+    quiet_masters_agree_again,
+};

@@ -12,6 +12,7 @@ pub mod OnwardKeepsForms
 pub mod OnwardComes
 pub mod SitesKeepForms
 pub mod EventsKeepForms
+pub mod OnwardEffects
 pub mod OwnChanges
 pub mod OwnBlocks
 pub mod AnyOrder

@@ -6,3 +6,4 @@ pub mod Journals
 pub mod Laws
 pub mod Agreement
 pub mod Faults
+pub mod Onward

@@ -3,6 +3,7 @@ ghost use Rattle.convergence_laws.specs.Agreement.{SameCallsGiveSameRows};
 ghost use Rattle.convergence_laws.specs.Collections.{JoinsAreOne};
 ghost use Rattle.convergence_laws.specs.Faults.{ConvergentCallsFailSo};
 ghost use Rattle.convergence_laws.specs.Laws.{BlocksKeepForms, GroupsAreJoined, GroupsAreJoinedSince, JournalsJoin, RowChangesKeepForms};
+ghost use Rattle.convergence_laws.specs.Onward.{OnwardHasItsEffect};
 
 use local_txn::stamps_of_a_block_rise;
 use resolve_methods::{greater_rank_stays, greatest_stays, least_stays, move_is_added};
@@ -49,6 +50,18 @@ pub fn groups_are_joined()
 /// And so it is from any moment on: the values of that moment are the first ones, with the parts that were applied since.
 pub fn groups_are_joined_since()
     ensures { GroupsAreJoinedSince }
+{
+    move_is_added();
+    greatest_stays();
+    least_stays();
+    greater_rank_stays();
+    stamps_of_a_block_rise();
+}
+
+/// What a master sends on of a transaction of a snapshot site makes, on the tables on which that was applied, the same changes;
+/// so it does from whatever site, and moves no counter.
+pub fn onward_has_its_effect()
+    ensures { OnwardHasItsEffect }
 {
     move_is_added();
     greatest_stays();

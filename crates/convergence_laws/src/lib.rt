@@ -5,5 +5,6 @@ mod laws;
 
 pub use laws::{
     blocks_keep_forms, convergent_calls_fail_so, groups_are_joined, groups_are_joined_in_journals,
-    groups_are_joined_since, joins_are_one, row_changes_keep_forms, same_calls_give_same_rows,
+    groups_are_joined_since, joins_are_one, onward_has_its_effect, row_changes_keep_forms,
+    same_calls_give_same_rows,
 };

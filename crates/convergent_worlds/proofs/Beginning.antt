@@ -7,14 +7,14 @@ use Rattle.rep_schema.specs.Tables.{Cells, Rows, columns_of, find_row, rows_of}
 use Rattle.local_txn.specs.Convergent.{is_convergent}
 use Rattle.site_state.specs.State.{SiteState}
 use Rattle.event_laws.specs.Core.{site_of}
-use Rattle.agreement_laws.specs.Beginning.{IsFirstFilled, BeginAlike}
+use Rattle.agreement_laws.specs.Beginning.{BeginAlike}
 use Rattle.excuse_laws.specs.Excuses as excuses
 use Rattle.world_state.specs.World.{WorldState}
 use Rattle.world_state.specs.Making.{rows_made, world_made}
 use Rattle.snapshot_worlds.specs.WellDeclared.{DeclaresWell}
 use Rattle.snapshot_worlds.specs.Starts.{start_of}
 use Rattle.convergent_worlds.specs.Reached.{MadeWorldsBeginAlike}
-use Rattle.convergent_worlds.proofs.FilledRows.{first_filled}
+use Rattle.convergent_worlds.proofs.FilledRows.{IsFirstFilled, first_filled}
 use Rattle.convergent_worlds.proofs.MadeMasters.{BeginsWith, begins_with}
 
 module _ (w : WorldState) (well : DeclaresWell w) where
@@ -34,10 +34,7 @@ module _ (w : WorldState) (well : DeclaresWell w) where
       (ap (λ (tables : List Rows). find_row (columns_of w.schema table) key (rows_of tables table)) (sym (begins site x found master).base) ∙ at)
 
   alike : BeginAlike w.schema (start_of (world_made w))
-  alike = record {
-    alike = λ one other x y table found there master other_master convergent. ap (λ (tables : List Rows). rows_of tables table) (same_rows one other x y found there master other_master);
-    filled = filled;
-  }
+  alike one other x y table found there master other_master convergent = ap (λ (tables : List Rows). rows_of tables table) (same_rows one other x y found there master other_master)
 
   keys : excuses.BeginAlike w.schema (world_made w).sites
   keys = record {

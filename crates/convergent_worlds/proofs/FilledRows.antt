@@ -1,9 +1,10 @@
 -- The rows that masters begin with have stamp 0 and the first master's name in their filled columns.
 use Rattle.std.proofs.Common.{◌≡◌, ℕ, zero, suc, ◌+◌, ◌<◌, true, List, [], ◌∷◌, length, map, Some, None, refl, sym, ap, ◌∙◌, subst}
-use Rattle.std.specs.Prelude.{Option, slice_get}
+use Rattle.std.specs.Prelude.{Option, slice_get, pos}
 use Rattle.std.specs.Option.{option_map}
 use Rattle.std.specs.List.{AllByRecursion}
 use Rattle.std.proofs.lemmas.Option.{slice_get_within}
+use Rattle.rep_values.specs.declared.value.Value.TheVariants.{Num, Words}
 use Rattle.rep_schema.specs.declared.schema.Schema.{Schema}
 use Rattle.rep_schema.specs.declared.schema.TableEntry.{TableEntry}
 use Rattle.rep_schema.specs.declared.schema.SiteEntry.{SiteEntry}
@@ -18,10 +19,15 @@ use Rattle.local_txn.specs.Filled.{Filling, filling_value, value_filled, filled_
 use Rattle.local_txn.specs.BaseRows.{filled_tables}
 use Rattle.local_txn.specs.Convergent.{convergent_in, is_convergent}
 use Rattle.local_txn.specs.Laws.{IsFilledAt}
+use Rattle.convergence_laws.specs.GroupForms.{form_at}
 use Rattle.convergence_laws.proofs.FormShapes.{IsOfKind-form_at}
-use Rattle.agreement_laws.specs.Beginning.{IsFirstFilled}
 use Rattle.agreement_laws.proofs.SiteColumns.{own_is_filled}
 use Rattle.world_state.specs.Making.{filled_by, rows_made}
+
+-- a row has stamp 0 and the first master's name wherever a site fills in a stamp and its name
+abbrev pub IsFirstFilled : Schema → SiteEntry → ℕ → Cells → Type 0
+IsFirstFilled schema first table row = (group stamp site : ℕ) → form_at schema table group ≡ Some (form.Latest stamp site)
+    → (slice_get row stamp ≡ Some (Num (pos 0))) × (slice_get row site ≡ Some (Words first.name.0))
 
 -- ---- a row, and rows
 

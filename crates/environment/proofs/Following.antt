@@ -16,8 +16,8 @@ use Rattle.world_laws.specs.Reached.{IsOfScript, InSetup, Behind}
 use Rattle.world_laws.proofs.SiteSteps.{run-append, SiteRuns}
 use Rattle.world_laws.proofs.Pieces.{none_lead, site_leads}
 use Rattle.site_making.specs.Entries.{IsThere}
-use Rattle.snapshot_worlds.specs.Reached.{IsOfSnapshots, Declares, Goes}
-use Rattle.snapshot_worlds.proofs.Scripts.{goes_on}
+use Rattle.convergent_worlds.specs.Reached.{IsOfConvergence, Declaring, Going}
+use Rattle.convergent_worlds.proofs.Scripts.{goes_on_alike}
 use Rattle.environment.specs.Following.{Follows, IsBuilt}
 
 -- nothing happens
@@ -71,15 +71,15 @@ of_script_follows w y behind (Behind r) follows = Behind (record {
   leads = leads_then w y r.start r.leads (follows.leads (run r.leads.events r.start) r.leads.simulates);
 })
 
-of_snapshots_follows : (w y : WorldState) → is_setup w.phase ≡ false → IsOfSnapshots w → Follows w y → IsOfSnapshots y
-of_snapshots_follows w y behind (Declares so_far) follows = absurd (cc (behind, so_far.setup.setup))
-of_snapshots_follows w y behind (Goes g) follows = Goes (goes_on w y follows.schema follows.leads g)
+of_convergence_follows : (w y : WorldState) → is_setup w.phase ≡ false → IsOfConvergence w → Follows w y → IsOfConvergence y
+of_convergence_follows w y behind (Declaring so_far) follows = absurd (cc (behind, so_far.setup.setup))
+of_convergence_follows w y behind (Going a) follows = Going (goes_on_alike w y follows.schema follows.leads a)
 
 -- behind Setup, what follows a world of the forms that are built is such a world
 pub built_follows : (w y : WorldState) → is_setup w.phase ≡ false → IsBuilt w → Follows w y → IsBuilt y
 built_follows w y behind built follows = record {
   of_script = of_script_follows w y behind built.of_script follows;
-  of_snapshots = of_snapshots_follows w y behind built.of_snapshots follows;
+  of_convergence = of_convergence_follows w y behind built.of_convergence follows;
   shape = subst HasShape (sym follows.schema) built.shape;
   early = subst (λ (s : Schema). AllByRecursion IsThere s.sites) (sym follows.schema) built.early;
   linked = λ later site origin gets.

@@ -1,5 +1,5 @@
 -- What holds of a world of a script of the forms that are built holds behind each of its lines.
-use Rattle.std.proofs.Common.{◌≡◌, ℕ, ℤ, List, [], ◌∷◌, ◌++◌, Bool, true, false, cond, Some, None, refl, sym, ap, ◌∙◌, subst, inl, inr}
+use Rattle.std.proofs.Common.{◌≡◌, ℕ, ℤ, List, [], ◌∷◌, Bool, true, false, cond, Some, None, refl, sym, ap, ◌∙◌, subst, inl, inr}
 use Rattle.std.specs.Prelude.{◌||◌, not, Option, Ok, Err, is_some}
 use Rattle.std.specs.List.{AllByRecursion}
 use Rattle.rep_lists.proofs.Each.{each_push}
@@ -44,8 +44,8 @@ use Rattle.world_laws.proofs.Scripts.{HasShape-no_schema, step_of_script, first_
 use Rattle.world_laws.proofs.RefusedLines.{refused_leaves}
 use Rattle.site_making.proofs.SenderDirections.{direction_to_sender, direction_from_sender}
 use Rattle.site_making.specs.Entries.{IsThere}
-use Rattle.snapshot_worlds.specs.Reached.{IsOfSnapshots}
-use Rattle.snapshot_worlds.proofs.Scripts.{step_of_snapshots, first_of_snapshots}
+use Rattle.convergent_worlds.specs.Reached.{IsOfConvergence}
+use Rattle.convergent_worlds.proofs.Scripts.{step_of_convergence, first_of_convergence}
 use Rattle.environment.specs.Following.{IsBuilt}
 use Rattle.environment.specs.Doing.{IsShort, is_push}
 use Rattle.environment.specs.Known.{is_tried}
@@ -158,9 +158,9 @@ keeps_done number (command.Show what site) w plain = same w
 step_is : (number : ℕ) (c : Command) (w : WorldState) (r : Option Refusal) → NamesColumn c → IsBuilt w → world_refusal c w ≡ r → IsOfScript (step_by r number c w)
 step_is number c w r named built met = subst (λ (o : Option Refusal). IsOfScript (step_by o number c w)) met (step_of_script number c w named built.of_script)
 
--- and its snapshots are such a world's
-step_has : (number : ℕ) (c : Command) (w : WorldState) (r : Option Refusal) → NamesColumn c → IsBuilt w → world_refusal c w ≡ r → IsOfSnapshots (step_by r number c w)
-step_has number c w r named built met = subst (λ (o : Option Refusal). IsOfSnapshots (step_by o number c w)) met (step_of_snapshots number c w named built.of_snapshots)
+-- and the laws of snapshots and of convergence hold of it
+step_has : (number : ℕ) (c : Command) (w : WorldState) (r : Option Refusal) → NamesColumn c → IsBuilt w → world_refusal c w ≡ r → IsOfConvergence (step_by r number c w)
+step_has number c w r named built met = subst (λ (o : Option Refusal). IsOfConvergence (step_by o number c w)) met (step_of_convergence number c w named built.of_convergence)
 
 linked_behind : (w y : WorldState) → IsBuilt w → Keeps w y → is_setup y.phase ≡ false → (site origin : SiteName) → gets_from y site origin ≡ true
     → HasDirection y.net site origin × HasDirection y.net origin site
@@ -168,10 +168,10 @@ linked_behind w y built kept behind site origin gets =
     let had = built.linked (sym kept.setup ∙ behind) site origin (subst (λ (s : Schema). is_among (senders_of s site) origin ≡ true) kept.schema gets) in
     (stays w.net y.net kept.net site origin had.0, stays w.net y.net kept.net origin site had.1)
 
-built_kept : (w y : WorldState) → IsBuilt w → IsOfScript y → IsOfSnapshots y → Keeps w y → IsBuilt y
+built_kept : (w y : WorldState) → IsBuilt w → IsOfScript y → IsOfConvergence y → Keeps w y → IsBuilt y
 built_kept w y built is has kept = record {
   of_script = is;
-  of_snapshots = has;
+  of_convergence = has;
   shape = subst HasShape (sym kept.schema) built.shape;
   early = subst (λ (s : Schema). AllByRecursion IsThere s.sites) (sym kept.schema) built.early;
   linked = linked_behind w y built kept;
@@ -214,7 +214,7 @@ built_declared number d w form named passes built =
     let setup : is_setup w.phase ≡ true = in_setup w.phase (has_block w) (or_then-None (setup_step w) _ steps.0).0 in
     record {
       of_script = step_is number (command.Declare d) w None named built passes;
-      of_snapshots = step_has number (command.Declare d) w None named built passes;
+      of_convergence = step_has number (command.Declare d) w None named built passes;
       shape = HasShape-declared d w.schema built.shape named (or_then-None (refusal_of w.schema d) None steps.1).0;
       early = early_declared d w.schema form built.early;
       linked = λ behind. absurd (cc (setup, behind));
@@ -222,10 +222,10 @@ built_declared number d w form named passes built =
 
 -- ---- Setup's end
 
-built_made : (w : WorldState) → IsOfScript (world_made w) → IsOfSnapshots (world_made w) → IsBuilt w → IsBuilt (world_made w)
+built_made : (w : WorldState) → IsOfScript (world_made w) → IsOfConvergence (world_made w) → IsBuilt w → IsBuilt (world_made w)
 built_made w is has built = record {
   of_script = is;
-  of_snapshots = has;
+  of_convergence = has;
   shape = built.shape;
   early = built.early;
   linked = λ behind site origin gets. (direction_to_sender w.schema site origin gets, direction_from_sender w.schema site origin gets);
@@ -237,11 +237,11 @@ built_resumed number w passes built = go w.phase refl
     is : IsOfScript (resumed w.phase w)
     is = step_is number command.Resume w None tt built passes
 
-    has : IsOfSnapshots (resumed w.phase w)
+    has : IsOfConvergence (resumed w.phase w)
     has = step_has number command.Resume w None tt built passes
 
     go : (now : Phase) → w.phase ≡ now → IsBuilt (resumed w.phase w)
-    go phase.Setup at = subst (λ (p : Phase). IsBuilt (resumed p w)) (sym at) (built_made w (subst (λ (p : Phase). IsOfScript (resumed p w)) at is) (subst (λ (p : Phase). IsOfSnapshots (resumed p w)) at has) built)
+    go phase.Setup at = subst (λ (p : Phase). IsBuilt (resumed p w)) (sym at) (built_made w (subst (λ (p : Phase). IsOfScript (resumed p w)) at is) (subst (λ (p : Phase). IsOfConvergence (resumed p w)) at has) built)
     go phase.Running at = built_kept w (resumed w.phase w) built is has (keeps_resumed w.phase w refl (ap is_setup at))
     go phase.Suspended at = built_kept w (resumed w.phase w) built is has (keeps_resumed w.phase w refl (ap is_setup at))
 
@@ -333,4 +333,4 @@ lines_keep_built number c old new (Err r) form named (inr refused) built = subst
 
 -- where nothing is declared
 pub first_built : IsBuilt first_world
-first_built = record { of_script = first_of_script; of_snapshots = first_of_snapshots; shape = HasShape-no_schema; early = tt; linked = λ behind site origin gets. absurd (cc behind) }
+first_built = record { of_script = first_of_script; of_convergence = first_of_convergence; shape = HasShape-no_schema; early = tt; linked = λ behind site origin gets. absurd (cc behind) }

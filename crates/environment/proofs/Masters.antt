@@ -25,7 +25,8 @@ use Rattle.event_laws.proofs.Happening.{run_keeps}
 use Rattle.event_laws.proofs.DeclaredSites.{IsSiteOf, becomes_sites_of, start_sites_of}
 use Rattle.world_state.specs.World.{WorldState}
 use Rattle.world_state.specs.Phases.{is_setup}
-use Rattle.snapshot_worlds.specs.Reached.{GoesOn, IsOfSnapshots, Declares, Goes}
+use Rattle.snapshot_worlds.specs.Reached.{GoesOn}
+use Rattle.convergent_worlds.specs.Reached.{IsOfConvergence, Declaring, Going}
 use Rattle.environment.specs.Finding.{IsAt}
 use Rattle.environment.specs.Following.{IsBuilt}
 use Rattle.environment.proofs.Written.{site_of-world}
@@ -141,9 +142,9 @@ site_declared w g site x at_x = is.declared
         (run_keeps (λ xs sent. AllByRecursion (IsSiteOf w.schema) xs) (becomes_sites_of w.schema) g.leads.events g.start (start_sites_of w.schema g.start.sites g.snapshots.fit.start.sites g.meshed.declared.each))
         (ap (site_of site) (sym g.leads.simulates.sites) ∙ at_x)
 
-pub behind_goes : (w : WorldState) → IsOfSnapshots w → is_setup w.phase ≡ false → GoesOn w
-behind_goes w (Declares so_far) behind = absurd (cc (behind, so_far.setup.setup))
-behind_goes w (Goes g) behind = g
+pub behind_goes : (w : WorldState) → IsOfConvergence w → is_setup w.phase ≡ false → GoesOn w
+behind_goes w (Declaring so_far) behind = absurd (cc (behind, so_far.setup.setup))
+behind_goes w (Going a) behind = a.goes
 
 -- a site and its master are two, with directions between them, and the site has no other destination
 pub record IsServedBy (w : WorldState) (x m : SiteState) : Type 0 where
@@ -165,7 +166,7 @@ served_by w built behind site x m at_x at_m = go (master_of w.schema site) refl 
         rw (here, named) (record {
           there = linked.1;
           back = linked.0;
-          sends = (site_declared w (behind_goes w built.of_snapshots behind) site x at_x).destinations ∙ ap (destinations_of w.schema) here ∙ only_destination w.schema built.shape site name is;
+          sends = (site_declared w (behind_goes w built.of_convergence behind) site x at_x).destinations ∙ ap (destinations_of w.schema) here ∙ only_destination w.schema built.shape site name is;
           another = is_another w.schema built.shape site name is;
         })
 

@@ -1,5 +1,5 @@
 -- What Setup has declared when it ends: snapshots of the schema's tables, at most one of a table at each site.
-use Rattle.std.proofs.Common.{◌≡◌, ◌≢◌, ◌<◌, ℕ, ◌==◌, List, [], ◌∷◌, length, map, Bool, true, false, cond, refl, subst}
+use Rattle.std.proofs.Common.{◌≡◌, ◌≢◌, ℕ, ◌==◌, List, [], ◌∷◌, map, Bool, true, false, cond, refl, subst}
 use Rattle.std.specs.Prelude.{filter}
 use Rattle.std.specs.List.{AllByRecursion}
 use Rattle.std.proofs.lemmas.Bool.{or_parts}
@@ -14,7 +14,8 @@ use Rattle.world_state.specs.Phases.{is_setup}
 use Rattle.world_state.specs.Declaring.{is_snapshot_of, has_snapshot}
 use Rattle.world_state.specs.Making.{snapshots_at}
 use Rattle.snapshot_worlds.specs.WellDeclared.{AreDeclaredOnce}
-use Rattle.snapshot_worlds.specs.Reached.{DeclaresSoFar, IsOfSnapshots, Declares, Goes}
+use Rattle.snapshot_worlds.specs.Reached.{DeclaresSoFar}
+use Rattle.convergent_worlds.specs.Reached.{IsOfConvergence, Declaring, Going}
 
 -- a declared snapshot as its site has it
 abbrev as_made : DeclaredSnapshot → Snapshot
@@ -51,9 +52,9 @@ apart_at (d ∷ ds) site once = go (is_same_site d.site site) refl (apart_at ds 
     go true is later = (none_of ds site d.table (subst (λ (n : SiteName). has_snapshot ds n d.table ≡ false) (is_same_site-true d.site site is) once.0), later)
     go false is later = later
 
-declared_so_far : (w : WorldState) → IsOfSnapshots w → is_setup w.phase ≡ true → DeclaresSoFar w
-declared_so_far w (Declares so_far) setup = so_far
-declared_so_far w (Goes g) setup = absurd (cc (setup, g.leads.simulates.behind))
+declared_so_far : (w : WorldState) → IsOfConvergence w → is_setup w.phase ≡ true → DeclaresSoFar w
+declared_so_far w (Declaring so_far) setup = so_far
+declared_so_far w (Going a) setup = absurd (cc (setup, a.leads.simulates.behind))
 
-pub declared_apart : (w : WorldState) → IsOfSnapshots w → is_setup w.phase ≡ true → (site : SiteName) → AreApart (snapshots_at w.snapshots site)
+pub declared_apart : (w : WorldState) → IsOfConvergence w → is_setup w.phase ≡ true → (site : SiteName) → AreApart (snapshots_at w.snapshots site)
 declared_apart w is setup site = apart_at w.snapshots site (declared_so_far w is setup).once

@@ -7,7 +7,6 @@ use Rattle.rep_values.specs.declared.refusal.Refusal.TheVariants as refusal
 use Rattle.rep_values.specs.RefusalSteps.{refused, or_then, first_refusal, known}
 use Rattle.rep_values.proofs.RefusalSteps.{or_then-None, refused_not-None}
 use Rattle.rep_schema.specs.declared.schema.Schema.{Schema}
-use Rattle.net_plan.specs.Directions.{is_up}
 use Rattle.script_parse.specs.declared.command.Refresh.{Refresh}
 use Rattle.script_parse.specs.declared.command.Command.TheVariants as command
 use Rattle.site_state.specs.State.{SiteState}
@@ -26,6 +25,7 @@ use Rattle.world_laws.proofs.UnrefusedLines.{refreshed-made}
 use Rattle.world_laws.specs.Places.{place_of}
 use Rattle.snapshot_worlds.specs.Sites.{CanRefreshFrom, SnapshotsHold}
 use Rattle.snapshot_worlds.proofs.Scripts.{snapshots_hold_of}
+use Rattle.convergent_worlds.proofs.Scripts.{of_snapshots}
 use Rattle.environment.specs.Following.{IsBuilt}
 use Rattle.environment.specs.Finding.{IsAt}
 use Rattle.environment.specs.Known.{known_refusal}
@@ -56,7 +56,7 @@ module _ (w : WorldState) (built : IsBuilt w) (site : SiteName) (how : Refresh) 
   reaches = (or_then-None (log_step how m.logs x.snapshots) None behind_link.1).0
 
   hold : SnapshotsHold w
-  hold = snapshots_hold_of w built.of_snapshots
+  hold = snapshots_hold_of w (of_snapshots w built.of_convergence)
 
   can : CanRefreshFrom m x
   can = hold.refreshes site x m at_x at_m

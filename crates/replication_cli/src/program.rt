@@ -6,7 +6,7 @@ ghost use Rattle.world_state.specs.World.{first_world};
 ghost use Rattle.script_drive.specs.Lines.{line_step};
 ghost use Rattle.script_drive.specs.Outcome.{Told};
 ghost use Rattle.script_run.specs.Completeness.{RunsToItsEnd};
-ghost use Rattle.script_run.specs.Scripts.{script_step};
+ghost use Rattle.script_run.specs.Scripts.{script_step, EachWorldHolds};
 ghost use Rattle.replication_cli.specs.Words.{are_run};
 
 use rep_io::{Sink, Source};
@@ -39,6 +39,7 @@ pub fn run_program<S: Source, K: Sink>(
         (S.left source.old) (S.left source.new) (K.taken sink.old) (K.taken sink.new) }
     ensures read { result ≡ Status.ReadFault → Rose (S.faults source.old) (S.faults source.new) }
     ensures write { result ≡ Status.WriteFault → Rose (K.faults sink.old) (K.faults sink.new) }
+    ensures worlds { result ≢ Status.Usage → EachWorldHolds (S.left source.old) }
     ensures complete { result ≢ Status.Usage → RunsToItsEnd (S.left source.old) (K.taken sink.old) (S.faults source.old) (S.faults source.new) (K.faults sink.old) (K.faults sink.new) result }
 {
     if !are_run(words) {

@@ -15,13 +15,14 @@ use Rattle.world_state.specs.World.{WorldState, first_world}
 use Rattle.world_state.specs.Refusals.{world_refusal}
 use Rattle.world_state.specs.Steps.{world_done, world_refused, world_step, step_by, told_by, told_line}
 use Rattle.world_laws.proofs.Scripts.{of_script_holds, reported_pushes_leave_nothing_ready}
-use Rattle.snapshot_worlds.specs.Refreshes.{ShowsItsMaster}
 use Rattle.snapshot_worlds.proofs.Scripts.{snapshots_hold_of, refreshes_show_of}
+use Rattle.convergent_worlds.specs.Reached.{HoldsOfConvergence}
+use Rattle.convergent_worlds.proofs.Scripts.{of_snapshots}
 use Rattle.environment.specs.Following.{IsBuilt}
 use Rattle.environment.specs.Texts.{world_text}
 use Rattle.environment.proofs.Keeping.{lines_keep_built, first_built}
 use Rattle.script_drive.specs.Lines.{most_lines, most_bytes, line_step}
-use Rattle.script_run.specs.Scripts.{stepped_by, script_step, world_behind, ReportedWorldsHold, ReportedSnapshotsHold, PushesOfScriptsLeaveNothingReady, RefreshesOfScriptsShowTheQuery}
+use Rattle.script_run.specs.Scripts.{stepped_by, script_step, world_behind, ReportedWorldsHold, ReportedSnapshotsHold, ReportedWorldsConverge, PushesOfScriptsLeaveNothingReady, RefreshesOfScriptsShowTheQuery}
 
 -- after a line of a form that is built, whatever refusal it meets
 step_built : (number : ℕ) (c : Command) (w : WorldState) → is_built c ≡ true → NamesColumn c → IsBuilt w → IsBuilt (world_step number c w)
@@ -54,19 +55,25 @@ behind_built : (w : WorldState) (number : ℕ) (lines : List (List ℕ)) → IsB
 behind_built w number [] built = built
 behind_built w number (line ∷ lines) built = behind_built (line_step script_step w number line).state (number + 1) lines (limited_built w number line built)
 
+behind_first : (lines : List (List ℕ)) → IsBuilt (world_behind lines)
+behind_first lines = behind_built first_world 1 lines first_built
+
 pub reported_worlds_hold : ReportedWorldsHold
-reported_worlds_hold lines = of_script_holds _ (behind_built first_world 1 lines first_built).of_script
+reported_worlds_hold lines = of_script_holds _ (behind_first lines).of_script
 
 pub pushes_leave_nothing_ready : PushesOfScriptsLeaveNothingReady
 unfolding script_step
 pushes_leave_nothing_ready lines number line from to count x read passes there =
     let found = rw read at there in
-    reported_pushes_leave_nothing_ready number from to count (world_behind lines) x (behind_built first_world 1 lines first_built).shape passes found
+    reported_pushes_leave_nothing_ready number from to count (world_behind lines) x (behind_first lines).shape passes found
 
 pub reported_snapshots_hold : ReportedSnapshotsHold
-reported_snapshots_hold lines = snapshots_hold_of _ (behind_built first_world 1 lines first_built).of_snapshots
+reported_snapshots_hold lines = snapshots_hold_of _ (of_snapshots _ (behind_first lines).of_convergence)
+
+pub reported_worlds_converge : HoldsOfConvergence → ReportedWorldsConverge
+reported_worlds_converge law lines = law _ (behind_first lines).of_convergence
 
 pub refreshes_show_the_query : RefreshesOfScriptsShowTheQuery
 unfolding script_step
 refreshes_show_the_query lines number line site how read passes =
-    rw read (refreshes_show_of (world_behind lines) (behind_built first_world 1 lines first_built).of_snapshots number site how passes)
+    rw read (refreshes_show_of (world_behind lines) (of_snapshots (world_behind lines) (behind_first lines).of_convergence) number site how passes)

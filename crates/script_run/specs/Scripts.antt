@@ -1,6 +1,7 @@
 -- What a script prints: each of its lines is read as a command and done to the world, or refused there.
-use Rattle.std.specs.Prelude.{◌≡◌, ℕ, List, Option, Some, None, Result, Ok, Err}
+use Rattle.std.specs.Prelude.{◌≡◌, ℕ, List, [], take, Option, Some, None, Result, Ok, Err}
 use Rattle.rep_values.specs.declared.name.SiteName.{SiteName}
+use Rattle.rep_lines.specs.Lines.{lines_after}
 use Rattle.rep_lines.specs.Runs.{Stepped, goes, halts, state_after}
 use Rattle.rep_lines.specs.Told.{report}
 use Rattle.report_text.specs.Texts.{malformed_text}
@@ -18,6 +19,7 @@ use Rattle.world_state.specs.Steps.{world_step, step_refused}
 use Rattle.world_laws.specs.Worlds.{WorldHolds, NothingReady}
 use Rattle.snapshot_worlds.specs.Sites.{SnapshotsHold}
 use Rattle.snapshot_worlds.specs.Refreshes.{ShowsItsMaster}
+use Rattle.convergent_worlds.specs.Convergence.{ConvergenceHolds}
 use Rattle.environment.specs.Texts.{world_text}
 use Rattle.script_drive.specs.Lines.{line_step}
 
@@ -58,6 +60,20 @@ PushesOfScriptsLeaveNothingReady = (lines : List (List ℕ)) (number : ℕ) (lin
 -- the laws of snapshots hold of it too
 abbrev pub ReportedSnapshotsHold : Type 0
 ReportedSnapshotsHold = (lines : List (List ℕ)) → SnapshotsHold (world_behind lines)
+
+-- and so do those of convergence
+abbrev pub ReportedWorldsConverge : Type 0
+ReportedWorldsConverge = (lines : List (List ℕ)) → ConvergenceHolds (world_behind lines)
+
+-- all of these laws hold of a world
+pub record AllLawsHold (w : WorldState) : Type 0 where
+  pub events : WorldHolds w
+  pub snapshots : SnapshotsHold w
+  pub convergence : ConvergenceHolds w
+
+-- so they do of the world behind each line of the script that a source has left
+abbrev pub EachWorldHolds : Option (List ℕ) → Type 0
+EachWorldHolds left = (script : List ℕ) (number : ℕ) → left ≡ Some script → AllLawsHold (world_behind (take number (lines_after [] script)))
 
 -- behind lines of a script, once a refresh is reported each snapshot of the site is its query of its master's table, and the
 -- master is as before

@@ -1,7 +1,6 @@
 -- What comes of a line that was tried, or that was refused before.
 use Rattle.std.proofs.Common.{◌≡◌, ℕ, Some, None, sym, ap, subst, ◌∙◌}
 use Rattle.std.specs.Prelude.{Option, Result, Ok, Err}
-use Rattle.rep_values.specs.declared.name.SiteName.{SiteName}
 use Rattle.rep_values.specs.declared.refusal.Refusal.{Refusal}
 use Rattle.report_text.specs.Sheet.{Sheet}
 use Rattle.script_parse.specs.declared.command.Command.{Command}
@@ -17,6 +16,7 @@ use Rattle.environment.specs.Known.{known_refusal}
 use Rattle.environment.specs.Doing.{Does, AnswersKnown}
 use Rattle.snapshot_worlds.specs.Refreshes.{ShowsItsMaster}
 use Rattle.snapshot_worlds.proofs.Scripts.{refreshes_show_of}
+use Rattle.convergent_worlds.proofs.Scripts.{of_snapshots}
 use Rattle.world_run.specs.Reporting.{PushLeavesNothingReady, RefreshShowsTheQuery}
 
 -- no refusal is known
@@ -45,4 +45,4 @@ refreshed-done number c old new (Ok sheet) built done site how is ok =
     let passes : world_refusal (command.Refresh site how) old ≡ None = subst (λ (k : Command). world_refusal k old ≡ None) is done.passes in
     let stepped : world_step number (command.Refresh site how) old ≡ new =
     ap (λ (o : Option Refusal). step_by o number (command.Refresh site how) old) passes ∙ sym (subst (λ (k : Command). new ≡ world_done number k old) is done.world) in
-    subst (λ (y : WorldState). ShowsItsMaster site old y) stepped (refreshes_show_of old built.of_snapshots number site how passes)
+    subst (λ (y : WorldState). ShowsItsMaster site old y) stepped (refreshes_show_of old (of_snapshots old built.of_convergence) number site how passes)

@@ -7,9 +7,11 @@ ghost use Rattle.world_state.specs.World.{first_world};
 ghost use Rattle.world_laws.specs.Worlds.{WorldHolds};
 ghost use Rattle.environment.specs.Doing.{Does, AnswersKnown};
 ghost use Rattle.snapshot_worlds.specs.Sites.{SnapshotsHold};
+ghost use Rattle.convergent_worlds.specs.Convergence.{ConvergenceHolds};
 ghost use Rattle.world_run.specs.Reporting.{PushLeavesNothingReady, RefreshShowsTheQuery};
 
 use crate::lines::run_line;
+use convergent_worlds::convergence_holds;
 use environment::{Environment, place_of};
 use rep_lists::NoMemory;
 use rep_values::SiteName;
@@ -53,7 +55,9 @@ impl World {
     /// closes its block. Where there is no memory a push may be done in part, and any other line leaves the world; a refusal
     /// that is known before the line is tried is answered all the same. Once a push is reported, no position of any sender is
     /// ready at the receiver; once a refresh is, each snapshot of the site is its query of its master's table. Whatever came of
-    /// the line, the laws over events hold of the world, and so do those of snapshots.
+    /// the line, the laws over events hold of the world, and so do those of snapshots and of convergence: at each master each
+    /// group of a row of a convergent table is the join of what was applied, each error there is excused, and masters that are
+    /// quiet agree.
     ///
     /// The form of the line is one that is built, and a group or constraint that it declares names a column, as `parse_line`
     /// says.
@@ -66,7 +70,9 @@ impl World {
         ensures refreshed { RefreshShowsTheQuery command.now self.old self.new result }
         ensures laws { WorldHolds self.new }
         ensures snapshots { SnapshotsHold self.new }
+        ensures convergence { ConvergenceHolds self.new }
     {
+        convergence_holds();
         if let Some(refusal) = self.environment.refusal(command) {
             return Err(Refused { line, refusal });
         }

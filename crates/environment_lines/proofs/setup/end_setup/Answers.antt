@@ -8,4 +8,4 @@ use Rattle.environment_lines.proofs.setup.end_setup.Goals as goal
 
 pub make_sites-requires-clause-apart : goal.make_sites-requires-clause-apart
 make_sites-requires-clause-apart c = λ site. rw c.as_slice.ensures (subst (λ (w : WorldState). AreApart (snapshots_at w.snapshots site)) (sym c.environment.view_is)
-    (declared_apart c.args.environment.now c.requires.built.of_snapshots c.requires.setup site))
+    (declared_apart c.args.environment.now c.requires.built.of_convergence c.requires.setup site))

@@ -1,5 +1,5 @@
 -- The law of reports.
-use Rattle.script_run.proofs.Worlds.{reported_worlds_hold, reported_snapshots_hold, pushes_leave_nothing_ready, refreshes_show_the_query}
+use Rattle.script_run.proofs.Worlds.{reported_worlds_hold, reported_snapshots_hold, reported_worlds_converge, pushes_leave_nothing_ready, refreshes_show_the_query}
 use Rattle.script_run.proofs.laws.reported_worlds_hold.Goals as goal
 
 pub returns-clause-worlds : goal.returns-clause-worlds
@@ -10,6 +10,9 @@ returns-clause-pushed c = pushes_leave_nothing_ready
 
 pub returns-clause-snapshots : goal.returns-clause-snapshots
 returns-clause-snapshots c = reported_snapshots_hold
+
+pub returns-clause-convergence : goal.returns-clause-convergence
+returns-clause-convergence c = reported_worlds_converge c.convergence_holds.ensures.kept
 
 pub returns-clause-refreshed : goal.returns-clause-refreshed
 returns-clause-refreshed c = refreshes_show_the_query

@@ -7,6 +7,7 @@ use Rattle.environment.proofs.Keeping.{lines_keep_built}
 use Rattle.environment.proofs.KnownRefusals.{known_refused}
 use Rattle.world_laws.proofs.Scripts.{of_script_holds}
 use Rattle.snapshot_worlds.proofs.Scripts.{snapshots_hold_of}
+use Rattle.convergent_worlds.proofs.Scripts.{of_snapshots}
 use Rattle.world_run.specs.Reporting.{RefreshShowsTheQuery}
 use Rattle.world_run.proofs.Stepping.{ready-done, refreshed-done}
 use Rattle.world_run.proofs.world.World.step.Goals as goal
@@ -41,8 +42,17 @@ returns-clause-refreshed c =
 pub returns-in-Some-clause-snapshots : goal.returns-in-Some-clause-snapshots
 returns-in-Some-clause-snapshots c =
     let same : c.self.inside.environment ≡ c.args.self.now = cc c.self.view_is in
-    snapshots_hold_of _ (subst IsBuilt same c.self.invariant).of_snapshots
+    snapshots_hold_of _ (of_snapshots _ (subst IsBuilt same c.self.invariant).of_convergence)
 
 pub returns-clause-snapshots : goal.returns-clause-snapshots
 returns-clause-snapshots c =
-    snapshots_hold_of _ (lines_keep_built c.args.line c.args.command.now c.self.inside.environment c.run_line.new.environment c.run_line.result c.requires.form c.requires.named c.run_line.ensures c.self.invariant).of_snapshots
+    snapshots_hold_of _ (of_snapshots _ (lines_keep_built c.args.line c.args.command.now c.self.inside.environment c.run_line.new.environment c.run_line.result c.requires.form c.requires.named c.run_line.ensures c.self.invariant).of_convergence)
+
+pub returns-in-Some-clause-convergence : goal.returns-in-Some-clause-convergence
+returns-in-Some-clause-convergence c =
+    let same : c.self.inside.environment ≡ c.args.self.now = cc c.self.view_is in
+    c.convergence_holds.ensures.kept _ (subst IsBuilt same c.self.invariant).of_convergence
+
+pub returns-clause-convergence : goal.returns-clause-convergence
+returns-clause-convergence c =
+    c.convergence_holds.ensures.kept _ (lines_keep_built c.args.line c.args.command.now c.self.inside.environment c.run_line.new.environment c.run_line.result c.requires.form c.requires.named c.run_line.ensures c.self.invariant).of_convergence
