@@ -1,7 +1,8 @@
 -- The world behind lines of a script is one of a script's, of forms that are built.
 use Rattle.std.proofs.Common.{◌≡◌, ℕ, ◌+◌, List, [], ◌∷◌, length, Bool, true, false, Some, None, refl, ap, inr}
-use Rattle.std.specs.Prelude.{nat_lt, if◌then◌else◌, Option, Result, Ok, Err}
+use Rattle.std.specs.Prelude.{take, nat_lt, if◌then◌else◌, Option, Result, Ok, Err}
 use Rattle.rep_values.specs.declared.refusal.Refusal.{Refusal}
+use Rattle.rep_lines.specs.Lines.{lines_after}
 use Rattle.rep_lines.specs.Runs.{halts, state_after}
 use Rattle.rep_lines.specs.Limits.{limited}
 use Rattle.report_text.specs.Texts.{malformed_text}
@@ -22,7 +23,7 @@ use Rattle.environment.specs.Following.{IsBuilt}
 use Rattle.environment.specs.Texts.{world_text}
 use Rattle.environment.proofs.Keeping.{lines_keep_built, first_built}
 use Rattle.script_drive.specs.Lines.{most_lines, most_bytes, line_step}
-use Rattle.script_run.specs.Scripts.{stepped_by, script_step, world_behind, ReportedWorldsHold, ReportedSnapshotsHold, ReportedWorldsConverge, PushesOfScriptsLeaveNothingReady, RefreshesOfScriptsShowTheQuery}
+use Rattle.script_run.specs.Scripts.{stepped_by, script_step, world_behind, ReportedWorldsHold, ReportedSnapshotsHold, ReportedWorldsConverge, PushesOfScriptsLeaveNothingReady, RefreshesOfScriptsShowTheQuery, EachWorldHolds}
 
 -- after a line of a form that is built, whatever refusal it meets
 step_built : (number : ℕ) (c : Command) (w : WorldState) → is_built c ≡ true → NamesColumn c → IsBuilt w → IsBuilt (world_step number c w)
@@ -72,6 +73,12 @@ reported_snapshots_hold lines = snapshots_hold_of _ (of_snapshots _ (behind_firs
 
 pub reported_worlds_converge : HoldsOfConvergence → ReportedWorldsConverge
 reported_worlds_converge law lines = law _ (behind_first lines).of_convergence
+
+-- all of it holds behind each line of a script
+pub each_world_holds : ReportedWorldsHold → ReportedSnapshotsHold → ReportedWorldsConverge → (left : Option (List ℕ)) → EachWorldHolds left
+each_world_holds events snapshots convergence left script number is =
+    let lines : List (List ℕ) = take number (lines_after [] script) in
+    record { events = events lines; snapshots = snapshots lines; convergence = convergence lines }
 
 pub refreshes_show_the_query : RefreshesOfScriptsShowTheQuery
 unfolding script_step

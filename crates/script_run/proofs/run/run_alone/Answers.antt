@@ -1,10 +1,11 @@
--- The run begins at the first world.
+-- The run begins at the first world, and the laws hold of each behind it.
 use Rattle.std.proofs.Common.{subst}
 use Rattle.rep_lines.specs.Told.{Tells}
 use Rattle.script_drive.specs.Lines.{line_step}
 use Rattle.script_drive.specs.Outcome.{Told}
 use Rattle.world_state.specs.World.{WorldState, first_world}
 use Rattle.script_run.specs.Scripts.{script_step}
+use Rattle.script_run.proofs.Worlds.{each_world_holds}
 use Rattle.script_run.proofs.Completeness.{runs_to_its_end}
 use Rattle.script_run.proofs.run.run_alone.Goals as goal
 
@@ -25,3 +26,13 @@ returns-clause-complete g c =
     runs_to_its_end (left c.args.source.now) (left c.drive.new.source) (taken c.args.sink.now) (taken c.drive.new.sink)
     (g.S.Source.faults c.args.source.now) (g.S.Source.faults c.drive.new.source) (g.K.Sink.faults c.args.sink.now) (g.K.Sink.faults c.drive.new.sink) c.drive.result
     told c.drive.ensures.read c.drive.ensures.write c.drive.ensures.ran
+
+pub returns-in_default-clause-worlds : goal.returns-in_default-clause-worlds
+returns-in_default-clause-worlds g c =
+    let laws = c.reported_worlds_hold.ensures in
+    each_world_holds laws.worlds laws.snapshots laws.convergence (g.S.Source.left c.args.source.now)
+
+pub returns-clause-worlds : goal.returns-clause-worlds
+returns-clause-worlds g c =
+    let laws = c.reported_worlds_hold.ensures in
+    each_world_holds laws.worlds laws.snapshots laws.convergence (g.S.Source.left c.args.source.now)
