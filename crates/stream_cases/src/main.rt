@@ -52,24 +52,39 @@ fn outcome(alloc: Global, state: &mut State, line: &str) -> Result<Option<String
     }
 }
 
-fn main(rt: HostRuntime) -> Result<()> {
-    let alloc = rt.alloc();
-    let Ok(mut state) = State::new(alloc) else {
-        println!(rt; "no memory")?;
-        return Ok(());
-    };
-    for line in rt.lines(alloc) {
-        let line = line?;
-        if line.is_empty() || line.starts_with('#') {
-            println!(rt; "{line}")?;
-            continue;
-        }
-        match outcome(alloc, &mut state, &line) {
-            Ok(Some(outcome)) => println!(rt; "{outcome}")?,
-            Ok(None) => {}
-            Err(CaseStop::NoCase) => println!(rt; "no case")?,
-            Err(CaseStop::Memory) => println!(rt; "no memory")?,
-        }
+fn echo(rt: &HostRuntime, line: &str) -> Result<()> {
+    println!(rt; "{line}")?;
+    Ok(())
+}
+
+fn tell(rt: &HostRuntime, outcome: Result<Option<String>, CaseStop>) -> Result<()> {
+    match outcome {
+        Ok(Some(outcome)) => println!(rt; "{outcome}")?,
+        Ok(None) => {}
+        Err(CaseStop::NoCase) => println!(rt; "no case")?,
+        Err(CaseStop::Memory) => println!(rt; "no memory")?,
     }
     Ok(())
+}
+
+/// Prints the outcome of a line.
+fn answer(rt: &HostRuntime, state: &mut State, line: &str) -> Result<()> {
+    if line.is_empty() || line.starts_with('#') {
+        return echo(rt, line);
+    }
+    tell(rt, outcome(rt.alloc(), state, line))
+}
+
+fn answer_all(rt: &HostRuntime, state: &mut State) -> Result<()> {
+    for line in rt.lines(rt.alloc()) {
+        answer(rt, state, &line?)?;
+    }
+    Ok(())
+}
+
+fn main(rt: HostRuntime) -> Result<()> {
+    match State::new(rt.alloc()) {
+        Ok(mut state) => answer_all(&rt, &mut state),
+        Err(_) => echo(&rt, "no memory"),
+    }
 }
