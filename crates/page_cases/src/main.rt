@@ -1,0 +1,53 @@
+//! The same calls on tables in pages and on tables in lists: each line is a case, and its outcome is printed; where
+//! the two stores differ, both outcomes.
+//!
+//! `declare DECLARATION` adds a declaration, and `make` makes both stores of the schema. `put T VALUES`, `get T VALUES`,
+//! `take T VALUES` and `holds T C VALUES` are calls of a store. `puts T FIRST STEP COUNT WRAP ADDED` puts a row for each of
+//! COUNT keys, from FIRST on in steps of STEP, that begin again at WRAP; its other columns have the key and ADDED. `takes T
+//! FIRST STEP COUNT WRAP` takes such keys. `rows T EVERY` shows each so manieth row and the last one. `undo VALUES,
+//! VALUES, KEY, KEY` puts two rows in the first table, takes two away and takes it all back. An empty line and one that
+//! begins with `#` is printed as it is.
+#![tactic(auto)]
+
+mod calls;
+mod cases;
+mod series;
+mod undone;
+
+use anyhow::Result;
+use case_lines::CaseStop;
+use cases::Cases;
+
+fn echo(rt: &HostRuntime, line: &str) -> Result<()> {
+    println!(rt; "{line}")?;
+    Ok(())
+}
+
+fn tell(rt: &HostRuntime, outcome: Result<String, CaseStop>) -> Result<()> {
+    match outcome {
+        Ok(outcome) => println!(rt; "{outcome}")?,
+        Err(CaseStop::NoCase) => println!(rt; "no case")?,
+        Err(CaseStop::Memory) => println!(rt; "no memory")?,
+    }
+    Ok(())
+}
+
+/// Prints the outcome of a line.
+fn answer(rt: &HostRuntime, cases: &mut Cases, line: &str) -> Result<()> {
+    if line.is_empty() || line.starts_with('#') {
+        return echo(rt, line);
+    }
+    tell(rt, cases.outcome(rt.alloc(), line))
+}
+
+fn answer_all(rt: &HostRuntime, cases: &mut Cases) -> Result<()> {
+    for line in rt.lines(rt.alloc()) {
+        answer(rt, cases, &line?)?;
+    }
+    Ok(())
+}
+
+fn main(rt: HostRuntime) -> Result<()> {
+    let mut cases = Cases::new(rt.alloc());
+    answer_all(&rt, &mut cases)
+}

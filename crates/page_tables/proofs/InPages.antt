@@ -1,0 +1,200 @@
+-- What is found, put and taken in pages is what is found, put and taken in the page of its place.
+use Rattle.std.proofs.Common.{◌≡◌, ◌≢◌, ℕ, zero, suc, ◌+◌, ◌-◌, ◌<◌, ◌≤◌, List, [], ◌∷◌, ◌++◌, append_assoc, length, take, drop, get_or, set, None, refl, sym, ap, ◌∙◌, subst, arith}
+use Rattle.std.specs.List.{AllByRecursion, insert, remove}
+use Rattle.std.specs.Prelude.{slice_get}
+use Rattle.std.proofs.lemmas.List.{drop_more}
+use Rattle.std.specs.declared.cmp.Ordering.{Ordering}
+use Rattle.std.specs.declared.cmp.Ordering.TheVariants.{Less, Equal, Greater}
+use Rattle.rep_lists.specs.Rising.{find_at, put_at, take_at, found_here, put_here, taken_here, IsThere, IsGap}
+use Rattle.rep_lists.proofs.Each.{each_at, each_drop}
+use Rattle.page_tables.specs.Pages.{joined, at_first, IsParted, IsPage, IsPageFor}
+use Rattle.page_tables.proofs.Parted.{all_right, within_drop, parted_right, parted_left, all_before}
+
+module _ {X : Type 0} (at : X → Ordering) where
+  -- values before the place are passed
+  find_past : (xs ys : List X) → AllByRecursion (λ x. at x ≡ Less) xs → find_at at (xs ++ ys) ≡ find_at at ys
+  find_past [] ys all = refl
+  find_past (x ∷ xs) ys all = rw all.0 (find_past xs ys all.1)
+
+  put_past : (y : X) (xs ys : List X) → AllByRecursion (λ x. at x ≡ Less) xs → put_at at y (xs ++ ys) ≡ xs ++ put_at at y ys
+  put_past y [] ys all = refl
+  put_past y (x ∷ xs) ys all = rw all.0 (ap (λ t. x ∷ t) (put_past y xs ys all.1))
+
+  take_past : (xs ys : List X) → AllByRecursion (λ x. at x ≡ Less) xs → take_at at (xs ++ ys) ≡ xs ++ take_at at ys
+  take_past [] ys all = refl
+  take_past (x ∷ xs) ys all = rw all.0 (ap (λ t. x ∷ t) (take_past xs ys all.1))
+
+  -- values behind the place aren't reached
+  find_none : (ys : List X) → AllByRecursion (λ x. at x ≡ Greater) ys → find_at at ys ≡ None
+  find_none [] all = refl
+  find_none (y ∷ ys) all = rw all.0
+
+  find_before : (xs ys : List X) → AllByRecursion (λ x. at x ≡ Greater) ys → find_at at (xs ++ ys) ≡ find_at at xs
+  find_before [] ys all = find_none ys all
+  find_before (x ∷ xs) ys all = ap (found_here (at x) x) (find_before xs ys all)
+
+  put_first : (y : X) (ys : List X) → AllByRecursion (λ x. at x ≡ Greater) ys → put_at at y ys ≡ y ∷ ys
+  put_first y [] all = refl
+  put_first y (z ∷ zs) all = rw all.0
+
+  put_before : (y : X) (xs ys : List X) → AllByRecursion (λ x. at x ≡ Greater) ys → put_at at y (xs ++ ys) ≡ put_at at y xs ++ ys
+  put_before y [] ys all = put_first y ys all
+  put_before y (x ∷ xs) ys all = go (at x) (put_before y xs ys all)
+    where
+      go : (o : Ordering) → put_at at y (xs ++ ys) ≡ put_at at y xs ++ ys → put_here o y x (xs ++ ys) (put_at at y (xs ++ ys)) ≡ put_here o y x xs (put_at at y xs) ++ ys
+      go Less later = ap (λ t. x ∷ t) later
+      go Equal later = refl
+      go Greater later = refl
+
+  take_none : (ys : List X) → AllByRecursion (λ x. at x ≡ Greater) ys → take_at at ys ≡ ys
+  take_none [] all = refl
+  take_none (y ∷ ys) all = rw all.0
+
+  take_before : (xs ys : List X) → AllByRecursion (λ x. at x ≡ Greater) ys → take_at at (xs ++ ys) ≡ take_at at xs ++ ys
+  take_before [] ys all = take_none ys all
+  take_before (x ∷ xs) ys all = go (at x) (take_before xs ys all)
+    where
+      go : (o : Ordering) → take_at at (xs ++ ys) ≡ take_at at xs ++ ys → taken_here o x (xs ++ ys) (take_at at (xs ++ ys)) ≡ taken_here o x xs (take_at at xs) ++ ys
+      go Less later = ap (λ t. x ∷ t) later
+      go Equal later = refl
+      go Greater later = refl
+
+-- the values of all pages, around one of them
+pub joined-append : {X : Type 0} (ps qs : List (List X)) → joined (ps ++ qs) ≡ joined ps ++ joined qs
+joined-append [] qs = refl
+joined-append (p ∷ ps) qs = ap (λ t. p ++ t) (joined-append ps qs) ∙ sym (append_assoc p (joined ps) (joined qs))
+
+pub joined_around : {X : Type 0} (pages : List (List X)) (p : ℕ) → p < length pages → joined pages ≡ joined (take p pages) ++ (get_or pages p [] ++ joined (drop (suc p) pages))
+joined_around [] p within = absurd (omega arith)
+joined_around (q ∷ qs) zero within = refl
+joined_around (q ∷ qs) (suc p) within = ap (λ t. q ++ t) (joined_around qs p (omega arith)) ∙ sym (append_assoc q (joined (take p qs)) _)
+
+pub joined-set : {X : Type 0} (pages : List (List X)) (p : ℕ) (page : List X) → p < length pages → joined (set pages p page) ≡ joined (take p pages) ++ (page ++ joined (drop (suc p) pages))
+joined-set [] p page within = absurd (omega arith)
+joined-set (q ∷ qs) zero page within = refl
+joined-set (q ∷ qs) (suc p) page within = ap (λ t. q ++ t) (joined-set qs p page (omega arith)) ∙ sym (append_assoc q (joined (take p qs)) _)
+
+-- a page in two
+pub joined-split : {X : Type 0} (pages : List (List X)) (p : ℕ) (a b : List X) → p < length pages → joined (insert (set pages p a) (suc p) b) ≡ joined (set pages p (a ++ b))
+joined-split [] p a b within = absurd (omega arith)
+joined-split (q ∷ qs) zero a b within = sym (append_assoc a b (joined qs))
+joined-split (q ∷ qs) (suc p) a b within = ap (λ t. q ++ t) (joined-split qs p a b (omega arith))
+
+pub joined-split_at : {X : Type 0} (pages : List (List X)) (p : ℕ) (a b : List X) → p < length pages → joined (insert (set pages p a) (p + 1) b) ≡ joined (set pages p (a ++ b))
+joined-split_at pages p a b within = let next : p + 1 ≡ suc p = omega arith in rw next (joined-split pages p a b within)
+
+-- a page that is left out has no values
+pub joined-remove : {X : Type 0} (pages : List (List X)) (p : ℕ) → p < length pages → get_or pages p [] ≡ [] → joined (remove pages p) ≡ joined pages
+joined-remove [] p within none = absurd (omega arith)
+joined-remove (q ∷ qs) zero within none = rw none
+joined-remove (q ∷ qs) (suc p) within none = ap (λ t. q ++ t) (joined-remove qs p (omega arith) none)
+
+module _ {X : Type 0} (at : X → Ordering) (pages : List (List X)) (p : ℕ) (for : IsPageFor at pages p) where
+  pub find_paged : find_at at (joined pages) ≡ find_at at (get_or pages p [])
+  find_paged = ap (find_at at) (joined_around pages p for.in_range) ∙ (find_past at _ _ for.before ∙ find_before at _ _ for.behind)
+
+  pub put_paged : (y : X) → put_at at y (joined pages) ≡ joined (set pages p (put_at at y (get_or pages p [])))
+  put_paged y = ap (put_at at y) (joined_around pages p for.in_range) ∙ (put_past at y _ _ for.before ∙ (ap (λ t. joined (take p pages) ++ t) (put_before at y _ _ for.behind) ∙ sym (joined-set pages p _ for.in_range)))
+
+  pub take_paged : take_at at (joined pages) ≡ joined (set pages p (take_at at (get_or pages p [])))
+  take_paged = ap (take_at at) (joined_around pages p for.in_range) ∙ (take_past at _ _ for.before ∙ (ap (λ t. joined (take p pages) ++ t) (take_before at _ _ for.behind) ∙ sym (joined-set pages p _ for.in_range)))
+
+-- the value at a place lies in the first page or behind it
+pub get_in_page : {X : Type 0} (page rest : List X) (i : ℕ) → i < length page → slice_get (page ++ rest) i ≡ slice_get page i
+get_in_page [] rest i within = absurd (omega arith)
+get_in_page (x ∷ xs) rest zero within = refl
+get_in_page (x ∷ xs) rest (suc i) within = get_in_page xs rest i (omega arith)
+
+pub get_behind_page : {X : Type 0} (page rest : List X) (i : ℕ) → length page ≤ i → slice_get (page ++ rest) i ≡ slice_get rest (i - length page)
+get_behind_page [] rest i past = let same : i - 0 ≡ i = omega arith in rw same refl
+get_behind_page (x ∷ xs) rest zero past = absurd (omega arith)
+get_behind_page (x ∷ xs) rest (suc i) past = let less : suc i - suc (length xs) ≡ i - length xs = omega arith in rw less (get_behind_page xs rest i (omega arith))
+
+pub joined-drop : {X : Type 0} (pages : List (List X)) (i : ℕ) (d : List X) → i < length pages → joined (drop i pages) ≡ get_or pages i d ++ joined (drop (i + 1) pages)
+joined-drop pages i d within = ap joined (drop_more pages i d within)
+
+-- the page of a place, from where the first values of the pages stand
+module _ {X : Type 0} (at : X → Ordering) where
+  -- the values of the pages from one on
+  parted_from : (pages : List (List X)) (p : ℕ) → p < length pages → IsParted at (joined pages) → IsParted at (get_or pages p [] ++ joined (drop (suc p) pages))
+  parted_from pages p within parted = parted_right at (joined (take p pages)) _ (subst (IsParted at) (joined_around pages p within) parted)
+
+  -- the pages before one whose first value isn't behind the place
+  pages_before : (pages : List (List X)) (p : ℕ) → p < length pages → AllByRecursion IsPage pages → IsParted at (joined pages) → at_first at (get_or pages p []) ≢ Greater
+      → AllByRecursion (λ x. at x ≡ Less) (joined (take p pages))
+  pages_before pages p within filled parted past = go (get_or pages p []) (each_at IsPage pages p [] within filled) past (subst (IsParted at) (joined_around pages p within) parted)
+    where
+      go : (page : List X) → IsPage page → at_first at page ≢ Greater → IsParted at (joined (take p pages) ++ (page ++ joined (drop (suc p) pages))) → AllByRecursion (λ x. at x ≡ Less) (joined (take p pages))
+      go [] is past parted = absurd (omega (arith, is.some))
+      go (z ∷ zs) is past parted = all_before at (joined (take p pages)) z (zs ++ joined (drop (suc p) pages)) past parted
+
+  -- the pages behind one whose first value isn't before the place
+  pages_behind : (pages : List (List X)) (p : ℕ) → p < length pages → AllByRecursion IsPage pages → IsParted at (joined pages) → at_first at (get_or pages p []) ≢ Less
+      → AllByRecursion (λ x. at x ≡ Greater) (joined (drop (suc p) pages))
+  pages_behind pages p within filled parted past = go (get_or pages p []) (each_at IsPage pages p [] within filled) past (parted_from pages p within parted)
+    where
+      go : (page : List X) → IsPage page → at_first at page ≢ Less → IsParted at (page ++ joined (drop (suc p) pages)) → AllByRecursion (λ x. at x ≡ Greater) (joined (drop (suc p) pages))
+      go [] is past parted = absurd (omega (arith, is.some))
+      go (z ∷ zs) is past parted = all_right (λ x. at x ≡ Greater) zs (joined (drop (suc p) pages)) (parted.0 past)
+
+  -- pages whose first values are behind the place
+  pages_beyond : (pages : List (List X)) → AllByRecursion IsPage pages → IsParted at (joined pages) → AllByRecursion (λ page. at_first at page ≡ Greater) pages → AllByRecursion (λ x. at x ≡ Greater) (joined pages)
+  pages_beyond [] filled parted all = tt
+  pages_beyond ([] ∷ pages) filled parted all = absurd (omega (arith, filled.0.some))
+  pages_beyond ((z ∷ zs) ∷ pages) filled parted all = (all.0, parted.0 (λ less. not_both less all.0))
+    where
+      not_both : at z ≡ Less → at z ≡ Greater → ⊥
+      not_both a b = cc
+
+  -- a page whose first value is at the place
+  pub page_there : (pages : List (List X)) (p : ℕ) → AllByRecursion IsPage pages → IsParted at (joined pages) → IsThere (at_first at) pages p → IsPageFor at pages p
+  page_there pages p filled parted there =
+      let here : at_first at (get_or pages p []) ≡ Equal = there.here [] in
+      record {
+        in_range = there.in_range;
+        before = pages_before pages p there.in_range filled parted (λ e. cc);
+        behind = pages_behind pages p there.in_range filled parted (λ e. cc);
+      }
+
+  -- no page's first value is there, and the place is before all of them
+  pub page_first : (pages : List (List X)) → 0 < length pages → AllByRecursion IsPage pages → IsParted at (joined pages) → IsGap (at_first at) pages 0 → IsPageFor at pages 0
+  page_first pages some filled parted gap = record {
+    in_range = some;
+    before = tt;
+    behind = all_drop_one pages (pages_beyond pages filled parted (within_drop (λ page. at_first at page ≡ Greater) pages 0 gap.behind));
+  }
+    where
+      all_drop_one : (qs : List (List X)) → AllByRecursion (λ x. at x ≡ Greater) (joined qs) → AllByRecursion (λ x. at x ≡ Greater) (joined (drop 1 qs))
+      all_drop_one [] all = tt
+      all_drop_one (q ∷ qs) all = all_right (λ x. at x ≡ Greater) q (joined qs) all
+
+  -- or the place is behind some of them
+  pub page_gap : (pages : List (List X)) (p : ℕ) → AllByRecursion IsPage pages → IsParted at (joined pages) → IsGap (at_first at) pages (suc p) → IsPageFor at pages p
+  page_gap pages p filled parted gap =
+      let within : p < length pages = omega (arith, gap.in_range) in
+      let here : at_first at (get_or pages p []) ≡ Less = gap.before p [] (omega arith) (omega arith) in
+      record {
+        in_range = within;
+        before = pages_before pages p within filled parted (λ e. cc);
+        behind = pages_beyond (drop (suc p) pages) (each_drop IsPage (suc p) pages filled) (parted_right at (get_or pages p []) _ (parted_from pages p within parted))
+            (within_drop (λ page. at_first at page ≡ Greater) pages (suc p) gap.behind);
+      }
+
+  -- the values of a page are parted
+  pub page_parted : (pages : List (List X)) (p : ℕ) → p < length pages → IsParted at (joined pages) → IsParted at (get_or pages p [])
+  page_parted pages p within parted = parted_left at (get_or pages p []) _ (parted_from pages p within parted)
+
+  -- what holds of all values holds of the first of each page
+  all_firsts : (pages : List (List X)) → AllByRecursion IsPage pages → AllByRecursion (λ x. at x ≡ Greater) (joined pages) → AllByRecursion (λ page. at_first at page ≡ Greater) pages
+  all_firsts [] filled all = tt
+  all_firsts ([] ∷ pages) filled all = absurd (omega (arith, filled.0.some))
+  all_firsts ((z ∷ zs) ∷ pages) filled all = (all.0, all_firsts pages filled.1 (all_right (λ x. at x ≡ Greater) zs (joined pages) all.1))
+
+  -- and so are the first values of the pages
+  pub firsts_parted : (pages : List (List X)) → AllByRecursion IsPage pages → IsParted at (joined pages) → IsParted (at_first at) pages
+  firsts_parted [] filled parted = tt
+  firsts_parted ([] ∷ pages) filled parted = absurd (omega (arith, filled.0.some))
+  firsts_parted ((z ∷ zs) ∷ pages) filled parted = (
+    λ past. all_firsts pages filled.1 (all_right (λ x. at x ≡ Greater) zs (joined pages) (parted.0 past)),
+    firsts_parted pages filled.1 (parted_right at (z ∷ zs) (joined pages) parted),
+  )

@@ -1,0 +1,5 @@
+-- The definitions of this crate.
+pub mod Pages
+pub mod Slots
+pub mod Index
+pub mod Stored

@@ -1,0 +1,13 @@
+//! A store of rows whose tables lie in pages, with an index of the values of each constraint.
+#![tactic(auto)]
+
+mod kept;
+mod page;
+mod paged_rows;
+mod pages;
+mod slots;
+mod sought;
+mod store;
+mod unique_index;
+
+pub use store::PageTables;

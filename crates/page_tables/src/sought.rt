@@ -1,0 +1,114 @@
+//! What is looked for among slots, and where the rows that they name stand beside it.
+ghost use Rattle.std.specs.Prelude.{◌≡◌, ℕ, slice_get, option_copied};
+ghost use Rattle.std.specs.declared.cmp.Ordering.{Ordering as Stand};
+ghost use Rattle.std.specs.Option.{option_cmp};
+ghost use Rattle.rep_values.specs.Order.{value_cmp};
+ghost use Rattle.rep_schema.specs.Tables.{beside, row_cmp, picked};
+ghost use Rattle.page_tables.specs.Slots.{row_at, row_in};
+ghost use Rattle.page_tables.specs.Index.{picked_cmp};
+
+use rep_schema::{Column, compare_row, compare_rows};
+use rep_values::{Row, Value, compare_values};
+use std::cmp::Ordering;
+
+/// A place in an order of rows, which are named by their slots.
+pub(crate) trait Sought {
+    ghost at: { Self → ℕ → Stand };
+
+    /// Where the row of a slot stands: before the place, at it or behind it.
+    fn beside(&self, slot: u32) -> Ordering
+        ensures { result ≡ at self.now slot };
+}
+
+/// The row of a slot.
+pub(crate) fn row_at(rows: &[Option<Row>], slot: u32) -> Option<&Row>
+    ensures { option_copied result ≡ row_at rows.now slot }
+{
+    match rows.get(slot as usize) {
+        Some(Some(row)) => Some(row),
+        Some(None) | None => None,
+    }
+}
+
+/// The values of the row of a slot; none where it has no row.
+pub(crate) fn row_in(rows: &[Option<Row>], slot: u32) -> &[Value]
+    ensures { result.now ≡ row_in rows.now slot }
+{
+    match rows.get(slot as usize) {
+        Some(Some(row)) => row.values(),
+        Some(None) | None => &[],
+    }
+}
+
+fn compare_cell(a: &[Value], b: &[Value], place: u32) -> Ordering
+    ensures { result ≡ option_cmp value_cmp (slice_get a.now place) (slice_get b.now place) }
+{
+    match (a.get(place as usize), b.get(place as usize)) {
+        (Some(x), Some(y)) => compare_values(x, y),
+        (None, None) => Ordering::Equal,
+        (None, Some(_)) => Ordering::Less,
+        (Some(_), None) => Ordering::Greater,
+    }
+}
+
+/// Where a row stands beside another one by the values at these places.
+pub(crate) fn compare_picked(places: &[u32], a: &[Value], b: &[Value]) -> Ordering
+    ensures { result ≡ picked_cmp (picked places.now a.now) (picked places.now b.now) }
+{
+    for place in places {
+        match compare_cell(a, b, *place) {
+            Ordering::Equal => {}
+            Ordering::Less => return Ordering::Less,
+            Ordering::Greater => return Ordering::Greater,
+        }
+    }
+    Ordering::Equal
+}
+
+/// The row with a key.
+#[derive(Clone, Copy)]
+pub(crate) struct ByKey<'a> {
+    pub rows: &'a [Option<Row>],
+    pub columns: &'a [Column],
+    pub key: &'a [Value],
+}
+
+impl<'a> Sought for ByKey<'a> {
+    ghost at = { λ s slot. beside s.columns.now s.key.now (row_in s.rows.now slot) };
+
+    fn beside(&self, slot: u32) -> Ordering {
+        compare_row(self.columns, self.key, row_in(self.rows, slot))
+    }
+}
+
+/// The row with another row's key.
+#[derive(Clone, Copy)]
+pub(crate) struct ByRow<'a> {
+    pub rows: &'a [Option<Row>],
+    pub columns: &'a [Column],
+    pub row: &'a [Value],
+}
+
+impl<'a> Sought for ByRow<'a> {
+    ghost at = { λ s slot. row_cmp s.columns.now (row_in s.rows.now slot) s.row.now };
+
+    fn beside(&self, slot: u32) -> Ordering {
+        compare_rows(self.columns, row_in(self.rows, slot), self.row)
+    }
+}
+
+/// The row with another row's values at some places.
+#[derive(Clone, Copy)]
+pub(crate) struct ByValues<'a> {
+    pub rows: &'a [Option<Row>],
+    pub places: &'a [u32],
+    pub row: &'a [Value],
+}
+
+impl<'a> Sought for ByValues<'a> {
+    ghost at = { λ s slot. picked_cmp (picked s.places.now (row_in s.rows.now slot)) (picked s.places.now s.row.now) };
+
+    fn beside(&self, slot: u32) -> Ordering {
+        compare_picked(self.places, row_in(self.rows, slot), self.row)
+    }
+}

@@ -1,0 +1,105 @@
+//! A store whose tables lie in pages.
+ghost use Rattle.std.specs.Prelude.{◌≡◌, ◌≢◌, ℕ, ◌+◌, ◌<◌, ◌≤◌, ◌⊎◌, ◌↔◌, [], length, replicate, slice_get, slice_set, slice_index, option_copied, IsTrue, IsSome, IsOk, IfOk, OnOk, OnSome};
+ghost use Rattle.rep_schema.specs.Tables.{columns_of, constraints_of, constraint_columns_of, key_of, find_row, put_row, take_row, rows_of, IsKeyed, RowFits, IsUniqueRow, IsHeldElsewhere, AreTables};
+ghost use Rattle.page_tables.specs.Stored.{rows_in, AreIndexed};
+
+use crate::paged_rows::PagedRows;
+use rep_lists::NoMemory;
+use rep_schema::{RowStore, Schema, TableEntry, columns_of};
+use rep_values::{Key, Row};
+use std::alloc::Global;
+use std::marker::Model;
+
+/// The tables of a schema, each in pages of at most 64 rows in rising order of key, with an index of the values of
+/// each secondary constraint. A key is found by a search of the pages and of one page, and a put or take moves at most
+/// the slots of a page.
+#[derive(Drop)]
+pub struct PageTables {
+    schema: Schema,
+    stored: Vec<PagedRows>,
+}
+
+impl Model for PageTables {
+    ghost use Rattle.rep_schema.specs.Tables.{AreTables};
+    ghost use Rattle.page_tables.specs.Stored.{Stored, rows_in, spare_in, AreIndexed};
+
+    ghost Value = { Stored };
+
+    ghost view = { λ s. record { schema = s.schema; tables = rows_in s.stored.items; spare = spare_in s.stored.items } };
+
+    ghost invariant = { λ s. AreTables s.schema (rows_in s.stored.items) × AreIndexed s.schema.tables s.stored.items };
+}
+
+/// Each table empty, with an index for each of its constraints.
+fn empty_tables(alloc: Global, entries: &[TableEntry]) -> Result<Vec<PagedRows>, NoMemory>
+    ensures rows { IfOk result (λ stored. rows_in stored.items ≡ replicate (length entries.now) []) }
+    ensures indexed { IfOk result (λ stored. AreIndexed entries.now stored.items) }
+{
+    let mut stored = Vec::with_capacity(alloc, entries.len())?;
+    for entry in entries {
+        stored.push(PagedRows::of(alloc, entry.constraints.as_slice())?)?;
+    }
+    Ok(stored)
+}
+
+impl PageTables {
+    /// A store of this schema with every table empty.
+    pub fn make(alloc: Global, schema: Schema) -> Result<PageTables, NoMemory>
+        ensures schema { IfOk result (λ s. s.schema ≡ schema) }
+        ensures tables { IfOk result (λ s. s.tables ≡ replicate (length schema.tables) []) }
+    {
+        let stored = empty_tables(alloc, schema.tables.as_slice())?;
+        Ok(PageTables { schema, stored })
+    }
+}
+
+impl RowStore for PageTables {
+    ghost schema = { λ s. s.schema };
+
+    ghost tables = { λ s. s.tables };
+
+    ghost spare = { λ s. s.spare };
+
+    fn schema(&self) -> &Schema {
+        &self.schema
+    }
+
+    fn count(&self, table: u32) -> u64 {
+        let rows = &self.stored[table as usize];
+        rows.len() as u64
+    }
+
+    fn get(&self, table: u32, key: &Key) -> Option<&Row> {
+        let columns = columns_of(&self.schema, table);
+        let rows = &self.stored[table as usize];
+        rows.get(columns, key.values())
+    }
+
+    fn row_in_order(&self, table: u32, place: u64) -> Option<&Row> {
+        let rows = &self.stored[table as usize];
+        rows.at(place as usize)
+    }
+
+    fn holds_unique(&self, table: u32, constraint: u32, row: &Row) -> bool {
+        let columns = columns_of(&self.schema, table);
+        let rows = &self.stored[table as usize];
+        rows.holds(columns, constraint as usize, row.values())
+    }
+
+    fn reserve(&mut self, table: u32, rows: u64) -> Result<(), NoMemory> {
+        let stored = &mut self.stored[table as usize];
+        stored.reserve(rows as usize)
+    }
+
+    fn put(&mut self, table: u32, row: Row) -> Option<Row> {
+        let columns = columns_of(&self.schema, table);
+        let rows = &mut self.stored[table as usize];
+        rows.put(columns, row)
+    }
+
+    fn take(&mut self, table: u32, key: &Key) -> Option<Row> {
+        let columns = columns_of(&self.schema, table);
+        let rows = &mut self.stored[table as usize];
+        rows.take(columns, key.values())
+    }
+}
