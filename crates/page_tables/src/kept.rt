@@ -41,6 +41,17 @@ fn indexes_of(alloc: Global, constraints: &[Constraint]) -> Result<Vec<UniqueInd
     Ok(indexes)
 }
 
+/// The same indexes once more.
+fn copy_indexes(alloc: Global, indexes: &[UniqueIndex]) -> Result<Vec<UniqueIndex>, NoMemory>
+    ensures { IfOk result (λ copied. copied.items ≡ indexes.now) }
+{
+    let mut copied = Vec::with_capacity(alloc, indexes.len())?;
+    for index in indexes {
+        copied.push(index.copy(alloc)?)?;
+    }
+    Ok(copied)
+}
+
 /// A row stays in its slot until it is taken. The order and the indexes name it by its slot, and so a put or take
 /// moves slots alone.
 #[derive(Drop)]
@@ -61,6 +72,20 @@ impl Kept {
             slots: Slots::new(alloc),
             order: Pages::new(alloc),
             indexes: indexes_of(alloc, constraints)?,
+        })
+    }
+
+    /// The same rows in the same slots, or want of memory.
+    pub(crate) fn copy(&self, alloc: Global) -> Result<Kept, NoMemory>
+        requires { IsStored self.now.slots self.now.order self.now.indexes.items }
+        ensures rows { IfOk result (λ kept. rows_kept kept.slots kept.order ≡ rows_kept self.now.slots self.now.order) }
+        ensures columns { IfOk result (λ kept. map (λ index. index.columns) kept.indexes.items ≡ map (λ index. index.columns) self.now.indexes.items) }
+        ensures stored { IfOk result (λ kept. IsStored kept.slots kept.order kept.indexes.items) }
+    {
+        Ok(Kept {
+            slots: self.slots.copy(alloc)?,
+            order: self.order.copy(alloc)?,
+            indexes: copy_indexes(alloc, &self.indexes)?,
         })
     }
 

@@ -45,6 +45,16 @@ impl PagedRows {
         })
     }
 
+    /// The same rows and the same indexes, or want of memory.
+    pub(crate) fn copy(&self, alloc: Global) -> Result<PagedRows, NoMemory>
+        ensures rows { IfOk result (λ copied. copied.rows ≡ self.now.rows) }
+        ensures uniques { IfOk result (λ copied. copied.uniques ≡ self.now.uniques) }
+    {
+        Ok(PagedRows {
+            kept: self.kept.copy(alloc)?,
+        })
+    }
+
     pub(crate) fn len(&self) -> usize
         ensures { result ≡ length self.now.rows }
     {

@@ -307,7 +307,20 @@ fn make_room(pages: &mut Vec<Page>, waiting: &mut Vec<Page>, number: usize) -> R
     fill_up(waiting, alloc, number - pages.len())
 }
 
-/// Slots in the order in which they are looked for, each once. Only `reserve` takes memory.
+/// The same pages once more, with places for so many.
+fn copy_pages(alloc: Global, pages: &[Page], places: usize) -> Result<Vec<Page>, NoMemory>
+    requires { length pages.now ≤ places }
+    ensures pages { IfOk result (λ copied. copied.items ≡ pages.now) }
+    ensures places { IfOk result (λ copied. places ≤ vec_capacity copied) }
+{
+    let mut copied = Vec::with_capacity(alloc, places)?;
+    for page in pages {
+        copied.push_reserved(page.copy(alloc)?);
+    }
+    Ok(copied)
+}
+
+/// Slots in the order in which they are looked for, each once. Only `reserve` and `copy` take memory.
 #[derive(Drop)]
 pub(crate) struct Pages {
     pages: Vec<Page>,
@@ -335,6 +348,18 @@ impl Pages {
             waiting: Vec::new(alloc),
             count: 0,
         }
+    }
+
+    /// The same slots in as many pages, with as many that wait, or want of memory.
+    pub(crate) fn copy(&self, alloc: Global) -> Result<Pages, NoMemory>
+        ensures { IfOk result (λ copied. copied ≡ self.now) }
+    {
+        let places = self.pages.len() + self.waiting.len();
+        Ok(Pages {
+            pages: copy_pages(alloc, &self.pages, places)?,
+            waiting: copy_pages(alloc, &self.waiting, places)?,
+            count: self.count,
+        })
     }
 
     pub(crate) fn len(&self) -> usize

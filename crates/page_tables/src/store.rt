@@ -1,10 +1,10 @@
 //! A store whose tables lie in pages.
 ghost use Rattle.std.specs.Prelude.{◌≡◌, ◌≢◌, ℕ, ◌+◌, ◌<◌, ◌≤◌, ◌⊎◌, ◌↔◌, [], length, replicate, slice_get, slice_set, slice_index, option_copied, IsTrue, IsSome, IsOk, IfOk, OnOk, OnSome};
 ghost use Rattle.rep_schema.specs.Tables.{columns_of, constraints_of, constraint_columns_of, key_of, find_row, put_row, take_row, rows_of, IsKeyed, RowFits, IsUniqueRow, IsHeldElsewhere, AreTables};
-ghost use Rattle.page_tables.specs.Stored.{rows_in, AreIndexed};
+ghost use Rattle.page_tables.specs.Stored.{rows_in, uniques_in, AreIndexed};
 
 use crate::paged_rows::PagedRows;
-use rep_lists::NoMemory;
+use rep_lists::{Copies, NoMemory};
 use rep_schema::{RowStore, Schema, TableEntry, columns_of};
 use rep_values::{Key, Row};
 use std::alloc::Global;
@@ -42,6 +42,18 @@ fn empty_tables(alloc: Global, entries: &[TableEntry]) -> Result<Vec<PagedRows>,
     Ok(stored)
 }
 
+/// The same tables once more.
+fn copy_each(alloc: Global, tables: &[PagedRows]) -> Result<Vec<PagedRows>, NoMemory>
+    ensures rows { IfOk result (λ copied. rows_in copied.items ≡ rows_in tables.now) }
+    ensures uniques { IfOk result (λ copied. uniques_in copied.items ≡ uniques_in tables.now) }
+{
+    let mut copied = Vec::with_capacity(alloc, tables.len())?;
+    for rows in tables {
+        copied.push(rows.copy(alloc)?)?;
+    }
+    Ok(copied)
+}
+
 impl PageTables {
     /// A store of this schema with every table empty.
     pub fn make(alloc: Global, schema: Schema) -> Result<PageTables, NoMemory>
@@ -49,6 +61,16 @@ impl PageTables {
         ensures tables { IfOk result (λ s. s.tables ≡ replicate (length schema.tables) []) }
     {
         let stored = empty_tables(alloc, schema.tables.as_slice())?;
+        Ok(PageTables { schema, stored })
+    }
+
+    /// A store of an equal schema with equal rows, or want of memory.
+    pub fn copy(&self, alloc: Global) -> Result<PageTables, NoMemory>
+        ensures schema { IfOk result (λ s. s.schema ≡ self.now.schema) }
+        ensures tables { IfOk result (λ s. s.tables ≡ self.now.tables) }
+    {
+        let schema = self.schema.copy(alloc)?;
+        let stored = copy_each(alloc, self.stored.as_slice())?;
         Ok(PageTables { schema, stored })
     }
 }
