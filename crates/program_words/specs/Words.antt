@@ -36,3 +36,8 @@ asked_by (w ∷ []) = cond (pointwise nat_eq w.now (codes "run")) (Some asked.Ru
 asked_by (w ∷ v ∷ []) = None
 asked_by (w ∷ seed ∷ count ∷ []) = cond (pointwise nat_eq w.now (codes "storm")) (storm_of (number_in 0 most_seed seed.now) (number_in 1 most_count count.now)) None
 asked_by (w ∷ seed ∷ count ∷ v ∷ words) = None
+
+-- a storm has 1 to 50,000 transactions
+abbrev pub HasCount : Asked → Type 0
+HasCount asked.Run = Unit {0}
+HasCount (asked.Storm seed count) = (1 ≤ count) × (count ≤ most_count)
