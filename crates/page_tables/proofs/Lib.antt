@@ -10,3 +10,4 @@ mod KeptRows
 mod RoomyIndexes
 mod PutRows
 mod OneTable
+mod Declarations

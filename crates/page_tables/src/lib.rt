@@ -1,6 +1,7 @@
 //! A store of rows whose tables lie in pages, with an index of the values of each constraint.
 #![tactic(auto)]
 
+mod change;
 mod kept;
 mod page;
 mod paged_rows;

@@ -51,6 +51,12 @@ impl UniqueIndex {
         })
     }
 
+    pub(crate) fn copy_columns(&self, alloc: Global) -> Result<Items<u32>, NoMemory>
+        ensures { IfOk result (λ columns. columns ≡ self.now.columns) }
+    {
+        self.columns.copy(alloc)
+    }
+
     pub(crate) fn columns(&self) -> &[u32]
         ensures { result.now ≡ self.now.columns }
     {
