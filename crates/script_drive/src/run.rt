@@ -6,7 +6,7 @@ ghost use Rattle.rep_lines.specs.Lines.{newline, IsUnbroken};
 ghost use Rattle.rep_lines.specs.Runs.{Stepped, goes};
 ghost use Rattle.rep_lines.specs.Fed.{Fed, FedInto, beginning, prints_from, stops_from};
 ghost use Rattle.report_text.specs.Texts.{malformed_text};
-ghost use Rattle.script_drive.specs.Lines.{line_step, StopsBy};
+ghost use Rattle.script_drive.specs.Lines.{line_step, most_bytes, StopsBy};
 ghost use Rattle.script_drive.specs.Halts.{HaltsInto, RefusesInto, HasWriteCause, status_of, progress};
 
 use crate::status::Status;
@@ -128,7 +128,7 @@ impl<X: LineRunner> Run<X> {
         self.feed(alloc, b"\n", sink)
     }
 
-    // Takes the next bytes up to the end of their line, which is run where this end is there, and tells how many they are.
+    // Takes the bytes up to the first that ends a line, or all, runs the line that is ended, and tells how many it took.
     fn take<K: Sink>(&mut self, alloc: Global, bytes: &[u8], sink: &mut K) -> Result<usize, Halt>
         requires { 0 < length bytes.now }
         ensures count { IfOk result (λ count. (0 < count) × (count ≤ length bytes.now)) }
@@ -153,10 +153,10 @@ impl<X: LineRunner> Run<X> {
         Ok(count + 1)
     }
 
-    // Appends bytes to the line that stands, which has room for them and doesn't end with them.
+    // Appends bytes that don't end the line. There is room for them, so this takes no memory.
     fn append(&mut self, bytes: &[u8])
         requires unbroken { IsUnbroken bytes.now }
-        requires room { length self.old.line + length bytes.now ≤ 1024 }
+        requires room { length self.old.line + length bytes.now ≤ most_bytes }
         ensures fed { Fed (line_step X.step) self.old bytes.now [] self.new }
         ensures number { self.new.number ≡ self.old.number }
         ensures further { progress self.new ≡ progress self.old + length bytes.now }
