@@ -3,6 +3,7 @@ mod Parted
 mod InPages
 mod Close
 mod KeptPages
+mod InStarts
 mod InIndex
 mod InSlots
 mod InRows

@@ -8,6 +8,7 @@ mod paged_rows;
 mod pages;
 mod slots;
 mod sought;
+mod starts;
 mod store;
 mod unique_index;
 
