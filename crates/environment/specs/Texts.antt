@@ -6,7 +6,7 @@ use Rattle.rep_values.specs.declared.name.TableName.{TableName}
 use Rattle.rep_schema.specs.Named.{table_place}
 use Rattle.rep_schema.specs.Sites.{senders_of, destinations_of}
 use Rattle.report_text.specs.Texts.{commit_text, nothing_committed_text, purge_text, purge_log_text, refresh_fast_text, refresh_complete_text, execute_text, drop_error_text, push_text, tables_text}
-use Rattle.report_text.specs.Refusals.{error_text}
+use Rattle.report_text.specs.Refusals.{error_text, refused_text}
 use Rattle.site_report.specs.Shows.{errors_text, journal_text, log_text, marks_text, queue_text}
 use Rattle.error_queue.specs.declared.entry.ErrorEntry.{ErrorEntry}
 use Rattle.script_parse.specs.declared.command.Shown.{Shown}
@@ -17,9 +17,11 @@ use Rattle.site_state.specs.State.{SiteState}
 use Rattle.site_state.specs.Contents.{tables_of}
 use Rattle.event_laws.specs.Core.{site_of}
 use Rattle.world_state.specs.declared.block.Block.{Block}
+use Rattle.world_state.specs.declared.refused.Refused.{Refused}
 use Rattle.world_state.specs.World.{WorldState, is_there}
 use Rattle.world_state.specs.Answers.{RefreshTold, commit_number, purge_count, log_purge_count, refresh_answer}
 use Rattle.world_state.specs.PushAnswers.{push_count, push_errors}
+use Rattle.world_state.specs.Steps.{step_refused}
 
 -- a commit's number, or that nothing was committed
 abbrev pub committed_text : SiteName → ℕ → List ℕ
@@ -92,3 +94,11 @@ world_text (command.PurgeLog master table) w = log_purged_text master table (tab
 world_text command.Suspend w = []
 world_text (command.Join site source) w = []
 world_text (command.Show what site) w = shown_found what site (site_of site w.sites) w
+
+abbrev pub told_text : Option Refused → Command → WorldState → List ℕ
+told_text None command w = world_text command w
+told_text (Some r) command w = refused_text r.line r.refusal
+
+-- what the line of a number prints: what its command tells, or why it is refused
+abbrev pub line_text : ℕ → Command → WorldState → List ℕ
+line_text number command w = told_text (step_refused number command w) command w

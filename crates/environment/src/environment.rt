@@ -6,10 +6,10 @@ ghost use Rattle.world_state.specs.World.{first_world};
 ghost use Rattle.environment.specs.Finding.{FindsSite};
 
 use net_plan::Net;
+use page_tables::PageTables;
 use rep_lists::{Items, NoMemory};
 use rep_schema::Schema;
 use rep_values::SiteName;
-use row_tables::ListTables;
 use site_core::Site;
 use std::alloc::Global;
 use std::marker::Model;
@@ -20,9 +20,9 @@ use world_state::{Block, DeclaredSnapshot, Phase};
 #[derive(Drop)]
 pub struct Environment {
     pub phase: Phase,
-    pub store: ListTables,
+    pub store: PageTables,
     pub snapshots: Items<DeclaredSnapshot>,
-    pub sites: Vec<Site<ListTables>>,
+    pub sites: Vec<Site<PageTables>>,
     pub net: Net,
     pub block: Option<Block>,
 }
@@ -50,7 +50,7 @@ impl Environment {
     {
         Ok(Environment {
             phase: Phase::Setup,
-            store: ListTables::make(alloc, Schema::empty(alloc))?,
+            store: PageTables::make(alloc, Schema::empty(alloc))?,
             snapshots: Items::new(alloc),
             sites: Vec::new(alloc),
             net: Net::make(alloc, &[])?,
@@ -60,14 +60,14 @@ impl Environment {
 }
 
 /// The place of the first site of a name.
-fn first_of(sites: &[Site<ListTables>], name: &SiteName) -> Option<usize>
+fn first_of(sites: &[Site<PageTables>], name: &SiteName) -> Option<usize>
     ensures { result ≡ position (λ x. is_same_site x.here.site name.now) sites.now }
 {
     sites.iter().position(|site| site.name().is_same(name))
 }
 
 /// The place of the site of a name, None exactly where it isn't there.
-pub fn place_of(sites: &[Site<ListTables>], name: &SiteName) -> Option<usize>
+pub fn place_of(sites: &[Site<PageTables>], name: &SiteName) -> Option<usize>
     ensures { FindsSite name.now sites.now result }
 {
     first_of(sites, name)

@@ -14,9 +14,9 @@ ghost use Rattle.environment.specs.Known.{known_steps};
 use crate::Environment;
 use crate::environment::place_of;
 use crate::snapshots::master_of;
+use page_tables::PageTables;
 use rep_schema::RowStore;
 use rep_values::{Refusal, SiteName, TableName};
-use row_tables::ListTables;
 use schema_names::table_place;
 use script_parse::{Command, Refresh};
 use site_core::Site;
@@ -67,7 +67,7 @@ fn log_step(how: Refresh, logs: &Notes, snapshots: &Notes) -> Option<Refusal>
 }
 
 // Whether all that a site queued for its only destination is acknowledged there.
-fn queue_step(site: &Site<ListTables>, to: &SiteName) -> Option<Refusal>
+fn queue_step(site: &Site<PageTables>, to: &SiteName) -> Option<Refusal>
     requires { map (λ (d : DestinationState). d.site) site.now.destinations ≡ to.now ∷ [] }
     ensures { result ≡ refused (not (is_all_acked site.now)) (Refusal.QueueNotEmpty (waiting_count site.now)) }
 {
@@ -83,8 +83,8 @@ impl Environment {
     // A refresh of a site from its master: both directions are up, all is acknowledged, and the logs reach back.
     fn refresh_step(
         &self,
-        site: &Site<ListTables>,
-        master: &Site<ListTables>,
+        site: &Site<PageTables>,
+        master: &Site<PageTables>,
         how: Refresh,
     ) -> Option<Refusal>
         requires there { HasDirection self.now.net site.now.here.site master.now.here.site }

@@ -13,11 +13,11 @@ ghost use Rattle.environment.specs.Doing.{Does};
 use crate::room::{no_memory, room_for_line};
 use environment::{Environment, place_of};
 use local_txn::LocalStop;
+use page_tables::PageTables;
 use rep_calls::Statement;
 use rep_lists::{Copies, Items, NoMemory};
 use rep_values::{Refusal, SiteName};
 use report_text::{Lines, commit_line, nothing_committed_line};
-use row_tables::ListTables;
 use script_parse::Command;
 use site_core::Site;
 use std::alloc::Global;
@@ -116,7 +116,7 @@ fn no_memory_for_block() -> LocalStop
 
 /// Commits a block at its site. Where that isn't there nothing happens.
 fn commit_block(
-    sites: &mut Vec<Site<ListTables>>,
+    sites: &mut Vec<Site<PageTables>>,
     alloc: Global,
     block: &Block,
 ) -> Result<u64, LocalStop>

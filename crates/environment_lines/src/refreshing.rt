@@ -17,11 +17,11 @@ ghost use Rattle.environment_lines.specs.Refreshing.{CanRefreshAt, refreshed_at,
 use crate::room::{no_memory, room_for_line};
 use environment::{Environment, master_of, place_of, young_step};
 use fast_refresh::{CountedView, rows_shown};
+use page_tables::PageTables;
 use rep_lists::{Items, NoMemory};
 use rep_schema::RowStore;
 use rep_values::{SiteName, TableName};
 use report_text::{Lines, purge_log_line, refresh_complete_line, refresh_fast_line};
-use row_tables::ListTables;
 use schema_names::table_place;
 use script_parse::{Command, Refresh};
 use site_core::Site;
@@ -52,7 +52,7 @@ fn goes_by_logs(how: Refresh, logs: &Notes, snapshots: &Notes) -> bool
 fn rows_of_each(
     alloc: Global,
     snapshots: &Notes,
-    master: &ListTables,
+    master: &PageTables,
 ) -> Result<Items<TableRows>, NoMemory>
     requires { AreWithin master.now.schema snapshots.now.snapshots }
     ensures { IfOk result (λ rows. rows ≡ rows_shown master.now.tables snapshots.now.snapshots) }
@@ -69,9 +69,9 @@ fn rows_of_each(
 
 /// Refreshes a site by its master's logs.
 fn refresh_fast(
-    site: &mut Site<ListTables>,
+    site: &mut Site<PageTables>,
     alloc: Global,
-    master: &Site<ListTables>,
+    master: &Site<PageTables>,
 ) -> Result<RefreshCount, NoMemory>
     requires can { CanRefreshFrom master.now site.old }
     requires reach { young_step master.now.logs site.old.snapshots ≡ None }
@@ -85,9 +85,9 @@ fn refresh_fast(
 
 /// Refreshes a site by its queries of its master's tables.
 fn refresh_complete(
-    site: &mut Site<ListTables>,
+    site: &mut Site<PageTables>,
     alloc: Global,
-    master: &Site<ListTables>,
+    master: &Site<PageTables>,
 ) -> Result<RefreshCount, NoMemory>
     requires { CanRefreshFrom master.now site.old }
     ensures ok { OnOk result (site.new ≡ site_refresh (rows_shown (tables_of master.now) site.old.snapshots) master.now.moment site.old) }
@@ -101,9 +101,9 @@ fn refresh_complete(
 
 /// Refreshes a site from its master.
 fn refresh_from(
-    site: &mut Site<ListTables>,
+    site: &mut Site<PageTables>,
     alloc: Global,
-    master: &Site<ListTables>,
+    master: &Site<PageTables>,
     how: Refresh,
 ) -> Result<Told, NoMemory>
     requires can { CanRefreshFrom master.now site.old }
@@ -123,7 +123,7 @@ fn refresh_from(
 
 /// Refreshes a site from a master that stands behind it.
 fn refresh_in_front(
-    sites: &mut [Site<ListTables>],
+    sites: &mut [Site<PageTables>],
     alloc: Global,
     place: usize,
     master: usize,
@@ -142,7 +142,7 @@ fn refresh_in_front(
 
 /// Refreshes a site from a master that stands before it.
 fn refresh_behind(
-    sites: &mut [Site<ListTables>],
+    sites: &mut [Site<PageTables>],
     alloc: Global,
     place: usize,
     master: usize,
@@ -161,7 +161,7 @@ fn refresh_behind(
 
 /// Refreshes the site at a place from the master at another one.
 fn refresh_at(
-    sites: &mut [Site<ListTables>],
+    sites: &mut [Site<PageTables>],
     alloc: Global,
     place: usize,
     master: usize,

@@ -8,11 +8,11 @@ ghost use Rattle.environment.specs.Doing.{Does};
 
 use crate::room::no_memory;
 use environment::{Environment, place_of};
+use page_tables::PageTables;
 use rep_lists::{Items, NoMemory};
 use rep_schema::RowStore;
 use rep_values::SiteName;
 use report_text::{Lines, add_tables};
-use row_tables::ListTables;
 use schema_sites::{destinations_of, senders_of};
 use script_parse::{Command, Shown};
 use site_core::Site;
@@ -67,7 +67,7 @@ fn add_queue_there(
     alloc: Global,
     environment: &Environment,
     name: &SiteName,
-    site: &Site<ListTables>,
+    site: &Site<PageTables>,
 ) -> Result<(), NoMemory>
     ensures { OnOk result (lines.new.bytes ≡ lines.old.bytes ++ shown_text Shown.Queue name.now site.now environment.now) }
 {
@@ -82,7 +82,7 @@ fn add_marks_there(
     alloc: Global,
     environment: &Environment,
     name: &SiteName,
-    site: &Site<ListTables>,
+    site: &Site<PageTables>,
 ) -> Result<(), NoMemory>
     ensures { OnOk result (lines.new.bytes ≡ lines.old.bytes ++ shown_text Shown.Marks name.now site.now environment.now) }
 {
@@ -105,7 +105,7 @@ fn add_shown(
     environment: &Environment,
     what: Shown,
     name: &SiteName,
-    site: &Site<ListTables>,
+    site: &Site<PageTables>,
 ) -> Result<(), NoMemory>
     requires { is_built_show what ≡ true }
     ensures { OnOk result (lines.new.bytes ≡ lines.old.bytes ++ shown_text what name.now site.now environment.now) }

@@ -10,15 +10,15 @@ use crate::deliver::deliver_all;
 use crate::send::{release, send_some};
 use environment::{Environment, place_of};
 use packet_code::Sealed;
+use page_tables::PageTables;
 use rep_lists::NoMemory;
 use rep_values::SiteName;
-use row_tables::ListTables;
 use site_core::Site;
 use std::alloc::Global;
 
 /// The mark of a site for another one, where the site is there.
 fn mark_of(
-    sites: &[Site<ListTables>],
+    sites: &[Site<PageTables>],
     alloc: Global,
     from: &SiteName,
     to: &SiteName,

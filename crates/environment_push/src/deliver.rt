@@ -9,15 +9,15 @@ ghost use Rattle.environment.specs.Following.{Follows};
 
 use environment::{Environment, place_of};
 use packet_code::Packet;
+use page_tables::PageTables;
 use rep_lists::NoMemory;
 use rep_values::SiteName;
-use row_tables::ListTables;
 use site_core::Site;
 use std::alloc::Global;
 
 /// A site takes in a packet, where it is there.
 fn accept_at(
-    sites: &mut Vec<Site<ListTables>>,
+    sites: &mut Vec<Site<PageTables>>,
     to: &SiteName,
     packet: Packet,
 ) -> Result<(), NoMemory>

@@ -9,9 +9,9 @@ ghost use Rattle.environment.specs.Following.{Follows};
 
 use environment::{Environment, place_of};
 use packet_code::Sealed;
+use page_tables::PageTables;
 use rep_lists::NoMemory;
 use rep_values::SiteName;
-use row_tables::ListTables;
 use site_core::Site;
 use std::alloc::Global;
 
@@ -50,7 +50,7 @@ pub(crate) fn send_some(
 
 /// The packet of a position, where the site is there and has one.
 fn packet_of(
-    sites: &[Site<ListTables>],
+    sites: &[Site<PageTables>],
     alloc: Global,
     from: &SiteName,
     to: &SiteName,
@@ -103,7 +103,7 @@ fn at_most(count: Option<u64>, number: u64) -> u64
 
 /// The positions of a site that aren't acknowledged, at most so many where a count is given.
 fn unsent_of(
-    sites: &[Site<ListTables>],
+    sites: &[Site<PageTables>],
     from: &SiteName,
     to: &SiteName,
     count: Option<u64>,

@@ -9,10 +9,10 @@ ghost use Rattle.environment.specs.Following.{Follows};
 ghost use Rattle.environment_push.specs.Settling.{told_text, IsSettling};
 
 use environment::{Environment, place_of};
+use page_tables::PageTables;
 use rep_lists::NoMemory;
 use rep_values::SiteName;
 use report_text::{Lines, PushCount, push_line};
-use row_tables::ListTables;
 use site_core::Site;
 use site_rounds::{add_new_errors, settle};
 use std::alloc::Global;
@@ -27,7 +27,7 @@ pub(crate) struct Pushed {
 
 /// A receiver settles what came, and tells it.
 fn settle_site(
-    site: &mut Site<ListTables>,
+    site: &mut Site<PageTables>,
     alloc: Global,
     lines: &mut Lines,
     pushed: Pushed,

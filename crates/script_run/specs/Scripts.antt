@@ -5,31 +5,21 @@ use Rattle.rep_lines.specs.Lines.{lines_after}
 use Rattle.rep_lines.specs.Runs.{Stepped, goes, halts, state_after}
 use Rattle.rep_lines.specs.Told.{report}
 use Rattle.report_text.specs.Texts.{malformed_text}
-use Rattle.report_text.specs.Refusals.{refused_text}
 use Rattle.script_parse.specs.declared.command.Refresh.{Refresh}
 use Rattle.script_parse.specs.declared.command.Command.{Command}
 use Rattle.script_parse.specs.declared.command.Command.TheVariants as command
 use Rattle.script_parse.specs.Parsed.{parsed}
 use Rattle.site_state.specs.State.{SiteState}
 use Rattle.event_laws.specs.Core.{site_of}
-use Rattle.world_state.specs.declared.refused.Refused.{Refused}
 use Rattle.world_state.specs.World.{WorldState, first_world}
 use Rattle.world_state.specs.Refusals.{world_refusal}
-use Rattle.world_state.specs.Steps.{world_step, step_refused}
+use Rattle.world_state.specs.Steps.{world_step}
 use Rattle.world_laws.specs.Worlds.{WorldHolds, NothingReady}
 use Rattle.snapshot_worlds.specs.Sites.{SnapshotsHold}
 use Rattle.snapshot_worlds.specs.Refreshes.{ShowsItsMaster}
 use Rattle.convergent_worlds.specs.Convergence.{ConvergenceHolds}
-use Rattle.environment.specs.Texts.{world_text}
+use Rattle.environment.specs.Texts.{line_text}
 use Rattle.script_drive.specs.Lines.{line_step}
-
-abbrev pub told_text : Option Refused → Command → WorldState → List ℕ
-told_text None command w = world_text command w
-told_text (Some r) command w = refused_text r.line r.refusal
-
--- what the line of a number prints: what its command tells, or why it is refused
-abbrev pub line_text : ℕ → Command → WorldState → List ℕ
-line_text number command w = told_text (step_refused number command w) command w
 
 abbrev pub stepped_by : WorldState → ℕ → Result Command ℕ → Stepped WorldState
 stepped_by w number (Err rule) = halts w (malformed_text number rule)

@@ -8,9 +8,9 @@ ghost use Rattle.site_state.specs.Refreshes.{rows_shown, with_tables};
 ghost use Rattle.world_state.specs.Making.{snapshots_at};
 
 use fast_refresh::{refresh_complete, rows_shown};
+use page_tables::PageTables;
 use rep_lists::{Copies, Items, NoMemory};
 use rep_values::SiteName;
-use row_tables::ListTables;
 use snapshot_query::Snapshot;
 use std::alloc::Global;
 use world_state::DeclaredSnapshot;
@@ -31,8 +31,8 @@ fn new_snapshot(alloc: Global, declared: &DeclaredSnapshot) -> Result<Snapshot, 
 fn show_one(
     alloc: Global,
     declared: &DeclaredSnapshot,
-    filled: &ListTables,
-    store: &mut ListTables,
+    filled: &PageTables,
+    store: &mut PageTables,
 ) -> Result<Snapshot, NoMemory>
     requires keyed { IsKeyed store.old.schema }
     requires schema { filled.now.schema ≡ store.old.schema }
@@ -52,8 +52,8 @@ pub(crate) fn show_each(
     alloc: Global,
     snapshots: &[DeclaredSnapshot],
     site: &SiteName,
-    filled: &ListTables,
-    store: &mut ListTables,
+    filled: &PageTables,
+    store: &mut PageTables,
 ) -> Result<Items<Snapshot>, NoMemory>
     requires keyed { IsKeyed store.old.schema }
     requires schema { filled.now.schema ≡ store.old.schema }

@@ -13,11 +13,11 @@ ghost use Rattle.site_making.specs.Entries.{IsThere, IsEntryOf};
 use crate::shown::show_each;
 use crate::table_sets::{logged_at, snapshot_here};
 use local_txn::{Here, fill_base_rows, sound_schemas_fill_freely};
+use page_tables::PageTables;
 use rep_laws::sound_schemas_have_keys;
 use rep_lists::{Copies, Items, NoMemory};
 use rep_schema::{RowStore, Schema, SiteEntry, TableSet};
 use rep_values::SiteName;
-use row_tables::ListTables;
 use schema_sites::{destinations_of, first_master, senders_of};
 use site_core::Site;
 use snapshot_query::Snapshot;
@@ -36,7 +36,7 @@ fn master_here(schema: &Schema, site: SiteName) -> Here
 }
 
 /// Fills in the rows that masters begin with, with stamp 0 and the first declared master.
-fn fill_rows(store: &mut ListTables) -> Result<(), NoMemory>
+fn fill_rows(store: &mut PageTables) -> Result<(), NoMemory>
     requires { IsSound store.old.schema }
     ensures ok { OnOk result (store.new.tables ≡ rows_made store.old.schema store.old.tables) }
     ensures schema { store.new.schema ≡ store.old.schema }
@@ -50,7 +50,7 @@ fn fill_rows(store: &mut ListTables) -> Result<(), NoMemory>
 }
 
 /// A copy of a store with its rows filled in.
-fn filled_copy(alloc: Global, store: &ListTables) -> Result<ListTables, NoMemory>
+fn filled_copy(alloc: Global, store: &PageTables) -> Result<PageTables, NoMemory>
     requires { IsSound store.now.schema }
     ensures tables { IfOk result (λ filled. filled.tables ≡ rows_made store.now.schema store.now.tables) }
     ensures schema { IfOk result (λ filled. filled.schema ≡ store.now.schema) }
@@ -65,11 +65,11 @@ fn filled_copy(alloc: Global, store: &ListTables) -> Result<ListTables, NoMemory
 /// A site of a store, with the senders and destinations that its schema gives it.
 fn new_site(
     alloc: Global,
-    store: ListTables,
+    store: PageTables,
     here: Here,
     logged: &TableSet,
     snapshots: Items<Snapshot>,
-) -> Result<Site<ListTables>, NoMemory>
+) -> Result<Site<PageTables>, NoMemory>
     requires keyed { IsKeyed store.schema }
     requires master { here.is_master ≡ is_master_site store.schema here.site }
     requires logged { (table : ℕ) → has_table logged.now table ≡ true → table < 32 }
@@ -94,10 +94,10 @@ fn new_site(
 /// its has a snapshot.
 fn master_made(
     alloc: Global,
-    filled: &ListTables,
+    filled: &PageTables,
     snapshots: &[DeclaredSnapshot],
     site: SiteName,
-) -> Result<Site<ListTables>, NoMemory>
+) -> Result<Site<PageTables>, NoMemory>
     requires keyed { IsKeyed filled.now.schema }
     requires master { is_master_site filled.now.schema site ≡ true }
     ensures { IfOk result (λ made. made ≡ site_made filled.now.schema filled.now.tables snapshots.now site None) }
@@ -111,10 +111,10 @@ fn master_made(
 /// A snapshot site with the rows that its snapshots show of a store's, at which nothing happened yet.
 fn snapshot_site_made(
     alloc: Global,
-    filled: &ListTables,
+    filled: &PageTables,
     snapshots: &[DeclaredSnapshot],
     site: SiteName,
-) -> Result<Site<ListTables>, NoMemory>
+) -> Result<Site<PageTables>, NoMemory>
     requires keyed { IsKeyed filled.now.schema }
     requires master { is_master_site filled.now.schema site ≡ false }
     requires within { AllByRecursion (λ s. s.table < length filled.now.schema.tables) snapshots.now }
@@ -122,7 +122,7 @@ fn snapshot_site_made(
     ensures { IfOk result (λ made. made ≡ new_site filled.now.schema (snapshot_here snapshots.now site) [] (snapshots_at snapshots.now site)
         (rows_of_snapshots filled.now.schema filled.now.tables (snapshots_at snapshots.now site))) }
 {
-    let mut store = ListTables::make(alloc, filled.schema().copy(alloc)?)?;
+    let mut store = PageTables::make(alloc, filled.schema().copy(alloc)?)?;
     let shown = show_each(alloc, snapshots, &site, filled, &mut store)?;
     let here = snapshot_here(alloc, snapshots, site)?;
     new_site(alloc, store, here, &TableSet::below(0), shown)
@@ -131,10 +131,10 @@ fn snapshot_site_made(
 /// The site of an entry.
 fn entry_made(
     alloc: Global,
-    filled: &ListTables,
+    filled: &PageTables,
     snapshots: &[DeclaredSnapshot],
     entry: &SiteEntry,
-) -> Result<Site<ListTables>, NoMemory>
+) -> Result<Site<PageTables>, NoMemory>
     requires keyed { IsKeyed filled.now.schema }
     requires entry { IsEntryOf filled.now.schema entry.now }
     requires within { AllByRecursion (λ s. s.table < length filled.now.schema.tables) snapshots.now }
@@ -150,9 +150,9 @@ fn entry_made(
 /// The sites of all entries.
 fn entries_made(
     alloc: Global,
-    filled: &ListTables,
+    filled: &PageTables,
     snapshots: &[DeclaredSnapshot],
-) -> Result<Vec<Site<ListTables>>, NoMemory>
+) -> Result<Vec<Site<PageTables>>, NoMemory>
     requires keyed { IsKeyed filled.now.schema }
     requires within { AllByRecursion (λ s. s.table < length filled.now.schema.tables) snapshots.now }
     requires apart { (site : SiteNameValue) → AreApart (snapshots_at snapshots.now site) }
@@ -171,9 +171,9 @@ fn entries_made(
 /// have what their snapshots show. The store stays as it is.
 pub fn make_sites(
     alloc: Global,
-    store: &ListTables,
+    store: &PageTables,
     snapshots: &[DeclaredSnapshot],
-) -> Result<Vec<Site<ListTables>>, NoMemory>
+) -> Result<Vec<Site<PageTables>>, NoMemory>
     requires sound { IsSound store.now.schema }
     requires early { AllByRecursion IsThere store.now.schema.sites }
     requires within { AllByRecursion (λ s. s.table < length store.now.schema.tables) snapshots.now }

@@ -13,10 +13,10 @@ ghost use Rattle.world_run.specs.Reporting.{PushLeavesNothingReady, RefreshShows
 use crate::lines::run_line;
 use convergent_worlds::convergence_holds;
 use environment::{Environment, place_of};
+use page_tables::PageTables;
 use rep_lists::NoMemory;
 use rep_values::SiteName;
 use report_text::Lines;
-use row_tables::ListTables;
 use script_parse::Command;
 use site_core::Site;
 use std::alloc::Global;
@@ -80,7 +80,7 @@ impl World {
     }
 
     /// The site of a name, None exactly where it isn't there.
-    pub fn site(&self, name: &SiteName) -> Option<&Site<ListTables>>
+    pub fn site(&self, name: &SiteName) -> Option<&Site<PageTables>>
         ensures { option_copied result ≡ site_of name.now self.now.sites }
     {
         let place = place_of(&self.environment.sites, name)?;
