@@ -3,10 +3,10 @@
 
 mod run;
 mod stocks;
-mod storm;
+mod whole;
 mod summary;
 mod tally;
 mod words;
 
-pub use storm::storm;
+pub use whole::storm;
 pub use tally::Tally;

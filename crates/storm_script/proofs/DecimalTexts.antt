@@ -3,7 +3,7 @@ use Rattle.std.proofs.Common.{◌≡◌, ℕ, zero, suc, ◌+◌, ◌<◌, ◌�
 use Rattle.std.specs.Prelude.{◌&&◌, nat_le, decimal}
 use Rattle.std.specs.List.{AllByRecursion, list_all}
 use Rattle.std.proofs.lemmas.Bool.Decides.{nat_tests}
-use Rattle.std.proofs.lemmas.Fmt.{decimal-digits_of, decimal_digit}
+use Rattle.std.proofs.lemmas.Fmt.{decimal-digits_of, decimal_digit, length-decimal-le}
 use Rattle.std.proofs.lemmas.Int.Digits.{all_below_base_digits_of}
 use Rattle.std.specs.Int.Digits.{digits_of}
 use Rattle.rep_values.specs.Text.{is_text, is_text_byte}
@@ -25,6 +25,10 @@ decimal_bytes zero fits = rw (decimal_digit 0 (omega arith)) refl
 decimal_bytes (suc n) fits = rw (decimal-digits_of (suc n) (omega arith) fits) (digit_bytes (digits_of 10 (suc n)) (all_below_base_digits_of 10 (suc n) (omega arith)))
 
 -- the name of a round is one
-pub name_of_text : (n : ℕ) → n < 2 ^ 64 → length (decimal n) ≤ 40 → is_text (name_of n) ≡ true
-name_of_text n fits short =
-    together (nat_le (length (name_of n)) 64) (list_all is_text_byte (name_of n)) (grind (arith, nat_tests)) (rw (decimal_bytes n fits) refl)
+pub name_of_text : (n : ℕ) → n < 2 ^ 64 → is_text (name_of n) ≡ true
+name_of_text n fits =
+    let short : length (decimal n) ≤ 20 = length-decimal-le 20 n (omega arith) (omega arith) fits in
+    together (nat_le (length (name_of n)) 64) (list_all is_text_byte (name_of n)) (within (length (decimal n)) short) (decimal_bytes n fits)
+  where
+    within : (k : ℕ) → k ≤ 20 → nat_le (suc k) 64 ≡ true
+    within k short = grind (arith, nat_tests)

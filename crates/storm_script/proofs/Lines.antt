@@ -7,7 +7,6 @@ use Rattle.std.proofs.lemmas.Nat.{mod_below}
 use Rattle.rep_values.specs.declared.name.SiteName.{SiteName}
 use Rattle.rep_values.specs.declared.literal.Literal.TheVariants as literal
 use Rattle.net_plan.specs.declared.fate.Fate.{Fate}
-use Rattle.script_words.specs.Spelled.{is_small}
 use Rattle.script_parse.specs.declared.command.Command.{Command}
 use Rattle.script_parse.specs.declared.command.Command.TheVariants as command
 use Rattle.script_parse.specs.Laws.{ReadsAgain}

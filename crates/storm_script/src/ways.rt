@@ -1,6 +1,6 @@
 //! The sites of a storm, the directions between them, and what may become of a packet.
 ghost use Rattle.std.specs.Prelude.{◌≡◌, ◌<◌};
-ghost use Rattle.storm_script.specs.Sites.{site_a, sites, ways, site_at, way_at, fate_at};
+ghost use Rattle.storm_script.specs.Sites.{site_a, sites, way, ways, site_at, way_at, fate_at};
 
 use crate::words::site;
 use net_plan::Fate;
@@ -27,18 +27,27 @@ pub fn first_site() -> SiteName
     site(b"A")
 }
 
+fn between(from: &SiteName, to: &SiteName) -> Way
+    ensures { result ≡ way from.now to.now }
+{
+    Way {
+        from: *from,
+        to: *to,
+    }
+}
+
 /// From each site to each other one, in declared order.
 pub fn ways() -> [Way; 6]
     ensures { result ≡ ways }
 {
     let [a, b, c] = sites();
     [
-        Way { from: a, to: b },
-        Way { from: a, to: c },
-        Way { from: b, to: a },
-        Way { from: b, to: c },
-        Way { from: c, to: a },
-        Way { from: c, to: b },
+        between(&a, &b),
+        between(&a, &c),
+        between(&b, &a),
+        between(&b, &c),
+        between(&c, &a),
+        between(&c, &b),
     ]
 }
 
