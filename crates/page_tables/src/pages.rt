@@ -6,7 +6,7 @@ ghost use Rattle.page_tables.specs.Pages.{joined, at_first, entered, most_in, st
 
 use crate::page::{HALF, PAGE, Page};
 use crate::sought::Sought;
-use crate::starts::{add_start, lower, raise, started};
+use crate::starts::{add_start, copy_starts, lower, raise, started};
 use rep_lists::NoMemory;
 use std::alloc::Global;
 use std::cmp::Ordering;
@@ -414,6 +414,7 @@ impl Pages {
         let places = self.pages.len() + self.waiting.len();
         Ok(Pages {
             pages: copy_pages(alloc, &self.pages, places)?,
+            starts: copy_starts(alloc, &self.starts, places)?,
             waiting: copy_pages(alloc, &self.waiting, places)?,
             count: self.count,
         })
@@ -455,7 +456,12 @@ impl Pages {
         if most <= self.most() {
             return Ok(());
         }
-        make_room(&mut self.pages, &mut self.starts, &mut self.waiting, most / 16 + 2)
+        make_room(
+            &mut self.pages,
+            &mut self.starts,
+            &mut self.waiting,
+            most / 16 + 2,
+        )
     }
 
     /// Puts a slot in the place that is sought, unless another one is found there, which it answers.
@@ -466,7 +472,13 @@ impl Pages {
         ensures items { self.new.items ≡ entered result (S.at sought.now) slot self.old.items }
         ensures most { self.new.most ≡ self.old.most }
     {
-        let found = enter_in(&mut self.pages, &mut self.starts, &mut self.waiting, sought, slot);
+        let found = enter_in(
+            &mut self.pages,
+            &mut self.starts,
+            &mut self.waiting,
+            sought,
+            slot,
+        );
         if found.is_none() {
             self.count += 1;
         }

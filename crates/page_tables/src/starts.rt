@@ -1,7 +1,10 @@
 //! Where pages start: for each the number of slots in the pages before it.
-ghost use Rattle.std.specs.Prelude.{◌≡◌, ◌+◌, ◌-◌, ◌<◌, ◌≤◌, ◌++◌, length, map, take, drop, vec_len, vec_capacity, slice_index_or, insert, nat_le};
+ghost use Rattle.std.specs.Prelude.{◌≡◌, ◌+◌, ◌-◌, ◌<◌, ◌≤◌, ◌++◌, length, map, take, drop, vec_len, vec_capacity, slice_index_or, insert, nat_le, IfOk};
 ghost use Rattle.std.specs.List.{AllByRecursion};
 ghost use Rattle.std.specs.List.Sorted.{IsNonDecreasingBy, IsPartitionPoint};
+
+use rep_lists::NoMemory;
+use std::alloc::Global;
 
 /// Adds one to each start.
 fn raise_all(starts: &mut [usize])
@@ -66,4 +69,21 @@ pub(crate) fn started(starts: &[usize], place: usize) -> usize
             ensures { result ≡ nat_le start.now place }
         { *start <= place },
     )
+}
+
+/// The same starts once more, with so many places.
+pub(crate) fn copy_starts(
+    alloc: Global,
+    starts: &[usize],
+    places: usize,
+) -> Result<Vec<usize>, NoMemory>
+    requires { length starts.now ≤ places }
+    ensures starts { IfOk result (λ copied. copied.items ≡ starts.now) }
+    ensures places { IfOk result (λ copied. places ≤ vec_capacity copied) }
+{
+    let mut copied = Vec::with_capacity(alloc, places)?;
+    for start in starts {
+        copied.push_reserved(*start);
+    }
+    Ok(copied)
 }

@@ -112,6 +112,6 @@ returns-in-Some-clause-starts c =
     let long = ap length items ∙ length-insert (set pages c.args.at here) (c.args.at + 1) c.split_insert.new.behind inside in
     record {
       sums = c.add_start.ensures.starts ∙ (ap (λ n. insert c.raise.new.starts.items (c.args.at + 1) (get_or c.raise.new.starts.items c.args.at 0 + n)) slots
-      ∙ (parted pages c.raise.new.starts.items c.args.at here c.split_insert.new.behind c.requires.at sums ∙ ap starts_of (sym items)));
+          ∙ (parted pages c.raise.new.starts.items c.args.at here c.split_insert.new.behind c.requires.at sums ∙ ap starts_of (sym items)));
       room = omega (arith, same, one, long, c.requires.starts.room, c.raise.ensures.room, c.add_start.ensures.room);
     }

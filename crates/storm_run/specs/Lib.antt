@@ -1,0 +1,8 @@
+-- The definitions of this crate.
+pub mod Texts
+pub mod Words
+pub mod Tallies
+pub mod Runs
+pub mod Stocks
+pub mod Summary
+pub mod Outcome
