@@ -1,12 +1,11 @@
 -- Every command of a storm is one that a line can give.
 use Rattle.std.proofs.Common.{◌≡◌, ℕ, zero, suc, ◌+◌, ◌<◌, ◌≤◌, ◌%◌, ◌==◌, ◌^◌, Bool, true, false, pos, List, [], ◌∷◌, ◌++◌, map, refl, arith, lit≤}
-use Rattle.std.specs.Prelude.{◌-ℤ◌, if◌then◌else◌, None, Ok}
+use Rattle.std.specs.Prelude.{◌-ℤ◌, if◌then◌else◌, Ok}
 use Rattle.std.specs.List.{AllByRecursion, range_with_len}
 use Rattle.std.proofs.lemmas.Bool.Decides.{nat_tests}
 use Rattle.std.proofs.lemmas.Nat.{mod_below}
 use Rattle.rep_values.specs.declared.name.SiteName.{SiteName}
 use Rattle.rep_values.specs.declared.literal.Literal.TheVariants as literal
-use Rattle.net_plan.specs.declared.fate.Fate.{Fate}
 use Rattle.script_parse.specs.declared.command.Command.{Command}
 use Rattle.script_parse.specs.declared.command.Command.TheVariants as command
 use Rattle.script_parse.specs.Laws.{ReadsAgain}
@@ -16,7 +15,7 @@ use Rattle.storm_script.specs.declared.ways.Way.{Way}
 use Rattle.storm_script.specs.Draws.{drawn, behind}
 use Rattle.storm_script.specs.Sites.{site_at, ways, way_at}
 use Rattle.storm_script.specs.Opening.{declarations, row_line, row_lines, opening}
-use Rattle.storm_script.specs.Rounds.{amount_of, stock_update, transaction, fated_push, three_fates, drawn_push, round, behind_round, rounds}
+use Rattle.storm_script.specs.Rounds.{stock_update, transaction, fated_push, three_fates, drawn_push, round, behind_round, rounds}
 use Rattle.storm_script.specs.Closing.{clear_line, push_line, closing}
 use Rattle.storm_script.specs.Storm.{storm_commands}
 use Rattle.storm_script.specs.Laws.{IsLine, most_rounds, StormsAreLines, StormsReadAgain}
@@ -43,23 +42,52 @@ below_limit limit from (suc number) within = (omega arith, below_limit limit (fr
 -- The opening.
 
 declarations_are_lines : AllByRecursion IsLine declarations
-declarations_are_lines =
-    (record { built = refl; named = tt; formed = refl },
-    (record { built = refl; named = tt; formed = refl },
-    (record { built = refl; named = tt; formed = refl },
-    (record { built = refl; named = tt; formed = (refl, (λ e. cc), (refl, (refl, (refl, (refl, (refl, (refl, (refl, tt)))))))) },
-    (record { built = refl; named = lit≤ tt; formed = (refl, refl, ((λ e. cc), (refl, tt))) },
-    (record { built = refl; named = tt; formed = (refl, refl, tt) },
-    (record { built = refl; named = lit≤ tt; formed = (refl, refl, ((λ e. cc), (refl, tt))) },
-    (record { built = refl; named = tt; formed = (refl, refl, refl) },
-    (record { built = refl; named = tt; formed = (refl, refl, tt) },
-    (record { built = refl; named = lit≤ tt; formed = (refl, refl, ((λ e. cc), (refl, (refl, (refl, tt))))) },
-    (record { built = refl; named = tt; formed = (refl, refl, refl) },
-    (record { built = refl; named = tt; formed = (refl, refl, refl) },
-    (record { built = refl; named = tt; formed = (refl, refl) },
-    (record { built = refl; named = tt; formed = (refl, refl) },
-    (record { built = refl; named = tt; formed = (refl, refl) },
-    (record { built = refl; named = tt; formed = refl }, tt))))))))))))))))
+declarations_are_lines = (
+  record { built = refl; named = tt; formed = refl },
+  (
+    record { built = refl; named = tt; formed = refl },
+    (
+      record { built = refl; named = tt; formed = refl },
+      (
+        record { built = refl; named = tt; formed = (refl, (λ e. cc), (refl, (refl, (refl, (refl, (refl, (refl, (refl, tt)))))))) },
+        (
+          record { built = refl; named = lit≤ tt; formed = (refl, refl, ((λ e. cc), (refl, tt))) },
+          (
+            record { built = refl; named = tt; formed = (refl, refl, tt) },
+            (
+              record { built = refl; named = lit≤ tt; formed = (refl, refl, ((λ e. cc), (refl, tt))) },
+              (
+                record { built = refl; named = tt; formed = (refl, refl, refl) },
+                (
+                  record { built = refl; named = tt; formed = (refl, refl, tt) },
+                  (
+                    record { built = refl; named = lit≤ tt; formed = (refl, refl, ((λ e. cc), (refl, (refl, (refl, tt))))) },
+                    (
+                      record { built = refl; named = tt; formed = (refl, refl, refl) },
+                      (
+                        record { built = refl; named = tt; formed = (refl, refl, refl) },
+                        (
+                          record { built = refl; named = tt; formed = (refl, refl) },
+                          (
+                            record { built = refl; named = tt; formed = (refl, refl) },
+                            (
+                              record { built = refl; named = tt; formed = (refl, refl) },
+                              (record { built = refl; named = tt; formed = refl }, tt),
+                            ),
+                          ),
+                        ),
+                      ),
+                    ),
+                  ),
+                ),
+              ),
+            ),
+          ),
+        ),
+      ),
+    ),
+  ),
+)
 
 small : (n : ℕ) → n < 2 ^ 63 → IsSmall (literal.Num (pos n))
 small n below = grind (arith, nat_tests)
@@ -112,8 +140,12 @@ update_is_line : (i id : ℕ) → i ≤ most_rounds → id < 100 → IsLine (com
 update_is_line i id within below = record {
   built = refl;
   named = tt;
-  formed = (refl, ((λ e. cc), (refl, (small id (omega arith), tt))), (λ e. cc),
-      ((refl, amount_small (i % 9) (omega arith)), ((refl, small i (omega arith)), ((refl, refl), tt))));
+  formed = (
+    refl,
+    ((λ e. cc), (refl, (small id (omega arith), tt))),
+    (λ e. cc),
+    ((refl, amount_small (i % 9) (omega arith)), ((refl, small i (omega arith)), ((refl, refl), tt))),
+  );
 }
 
 transaction_is_lines : (i : ℕ) (site : SiteName) (id : ℕ) → i ≤ most_rounds → IsName site.0 → id < 100 → AllByRecursion IsLine (transaction i site id)

@@ -22,7 +22,7 @@ decimal_10 = decimal-digits_of 10 (omega arith) (omega arith)
 first_round : round 1 7 ≡
     command.Txn (site_of (codes "C")) ∷
     command.Statement (statement.Update (table_of (codes "STOCK")) (literal.Words (codes "A") ∷ literal.Num (pos 31) ∷ [])
-        (by_amount (codes "QTY") (negsuc 2) ∷ to_value (codes "TOP") (literal.Num (pos 1)) ∷ to_value (codes "NAME") (literal.Words (codes "n1")) ∷ [])) ∷
+    (by_amount (codes "QTY") (negsuc 2) ∷ to_value (codes "TOP") (literal.Num (pos 1)) ∷ to_value (codes "NAME") (literal.Words (codes "n1")) ∷ [])) ∷
     command.Commit ∷ []
 unfolding next_draw drawn round
 first_round = rw decimal_1 refl
@@ -30,7 +30,7 @@ first_round = rw decimal_1 refl
 tenth_round : round 10 7 ≡
     command.Txn (site_of (codes "C")) ∷
     command.Statement (statement.Update (table_of (codes "STOCK")) (literal.Words (codes "A") ∷ literal.Num (pos 31) ∷ [])
-        (by_amount (codes "QTY") (negsuc 2) ∷ to_value (codes "TOP") (literal.Num (pos 10)) ∷ to_value (codes "NAME") (literal.Words (codes "n10")) ∷ [])) ∷
+    (by_amount (codes "QTY") (negsuc 2) ∷ to_value (codes "TOP") (literal.Num (pos 10)) ∷ to_value (codes "NAME") (literal.Words (codes "n10")) ∷ [])) ∷
     command.Commit ∷
     command.Fates (site_of (codes "B")) (site_of (codes "C")) (fate.Lose ∷ fate.Lose ∷ fate.Late ∷ []) ∷
     command.Push (site_of (codes "B")) (site_of (codes "C")) None ∷ []

@@ -1,5 +1,5 @@
 -- The declarations, the rows and the end of Setup follow one another.
-use Rattle.std.proofs.Common.{List, [], ◌∷◌}
+use Rattle.std.proofs.Common.{[], ◌∷◌}
 use Rattle.script_parse.specs.declared.command.Command.TheVariants as command
 use Rattle.storm_script.specs.Opening.{declarations, row_lines, opening}
 use Rattle.storm_script.proofs.Pushes.{three_pieces}
