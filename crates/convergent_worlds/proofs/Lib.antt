@@ -5,4 +5,5 @@ pub mod Beginning
 mod SetupEnds
 mod Holding
 pub mod Scripts
+pub mod Worlds
 mod WorkedConvergence

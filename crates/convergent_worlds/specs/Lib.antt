@@ -1,3 +1,4 @@
 -- The definitions of this crate.
 pub mod Convergence
 pub mod Reached
+pub mod Worlds

@@ -8,3 +8,5 @@ pub mod Written
 pub mod Masters
 pub mod Keeping
 pub mod KnownRefusals
+pub use Rattle.convergent_worlds.proofs.Scripts
+pub use Rattle.convergent_worlds.proofs.Worlds

@@ -10,7 +10,7 @@ use Rattle.deferred_queue.proofs.Sites.{is_same_site-refl}
 use Rattle.site_state.specs.State.{DestinationState, SiteState}
 use Rattle.site_state.specs.Streams.{stream_to}
 use Rattle.site_state.specs.Deferrals.{deferred_of, marks_of, StandApart}
-use Rattle.site_core.proofs.Sending.{last_is}
+use Rattle.site_making.proofs.Sending.{last_is}
 use Rattle.event_laws.specs.Events.{has_acked_all, is_all_acked}
 use Rattle.world_state.specs.Refusals.{waiting_for, waiting_count}
 

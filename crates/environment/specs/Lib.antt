@@ -5,3 +5,6 @@ pub mod Known
 pub mod Texts
 pub mod Doing
 pub mod Keeping
+pub use Rattle.convergent_worlds.specs.Worlds
+pub use Rattle.convergent_worlds.specs.Reached
+pub use Rattle.convergent_worlds.specs.Convergence

@@ -10,7 +10,7 @@ use page_tables::PageTables;
 use rep_lists::{Items, NoMemory};
 use rep_schema::Schema;
 use rep_values::SiteName;
-use site_core::Site;
+use site_making::Site;
 use std::alloc::Global;
 use std::marker::Model;
 use world_state::{Block, DeclaredSnapshot, Phase};

@@ -13,9 +13,8 @@ use Rattle.world_state.specs.World.{WorldState}
 use Rattle.world_state.specs.Phases.{is_setup}
 use Rattle.world_state.specs.Declaring.{is_snapshot_of, has_snapshot}
 use Rattle.world_state.specs.Making.{snapshots_at}
-use Rattle.snapshot_worlds.specs.WellDeclared.{AreDeclaredOnce}
-use Rattle.snapshot_worlds.specs.Reached.{DeclaresSoFar}
-use Rattle.convergent_worlds.specs.Reached.{IsOfConvergence, Declaring, Going}
+use Rattle.environment.specs.Worlds.{AreDeclaredOnce, DeclaresSoFar}
+use Rattle.environment.specs.Reached.{IsOfConvergence, Declaring, Going}
 
 -- a declared snapshot as its site has it
 abbrev as_made : DeclaredSnapshot → Snapshot

@@ -7,3 +7,7 @@ mod ShownRows
 mod Parts
 mod RefreshedSites
 mod RefreshSteps
+pub use Rattle.environment.proofs.Keeping
+pub use Rattle.environment.proofs.KnownRefusals
+pub use Rattle.environment.proofs.Scripts
+pub use Rattle.environment.proofs.Worlds

@@ -23,9 +23,9 @@ use Rattle.world_state.specs.Steps.{world_refresh}
 use Rattle.world_laws.proofs.Calling.{slice_set-place}
 use Rattle.world_laws.proofs.UnrefusedLines.{refreshed-made}
 use Rattle.world_laws.specs.Places.{place_of}
-use Rattle.snapshot_worlds.specs.Sites.{CanRefreshFrom, SnapshotsHold}
-use Rattle.snapshot_worlds.proofs.Scripts.{snapshots_hold_of}
-use Rattle.convergent_worlds.proofs.Scripts.{of_snapshots}
+use Rattle.environment.specs.Worlds.{CanRefreshFrom, SnapshotsHold}
+use Rattle.environment.proofs.Worlds.{snapshots_hold_of}
+use Rattle.environment.proofs.Scripts.{of_snapshots}
 use Rattle.environment.specs.Following.{IsBuilt}
 use Rattle.environment.specs.Finding.{IsAt}
 use Rattle.environment.specs.Known.{known_refusal}

@@ -1,2 +1,9 @@
 -- The definitions of this crate.
 pub mod Refreshing
+pub use Rattle.environment.specs.Following
+pub use Rattle.environment.specs.Known
+pub use Rattle.environment.specs.Texts
+pub use Rattle.environment.specs.Doing
+pub use Rattle.environment.specs.Worlds
+pub use Rattle.environment.specs.Reached
+pub use Rattle.environment.specs.Convergence

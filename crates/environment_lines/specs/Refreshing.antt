@@ -6,7 +6,7 @@ use Rattle.site_state.specs.Refreshes.{rows_shown, site_refresh}
 use Rattle.script_parse.specs.declared.command.Refresh.{Refresh}
 use Rattle.world_state.specs.Refusals.{log_step}
 use Rattle.world_state.specs.Answers.{RefreshTold, refresh_between}
-use Rattle.snapshot_worlds.specs.Sites.{CanRefreshFrom}
+use Rattle.environment.specs.Worlds.{CanRefreshFrom}
 use Rattle.environment_lines.specs.declared.refreshing.Told.{Told}
 
 -- what a refresh tells

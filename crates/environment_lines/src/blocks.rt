@@ -11,7 +11,7 @@ ghost use Rattle.environment.specs.Texts.{committed_text};
 ghost use Rattle.environment.specs.Doing.{Does};
 
 use crate::room::{no_memory, room_for_line};
-use environment::{Environment, place_of};
+use environment::{Environment, Site, place_of};
 use local_txn::LocalStop;
 use page_tables::PageTables;
 use rep_calls::Statement;
@@ -19,7 +19,6 @@ use rep_lists::{Copies, Items, NoMemory};
 use rep_values::{Refusal, SiteName};
 use report_text::{Lines, commit_line, nothing_committed_line};
 use script_parse::Command;
-use site_core::Site;
 use std::alloc::Global;
 use std::mem;
 use world_state::{Block, Refused};

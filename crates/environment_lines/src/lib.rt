@@ -11,6 +11,7 @@ mod sites;
 mod snapshots;
 
 pub use blocks::{abandon, commit, open_block, state};
+pub use environment::{Environment, Site, convergence_holds, place_of};
 pub use links::{add_fates, clear_fates, set_link};
 pub use refreshing::{purge_log, refresh};
 pub use setup::{add_row, declare, resume, suspend};

@@ -7,7 +7,7 @@ ghost use Rattle.site_state.specs.Refreshes.{rows_shown, site_refresh, refresh_f
 ghost use Rattle.world_state.specs.Refusals.{young_step, log_step};
 ghost use Rattle.world_state.specs.Answers.{goes_by_logs, refresh_told, refresh_answer};
 ghost use Rattle.world_state.specs.Steps.{world_refresh};
-ghost use Rattle.snapshot_worlds.specs.Sites.{CanRefreshFrom};
+ghost use Rattle.environment.specs.Worlds.{CanRefreshFrom};
 ghost use Rattle.environment.specs.Following.{IsBuilt};
 ghost use Rattle.environment.specs.Known.{known_refusal};
 ghost use Rattle.environment.specs.Texts.{refreshed_text};
@@ -15,7 +15,7 @@ ghost use Rattle.environment.specs.Doing.{Does};
 ghost use Rattle.environment_lines.specs.Refreshing.{CanRefreshAt, refreshed_at, told_at, told_of};
 
 use crate::room::{no_memory, room_for_line};
-use environment::{Environment, master_of, place_of, young_step};
+use environment::{Environment, Site, master_of, place_of, young_step};
 use fast_refresh::{CountedView, rows_shown};
 use page_tables::PageTables;
 use rep_lists::{Items, NoMemory};
@@ -24,7 +24,6 @@ use rep_values::{SiteName, TableName};
 use report_text::{Lines, purge_log_line, refresh_complete_line, refresh_fast_line};
 use schema_names::table_place;
 use script_parse::{Command, Refresh};
-use site_core::Site;
 use site_notes::Notes;
 use site_state::{RefreshCount, TableRows};
 use std::alloc::Global;

@@ -9,7 +9,7 @@ ghost use Rattle.environment.specs.Known.{known_refusal};
 ghost use Rattle.environment.specs.Doing.{Does};
 
 use crate::room::no_memory;
-use environment::Environment;
+use environment::{Environment, make_net, make_sites};
 use local_txn::put_base_row;
 use rep_declare::Declare;
 use rep_lists::NoMemory;
@@ -17,7 +17,6 @@ use rep_schema::RowStore;
 use rep_values::{Literal, TableName};
 use report_text::Lines;
 use script_parse::Command;
-use site_making::{make_net, make_sites};
 use std::alloc::Global;
 use world_state::{Phase, Refused};
 

@@ -7,7 +7,9 @@ ghost use Rattle.environment.specs.Texts.{senders_there, destinations_there, sho
 ghost use Rattle.environment.specs.Doing.{Does};
 
 use crate::room::no_memory;
-use environment::{Environment, place_of};
+use environment::{
+    Environment, Site, add_errors, add_journal, add_log, add_marks, add_queue, place_of,
+};
 use page_tables::PageTables;
 use rep_lists::{Items, NoMemory};
 use rep_schema::RowStore;
@@ -15,8 +17,6 @@ use rep_values::SiteName;
 use report_text::{Lines, add_tables};
 use schema_sites::{destinations_of, senders_of};
 use script_parse::{Command, Shown};
-use site_core::Site;
-use site_report::{add_errors, add_journal, add_log, add_marks, add_queue};
 use std::alloc::Global;
 use world_state::Refused;
 

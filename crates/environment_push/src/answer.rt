@@ -8,12 +8,11 @@ ghost use Rattle.environment.specs.Following.{Follows};
 
 use crate::deliver::deliver_all;
 use crate::send::{release, send_some};
-use environment::{Environment, place_of};
+use environment::{Environment, Site, place_of};
 use packet_code::Sealed;
 use page_tables::PageTables;
 use rep_lists::NoMemory;
 use rep_values::SiteName;
-use site_core::Site;
 use std::alloc::Global;
 
 /// The mark of a site for another one, where the site is there.

@@ -7,12 +7,11 @@ ghost use Rattle.event_laws.specs.Core.{at_site};
 ghost use Rattle.world_state.specs.Pushes.{world_take, world_deliver};
 ghost use Rattle.environment.specs.Following.{Follows};
 
-use environment::{Environment, place_of};
+use environment::{Environment, Site, place_of};
 use packet_code::Packet;
 use page_tables::PageTables;
 use rep_lists::NoMemory;
 use rep_values::SiteName;
-use site_core::Site;
 use std::alloc::Global;
 
 /// A site takes in a packet, where it is there.

@@ -7,12 +7,11 @@ ghost use Rattle.event_laws.specs.Events.{packet_from};
 ghost use Rattle.world_state.specs.Pushes.{at_most, sent_on, world_release, world_send, positions_in, positions_above, world_send_above};
 ghost use Rattle.environment.specs.Following.{Follows};
 
-use environment::{Environment, place_of};
+use environment::{Environment, Site, place_of};
 use packet_code::Sealed;
 use page_tables::PageTables;
 use rep_lists::NoMemory;
 use rep_values::SiteName;
-use site_core::Site;
 use std::alloc::Global;
 
 /// What is held from a site to another one goes on the way.

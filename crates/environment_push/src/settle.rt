@@ -8,12 +8,11 @@ ghost use Rattle.world_state.specs.Pushes.{world_settle};
 ghost use Rattle.environment.specs.Following.{Follows};
 ghost use Rattle.environment_push.specs.Settling.{told_text, IsSettling};
 
-use environment::{Environment, place_of};
+use environment::{Environment, Site, place_of};
 use page_tables::PageTables;
 use rep_lists::NoMemory;
 use rep_values::SiteName;
 use report_text::{Lines, PushCount, push_line};
-use site_core::Site;
 use site_rounds::{add_new_errors, settle};
 use std::alloc::Global;
 

@@ -5,8 +5,8 @@ ghost use Rattle.rep_lines.specs.Told.{Tells};
 ghost use Rattle.world_state.specs.World.{first_world};
 ghost use Rattle.script_drive.specs.Lines.{line_step};
 ghost use Rattle.script_drive.specs.Outcome.{Told};
-ghost use Rattle.script_run.specs.Completeness.{RunsToItsEnd};
-ghost use Rattle.script_run.specs.Scripts.{script_step, EachWorldHolds};
+ghost use Rattle.world_run.specs.Completeness.{RunsToItsEnd};
+ghost use Rattle.world_run.specs.Scripts.{script_step, EachWorldHolds};
 ghost use Rattle.storm_run.specs.Outcome.{TellsOf};
 ghost use Rattle.storm_run.specs.Summary.{storm_summary};
 ghost use Rattle.program_words.specs.Words.{asked_by};
@@ -14,9 +14,9 @@ ghost use Rattle.program_words.specs.Words.{asked_by};
 use program_words::{Asked, asked_by};
 use rep_io::{Sink, Source};
 use script_drive::Status;
-use script_run::run_alone;
 use std::alloc::Global;
 use storm_run::storm;
+use world_run::run_alone;
 
 /// What the program does with the words behind its name. For the one word `run` it runs the script of the source as `run_alone`
 /// does. For `storm SEED COUNT` it runs the script of that storm and writes its summary; it reads nothing. For all other words

@@ -1,8 +1,8 @@
 //! Runs of a script.
 
 use rep_io::{BytesSink, BytesSource};
-use script_run::run_alone;
 use std::alloc::{AllocError, Global};
+use world_run::run_alone;
 
 /// How a run ended, and what was written.
 #[derive(Drop)]

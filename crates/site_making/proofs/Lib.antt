@@ -3,3 +3,4 @@ mod MappedMore
 mod TablesMarked
 mod EarlySites
 pub mod SenderDirections
+pub use Rattle.site_core.proofs.Sending

@@ -7,4 +7,5 @@ mod sites;
 mod table_sets;
 
 pub use net::make_net;
+pub use site_core::Site;
 pub use sites::make_sites;

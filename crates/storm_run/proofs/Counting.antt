@@ -5,7 +5,7 @@ use Rattle.std.proofs.lemmas.List.Sums.{sum_by-cons, fold_more}
 use Rattle.script_parse.specs.declared.command.Command.{Command}
 use Rattle.world_state.specs.World.{WorldState, first_world}
 use Rattle.world_state.specs.Steps.{world_step, world_steps}
-use Rattle.environment.specs.Texts.{line_text}
+use Rattle.world_run.specs.Texts.{line_text}
 use Rattle.storm_run.specs.declared.tally.Tally.{Tally}
 use Rattle.storm_run.specs.Texts.{texts}
 use Rattle.storm_run.specs.Words.{last_number, with_digit, number_of, word_at}

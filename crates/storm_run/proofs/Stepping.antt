@@ -8,8 +8,8 @@ use Rattle.world_state.specs.declared.refused.Refused.{Refused}
 use Rattle.world_state.specs.World.{WorldState}
 use Rattle.world_state.specs.Refusals.{world_refusal}
 use Rattle.world_state.specs.Steps.{world_refused, world_step, step_by, told_by}
-use Rattle.environment.specs.Texts.{line_text, told_text}
-use Rattle.environment.specs.Doing.{IsDone, IsRefused}
+use Rattle.world_run.specs.Texts.{line_text, told_text}
+use Rattle.world_run.specs.Doing.{IsDone, IsRefused}
 use Rattle.storm_run.specs.declared.tally.Tally.{Tally}
 use Rattle.storm_run.specs.Tallies.{with_refusal, with_text}
 use Rattle.storm_run.specs.Runs.{Running, with_command}

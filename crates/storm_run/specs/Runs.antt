@@ -3,7 +3,7 @@ use Rattle.std.specs.Prelude.{◌≡◌, ℕ, suc, ◌*◌, ◌^◌, ◌≤◌, 
 use Rattle.script_parse.specs.declared.command.Command.{Command}
 use Rattle.world_state.specs.World.{WorldState, first_world}
 use Rattle.world_state.specs.Steps.{world_step}
-use Rattle.environment.specs.Texts.{line_text}
+use Rattle.world_run.specs.Texts.{line_text}
 use Rattle.storm_run.specs.declared.tally.Tally.{Tally}
 use Rattle.storm_run.specs.Tallies.{tally_of, with_text}
 

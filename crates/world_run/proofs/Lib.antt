@@ -1,2 +1,5 @@
 -- The lemmas of this crate.
 mod Stepping
+mod Steps
+mod Completeness
+mod Worlds

@@ -10,13 +10,13 @@ use Rattle.world_state.specs.declared.refused.Refused.{Refused}
 use Rattle.world_state.specs.World.{WorldState}
 use Rattle.world_state.specs.Refusals.{world_refusal}
 use Rattle.world_state.specs.Steps.{world_done, step_by, world_step}
-use Rattle.world_laws.proofs.Scripts.{reported_pushes_leave_nothing_ready}
-use Rattle.environment.specs.Following.{IsBuilt}
-use Rattle.environment.specs.Known.{known_refusal}
-use Rattle.environment.specs.Doing.{Does, AnswersKnown}
-use Rattle.snapshot_worlds.specs.Refreshes.{ShowsItsMaster}
-use Rattle.snapshot_worlds.proofs.Scripts.{refreshes_show_of}
-use Rattle.convergent_worlds.proofs.Scripts.{of_snapshots}
+use Rattle.environment_lines.proofs.Worlds.{reported_pushes_leave_nothing_ready}
+use Rattle.environment_lines.specs.Following.{IsBuilt}
+use Rattle.environment_lines.specs.Known.{known_refusal}
+use Rattle.environment_lines.specs.Doing.{Does, AnswersKnown}
+use Rattle.environment_lines.specs.Worlds.{ShowsItsMaster}
+use Rattle.environment_lines.proofs.Worlds.{refreshes_show_of}
+use Rattle.environment_lines.proofs.Scripts.{of_snapshots}
 use Rattle.world_run.specs.Reporting.{PushLeavesNothingReady, RefreshShowsTheQuery}
 
 -- no refusal is known

@@ -1,2 +1,6 @@
 -- The definitions of this crate.
 pub mod Reporting
+pub mod Scripts
+pub mod Completeness
+pub use Rattle.environment_lines.specs.Texts
+pub use Rattle.environment_lines.specs.Doing

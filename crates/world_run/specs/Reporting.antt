@@ -9,8 +9,8 @@ use Rattle.site_state.specs.State.{SiteState}
 use Rattle.event_laws.specs.Core.{site_of}
 use Rattle.world_state.specs.declared.refused.Refused.{Refused}
 use Rattle.world_state.specs.World.{WorldState}
-use Rattle.world_laws.specs.Worlds.{NothingReady}
-use Rattle.snapshot_worlds.specs.Refreshes.{ShowsItsMaster}
+use Rattle.environment_lines.specs.Worlds.{NothingReady}
+use Rattle.environment_lines.specs.Worlds.{ShowsItsMaster}
 
 -- once a push is reported no position of any sender is ready at the receiver
 abbrev pub PushLeavesNothingReady : Command → WorldState → Result Sheet Refused → Type 0

@@ -1,7 +1,13 @@
-//! The world of a script: a replication environment, and each line of the script as one step of it.
+//! The world of a script: a replication environment, and each line of the script as one step of it; and a whole script, read from a
+//! source, whose lines are run one by one on a world, and whose report goes to a sink.
 #![tactic(auto)]
 
+mod alone;
+mod laws;
 mod lines;
+mod run;
 mod world;
 
+pub use laws::reported_worlds_hold;
+pub use run::run_alone;
 pub use world::World;

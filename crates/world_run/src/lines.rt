@@ -2,14 +2,14 @@
 ghost use Rattle.std.specs.Prelude.{◌≡◌, true, None};
 ghost use Rattle.script_parse.specs.Built.{is_built};
 ghost use Rattle.script_parse.specs.Named.{NamesColumn};
-ghost use Rattle.environment.specs.Following.{IsBuilt};
-ghost use Rattle.environment.specs.Known.{known_refusal};
-ghost use Rattle.environment.specs.Doing.{Does};
+ghost use Rattle.environment_lines.specs.Following.{IsBuilt};
+ghost use Rattle.environment_lines.specs.Known.{known_refusal};
+ghost use Rattle.environment_lines.specs.Doing.{Does};
 
-use environment::Environment;
 use environment_lines::{
-    abandon, add_fates, add_row, add_snapshot, clear_fates, commit, declare, drop_error, execute,
-    open_block, purge, purge_log, refresh, resume, set_clock, set_link, show, state, suspend,
+    Environment, abandon, add_fates, add_row, add_snapshot, clear_fates, commit, declare,
+    drop_error, execute, open_block, purge, purge_log, refresh, resume, set_clock, set_link, show,
+    state, suspend,
 };
 use environment_push::push;
 use report_text::Lines;

@@ -4,21 +4,19 @@ ghost use Rattle.script_parse.specs.Built.{is_built};
 ghost use Rattle.script_parse.specs.Named.{NamesColumn};
 ghost use Rattle.event_laws.specs.Core.{site_of};
 ghost use Rattle.world_state.specs.World.{first_world};
-ghost use Rattle.world_laws.specs.Worlds.{WorldHolds};
-ghost use Rattle.environment.specs.Doing.{Does, AnswersKnown};
-ghost use Rattle.snapshot_worlds.specs.Sites.{SnapshotsHold};
-ghost use Rattle.convergent_worlds.specs.Convergence.{ConvergenceHolds};
+ghost use Rattle.environment_lines.specs.Worlds.{WorldHolds};
+ghost use Rattle.environment_lines.specs.Doing.{Does, AnswersKnown};
+ghost use Rattle.environment_lines.specs.Worlds.{SnapshotsHold};
+ghost use Rattle.environment_lines.specs.Convergence.{ConvergenceHolds};
 ghost use Rattle.world_run.specs.Reporting.{PushLeavesNothingReady, RefreshShowsTheQuery};
 
 use crate::lines::run_line;
-use convergent_worlds::convergence_holds;
-use environment::{Environment, place_of};
+use environment_lines::{Environment, Site, convergence_holds, place_of};
 use page_tables::PageTables;
 use rep_lists::NoMemory;
 use rep_values::SiteName;
 use report_text::Lines;
 use script_parse::Command;
-use site_core::Site;
 use std::alloc::Global;
 use std::marker::Model;
 use world_state::Refused;
@@ -32,7 +30,7 @@ pub struct World {
 
 impl Model for World {
     ghost use Rattle.world_state.specs.World.{WorldState};
-    ghost use Rattle.environment.specs.Following.{IsBuilt};
+    ghost use Rattle.environment_lines.specs.Following.{IsBuilt};
 
     ghost Value = { WorldState };
 

@@ -1,13 +1,13 @@
 -- A line that is refused before it is tried, and one that was tried.
 use Rattle.std.proofs.Common.{◌≡◌, Some, subst, inr}
 use Rattle.world_state.specs.World.{WorldState}
-use Rattle.environment.specs.Following.{IsBuilt}
-use Rattle.environment.specs.Known.{known_refusal}
-use Rattle.environment.proofs.Keeping.{lines_keep_built}
-use Rattle.environment.proofs.KnownRefusals.{known_refused}
-use Rattle.world_laws.proofs.Scripts.{of_script_holds}
-use Rattle.snapshot_worlds.proofs.Scripts.{snapshots_hold_of}
-use Rattle.convergent_worlds.proofs.Scripts.{of_snapshots}
+use Rattle.environment_lines.specs.Following.{IsBuilt}
+use Rattle.environment_lines.specs.Known.{known_refusal}
+use Rattle.environment_lines.proofs.Keeping.{lines_keep_built}
+use Rattle.environment_lines.proofs.KnownRefusals.{known_refused}
+use Rattle.environment_lines.proofs.Worlds.{of_script_holds}
+use Rattle.environment_lines.proofs.Worlds.{snapshots_hold_of}
+use Rattle.environment_lines.proofs.Scripts.{of_snapshots}
 use Rattle.world_run.specs.Reporting.{RefreshShowsTheQuery}
 use Rattle.world_run.proofs.Stepping.{ready-done, refreshed-done}
 use Rattle.world_run.proofs.world.World.step.Goals as goal

@@ -1,6 +1,6 @@
 -- The law of reports.
-use Rattle.script_run.proofs.Worlds.{reported_worlds_hold, reported_snapshots_hold, reported_worlds_converge, pushes_leave_nothing_ready, refreshes_show_the_query}
-use Rattle.script_run.proofs.laws.reported_worlds_hold.Goals as goal
+use Rattle.world_run.proofs.Worlds.{reported_worlds_hold, reported_snapshots_hold, reported_worlds_converge, pushes_leave_nothing_ready, refreshes_show_the_query}
+use Rattle.world_run.proofs.laws.reported_worlds_hold.Goals as goal
 
 pub returns-clause-worlds : goal.returns-clause-worlds
 returns-clause-worlds c = reported_worlds_hold

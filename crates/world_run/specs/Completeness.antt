@@ -6,7 +6,7 @@ use Rattle.script_drive.specs.declared.status.Status.{Status}
 use Rattle.script_drive.specs.declared.status.Status.TheVariants.{Done, Memory}
 use Rattle.script_drive.specs.Lines.{line_step}
 use Rattle.world_state.specs.World.{first_world}
-use Rattle.script_run.specs.Scripts.{script_step}
+use Rattle.world_run.specs.Scripts.{script_step}
 
 -- where source and sink tell their bytes, no line of the script is malformed and neither had a fault, the run is done or
 -- there was no memory

@@ -1,7 +1,7 @@
 //! A law of reports. The function calls the law that its own stands on, and does nothing else.
-ghost use Rattle.script_run.specs.Scripts.{PushesOfScriptsLeaveNothingReady, RefreshesOfScriptsShowTheQuery, ReportedSnapshotsHold, ReportedWorldsConverge, ReportedWorldsHold};
+ghost use Rattle.world_run.specs.Scripts.{PushesOfScriptsLeaveNothingReady, RefreshesOfScriptsShowTheQuery, ReportedSnapshotsHold, ReportedWorldsConverge, ReportedWorldsHold};
 
-use convergent_worlds::convergence_holds;
+use environment_lines::convergence_holds;
 
 /// The laws over events hold of the world behind whatever lines of whatever script: of each world that a report tells of; and
 /// so do those of snapshots and of convergence. Once a push is reported, no position of any sender is ready at the receiver; once a refresh is,

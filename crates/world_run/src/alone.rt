@@ -1,8 +1,9 @@
 //! The world of a script, whose lines are run one by one.
 ghost use Rattle.std.specs.Prelude.{◌≡◌, false, IfOk};
 ghost use Rattle.report_text.specs.Refusals.{is_memory, refused_text};
-ghost use Rattle.script_run.specs.Scripts.{script_step};
+ghost use Rattle.world_run.specs.Scripts.{script_step};
 
+use crate::world::World;
 use rep_lists::NoMemory;
 use rep_values::Refusal;
 use report_text::{Lines, MOST_LINE, refused_line};
@@ -10,7 +11,6 @@ use script_drive::LineRunner;
 use script_lex::LineStop;
 use script_parse::parse_line;
 use std::alloc::Global;
-use world_run::World;
 use world_state::Refused;
 
 /// A world that runs each line by itself and waits for nothing.

@@ -10,13 +10,13 @@ use Rattle.script_lex.specs.Stop.{Fails}
 use Rattle.script_parse.specs.declared.command.Command.{Command}
 use Rattle.script_parse.specs.Parsed.{parsed}
 use Rattle.world_state.specs.declared.refused.Refused.{Refused}
-use Rattle.environment.specs.Texts.{told_text}
+use Rattle.environment_lines.specs.Texts.{told_text}
 use Rattle.world_state.specs.World.{WorldState}
 use Rattle.world_state.specs.Refusals.{world_refusal}
 use Rattle.world_state.specs.Steps.{world_refused, step_by, told_by}
-use Rattle.environment.specs.Doing.{IsDone, IsShort, IsRefused}
+use Rattle.environment_lines.specs.Doing.{IsDone, IsShort, IsRefused}
 use Rattle.script_drive.specs.Lines.{StopsBy}
-use Rattle.script_run.specs.Scripts.{script_step}
+use Rattle.world_run.specs.Scripts.{script_step}
 
 -- a line that was done
 pub script_step-done : (w w' : WorldState) (number : ℕ) (line out : List ℕ) (c : Command) → parsed line ≡ Ok c → IsDone number c w w' out → script_step w number line ≡ goes w' out

@@ -4,10 +4,10 @@ use Rattle.rep_lines.specs.Told.{Tells}
 use Rattle.script_drive.specs.Lines.{line_step}
 use Rattle.script_drive.specs.Outcome.{Told}
 use Rattle.world_state.specs.World.{WorldState, first_world}
-use Rattle.script_run.specs.Scripts.{script_step}
-use Rattle.script_run.proofs.Worlds.{each_world_holds}
-use Rattle.script_run.proofs.Completeness.{runs_to_its_end}
-use Rattle.script_run.proofs.run.run_alone.Goals as goal
+use Rattle.world_run.specs.Scripts.{script_step}
+use Rattle.world_run.proofs.Worlds.{each_world_holds}
+use Rattle.world_run.proofs.Completeness.{runs_to_its_end}
+use Rattle.world_run.proofs.run.run_alone.Goals as goal
 
 pub returns-clause-told : goal.returns-clause-told
 returns-clause-told g c =

@@ -8,8 +8,8 @@ use Rattle.script_drive.specs.declared.status.Status.TheVariants.{Done, Malforme
 use Rattle.script_drive.specs.Lines.{line_step}
 use Rattle.script_drive.specs.Outcome.{Told}
 use Rattle.world_state.specs.World.{first_world}
-use Rattle.script_run.specs.Scripts.{script_step}
-use Rattle.script_run.specs.Completeness.{RunsToItsEnd}
+use Rattle.world_run.specs.Scripts.{script_step}
+use Rattle.world_run.specs.Completeness.{RunsToItsEnd}
 
 pub runs_to_its_end : (left left' taken taken' : Option (List ℕ)) (read read' wrote wrote' : ℕ) (s : Status) → Tells (Told (line_step script_step) first_world s) left left' taken taken'
     → (s ≡ ReadFault → Rose read read') → (s ≡ WriteFault → Rose wrote wrote') → s ≢ Usage → RunsToItsEnd left taken read read' wrote wrote' s

@@ -15,15 +15,15 @@ use Rattle.world_state.specs.declared.refused.Refused.{Refused}
 use Rattle.world_state.specs.World.{WorldState, first_world}
 use Rattle.world_state.specs.Refusals.{world_refusal}
 use Rattle.world_state.specs.Steps.{world_done, world_refused, world_step, step_by, told_by, told_line}
-use Rattle.world_laws.proofs.Scripts.{of_script_holds, reported_pushes_leave_nothing_ready}
-use Rattle.snapshot_worlds.proofs.Scripts.{snapshots_hold_of, refreshes_show_of}
-use Rattle.convergent_worlds.specs.Reached.{HoldsOfConvergence}
-use Rattle.convergent_worlds.proofs.Scripts.{of_snapshots}
-use Rattle.environment.specs.Following.{IsBuilt}
-use Rattle.environment.specs.Texts.{world_text}
-use Rattle.environment.proofs.Keeping.{lines_keep_built, first_built}
+use Rattle.environment_lines.proofs.Worlds.{of_script_holds, reported_pushes_leave_nothing_ready}
+use Rattle.environment_lines.proofs.Worlds.{snapshots_hold_of, refreshes_show_of}
+use Rattle.environment_lines.specs.Reached.{HoldsOfConvergence}
+use Rattle.environment_lines.proofs.Scripts.{of_snapshots}
+use Rattle.environment_lines.specs.Following.{IsBuilt}
+use Rattle.environment_lines.specs.Texts.{world_text}
+use Rattle.environment_lines.proofs.Keeping.{lines_keep_built, first_built}
 use Rattle.script_drive.specs.Lines.{most_lines, most_bytes, line_step}
-use Rattle.script_run.specs.Scripts.{stepped_by, script_step, world_behind, ReportedWorldsHold, ReportedSnapshotsHold, ReportedWorldsConverge, PushesOfScriptsLeaveNothingReady, RefreshesOfScriptsShowTheQuery, EachWorldHolds}
+use Rattle.world_run.specs.Scripts.{stepped_by, script_step, world_behind, ReportedWorldsHold, ReportedSnapshotsHold, ReportedWorldsConverge, PushesOfScriptsLeaveNothingReady, RefreshesOfScriptsShowTheQuery, EachWorldHolds}
 
 -- after a line of a form that is built, whatever refusal it meets
 step_built : (number : ℕ) (c : Command) (w : WorldState) → is_built c ≡ true → NamesColumn c → IsBuilt w → IsBuilt (world_step number c w)

@@ -5,15 +5,15 @@ ghost use Rattle.rep_lines.specs.Told.{Tells};
 ghost use Rattle.world_state.specs.World.{first_world};
 ghost use Rattle.script_drive.specs.Lines.{line_step};
 ghost use Rattle.script_drive.specs.Outcome.{Told};
-ghost use Rattle.script_run.specs.Completeness.{RunsToItsEnd};
-ghost use Rattle.script_run.specs.Scripts.{script_step, EachWorldHolds};
+ghost use Rattle.world_run.specs.Completeness.{RunsToItsEnd};
+ghost use Rattle.world_run.specs.Scripts.{script_step, EachWorldHolds};
 
 use crate::alone::Alone;
 use crate::laws::reported_worlds_hold;
+use crate::world::World;
 use rep_io::{Sink, Source};
 use script_drive::{Status, drive};
 use std::alloc::Global;
-use world_run::World;
 
 /// Runs a script from the source and writes its report to the sink. It takes no lock, and always returns.
 ///

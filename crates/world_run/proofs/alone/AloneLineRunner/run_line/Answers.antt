@@ -4,9 +4,9 @@ use Rattle.std.proofs.lemmas.Result.{err_from_is_err_and}
 use Rattle.rep_lines.specs.Runs.{goes}
 use Rattle.script_lex.specs.Lines.{HasTokens}
 use Rattle.script_parse.proofs.NamedLines.{parsed-Ok}
-use Rattle.script_run.specs.Scripts.{script_step}
-use Rattle.script_run.proofs.Steps.{script_step-done, script_step-told, script_step-broken}
-use Rattle.script_run.proofs.alone.AloneLineRunner.run_line.Goals as goal
+use Rattle.world_run.specs.Scripts.{script_step}
+use Rattle.world_run.proofs.Steps.{script_step-done, script_step-told, script_step-broken}
+use Rattle.world_run.proofs.alone.AloneLineRunner.run_line.Goals as goal
 
 pub returns-in_err-command-clause-stop : goal.returns-in_err-command-clause-stop
 returns-in_err-command-clause-stop c =

@@ -14,11 +14,11 @@ use Rattle.event_laws.specs.Core.{site_of}
 use Rattle.world_state.specs.World.{WorldState, first_world}
 use Rattle.world_state.specs.Refusals.{world_refusal}
 use Rattle.world_state.specs.Steps.{world_step}
-use Rattle.world_laws.specs.Worlds.{WorldHolds, NothingReady}
-use Rattle.snapshot_worlds.specs.Sites.{SnapshotsHold}
-use Rattle.snapshot_worlds.specs.Refreshes.{ShowsItsMaster}
-use Rattle.convergent_worlds.specs.Convergence.{ConvergenceHolds}
-use Rattle.environment.specs.Texts.{line_text}
+use Rattle.environment_lines.specs.Worlds.{WorldHolds, NothingReady}
+use Rattle.environment_lines.specs.Worlds.{SnapshotsHold}
+use Rattle.environment_lines.specs.Worlds.{ShowsItsMaster}
+use Rattle.environment_lines.specs.Convergence.{ConvergenceHolds}
+use Rattle.environment_lines.specs.Texts.{line_text}
 use Rattle.script_drive.specs.Lines.{line_step}
 
 abbrev pub stepped_by : WorldState → ℕ → Result Command ℕ → Stepped WorldState

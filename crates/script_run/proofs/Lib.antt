@@ -1,4 +1,0 @@
--- The proofs of this crate.
-mod Steps
-mod Completeness
-mod Worlds
