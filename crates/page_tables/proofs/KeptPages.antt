@@ -50,7 +50,7 @@ module _ {X : Type 0} where
   joined-join (q ∷ r ∷ rs) zero within = append_assoc q r (joined rs)
   joined-join (q ∷ r ∷ rs) (suc i) within = ap (λ t. q ++ t) (joined-join (r ∷ rs) i (omega (arith, within)))
 
-  length-joined-set : (pages : List (List X)) (i : ℕ) (page : List X) → i < length pages → length (joined (set pages i page)) + length (get_or pages i []) ≡ length (joined pages) + length page
+  pub length-joined-set : (pages : List (List X)) (i : ℕ) (page : List X) → i < length pages → length (joined (set pages i page)) + length (get_or pages i []) ≡ length (joined pages) + length page
   length-joined-set [] i page within = absurd (omega (arith, within))
   length-joined-set (q ∷ qs) zero page within = let a = length-append page (joined qs) in let b = length-append q (joined qs) in omega (arith, a, b)
   length-joined-set (q ∷ qs) (suc i) page within =

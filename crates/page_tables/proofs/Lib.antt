@@ -3,6 +3,7 @@ mod Parted
 mod InPages
 mod Close
 mod KeptPages
+mod InStarts
 mod InIndex
 mod InSlots
 mod InRows
@@ -10,3 +11,4 @@ mod KeptRows
 mod RoomyIndexes
 mod PutRows
 mod OneTable
+mod Declarations

@@ -3,3 +3,4 @@ pub mod Pages
 pub mod Slots
 pub mod Index
 pub mod Stored
+pub mod Changes

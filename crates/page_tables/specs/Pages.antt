@@ -58,6 +58,20 @@ pub record ArePages {X : Type 0} (pages waiting : List (List X)) (places backs :
   pub few : length pages + length waiting ≤ 4294967296
   pub fits : length (joined pages) ≤ most_in (length pages + length waiting)
 
+-- for each page the number of values in the pages before it, where before the first there are so many
+abbrev pub starts_from : {X : Type 0} → ℕ → List (List X) → List ℕ
+starts_from start [] = []
+starts_from start (page ∷ pages) = start ∷ starts_from (start + length page) pages
+
+-- and where before the first there are none
+abbrev pub starts_of : {X : Type 0} → List (List X) → List ℕ
+starts_of pages = starts_from 0 pages
+
+-- where the pages that are kept start, with a place for the start of each page that waits
+pub record AreStarts {X : Type 0} (pages waiting : List (List X)) (starts : List ℕ) (places : ℕ) : Type 0 where
+  pub sums : starts ≡ starts_of pages
+  pub room : length pages + length waiting ≤ places
+
 -- the values, and for how many there is room in all
 pub record Paged : Type 0 where
   pub items : List ℕ

@@ -48,6 +48,10 @@ rows_in stored = map (λ t. t.rows) stored
 abbrev pub spare_in : List StoredTable → List ℕ
 spare_in stored = map (λ t. t.spare) stored
 
+-- the columns of the constraints of each table
+abbrev pub uniques_in : List StoredTable → List (List (List ℕ))
+uniques_in stored = map (λ t. t.uniques) stored
+
 -- the columns of the secondary constraints of a table
 abbrev pub columns_of_each : List Constraint → List (List ℕ)
 columns_of_each constraints = map (λ constraint. constraint.columns) constraints

@@ -1,5 +1,5 @@
 //! What is kept of one table: its rows in slots, the slots in order of key, and an index for each constraint.
-ghost use Rattle.std.specs.Prelude.{◌≡◌, ◌+◌, ◌<◌, ◌≤◌, ◌⊎◌, ◌↔◌, [], Some, length, map, slice_get, slice_index_or, option_copied, IsTrue, IsSome, IsOk, IfOk, OnOk, OnSome};
+ghost use Rattle.std.specs.Prelude.{◌≡◌, ◌+◌, ◌<◌, ◌≤◌, ◌⊎◌, ◌↔◌, [], ◌∷◌, ◌++◌, Some, length, map, slice_get, slice_index_or, option_copied, IsTrue, IsSome, IsOk, IfOk, OnOk, OnSome};
 ghost use Rattle.std.specs.List.{AllByRecursion};
 ghost use Rattle.rep_lists.specs.Rising.{IsRising};
 ghost use Rattle.rep_schema.specs.Tables.{row_cmp, key_of, find_row, put_row, take_row, IsHeldElsewhere};
@@ -11,7 +11,7 @@ use crate::pages::Pages;
 use crate::slots::Slots;
 use crate::sought::{ByKey, ByRow, row_at, row_in};
 use crate::unique_index::{UniqueIndex, list, unlist};
-use rep_lists::{Copies, NoMemory};
+use rep_lists::{Copies, Items, NoMemory};
 use rep_schema::{Column, Constraint, have_one_key};
 use rep_values::{Row, Value};
 use std::alloc::Global;
@@ -41,6 +41,34 @@ fn indexes_of(alloc: Global, constraints: &[Constraint]) -> Result<Vec<UniqueInd
     Ok(indexes)
 }
 
+/// The same indexes once more.
+fn copy_indexes(alloc: Global, indexes: &[UniqueIndex]) -> Result<Vec<UniqueIndex>, NoMemory>
+    ensures { IfOk result (λ copied. copied.items ≡ indexes.now) }
+{
+    let mut copied = Vec::with_capacity(alloc, indexes.len())?;
+    for index in indexes {
+        copied.push(index.copy(alloc)?)?;
+    }
+    Ok(copied)
+}
+
+/// Indexes of no rows: one by the columns of each of these, and one by further columns.
+fn indexes_with(
+    alloc: Global,
+    indexes: &[UniqueIndex],
+    columns: Items<u32>,
+) -> Result<Vec<UniqueIndex>, NoMemory>
+    ensures columns { IfOk result (λ all. map (λ index. index.columns) all.items ≡ map (λ index. index.columns) indexes.now ++ columns ∷ []) }
+    ensures items { IfOk result (λ all. AllByRecursion (λ index. index.items ≡ []) all.items) }
+{
+    let mut all = Vec::with_capacity(alloc, indexes.len())?;
+    for index in indexes {
+        all.push(UniqueIndex::of(alloc, index.copy_columns(alloc)?))?;
+    }
+    all.push(UniqueIndex::of(alloc, columns))?;
+    Ok(all)
+}
+
 /// A row stays in its slot until it is taken. The order and the indexes name it by its slot, and so a put or take
 /// moves slots alone.
 #[derive(Drop)]
@@ -61,6 +89,33 @@ impl Kept {
             slots: Slots::new(alloc),
             order: Pages::new(alloc),
             indexes: indexes_of(alloc, constraints)?,
+        })
+    }
+
+    /// No rows, and one index more, by these columns.
+    pub(crate) fn with_index(&self, alloc: Global, columns: Items<u32>) -> Result<Kept, NoMemory>
+        ensures rows { IfOk result (λ kept. rows_kept kept.slots kept.order ≡ []) }
+        ensures columns { IfOk result (λ kept. map (λ index. index.columns) kept.indexes.items ≡ map (λ index. index.columns) self.now.indexes.items ++ columns ∷ []) }
+        ensures stored { IfOk result (λ kept. IsStored kept.slots kept.order kept.indexes.items) }
+    {
+        Ok(Kept {
+            slots: Slots::new(alloc),
+            order: Pages::new(alloc),
+            indexes: indexes_with(alloc, &self.indexes, columns)?,
+        })
+    }
+
+    /// The same rows in the same slots, or want of memory.
+    pub(crate) fn copy(&self, alloc: Global) -> Result<Kept, NoMemory>
+        requires { IsStored self.now.slots self.now.order self.now.indexes.items }
+        ensures rows { IfOk result (λ kept. rows_kept kept.slots kept.order ≡ rows_kept self.now.slots self.now.order) }
+        ensures columns { IfOk result (λ kept. map (λ index. index.columns) kept.indexes.items ≡ map (λ index. index.columns) self.now.indexes.items) }
+        ensures stored { IfOk result (λ kept. IsStored kept.slots kept.order kept.indexes.items) }
+    {
+        Ok(Kept {
+            slots: self.slots.copy(alloc)?,
+            order: self.order.copy(alloc)?,
+            indexes: copy_indexes(alloc, &self.indexes)?,
         })
     }
 

@@ -1,12 +1,14 @@
 //! A store of rows whose tables lie in pages, with an index of the values of each constraint.
 #![tactic(auto)]
 
+mod change;
 mod kept;
 mod page;
 mod paged_rows;
 mod pages;
 mod slots;
 mod sought;
+mod starts;
 mod store;
 mod unique_index;
 

@@ -67,6 +67,15 @@ impl Page {
         })
     }
 
+    /// The same slots once more, or want of memory.
+    pub(crate) fn copy(&self, alloc: Global) -> Result<Page, NoMemory>
+        ensures { IfOk result (λ copied. copied ≡ self.now) }
+    {
+        let mut slots = Vec::with_capacity(alloc, PAGE)?;
+        push_all(&mut slots, &self.slots);
+        Ok(Page { slots })
+    }
+
     pub(crate) fn slots(&self) -> &[u32]
         ensures value { result.now ≡ self.now }
         ensures most { length self.now ≤ 64 }

@@ -1,12 +1,12 @@
 //! The rows of one table, in rising order of key.
-ghost use Rattle.std.specs.Prelude.{◌≡◌, ◌+◌, ◌<◌, ◌≤◌, ◌⊎◌, ◌↔◌, [], length, map, slice_get, slice_index_or, option_copied, IsTrue, IsSome, IsOk, IfOk, OnOk, OnSome};
+ghost use Rattle.std.specs.Prelude.{◌≡◌, ◌+◌, ◌<◌, ◌≤◌, ◌⊎◌, ◌↔◌, [], ◌∷◌, ◌++◌, length, map, slice_get, slice_index_or, option_copied, IsTrue, IsSome, IsOk, IfOk, OnOk, OnSome};
 ghost use Rattle.std.specs.List.{AllByRecursion};
 ghost use Rattle.rep_lists.specs.Rising.{IsRising};
 ghost use Rattle.rep_schema.specs.Tables.{row_cmp, key_of, find_row, put_row, take_row, IsHeldElsewhere};
 ghost use Rattle.page_tables.specs.Stored.{columns_of_each};
 
 use crate::kept::Kept;
-use rep_lists::NoMemory;
+use rep_lists::{Items, NoMemory};
 use rep_schema::{Column, Constraint};
 use rep_values::{Row, Value};
 use std::alloc::Global;
@@ -42,6 +42,30 @@ impl PagedRows {
     {
         Ok(PagedRows {
             kept: Kept::of(alloc, constraints)?,
+        })
+    }
+
+    /// No rows, and one index more, by these columns.
+    pub(crate) fn with_index(
+        &self,
+        alloc: Global,
+        columns: Items<u32>,
+    ) -> Result<PagedRows, NoMemory>
+        ensures rows { IfOk result (λ s. s.rows ≡ []) }
+        ensures uniques { IfOk result (λ s. s.uniques ≡ self.now.uniques ++ columns ∷ []) }
+    {
+        Ok(PagedRows {
+            kept: self.kept.with_index(alloc, columns)?,
+        })
+    }
+
+    /// The same rows and the same indexes, or want of memory.
+    pub(crate) fn copy(&self, alloc: Global) -> Result<PagedRows, NoMemory>
+        ensures rows { IfOk result (λ copied. copied.rows ≡ self.now.rows) }
+        ensures uniques { IfOk result (λ copied. copied.uniques ≡ self.now.uniques) }
+    {
+        Ok(PagedRows {
+            kept: self.kept.copy(alloc)?,
         })
     }
 

@@ -2,10 +2,11 @@
 ghost use Rattle.std.specs.Prelude.{◌≡◌, ℕ, ◌+◌, ◌-◌, ◌*◌, ◌<◌, ◌≤◌, ◌⊎◌, ◌↔◌, [], ◌∷◌, ◌++◌, None, length, vec_len, vec_capacity, slice_get, slice_index_or, slice_set, insert, remove, IsTrue, IsSome, IsOk, IfOk, IfErr, OnOk};
 ghost use Rattle.std.specs.List.{AllByRecursion};
 ghost use Rattle.rep_lists.specs.Rising.{IsThere, IsGap, find_at, take_at};
-ghost use Rattle.page_tables.specs.Pages.{joined, at_first, entered, most_in, IsParted, IsPage, IsPageFor, ArePages};
+ghost use Rattle.page_tables.specs.Pages.{joined, at_first, entered, most_in, starts_of, IsParted, IsPage, IsPageFor, ArePages, AreStarts};
 
 use crate::page::{HALF, PAGE, Page};
 use crate::sought::Sought;
+use crate::starts::{add_start, copy_starts, lower, raise, started};
 use rep_lists::NoMemory;
 use std::alloc::Global;
 use std::cmp::Ordering;
@@ -82,18 +83,23 @@ fn find<S: Sought>(pages: &[Page], sought: &S) -> Option<u32>
     }
 }
 
-fn slot_at(pages: &[Page], place: usize) -> Option<u32>
+/// The slot at a place of a page.
+fn slot_of(pages: &[Page], at: usize, place: usize) -> Option<u32>
+    requires { at < length pages.now }
+    ensures { result ≡ slice_get (slice_index_or pages.now at []) place }
+{
+    slot_in(pages[at].slots(), place)
+}
+
+/// The slot at a place. It lies in the last page that starts there or before it.
+fn slot_at(pages: &[Page], starts: &[usize], place: usize) -> Option<u32>
+    requires { starts.now ≡ starts_of pages.now }
     ensures { result ≡ slice_get (joined pages.now) place }
 {
-    let mut left = place;
-    for page in pages {
-        let slots = page.slots();
-        if left < slots.len() {
-            return slot_in(slots, left);
-        }
-        left -= slots.len();
+    match started(starts, place) {
+        0 => None,
+        count => slot_of(pages, count - 1, place - starts[count - 1]),
     }
-    None
 }
 
 /// Keeps an empty page for later. There is a place for it, so this takes no memory.
@@ -109,18 +115,22 @@ fn keep(waiting: &mut Vec<Page>, page: Page)
 }
 
 /// Takes an empty page out.
-fn drop_page(pages: &mut Vec<Page>, waiting: &mut Vec<Page>, at: usize)
+fn drop_page(pages: &mut Vec<Page>, starts: &mut Vec<usize>, waiting: &mut Vec<Page>, at: usize)
     requires at { at < length pages.old.items }
+    requires starts { starts.old.items ≡ starts_of pages.old.items }
     requires empty { slice_index_or pages.old.items at [] ≡ [] }
     requires blank { AllByRecursion (λ page. page ≡ []) waiting.old.items }
     requires room { vec_len waiting.old < vec_capacity waiting.old }
     ensures pages { pages.new.items ≡ remove pages.old.items at }
+    ensures starts { starts.new.items ≡ starts_of pages.new.items }
+    ensures starts_room { vec_capacity starts.new ≡ vec_capacity starts.old }
     ensures blank { AllByRecursion (λ page. page ≡ []) waiting.new.items }
     ensures one { vec_len waiting.new ≡ vec_len waiting.old + 1 }
     ensures places { vec_capacity pages.new ≡ vec_capacity pages.old }
     ensures room { vec_capacity waiting.new ≡ vec_capacity waiting.old }
 {
     let page = pages.remove(at);
+    let _ = starts.remove(at);
     keep(waiting, page);
 }
 
@@ -146,51 +156,71 @@ fn is_short_before(pages: &[Page], at: usize) -> bool
 }
 
 /// Joins a page and the one behind it.
-fn join_pages(pages: &mut Vec<Page>, waiting: &mut Vec<Page>, at: usize)
+fn join_pages(pages: &mut Vec<Page>, starts: &mut Vec<usize>, waiting: &mut Vec<Page>, at: usize)
     requires at { at + 1 < length pages.old.items }
+    requires starts { starts.old.items ≡ starts_of pages.old.items }
     requires short { length (slice_index_or pages.old.items at []) + length (slice_index_or pages.old.items (at + 1) []) < 32 }
     requires blank { AllByRecursion (λ page. page ≡ []) waiting.old.items }
     requires room { vec_len waiting.old < vec_capacity waiting.old }
     ensures pages { pages.new.items
         ≡ slice_set (remove pages.old.items (at + 1)) at (slice_index_or pages.old.items at [] ++ slice_index_or pages.old.items (at + 1) []) }
+    ensures starts { starts.new.items ≡ starts_of pages.new.items }
+    ensures starts_room { vec_capacity starts.new ≡ vec_capacity starts.old }
     ensures blank { AllByRecursion (λ page. page ≡ []) waiting.new.items }
     ensures one { vec_len waiting.new ≡ vec_len waiting.old + 1 }
     ensures places { vec_capacity pages.new ≡ vec_capacity pages.old }
     ensures room { vec_capacity waiting.new ≡ vec_capacity waiting.old }
 {
     let mut next = pages.remove(at + 1);
+    let _ = starts.remove(at + 1);
     pages[at].join(&mut next);
     keep(waiting, next);
 }
 
 /// Takes a slot out of a page. A page that is then empty is taken out, and one that is then short is joined with its
 /// neighbour.
-fn take_from(pages: &mut Vec<Page>, waiting: &mut Vec<Page>, at: usize, place: usize) -> u32
+fn take_from(
+    pages: &mut Vec<Page>,
+    starts: &mut Vec<usize>,
+    waiting: &mut Vec<Page>,
+    at: usize,
+    place: usize,
+) -> u32
     requires at { at < length pages.old.items }
     requires place { place < length (slice_index_or pages.old.items at []) }
     requires are { ArePages pages.old.items waiting.old.items (vec_capacity pages.old) (vec_capacity waiting.old) }
+    requires starts { AreStarts pages.old.items waiting.old.items starts.old.items (vec_capacity starts.old) }
     ensures value { result ≡ slice_index_or (slice_index_or pages.old.items at []) place result }
     ensures slots { joined pages.new.items ≡ joined (slice_set pages.old.items at (remove (slice_index_or pages.old.items at []) place)) }
     ensures are { ArePages pages.new.items waiting.new.items (vec_capacity pages.new) (vec_capacity waiting.new) }
+    ensures starts { AreStarts pages.new.items waiting.new.items starts.new.items (vec_capacity starts.new) }
     ensures all { length pages.new.items + length waiting.new.items ≡ length pages.old.items + length waiting.old.items }
 {
     let slot = pages[at].remove(place);
+    lower(starts, at + 1);
     if pages[at].is_empty() {
-        drop_page(pages, waiting, at);
+        drop_page(pages, starts, waiting, at);
     } else if is_short(pages, at) {
-        join_pages(pages, waiting, at);
+        join_pages(pages, starts, waiting, at);
     } else if is_short_before(pages, at) {
-        join_pages(pages, waiting, at - 1);
+        join_pages(pages, starts, waiting, at - 1);
     }
     slot
 }
 
-fn take_out<S: Sought>(pages: &mut Vec<Page>, waiting: &mut Vec<Page>, sought: &S) -> Option<u32>
+fn take_out<S: Sought>(
+    pages: &mut Vec<Page>,
+    starts: &mut Vec<usize>,
+    waiting: &mut Vec<Page>,
+    sought: &S,
+) -> Option<u32>
     requires parted { IsParted (S.at sought.now) (joined pages.old.items) }
     requires are { ArePages pages.old.items waiting.old.items (vec_capacity pages.old) (vec_capacity waiting.old) }
+    requires starts { AreStarts pages.old.items waiting.old.items starts.old.items (vec_capacity starts.old) }
     ensures taken { result ≡ find_at (S.at sought.now) (joined pages.old.items) }
     ensures slots { joined pages.new.items ≡ take_at (S.at sought.now) (joined pages.old.items) }
     ensures are { ArePages pages.new.items waiting.new.items (vec_capacity pages.new) (vec_capacity waiting.new) }
+    ensures starts { AreStarts pages.new.items waiting.new.items starts.new.items (vec_capacity starts.new) }
     ensures all { length pages.new.items + length waiting.new.items ≡ length pages.old.items + length waiting.old.items }
 {
     if pages.is_empty() {
@@ -198,44 +228,58 @@ fn take_out<S: Sought>(pages: &mut Vec<Page>, waiting: &mut Vec<Page>, sought: &
     }
     let at = page_for(pages, sought);
     match search(pages[at].slots(), sought) {
-        Ok(place) => Some(take_from(pages, waiting, at, place)),
+        Ok(place) => Some(take_from(pages, starts, waiting, at, place)),
         Err(_) => None,
     }
 }
 
 /// Puts the first slot of all into a page that waits.
-fn start(pages: &mut Vec<Page>, waiting: &mut Vec<Page>, slot: u32)
+fn start(pages: &mut Vec<Page>, starts: &mut Vec<usize>, waiting: &mut Vec<Page>, slot: u32)
     requires none { pages.old.items ≡ [] }
     requires waits { 1 ≤ vec_len waiting.old }
     requires room { length (joined pages.old.items) < most_in (length pages.old.items + length waiting.old.items) }
     requires are { ArePages pages.old.items waiting.old.items (vec_capacity pages.old) (vec_capacity waiting.old) }
+    requires starts { AreStarts pages.old.items waiting.old.items starts.old.items (vec_capacity starts.old) }
     ensures slots { joined pages.new.items ≡ slot ∷ [] }
     ensures are { ArePages pages.new.items waiting.new.items (vec_capacity pages.new) (vec_capacity waiting.new) }
+    ensures starts { AreStarts pages.new.items waiting.new.items starts.new.items (vec_capacity starts.new) }
     ensures all { length pages.new.items + length waiting.new.items ≡ length pages.old.items + length waiting.old.items }
 {
     if let Some(mut page) = waiting.pop() {
         page.insert(0, slot);
         pages.push_reserved(page);
+        starts.push_reserved(0);
     }
 }
 
 /// Inserts a slot into a page, which is split in two where it is full.
-fn insert_into(pages: &mut Vec<Page>, waiting: &mut Vec<Page>, at: usize, place: usize, slot: u32)
+fn insert_into(
+    pages: &mut Vec<Page>,
+    starts: &mut Vec<usize>,
+    waiting: &mut Vec<Page>,
+    at: usize,
+    place: usize,
+    slot: u32,
+)
     requires at { at < length pages.old.items }
     requires place { place ≤ length (slice_index_or pages.old.items at []) }
     requires waits { 1 ≤ vec_len waiting.old }
     requires room { length (joined pages.old.items) < most_in (length pages.old.items + length waiting.old.items) }
     requires are { ArePages pages.old.items waiting.old.items (vec_capacity pages.old) (vec_capacity waiting.old) }
+    requires starts { AreStarts pages.old.items waiting.old.items starts.old.items (vec_capacity starts.old) }
     ensures slots { joined pages.new.items ≡ joined (slice_set pages.old.items at (insert (slice_index_or pages.old.items at []) place slot)) }
     ensures are { ArePages pages.new.items waiting.new.items (vec_capacity pages.new) (vec_capacity waiting.new) }
+    ensures starts { AreStarts pages.new.items waiting.new.items starts.new.items (vec_capacity starts.new) }
     ensures all { length pages.new.items + length waiting.new.items ≡ length pages.old.items + length waiting.old.items }
 {
+    raise(starts, at + 1);
     if pages[at].len() < PAGE {
         pages[at].insert(place, slot);
         return;
     }
     if let Some(mut behind) = waiting.pop() {
         pages[at].split_insert(&mut behind, place, slot);
+        add_start(starts, at, pages[at].len());
         let _ = pages.insert(at + 1, behind);
     }
 }
@@ -243,6 +287,7 @@ fn insert_into(pages: &mut Vec<Page>, waiting: &mut Vec<Page>, at: usize, place:
 /// Puts a slot in its place, unless another one is found there.
 fn enter_in<S: Sought>(
     pages: &mut Vec<Page>,
+    starts: &mut Vec<usize>,
     waiting: &mut Vec<Page>,
     sought: &S,
     slot: u32,
@@ -251,13 +296,15 @@ fn enter_in<S: Sought>(
     requires room { IsSome (find_at (S.at sought.now) (joined pages.old.items))
         ⊎ (length (joined pages.old.items) < most_in (length pages.old.items + length waiting.old.items)) }
     requires are { ArePages pages.old.items waiting.old.items (vec_capacity pages.old) (vec_capacity waiting.old) }
+    requires starts { AreStarts pages.old.items waiting.old.items starts.old.items (vec_capacity starts.old) }
     ensures found { result ≡ find_at (S.at sought.now) (joined pages.old.items) }
     ensures slots { joined pages.new.items ≡ entered result (S.at sought.now) slot (joined pages.old.items) }
     ensures are { ArePages pages.new.items waiting.new.items (vec_capacity pages.new) (vec_capacity waiting.new) }
+    ensures starts { AreStarts pages.new.items waiting.new.items starts.new.items (vec_capacity starts.new) }
     ensures all { length pages.new.items + length waiting.new.items ≡ length pages.old.items + length waiting.old.items }
 {
     if pages.is_empty() {
-        start(pages, waiting, slot);
+        start(pages, starts, waiting, slot);
         return None;
     }
     let at = page_for(pages, sought);
@@ -265,7 +312,7 @@ fn enter_in<S: Sought>(
     match search(slots, sought) {
         Ok(place) => Some(pages[at].slot(place)),
         Err(place) => {
-            insert_into(pages, waiting, at, place, slot);
+            insert_into(pages, starts, waiting, at, place, slot);
             None
         }
     }
@@ -288,12 +335,19 @@ fn fill_up(waiting: &mut Vec<Page>, alloc: Global, number: usize) -> Result<(), 
 }
 
 /// Makes pages until there are so many in all, each with a place in the directory, or finds no memory.
-fn make_room(pages: &mut Vec<Page>, waiting: &mut Vec<Page>, number: usize) -> Result<(), NoMemory>
+fn make_room(
+    pages: &mut Vec<Page>,
+    starts: &mut Vec<usize>,
+    waiting: &mut Vec<Page>,
+    number: usize,
+) -> Result<(), NoMemory>
     requires are { ArePages pages.old.items waiting.old.items (vec_capacity pages.old) (vec_capacity waiting.old) }
+    requires starts { AreStarts pages.old.items waiting.old.items starts.old.items (vec_capacity starts.old) }
     ensures ok { OnOk result (number ≤ length pages.new.items + length waiting.new.items) }
     ensures kept { length pages.old.items + length waiting.old.items ≤ length pages.new.items + length waiting.new.items }
     ensures slots { pages.new.items ≡ pages.old.items }
     ensures are { ArePages pages.new.items waiting.new.items (vec_capacity pages.new) (vec_capacity waiting.new) }
+    ensures starts { AreStarts pages.new.items waiting.new.items starts.new.items (vec_capacity starts.new) }
 {
     if number > MOST_PAGES {
         return Err(NoMemory);
@@ -302,28 +356,43 @@ fn make_room(pages: &mut Vec<Page>, waiting: &mut Vec<Page>, number: usize) -> R
         return Ok(());
     }
     pages.reserve(number - pages.len())?;
+    starts.reserve(number - starts.len())?;
     waiting.reserve(number - waiting.len())?;
     let alloc = *pages.allocator();
     fill_up(waiting, alloc, number - pages.len())
 }
 
-/// Slots in the order in which they are looked for, each once. Only `reserve` takes memory.
+/// The same pages once more, with places for so many.
+fn copy_pages(alloc: Global, pages: &[Page], places: usize) -> Result<Vec<Page>, NoMemory>
+    requires { length pages.now ≤ places }
+    ensures pages { IfOk result (λ copied. copied.items ≡ pages.now) }
+    ensures places { IfOk result (λ copied. places ≤ vec_capacity copied) }
+{
+    let mut copied = Vec::with_capacity(alloc, places)?;
+    for page in pages {
+        copied.push_reserved(page.copy(alloc)?);
+    }
+    Ok(copied)
+}
+
+/// Slots in the order in which they are looked for, each once. Only `reserve` and `copy` take memory.
 #[derive(Drop)]
 pub(crate) struct Pages {
     pages: Vec<Page>,
+    starts: Vec<usize>,
     waiting: Vec<Page>,
     count: usize,
 }
 
 impl Model for Pages {
     ghost use Rattle.std.specs.Prelude.{◌≡◌, ◌+◌, length, vec_capacity};
-    ghost use Rattle.page_tables.specs.Pages.{joined, most_in, ArePages, Paged};
+    ghost use Rattle.page_tables.specs.Pages.{joined, most_in, ArePages, AreStarts, Paged};
 
     ghost Value = { Paged };
 
     ghost view = { λ s. record { items = joined s.pages.items; most = most_in (length s.pages.items + length s.waiting.items) } };
 
-    ghost invariant = { λ s. ArePages s.pages.items s.waiting.items (vec_capacity s.pages) (vec_capacity s.waiting) × (s.count ≡ length (joined s.pages.items)) };
+    ghost invariant = { λ s. ArePages s.pages.items s.waiting.items (vec_capacity s.pages) (vec_capacity s.waiting) × ((s.count ≡ length (joined s.pages.items)) × AreStarts s.pages.items s.waiting.items s.starts.items (vec_capacity s.starts)) };
 }
 
 impl Pages {
@@ -332,9 +401,23 @@ impl Pages {
     {
         Pages {
             pages: Vec::new(alloc),
+            starts: Vec::new(alloc),
             waiting: Vec::new(alloc),
             count: 0,
         }
+    }
+
+    /// The same slots in as many pages, with as many that wait, or want of memory.
+    pub(crate) fn copy(&self, alloc: Global) -> Result<Pages, NoMemory>
+        ensures { IfOk result (λ copied. copied ≡ self.now) }
+    {
+        let places = self.pages.len() + self.waiting.len();
+        Ok(Pages {
+            pages: copy_pages(alloc, &self.pages, places)?,
+            starts: copy_starts(alloc, &self.starts, places)?,
+            waiting: copy_pages(alloc, &self.waiting, places)?,
+            count: self.count,
+        })
     }
 
     pub(crate) fn len(&self) -> usize
@@ -353,7 +436,7 @@ impl Pages {
     pub(crate) fn at(&self, place: usize) -> Option<u32>
         ensures { result ≡ slice_get self.now.items place }
     {
-        slot_at(&self.pages, place)
+        slot_at(&self.pages, &self.starts, place)
     }
 
     pub(crate) fn find<S: Sought>(&self, sought: &S) -> Option<u32>
@@ -373,7 +456,12 @@ impl Pages {
         if most <= self.most() {
             return Ok(());
         }
-        make_room(&mut self.pages, &mut self.waiting, most / 16 + 2)
+        make_room(
+            &mut self.pages,
+            &mut self.starts,
+            &mut self.waiting,
+            most / 16 + 2,
+        )
     }
 
     /// Puts a slot in the place that is sought, unless another one is found there, which it answers.
@@ -384,7 +472,13 @@ impl Pages {
         ensures items { self.new.items ≡ entered result (S.at sought.now) slot self.old.items }
         ensures most { self.new.most ≡ self.old.most }
     {
-        let found = enter_in(&mut self.pages, &mut self.waiting, sought, slot);
+        let found = enter_in(
+            &mut self.pages,
+            &mut self.starts,
+            &mut self.waiting,
+            sought,
+            slot,
+        );
         if found.is_none() {
             self.count += 1;
         }
@@ -398,7 +492,7 @@ impl Pages {
         ensures items { self.new.items ≡ take_at (S.at sought.now) self.old.items }
         ensures most { self.new.most ≡ self.old.most }
     {
-        let taken = take_out(&mut self.pages, &mut self.waiting, sought);
+        let taken = take_out(&mut self.pages, &mut self.starts, &mut self.waiting, sought);
         if taken.is_some() {
             self.count -= 1;
         }

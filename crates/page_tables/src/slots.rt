@@ -1,8 +1,8 @@
 //! Rows that keep their slot until they are taken.
-ghost use Rattle.std.specs.Prelude.{◌≡◌, ◌+◌, ◌<◌, ◌≤◌, [], Some, None, length, IsSome, IsOk, OnOk};
+ghost use Rattle.std.specs.Prelude.{◌≡◌, ◌+◌, ◌<◌, ◌≤◌, [], Some, None, length, vec_capacity, option_copied, IsSome, IsOk, IfOk, OnOk};
 ghost use Rattle.page_tables.specs.Slots.{row_at, next_slot, Holds};
 
-use rep_lists::NoMemory;
+use rep_lists::{Copies, NoMemory};
 use rep_values::Row;
 use std::alloc::Global;
 use std::marker::Model;
@@ -11,7 +11,41 @@ use std::mem;
 // A slot is named by 32 bits.
 const MOST_ROWS: usize = 4_294_967_295;
 
-/// The rows of a table, each in a slot. Only `reserve` takes memory.
+/// The same row once more, where there is one.
+fn copy_row(alloc: Global, row: Option<&Row>) -> Result<Option<Row>, NoMemory>
+    ensures { IfOk result (λ copied. copied ≡ option_copied row.entry) }
+{
+    match row {
+        Some(row) => Ok(Some(row.copy(alloc)?)),
+        None => Ok(None),
+    }
+}
+
+/// The same rows once more, with room for as many as before.
+fn copy_rows(alloc: Global, rows: &Vec<Option<Row>>) -> Result<Vec<Option<Row>>, NoMemory>
+    ensures rows { IfOk result (λ copied. copied.items ≡ rows.now.items) }
+    ensures room { IfOk result (λ copied. vec_capacity rows.now ≤ vec_capacity copied) }
+{
+    let mut copied = Vec::with_capacity(alloc, rows.capacity())?;
+    for row in rows {
+        copied.push_reserved(copy_row(alloc, row.as_ref())?);
+    }
+    Ok(copied)
+}
+
+/// The same slots once more, with room for as many as before.
+fn copy_slots(alloc: Global, slots: &Vec<u32>) -> Result<Vec<u32>, NoMemory>
+    ensures slots { IfOk result (λ copied. copied.items ≡ slots.now.items) }
+    ensures room { IfOk result (λ copied. vec_capacity slots.now ≤ vec_capacity copied) }
+{
+    let mut copied = Vec::with_capacity(alloc, slots.capacity())?;
+    for slot in slots {
+        copied.push_reserved(*slot);
+    }
+    Ok(copied)
+}
+
+/// The rows of a table, each in a slot. Only `reserve` and `copy` take memory.
 #[derive(Drop)]
 pub(crate) struct Slots {
     rows: Vec<Option<Row>>,
@@ -39,6 +73,19 @@ impl Slots {
             rows: Vec::new(alloc),
             free: Vec::new(alloc),
         }
+    }
+
+    /// The same rows in the same slots, with at least as much room, or want of memory.
+    pub(crate) fn copy(&self, alloc: Global) -> Result<Slots, NoMemory>
+        ensures rows { IfOk result (λ copied. copied.rows ≡ self.now.rows) }
+        ensures free { IfOk result (λ copied. copied.free ≡ self.now.free) }
+        ensures room { IfOk result (λ copied. self.now.most ≤ copied.most) }
+        ensures few { IfOk result (λ copied. copied.most ≤ 4294967295) }
+    {
+        Ok(Slots {
+            rows: copy_rows(alloc, &self.rows)?,
+            free: copy_slots(alloc, &self.free)?,
+        })
     }
 
     pub(crate) fn most(&self) -> usize

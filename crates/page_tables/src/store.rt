@@ -1,12 +1,19 @@
 //! A store whose tables lie in pages.
-ghost use Rattle.std.specs.Prelude.{◌≡◌, ◌≢◌, ℕ, ◌+◌, ◌<◌, ◌≤◌, ◌⊎◌, ◌↔◌, [], length, replicate, slice_get, slice_set, slice_index, option_copied, IsTrue, IsSome, IsOk, IfOk, OnOk, OnSome};
+ghost use Rattle.std.specs.Prelude.{◌≡◌, ◌≢◌, ℕ, ◌+◌, ◌<◌, ◌≤◌, ◌⊎◌, ◌↔◌, [], length, replicate, slice_get, slice_set, slice_index, option_copied, vec_len, vec_capacity, None, Some, IsTrue, IsSome, IsOk, IfOk, IfErr, OnOk, OnErr, OnSome};
+ghost use Rattle.rep_values.specs.declared.refusal.Refusal.TheVariants.{Memory};
+ghost use Rattle.rep_schema.specs.Shape.{HasShape};
 ghost use Rattle.rep_schema.specs.Tables.{columns_of, constraints_of, constraint_columns_of, key_of, find_row, put_row, take_row, rows_of, IsKeyed, RowFits, IsUniqueRow, IsHeldElsewhere, AreTables};
-ghost use Rattle.page_tables.specs.Stored.{rows_in, AreIndexed};
+ghost use Rattle.rep_declare.specs.Refusals.{refusal_of};
+ghost use Rattle.rep_declare.specs.Additions.{ColumnNamed, declared};
+ghost use Rattle.rep_declare.specs.Shaping.{ShapesNoRows, rows_with};
+ghost use Rattle.page_tables.specs.Stored.{rows_in, uniques_in, AreIndexed};
 
+use crate::change::{change_of, make_change};
 use crate::paged_rows::PagedRows;
-use rep_lists::NoMemory;
+use rep_declare::{Declare, add_declaration, refusal_of};
+use rep_lists::{Copies, NoMemory};
 use rep_schema::{RowStore, Schema, TableEntry, columns_of};
-use rep_values::{Key, Row};
+use rep_values::{Key, Refusal, Row};
 use std::alloc::Global;
 use std::marker::Model;
 
@@ -42,6 +49,27 @@ fn empty_tables(alloc: Global, entries: &[TableEntry]) -> Result<Vec<PagedRows>,
     Ok(stored)
 }
 
+/// Takes the room for one more table.
+fn make_room(stored: &mut Vec<PagedRows>) -> Result<(), NoMemory>
+    ensures ok { OnOk result (vec_len stored.new < vec_capacity stored.new) }
+    ensures items { stored.new.items ≡ stored.old.items }
+{
+    stored.reserve(1)?;
+    Ok(())
+}
+
+/// The same tables once more.
+fn copy_each(alloc: Global, tables: &[PagedRows]) -> Result<Vec<PagedRows>, NoMemory>
+    ensures rows { IfOk result (λ copied. rows_in copied.items ≡ rows_in tables.now) }
+    ensures uniques { IfOk result (λ copied. uniques_in copied.items ≡ uniques_in tables.now) }
+{
+    let mut copied = Vec::with_capacity(alloc, tables.len())?;
+    for rows in tables {
+        copied.push(rows.copy(alloc)?)?;
+    }
+    Ok(copied)
+}
+
 impl PageTables {
     /// A store of this schema with every table empty.
     pub fn make(alloc: Global, schema: Schema) -> Result<PageTables, NoMemory>
@@ -50,6 +78,41 @@ impl PageTables {
     {
         let stored = empty_tables(alloc, schema.tables.as_slice())?;
         Ok(PageTables { schema, stored })
+    }
+
+    /// A store of an equal schema with equal rows, or want of memory.
+    pub fn copy(&self, alloc: Global) -> Result<PageTables, NoMemory>
+        ensures schema { IfOk result (λ s. s.schema ≡ self.now.schema) }
+        ensures tables { IfOk result (λ s. s.tables ≡ self.now.tables) }
+    {
+        let schema = self.schema.copy(alloc)?;
+        let stored = copy_each(alloc, self.stored.as_slice())?;
+        Ok(PageTables { schema, stored })
+    }
+
+    /// Adds what a declaration adds to the schema, or says why it is refused, the first reason in order, or that
+    /// there is no memory; then the store is as it was. A table that is declared comes behind the others and is
+    /// empty. One that the declaration shapes has no rows.
+    pub fn declare(&mut self, alloc: Global, declaration: &Declare) -> Result<(), Refusal>
+        requires shape { HasShape self.old.schema }
+        requires columns { ColumnNamed declaration.now }
+        requires free { ShapesNoRows self.old.schema self.old.tables declaration.now }
+        ensures ok { OnOk result (refusal_of self.old.schema declaration.now ≡ None) }
+        ensures schema { OnOk result (self.new.schema ≡ declared declaration.now self.old.schema) }
+        ensures tables { OnOk result (self.new.tables ≡ rows_with declaration.now self.old.tables) }
+        ensures err { IfErr result (λ why. (refusal_of self.old.schema declaration.now ≡ Some why) ⊎ ((refusal_of self.old.schema declaration.now ≡ None) × (why ≡ Memory))) }
+        ensures kept { OnErr result ((self.new.schema ≡ self.old.schema) × (self.new.tables ≡ self.old.tables)) }
+        ensures shape { HasShape self.new.schema }
+    {
+        if let Some(refusal) = refusal_of(&self.schema, declaration) {
+            return Err(refusal);
+        }
+        // The memory comes first, so that nothing fails once the schema has changed.
+        let change = change_of(alloc, &self.schema, &self.stored, declaration)?;
+        make_room(&mut self.stored)?;
+        add_declaration(&mut self.schema, alloc, declaration)?;
+        make_change(&mut self.stored, change);
+        Ok(())
     }
 }
 

@@ -1,5 +1,5 @@
 //! The slots of a table's rows in the order of their values in a secondary constraint.
-ghost use Rattle.std.specs.Prelude.{◌≡◌, ◌<◌, ◌≤◌, ◌++◌, [], None, Some, false, map, option_copied, IsOk, OnOk};
+ghost use Rattle.std.specs.Prelude.{◌≡◌, ◌<◌, ◌≤◌, ◌++◌, [], None, Some, false, map, option_copied, IsOk, IfOk, OnOk};
 ghost use Rattle.std.specs.List.{AllByRecursion};
 ghost use Rattle.rep_lists.specs.Rising.{find_at};
 ghost use Rattle.rep_lists.specs.RisingLaws.{at_key, RisesBy};
@@ -9,7 +9,7 @@ ghost use Rattle.page_tables.specs.Index.{picked_cmp, values_in, is_alike, with_
 
 use crate::pages::Pages;
 use crate::sought::{ByValues, compare_picked, row_at, row_in};
-use rep_lists::{Items, NoMemory};
+use rep_lists::{Copies, Items, NoMemory};
 use rep_values::{Row, Value};
 use std::alloc::Global;
 use std::marker::Model;
@@ -39,6 +39,22 @@ impl UniqueIndex {
             columns,
             slots: Pages::new(alloc),
         }
+    }
+
+    /// The same index once more, or want of memory.
+    pub(crate) fn copy(&self, alloc: Global) -> Result<UniqueIndex, NoMemory>
+        ensures { IfOk result (λ copied. copied ≡ self.now) }
+    {
+        Ok(UniqueIndex {
+            columns: self.columns.copy(alloc)?,
+            slots: self.slots.copy(alloc)?,
+        })
+    }
+
+    pub(crate) fn copy_columns(&self, alloc: Global) -> Result<Items<u32>, NoMemory>
+        ensures { IfOk result (λ columns. columns ≡ self.now.columns) }
+    {
+        self.columns.copy(alloc)
     }
 
     pub(crate) fn columns(&self) -> &[u32]

@@ -1,2 +1,1 @@
--- The definitions of this crate.
-pub mod Words
+-- The definitions of this crate; it needs none.

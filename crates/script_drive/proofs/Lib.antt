@@ -1,3 +1,4 @@
 -- The lemmas of this crate.
 pub mod HaltLemmas
+pub mod FrontLemmas
 pub mod ToldLemmas

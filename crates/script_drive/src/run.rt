@@ -1,15 +1,16 @@
 //! A script that is run line by line, as its bytes come.
-ghost use Rattle.std.specs.Prelude.{◌≡◌, ◌≢◌, ◌≤◌, ◌<◌, ◌+◌, ◌*◌, ◌^◌, ℕ, List, [], ◌∷◌, length, take, false, IfOk, IfErr, OnOk, OnErr};
+ghost use Rattle.std.specs.Prelude.{◌≡◌, ◌≢◌, ◌≤◌, ◌<◌, ◌+◌, ◌*◌, ◌^◌, ℕ, List, [], ◌∷◌, length, take, slice_index, false, IfOk, IfErr, OnOk, OnErr};
 ghost use Rattle.std.specs.Io.KnownBytes.{Appends};
 ghost use Rattle.rep_io.specs.Faults.{Rose};
-ghost use Rattle.rep_lines.specs.Lines.{newline};
+ghost use Rattle.rep_lines.specs.Lines.{newline, IsUnbroken};
 ghost use Rattle.rep_lines.specs.Runs.{Stepped, goes};
-ghost use Rattle.rep_lines.specs.Fed.{FedInto, beginning, prints_from, stops_from};
+ghost use Rattle.rep_lines.specs.Fed.{Fed, FedInto, beginning, prints_from, stops_from};
 ghost use Rattle.report_text.specs.Texts.{malformed_text};
-ghost use Rattle.script_drive.specs.Lines.{line_step, StopsBy};
+ghost use Rattle.script_drive.specs.Lines.{line_step, most_bytes, StopsBy};
 ghost use Rattle.script_drive.specs.Halts.{HaltsInto, RefusesInto, HasWriteCause, status_of, progress};
 
 use crate::status::Status;
+use memchr::memchr;
 use rep_io::{Sink, offer};
 use report_text::{Lines, MOST_LINE, malformed_line};
 use script_lex::LineStop;
@@ -106,8 +107,9 @@ impl<X: LineRunner> Run<X> {
         ensures further { OnOk result (progress self.old + length piece.now ≤ progress self.new) }
         ensures within { OnOk result (0 < length piece.now → progress self.new ≤ MOST_PROGRESS) }
     {
-        for byte in piece {
-            self.take(alloc, *byte, sink)?;
+        let mut place = 0;
+        while place < piece.len() {
+            place += self.take(alloc, &piece[place..], sink)?;
         }
         Ok(())
     }
@@ -123,28 +125,43 @@ impl<X: LineRunner> Run<X> {
         if self.line.is_empty() {
             return Ok(());
         }
-        self.take(alloc, b'\n', sink)
+        self.feed(alloc, b"\n", sink)
     }
 
-    // Takes the next byte, and runs the line that it ends.
-    fn take<K: Sink>(&mut self, alloc: Global, byte: u8, sink: &mut K) -> Result<(), Halt>
-        ensures fed { OnOk result (FedInto (line_step X.step) (K.taken sink.old) (K.taken sink.new) self.old (byte ∷ []) self.new) }
-        ensures halted { IfErr result (λ halt. HaltsInto (line_step X.step) (K.taken sink.old) (K.taken sink.new) halt self.old (byte ∷ [])) }
+    // Takes the bytes up to the first that ends a line, or all, runs the line that is ended, and tells how many it took.
+    fn take<K: Sink>(&mut self, alloc: Global, bytes: &[u8], sink: &mut K) -> Result<usize, Halt>
+        requires { 0 < length bytes.now }
+        ensures count { IfOk result (λ count. (0 < count) × (count ≤ length bytes.now)) }
+        ensures fed { IfOk result (λ count. FedInto (line_step X.step) (K.taken sink.old) (K.taken sink.new) self.old (take count bytes.now) self.new) }
+        ensures halted { IfErr result (λ halt. HaltsInto (line_step X.step) (K.taken sink.old) (K.taken sink.new) halt self.old bytes.now) }
         ensures cause { HasWriteCause (K.faults sink.old) (K.faults sink.new) result }
-        ensures further { OnOk result (progress self.old + 1 ≤ progress self.new) }
+        ensures further { IfOk result (λ count. progress self.old + count ≤ progress self.new) }
         ensures within { OnOk result (progress self.new ≤ MOST_PROGRESS) }
     {
         if self.number > MOST_LINES {
             return Err(refuse(alloc, self.number, 2, sink));
         }
-        if byte == b'\n' {
-            return self.end_line(alloc, sink);
-        }
-        if self.line.len() >= MOST_BYTES {
+        let count = unbroken_len(bytes);
+        if count > MOST_BYTES - self.line.len() {
             return Err(refuse(alloc, self.number, 1, sink));
         }
-        self.line.push_reserved(byte);
-        Ok(())
+        self.append(&bytes[..count]);
+        if count == bytes.len() {
+            return Ok(count);
+        }
+        self.end_line(alloc, sink)?;
+        Ok(count + 1)
+    }
+
+    // Appends bytes that don't end the line. There is room for them, so this takes no memory.
+    fn append(&mut self, bytes: &[u8])
+        requires unbroken { IsUnbroken bytes.now }
+        requires room { length self.old.line + length bytes.now ≤ most_bytes }
+        ensures fed { Fed (line_step X.step) self.old bytes.now [] self.new }
+        ensures number { self.new.number ≡ self.old.number }
+        ensures further { progress self.new ≡ progress self.old + length bytes.now }
+    {
+        let _ = self.line.extend_from_slice(bytes);
     }
 
     // Runs the line that stands, and offers what it prints.
@@ -169,6 +186,15 @@ impl<X: LineRunner> Run<X> {
             Err(LineStop::Memory) => Err(Halt::Memory),
         }
     }
+}
+
+// How many of the bytes stand before the first that ends a line, or all.
+fn unbroken_len(bytes: &[u8]) -> usize
+    ensures bound { result ≤ length bytes.now }
+    ensures front { IsUnbroken (take result bytes.now) }
+    ensures end { result < length bytes.now → slice_index bytes.now result ≡ newline }
+{
+    memchr(b'\n', bytes).unwrap_or(bytes.len())
 }
 
 // Tells of the rule that a line breaks.

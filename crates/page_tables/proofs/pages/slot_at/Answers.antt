@@ -1,19 +1,24 @@
-use Rattle.std.proofs.Common.{◌+◌, ◌++◌, drop, slice_get, sym, ap, ◌∙◌}
-use Rattle.page_tables.specs.Pages.{joined}
-use Rattle.page_tables.proofs.InPages.{get_in_page, get_behind_page, joined-drop}
+use Rattle.std.proofs.Common.{◌<◌, ◌≤◌, ap, sym, ◌∙◌, subst, arith}
+use Rattle.std.specs.List.Sorted.{IsNonDecreasingBy, IsPartitionPoint}
+use Rattle.std.specs.Prelude.{slice_get}
+use Rattle.page_tables.specs.Pages.{joined, starts_of}
+use Rattle.page_tables.proofs.InStarts.{length-sums, starts_rise, none_started, slot_there}
 use Rattle.page_tables.proofs.pages.slot_at.Goals as goal
 
-pub returns-then-left-slots : goal.returns-then-left-slots
-returns-then-left-slots c =
-    let behind = joined (drop (c.loop-page.page-index + 1) c.args.pages.now) in
-    let here = ap (λ t. t ++ behind) (c.slots-slots.ensures.value ∙ c.page-item.is) ∙ sym (joined-drop c.args.pages.now c.loop-page.page-index c.page-item.result c.loop-page-test.true) in
-    c.slot_in.ensures
-    ∙ (sym (get_in_page c.slots-slots.result.now behind c.loop-page.left c.if-left-slots.true)
-    ∙ (ap (λ t. slice_get t c.loop-page.left) here ∙ c.loop-page.invariant))
+pub started-requires : goal.started-requires
+started-requires c = subst (IsNonDecreasingBy (λ start. start)) (sym c.requires) (starts_rise c.args.pages.now)
 
-pub loop-page-preserved : goal.loop-page-preserved
-loop-page-preserved c =
-    let behind = joined (drop (c.loop-page.page-index + 1) c.args.pages.now) in
-    let here = ap (λ t. t ++ behind) (c.slots-slots.ensures.value ∙ c.page-item.is) ∙ sym (joined-drop c.args.pages.now c.loop-page.page-index c.page-item.result c.loop-page-test.true) in
-    sym (get_behind_page c.slots-slots.result.now behind c.loop-page.left c.if-left-slots.false)
-    ∙ (ap (λ t. slice_get t c.loop-page.left) here ∙ c.loop-page.invariant)
+pub slot_of-requires : goal.slot_of-requires
+slot_of-requires c = let h = c.in_default in let same = length-sums c.args.pages.now c.args.starts.now c.requires in omega (arith, same, c.started.ensures.bound, h)
+
+-- no page starts at the place or before it
+pub returns-in-0 : goal.returns-in-0
+returns-in-0 c =
+    let point = subst (IsPartitionPoint (λ start. start ≤ c.args.place) (λ start. c.args.place < start) c.args.starts.now) c.in-0.is c.started.ensures.point in
+    let behind = subst (λ t. IsPartitionPoint (λ start. start ≤ c.args.place) (λ start. c.args.place < start) t 0) c.requires point in
+    ap (λ pages. slice_get (joined pages) c.args.place) (sym (none_started c.args.pages.now c.args.place behind.1))
+
+pub returns-in_default : goal.returns-in_default
+returns-in_default c =
+    let some : 0 < c.started.result = (let h = c.in_default in omega (arith, h)) in
+    c.slot_of.ensures ∙ sym (slot_there c.args.pages.now c.args.starts.now c.args.place c.started.result c.requires c.started.ensures.point c.started.ensures.bound some)

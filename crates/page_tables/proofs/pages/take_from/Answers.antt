@@ -3,6 +3,7 @@ use Rattle.std.proofs.lemmas.List.{get_or_read, get_or-set_same, length-set}
 use Rattle.std.proofs.lemmas.List.Edits.{length-remove}
 use Rattle.page_tables.specs.Pages.{joined}
 use Rattle.page_tables.proofs.KeptPages.{some_left, not_short, are_kept_now, are_dropped, are_joined_next, are_joined_before}
+use Rattle.page_tables.proofs.InStarts.{length-sums, lower_some, lowered}
 use Rattle.page_tables.proofs.pages.take_from.Goals as goal
 
 pub returns-then-is_empty-clause-slots : goal.returns-then-is_empty-clause-slots
@@ -141,3 +142,54 @@ returns-else-is_short_before-clause-are c =
     let before = rw c.deref-else-is_short.ensures.value at c.is_short_before.ensures in
     are_kept_now pages c.args.waiting.now.items _ _ c.requires.are c.args.at c.requires.at page (omega (arith, shorter, short)) (omega (arith, some, left))
     (not_short _ c.is_short.result here c.if-is_short.false) (not_short _ c.is_short_before.result before c.if-is_short_before.false)
+
+pub drop_page-requires-clause-starts : goal.drop_page-requires-clause-starts
+drop_page-requires-clause-starts c =
+    let pages = c.args.pages.now.items in
+    let taken = c.remove-slot.ensures.after ∙ ap (λ t. remove t c.args.place) (get_or_read _ _ _ c.requires.at c.index_mut.ensures.value []) in
+    let shorter = length-remove _ c.args.place c.requires.place in
+    let short = ap length taken in
+    c.lower.ensures.starts ∙ lowered pages c.args.starts.now.items c.requires.starts.sums c.args.at c.requires.at c.remove-slot.new.self (omega (arith, shorter, short))
+
+pub join_pages-requires-clause-starts : goal.join_pages-requires-clause-starts
+join_pages-requires-clause-starts c =
+    let pages = c.args.pages.now.items in
+    let taken = c.remove-slot.ensures.after ∙ ap (λ t. remove t c.args.place) (get_or_read _ _ _ c.requires.at c.index_mut.ensures.value []) in
+    let shorter = length-remove _ c.args.place c.requires.place in
+    let short = ap length taken in
+    c.lower.ensures.starts ∙ lowered pages c.args.starts.now.items c.requires.starts.sums c.args.at c.requires.at c.remove-slot.new.self (omega (arith, shorter, short))
+
+pub join_pages-requires-then-is_short_before-clause-starts : goal.join_pages-requires-then-is_short_before-clause-starts
+join_pages-requires-then-is_short_before-clause-starts c =
+    let pages = c.args.pages.now.items in
+    let taken = c.remove-slot.ensures.after ∙ ap (λ t. remove t c.args.place) (get_or_read _ _ _ c.requires.at c.index_mut.ensures.value []) in
+    let shorter = length-remove _ c.args.place c.requires.place in
+    let short = ap length taken in
+    c.lower.ensures.starts ∙ lowered pages c.args.starts.now.items c.requires.starts.sums c.args.at c.requires.at c.remove-slot.new.self (omega (arith, shorter, short))
+
+pub returns-then-is_short-clause-starts : goal.returns-then-is_short-clause-starts
+returns-then-is_short-clause-starts c =
+    let all = returns-then-is_short-clause-all c in
+    record { sums = c.join_pages.ensures.starts; room = omega (arith, all, c.requires.starts.room, c.join_pages.ensures.starts_room, c.lower.ensures.room) }
+
+pub returns-then-is_short_before-clause-starts : goal.returns-then-is_short_before-clause-starts
+returns-then-is_short_before-clause-starts c =
+    let all = returns-then-is_short_before-clause-all c in
+    record { sums = c.join_pages-then-is_short_before.ensures.starts; room = omega (arith, all, c.requires.starts.room, c.join_pages-then-is_short_before.ensures.starts_room, c.lower.ensures.room) }
+
+pub returns-else-is_short_before-clause-starts : goal.returns-else-is_short_before-clause-starts
+returns-else-is_short_before-clause-starts c =
+    let pages = c.args.pages.now.items in
+    let taken = c.remove-slot.ensures.after ∙ ap (λ t. remove t c.args.place) (get_or_read _ _ _ c.requires.at c.index_mut.ensures.value []) in
+    let shorter = length-remove _ c.args.place c.requires.place in
+    let short = ap length taken in
+    record {
+      sums = c.lower.ensures.starts ∙ lowered pages c.args.starts.now.items c.requires.starts.sums c.args.at c.requires.at c.remove-slot.new.self (omega (arith, shorter, short));
+      room = omega (arith, length-set pages c.args.at c.remove-slot.new.self, c.requires.starts.room, c.lower.ensures.room);
+    }
+
+pub lower-requires-clause-from : goal.lower-requires-clause-from
+lower-requires-clause-from c = let same = length-sums c.args.pages.now.items c.args.starts.now.items c.requires.starts.sums in omega (arith, same, c.requires.at)
+
+pub lower-requires-clause-some : goal.lower-requires-clause-some
+lower-requires-clause-some c = lower_some c.args.pages.now.items c.args.starts.now.items c.requires.starts.sums c.args.at c.requires.at (omega (arith, c.requires.place))

@@ -1,0 +1,6 @@
+-- Taking one from the starts so far.
+use Rattle.std.proofs.Common.{◌≡◌, ◌-◌, ◌++◌, map, take, drop}
+use Rattle.page_tables.proofs.starts.lower_all.Given as goal
+
+abbrev pub invariant-loop-start : goal.invariant-loop-start
+invariant-loop-start l = l.starts ≡ map (λ start. start - 1) (take l.start-index l.fn.starts) ++ drop l.start-index l.fn.starts
