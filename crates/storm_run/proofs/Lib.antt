@@ -1,6 +1,9 @@
 -- The proofs of this crate.
 mod TotalLemmas
 mod SameRows
+mod Room
+mod Fronts
 mod Stepping
 mod Counting
 mod Rounds
+mod Worked
