@@ -1,6 +1,8 @@
 -- The proofs of this crate.
 mod TotalLemmas
 mod SameRows
+mod LineWords
+mod CountedLines
 mod Room
 mod Fronts
 mod Stepping

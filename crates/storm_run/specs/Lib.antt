@@ -7,3 +7,4 @@ pub mod Stocks
 pub mod Lines
 pub mod Summary
 pub mod Outcome
+pub mod Laws
