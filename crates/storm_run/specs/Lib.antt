@@ -4,5 +4,7 @@ pub mod Words
 pub mod Tallies
 pub mod Runs
 pub mod Stocks
+pub mod Lines
 pub mod Summary
 pub mod Outcome
+pub mod Laws

@@ -4,21 +4,21 @@ use Rattle.rep_values.specs.Name.{same_bytes}
 use Rattle.storm_run.specs.declared.tally.Tally.{Tally}
 use Rattle.storm_run.specs.Words.{word_at, number_of}
 
--- the text begins with this word
-abbrev pub begins_with : List ℕ → List ℕ → Bool
-begins_with word text = same_bytes (word_at 0 text) word
+-- the text has this word at a place, from 0
+abbrev pub has_word : ℕ → List ℕ → List ℕ → Bool
+has_word place word text = same_bytes (word_at place text) word
 
 -- commit SITE NUMBER: a commit with calls
 abbrev pub is_commit : List ℕ → Bool
-is_commit text = begins_with (codes "commit") text && not (same_bytes (word_at 2 text) (codes "none"))
+is_commit text = has_word 0 (codes "commit") text && not (has_word 2 (codes "none") text)
 
 -- ! LINE TEXT: a refused command
 abbrev pub is_refused : List ℕ → Bool
-is_refused text = begins_with (codes "!") text
+is_refused text = has_word 0 (codes "!") text
 
 -- push A B sent N done D errors E low M: a push that wasn't refused
 abbrev pub is_push : List ℕ → Bool
-is_push text = begins_with (codes "push") text
+is_push text = has_word 0 (codes "push") text
 
 -- the errors that a push counted: its ninth word
 abbrev pub errors_of : List ℕ → ℕ

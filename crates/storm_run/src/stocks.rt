@@ -1,5 +1,5 @@
 //! The storm's table at a site.
-ghost use Rattle.std.specs.Prelude.{◌≡◌, ◌<◌, ◌↔◌, length, slice_get, option_copied, IsTrue};
+ghost use Rattle.std.specs.Prelude.{◌≡◌, ◌+◌, ◌<◌, ◌↔◌, ◌∷◌, length, drop, slice_get, IsTrue};
 ghost use Rattle.rep_schema.specs.Tables.{rows_of};
 ghost use Rattle.storm_run.specs.Stocks.{number_in, qty_of, top_of, raised, total_qty, greatest_top, totals_of, same_rows, stock_rows, masters_agree};
 
@@ -18,7 +18,8 @@ pub struct Totals {
 
 // How many rows the first table has; none where there is no table.
 fn row_count<R: RowStore>(store: &R) -> u64
-    ensures { result ≡ length (rows_of (R.tables store.now) 0) }
+    ensures count { result ≡ length (rows_of (R.tables store.now) 0) }
+    ensures table { 0 < result → 0 < length (R.schema store.now).tables }
 {
     if store.schema().tables.is_empty() {
         return 0;
@@ -28,8 +29,9 @@ fn row_count<R: RowStore>(store: &R) -> u64
 
 // The row at a place of the first table.
 fn row_at<R: RowStore>(store: &R, place: u64) -> &Row
-    requires { place < length (rows_of (R.tables store.now) 0) }
-    ensures { slice_get (rows_of (R.tables store.now) 0) place ≡ Some result.now }
+    requires table { 0 < length (R.schema store.now).tables }
+    requires place { place < length (rows_of (R.tables store.now) 0) }
+    ensures { drop place (rows_of (R.tables store.now) 0) ≡ result.now ∷ drop (place + 1) (rows_of (R.tables store.now) 0) }
 {
     match store.row_in_order(0, place) {
         Some(row) => row,
@@ -58,7 +60,7 @@ fn raised(top: Option<i64>, number: i64) -> Option<i64>
 }
 
 // What the rows of the first table come to.
-fn totals<R: RowStore>(store: &R) -> Totals
+fn totals_in<R: RowStore>(store: &R) -> Totals
     ensures { result ≡ totals_of (rows_of (R.tables store.now) 0) }
 {
     let rows = row_count(store);
@@ -97,7 +99,7 @@ pub fn site_totals(world: &World, site: &SiteName) -> Totals
     ensures { result ≡ totals_of (stock_rows site.now world.now) }
 {
     match world.site(site) {
-        Some(site) => totals(site.store()),
+        Some(site) => totals_in(site.store()),
         None => Totals {
             rows: 0,
             qty: 0,

@@ -2,7 +2,8 @@
 ghost use Rattle.std.specs.Prelude.{◌≡◌, ◌≤◌, ◌++◌, [], ◌∷◌, IfOk, OnOk};
 ghost use Rattle.report_text.specs.Sheet.{line};
 ghost use Rattle.storm_script.specs.Laws.{most_rounds};
-ghost use Rattle.storm_run.specs.Summary.{storm_line, tally_lines, totals_lines, agree_line, storm_summary};
+ghost use Rattle.storm_run.specs.Lines.{storm_line, tally_lines, totals_lines, agree_line};
+ghost use Rattle.storm_run.specs.Summary.{storm_summary};
 
 use crate::run::run_storm;
 use crate::stocks::{Totals, masters_agree, site_totals};

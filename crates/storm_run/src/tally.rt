@@ -1,6 +1,6 @@
 //! What the commands of a storm told, counted.
 ghost use Rattle.std.specs.Prelude.{◌≡◌, [], codes};
-ghost use Rattle.storm_run.specs.Tallies.{begins_with, is_commit, is_refused, is_push, errors_of, tally_of, with_refusal, with_text, HasRoom};
+ghost use Rattle.storm_run.specs.Tallies.{has_word, is_commit, is_refused, is_push, errors_of, tally_of, with_refusal, with_text, HasRoom};
 
 use crate::words::{number_of, word_at};
 
@@ -13,25 +13,39 @@ pub struct Tally {
     pub errors: u128,
 }
 
-// Whether the text begins with this word.
-fn begins_with(word: &[u8], text: &[u8]) -> bool
-    ensures { result ≡ begins_with word.now text.now }
+// Whether the text has this word at a place, from 0.
+fn has_word(place: usize, word: &[u8], text: &[u8]) -> bool
+    ensures { result ≡ has_word place word.now text.now }
 {
-    word_at(text, 0) == word
+    word_at(text, place) == word
 }
 
 // Whether the text is of a commit with calls.
 fn is_commit(text: &[u8]) -> bool
     ensures { result ≡ is_commit text.now }
 {
-    begins_with(b"commit", text) && word_at(text, 2) != b"none"
+    has_word(0, b"commit", text) && !has_word(2, b"none", text)
+}
+
+// Whether the text is of a refused command.
+fn is_refused(text: &[u8]) -> bool
+    ensures { result ≡ is_refused text.now }
+{
+    has_word(0, b"!", text)
+}
+
+// Whether the text is of a push.
+fn is_push(text: &[u8]) -> bool
+    ensures { result ≡ is_push text.now }
+{
+    has_word(0, b"push", text)
 }
 
 // How many errors the text tells of: those that a push counted.
 fn errors_of(text: &[u8]) -> u64
     ensures { result ≡ errors_of text.now }
 {
-    if begins_with(b"push", text) {
+    if is_push(text) {
         number_of(word_at(text, 8))
     } else {
         0
@@ -57,8 +71,8 @@ impl Tally {
         ensures { self.new ≡ with_text self.old text.now }
     {
         self.commits += u64::from(is_commit(text));
-        self.refused += u64::from(begins_with(b"!", text));
-        self.pushes += u64::from(begins_with(b"push", text));
+        self.refused += u64::from(is_refused(text));
+        self.pushes += u64::from(is_push(text));
         self.errors += u128::from(errors_of(text));
     }
 
