@@ -1,1 +1,11 @@
--- The lemmas of this crate; it needs none.
+-- The lemmas of this crate, from the bottom up.
+mod TotalLemmas
+mod SameRows
+mod LineWords
+mod CountedLines
+mod Room
+mod Fronts
+mod Stepping
+mod Counting
+mod Rounds
+mod Worked

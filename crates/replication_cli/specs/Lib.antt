@@ -1,1 +1,10 @@
--- The definitions of this crate; it needs none.
+-- The definitions of this crate.
+pub mod Texts
+pub mod Words
+pub mod Tallies
+pub mod Runs
+pub mod Stocks
+pub mod Lines
+pub mod Summary
+pub mod Outcome
+pub mod Laws

@@ -1,8 +1,16 @@
-//! The program that runs a script of replication and writes its report.
+//! The program that runs a script of replication and writes its report, or runs a storm and writes its summary.
 #![tactic(auto)]
 
+mod laws;
 mod program;
+mod run;
+mod stocks;
+mod summary;
+mod tally;
+mod whole;
+mod words;
 
+pub use laws::tally_laws;
 pub use program::run_program;
 use rep_io::{StdSink, StdSource};
 pub use script_drive::Status;
@@ -10,6 +18,8 @@ use std::alloc::{AllocError, Global};
 use std::env::Env;
 use std::process::ExitCode;
 use std::{env, io};
+pub use tally::Tally;
+pub use whole::storm;
 
 /// The words behind the program's name, or an error where they can't be had as text or there is no memory.
 fn words_of<R: Env + AllocGlobal>(rt: &R) -> io::Result<Vec<String>> {

@@ -7,15 +7,15 @@ ghost use Rattle.script_drive.specs.Lines.{line_step};
 ghost use Rattle.script_drive.specs.Outcome.{Told};
 ghost use Rattle.world_run.specs.Completeness.{RunsToItsEnd};
 ghost use Rattle.world_run.specs.Scripts.{script_step, EachWorldHolds};
-ghost use Rattle.storm_run.specs.Outcome.{TellsOf};
-ghost use Rattle.storm_run.specs.Summary.{storm_summary};
+ghost use Rattle.replication_cli.specs.Outcome.{TellsOf};
+ghost use Rattle.replication_cli.specs.Summary.{storm_summary};
 ghost use Rattle.program_words.specs.Words.{asked_by};
 
+use crate::whole::storm;
 use program_words::{Asked, asked_by};
 use rep_io::{Sink, Source};
 use script_drive::Status;
 use std::alloc::Global;
-use storm_run::storm;
 use world_run::run_alone;
 
 /// What the program does with the words behind its name. For the one word `run` it runs the script of the source as `run_alone`

@@ -1,0 +1,52 @@
+-- Commands that are run in parts, and how many there are.
+use Rattle.std.proofs.Common.{◌≡◌, ℕ, zero, suc, ◌+◌, ◌*◌, ◌-◌, ◌≤◌, ◌<◌, ◌%◌, ◌==◌, Bool, true, false, List, [], ◌∷◌, ◌++◌, length, take, refl, arith, lit≤}
+use Rattle.std.specs.Prelude.{All, if◌then◌else◌}
+use Rattle.std.specs.List.{AllByRecursion, fold}
+use Rattle.std.proofs.lemmas.List.Sums.{fold-append, fold_more}
+use Rattle.std.proofs.lemmas.List.Elements.{All-from_recursion}
+use Rattle.script_parse.specs.declared.command.Command.{Command}
+use Rattle.storm_script.specs.Draws.{behind}
+use Rattle.storm_script.specs.Opening.{opening}
+use Rattle.storm_script.specs.Rounds.{drawn_push, round, behind_round, rounds}
+use Rattle.storm_script.specs.Closing.{closing}
+use Rattle.storm_script.specs.Laws.{IsLine, most_rounds}
+use Rattle.storm_script.proofs.Lines.{opening_is_lines, round_is_lines, closing_is_lines}
+use Rattle.replication_cli.specs.Runs.{Running, with_command, with_commands}
+
+-- commands run in two parts
+pub with_commands-append : (r : Running) (xs ys : List Command) → with_commands r (xs ++ ys) ≡ with_commands (with_commands r xs) ys
+with_commands-append r xs ys = fold-append with_command r xs ys
+
+-- each command of the opening is a line's
+pub opening_lines : All IsLine opening
+opening_lines = All-from_recursion IsLine opening opening_is_lines
+
+-- each command of a round is
+pub round_lines : (i x : ℕ) → i ≤ most_rounds → All IsLine (round i x)
+round_lines i x within = All-from_recursion IsLine (round i x) (round_is_lines i x within)
+
+-- each command of the closing is
+pub closing_lines : All IsLine closing
+closing_lines = All-from_recursion IsLine closing closing_is_lines
+
+-- a round has at most five commands
+pub length-round-le : (i x : ℕ) → length (round i x) ≤ 5
+unfolding round
+length-round-le i x = go (i % 10 == 0)
+  where
+    go : (b : Bool) → suc (suc (suc (length (if b then drawn_push (behind 2 x) else [])))) ≤ 5
+    go true = lit≤ tt
+    go false = lit≤ tt
+
+pub length-opening : length opening ≡ 117
+unfolding opening
+length-opening = refl
+
+pub length-closing : length closing ≡ 12
+unfolding closing
+length-closing = refl
+
+-- the rounds that are left are the next one, and those behind it
+pub rounds-next : (left i x : ℕ) → 0 < left → rounds left i x ≡ round i x ++ rounds (left - 1) (i + 1) (behind_round i x)
+rounds-next zero i x some = absurd (omega arith)
+rounds-next (suc left) i x some = let e : suc left - 1 ≡ left = omega arith in rw e refl
