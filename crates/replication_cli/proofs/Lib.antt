@@ -1,8 +1,6 @@
 -- The lemmas of this crate, from the bottom up.
 mod TotalLemmas
 mod SameRows
-mod LineWords
-mod CountedLines
 mod Room
 mod Fronts
 mod Stepping

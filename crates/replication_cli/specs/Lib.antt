@@ -7,4 +7,3 @@ pub mod Stocks
 pub mod Lines
 pub mod Summary
 pub mod Outcome
-pub mod Laws

@@ -1,7 +1,6 @@
 //! The program that runs a script of replication and writes its report, or runs a storm and writes its summary.
 #![tactic(auto)]
 
-mod laws;
 mod program;
 mod run;
 mod stocks;
@@ -10,7 +9,6 @@ mod tally;
 mod whole;
 mod words;
 
-pub use laws::tally_laws;
 pub use program::run_program;
 use rep_io::{StdSink, StdSource};
 pub use script_drive::Status;

@@ -64,17 +64,21 @@ impl Run {
         requires room { self.old.number + 1 < 2 ^ 32 }
         ensures { OnOk result (self.new ≡ with_command self.old command.now) }
     {
-        match self.world.step(alloc, self.number, command) {
-            Ok(lines) => self.tally.add(lines.bytes()),
+        let number = self.number;
+        self.number += 1;
+        match self.world.step(alloc, number, command) {
+            Ok(lines) => {
+                self.tally.add(lines.bytes());
+                Ok(())
+            }
             Err(refused) => {
                 if let Refusal::Memory = refused.refusal {
                     return Err(NoMemory);
                 }
                 self.tally.refuse();
+                Ok(())
             }
         }
-        self.number += 1;
-        Ok(())
     }
 
     // Runs commands one after another.

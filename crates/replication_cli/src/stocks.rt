@@ -79,7 +79,7 @@ fn totals_in<R: RowStore>(store: &R) -> Totals
 }
 
 // Whether two stores have the same rows in the first table.
-fn same_rows<R: RowStore>(a: &R, b: &R) -> bool
+fn have_same_rows<R: RowStore>(a: &R, b: &R) -> bool
     ensures { IsTrue result ↔ (rows_of (R.tables a.now) 0 ≡ rows_of (R.tables b.now) 0) }
 {
     let count = row_count(a);
@@ -92,6 +92,13 @@ fn same_rows<R: RowStore>(a: &R, b: &R) -> bool
         }
     }
     true
+}
+
+// The same as the test of their rows.
+fn same_rows<R: RowStore>(a: &R, b: &R) -> bool
+    ensures { result ≡ same_rows (rows_of (R.tables a.now) 0) (rows_of (R.tables b.now) 0) }
+{
+    have_same_rows(a, b)
 }
 
 /// What the rows at a site of a world come to; those of no rows where it isn't there.

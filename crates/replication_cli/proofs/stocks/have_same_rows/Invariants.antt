@@ -1,7 +1,7 @@
 -- The rows are the same where those that are left are.
 use Rattle.std.proofs.Common.{◌≡◌, drop}
 use Rattle.rep_schema.specs.Tables.{rows_of}
-use Rattle.replication_cli.proofs.stocks.same_rows.Given as goal
+use Rattle.replication_cli.proofs.stocks.have_same_rows.Given as goal
 
 abbrev pub invariant-loop-place : goal.invariant-loop-place
 invariant-loop-place g l =
