@@ -5,5 +5,6 @@ mod Room
 mod Fronts
 mod Stepping
 mod Counting
+mod Summed
 mod Rounds
 mod Worked

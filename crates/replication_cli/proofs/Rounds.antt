@@ -1,5 +1,5 @@
 -- Commands that are run in parts, and how many there are.
-use Rattle.std.proofs.Common.{◌≡◌, ℕ, zero, suc, ◌+◌, ◌*◌, ◌-◌, ◌≤◌, ◌<◌, ◌%◌, ◌==◌, Bool, true, false, List, [], ◌∷◌, ◌++◌, length, take, refl, arith, lit≤}
+use Rattle.std.proofs.Common.{◌≡◌, ℕ, zero, suc, ◌+◌, ◌*◌, ◌-◌, ◌≤◌, ◌<◌, ◌%◌, ◌==◌, Bool, true, false, List, [], ◌∷◌, ◌++◌, length, length-append, take, refl, sym, ap, ◌∙◌, arith, lit≤}
 use Rattle.std.specs.Prelude.{All, if◌then◌else◌}
 use Rattle.std.specs.List.{AllByRecursion, fold}
 use Rattle.std.proofs.lemmas.List.Sums.{fold-append, fold_more}
@@ -50,3 +50,23 @@ length-closing = refl
 pub rounds-next : (left i x : ℕ) → 0 < left → rounds left i x ≡ round i x ++ rounds (left - 1) (i + 1) (behind_round i x)
 rounds-next zero i x some = absurd (omega arith)
 rounds-next (suc left) i x some = let e : suc left - 1 ≡ left = omega arith in rw e refl
+
+-- so many rounds have at most five commands each
+pub length-rounds-le : (left i x : ℕ) → length (rounds left i x) ≤ 5 * left
+length-rounds-le zero i x = lit≤ tt
+length-rounds-le (suc left) i x =
+    omega (arith, length-append (round i x) (rounds left (i + 1) (behind_round i x)), length-round-le i x, length-rounds-le left (i + 1) (behind_round i x))
+
+-- a run that made one round more, with those that are left, is that of all of them
+pub round-done : (r new target : Running) (count before x x' : ℕ) (cs : List Command) → before < count → cs ≡ round (before + 1) x → new ≡ with_commands r cs
+    → x' ≡ behind_round (before + 1) x → with_commands r (rounds (count - before) (before + 1) x) ≡ target
+    → with_commands new (rounds (count - (before + 1)) (before + 1 + 1) x') ≡ target
+round-done r new target count before x x' cs below is ran drawn so_far =
+    let here : ℕ = before + 1 in
+    let left : count - (before + 1) ≡ (count - before) - 1 = omega arith in
+    ap (λ (n : Running). with_commands n (rounds (count - (before + 1)) (here + 1) x')) (ran ∙ ap (with_commands r) is)
+    ∙ ap (λ y. with_commands (with_commands r (round here x)) (rounds (count - (before + 1)) (here + 1) y)) drawn
+    ∙ ap (λ n. with_commands (with_commands r (round here x)) (rounds n (here + 1) (behind_round here x))) left
+    ∙ sym (with_commands-append r (round here x) (rounds ((count - before) - 1) (here + 1) (behind_round here x)))
+    ∙ ap (with_commands r) (sym (rounds-next (count - before) here x (omega arith)))
+    ∙ so_far
