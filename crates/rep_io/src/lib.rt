@@ -9,6 +9,7 @@ mod schedule;
 mod sink;
 mod source;
 mod standard;
+mod watch;
 
 pub use bytes_sink::BytesSink;
 pub use bytes_source::BytesSource;
@@ -17,3 +18,4 @@ pub use failing_source::FailingSource;
 pub use sink::{Sink, offer};
 pub use source::{Failed, Source};
 pub use standard::{StdSink, StdSource};
+pub use watch::{Still, Watch};
