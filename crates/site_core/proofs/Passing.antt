@@ -164,25 +164,22 @@ above_at number xs start place a first from found =
 
 -- ---- the loop of a pass
 
-module _ (origin : SiteName) (old : SiteState) where
-  pub pass_starts : (new : SiteState) (start : ℕ) → new ≡ begun old → IsFirstAbove (low_water origin new.journal) (arrivals origin new) start → AllByRecursion (λ (a : Arrival). 1 ≤ a.position) (arrivals origin new)
-      → new ≡ apply_each origin (take start (arrivals origin old)) (begun old)
-  pass_starts new start is first ones = is ∙ sym (start_each origin (begun old) start (rw is at ones) (rw is at first))
+module _ (origin : SiteName) (start : SiteState) where
+  pub pass_starts : (place : ℕ) → IsFirstAbove (low_water origin start.journal) (arrivals origin start) place → AllByRecursion (λ (a : Arrival). 1 ≤ a.position) (arrivals origin start)
+      → start ≡ apply_each origin (take place (arrivals origin start)) start
+  pass_starts place first ones = sym (start_each origin start place ones first)
 
-  pub nothing_added : (test : Entry → Bool) (new : SiteState) → new ≡ begun old → 0 ≡ added_count test old new
-  nothing_added test new is = rw is (omega arith)
-
-  pub all_kept : (test : Entry → Bool) (new : SiteState) → new ≡ begun old → count_where test old.journal ≤ count_where test new.journal
-  all_kept test new is = rw is (omega arith)
+  pub nothing_added : (test : Entry → Bool) → 0 ≡ added_count test start start
+  nothing_added test = omega arith
 
   -- the same arrivals
-  pub arrivals_stay : (now : SiteState) (place : ℕ) → now ≡ apply_each origin (take place (arrivals origin old)) (begun old) → arrivals origin now ≡ arrivals origin old
-  arrivals_stay now place is = rw is (apply_each-arrivals origin origin (take place (arrivals origin old)) (begun old))
+  pub arrivals_stay : (now : SiteState) (place : ℕ) → now ≡ apply_each origin (take place (arrivals origin start)) start → arrivals origin now ≡ arrivals origin start
+  arrivals_stay now place is = rw is (apply_each-arrivals origin origin (take place (arrivals origin start)) start)
 
   -- one position more
-  pub pass_goes_on : (now new : SiteState) (place : ℕ) (a : Arrival) (p : ℕ) → now ≡ apply_each origin (take place (arrivals origin old)) (begun old) → slice_get (arrivals origin old) place ≡ Some a → p ≡ a.position → new ≡ site_apply origin p now
-      → new ≡ apply_each origin (take (place + 1) (arrivals origin old)) (begun old)
-  pass_goes_on now new place a p so_far found at more = more ∙ rw (at, so_far) (sym (each_more origin (arrivals origin old) place a (begun old) found))
+  pub pass_goes_on : (now new : SiteState) (place : ℕ) (a : Arrival) (p : ℕ) → now ≡ apply_each origin (take place (arrivals origin start)) start → slice_get (arrivals origin start) place ≡ Some a → p ≡ a.position → new ≡ site_apply origin p now
+      → new ≡ apply_each origin (take (place + 1) (arrivals origin start)) start
+  pass_goes_on now new place a p so_far found at more = more ∙ rw (at, so_far) (sym (each_more origin (arrivals origin start) place a start found))
 
 -- a position is done, or in error, or neither
 pub one_at_most : (a : Applied) → done_by a + errors_by a ≤ 1

@@ -9,7 +9,7 @@ ghost use Rattle.site_state.specs.Deferrals.{deferred_of, marks_of};
 ghost use Rattle.site_state.specs.Errors.{errors_of};
 ghost use Rattle.site_state.specs.Making.{new_site};
 ghost use Rattle.site_state.specs.Steps.{begun};
-ghost use Rattle.site_state.specs.Fits.{IsKeyed, AreWithin, AreApart};
+ghost use Rattle.site_state.specs.Fits.{IsKeyed, AreWithin, AreApart, SiteFits};
 
 mod commit;
 mod errors;
@@ -119,6 +119,13 @@ impl<R: RowStore> Site<R> {
             stamps: Stamps { clock: 0, last: 0 },
             moment: 0,
         })
+    }
+
+    /// Tables are tables, and each transaction at the site fits the schema.
+    pub fn laws(&self)
+        ensures { SiteFits self.now }
+    {
+        let _store = &self.store;
     }
 
     /// The site's name.

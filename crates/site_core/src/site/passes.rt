@@ -6,7 +6,7 @@ ghost use Rattle.site_state.specs.declared.arrival.Arrival.{Arrival as ArrivalVa
 ghost use Rattle.site_state.specs.State.{SenderState, sender_of, arrivals};
 ghost use Rattle.site_state.specs.Ready.{stale_of, first_ready};
 ghost use Rattle.site_state.specs.Steps.{begun};
-ghost use Rattle.site_state.specs.Passes.{site_apply, apply_answer, apply_each, site_pass, pass_answer};
+ghost use Rattle.site_state.specs.Passes.{site_apply, apply_answer, apply_each, site_pass, pass_answer, is_done, is_error, added_count};
 ghost use Rattle.sender_inbox.specs.Incoming.{by_position, IsFirstAbove};
 ghost use Rattle.site_core.specs.Applying.{onward_past, done_by, errors_by};
 ghost use Rattle.site_core.specs.Working.{EndsHere};
@@ -188,6 +188,26 @@ impl<R: RowStore> Site<R> {
         None
     }
 
+    /// Goes on with a pass that was begun: each position that arrived from a sender is applied in rising order, where it is
+    /// ready then. It answers how many transactions it finished. Where there is no memory, the positions up to some place are
+    /// applied, each whole and journalled, and no later one.
+    pub fn finish_pass(&mut self, alloc: Global, origin: &SiteName) -> Result<PassCount, NoMemory>
+        ensures ok { OnOk result (self.new ≡ apply_each origin.now (arrivals origin.now self.old) self.old) }
+        ensures done { IfOk result (λ count. count.done ≡ added_count is_done self.old self.new) }
+        ensures errors { IfOk result (λ count. count.errors ≡ added_count is_error self.old self.new) }
+        ensures err { OnErr result ((k : ℕ) × (self.new ≡ apply_each origin.now (take k (arrivals origin.now self.old)) self.old)) }
+    {
+        let mut count = PassCount { done: 0, errors: 0 };
+        // What isn't above the low-water mark is finished.
+        let start = self.arrivals_above(origin, self.mark(origin));
+        for place in start..self.arrived(origin) as usize {
+            let position = self.position_at(origin, place);
+            let applied = self.apply_one(alloc, origin, position)?;
+            count = counted(count, &applied);
+        }
+        Ok(count)
+    }
+
     /// A pass for a sender: the moment rises, then each position that arrived is applied in rising order, where it is ready
     /// then. It answers how many transactions it finished. Where there is no memory, the positions up to some place are
     /// applied, each whole and journalled, and no later one.
@@ -198,14 +218,7 @@ impl<R: RowStore> Site<R> {
         ensures err { OnErr result ((k : ℕ) × (self.new ≡ apply_each origin.now (take k (arrivals origin.now self.old)) (begun self.old))) }
     {
         self.begin_pass();
-        let mut count = PassCount { done: 0, errors: 0 };
-        // What isn't above the low-water mark is finished.
-        let start = self.arrivals_above(origin, self.mark(origin));
-        for place in start..self.arrived(origin) as usize {
-            let position = self.position_at(origin, place);
-            let applied = self.apply_one(alloc, origin, position)?;
-            count = counted(count, &applied);
-        }
+        let count = self.finish_pass(alloc, origin)?;
         Ok(count)
     }
 }

@@ -1,6 +1,7 @@
 //! Transactions that are evaluated away from the site.
-ghost use Rattle.std.specs.Prelude.{◌≡◌, false, None, IfOk, OnOk, OnErr};
+ghost use Rattle.std.specs.Prelude.{◌≡◌, false, None, option_copied, IfOk, OnOk, OnErr};
 ghost use Rattle.rep_laws.specs.Commuting.{IsSound};
+ghost use Rattle.site_state.specs.State.{arrived_at};
 ghost use Rattle.site_state.specs.Ready.{stale_of};
 ghost use Rattle.site_state.specs.Passes.{site_apply, apply_answer};
 ghost use Rattle.site_core.specs.Working.{has_unique, IsWorkOf, EndsHere};
@@ -11,11 +12,21 @@ use dependency_index::has_unique_token;
 use rep_lists::NoMemory;
 use rep_schema::RowStore;
 use rep_values::SiteName;
-use site_state::Applied;
+use site_state::{Applied, Arrival};
 use std::alloc::Global;
 use txn_work::{Outcome, Work};
 
 impl<R: RowStore> Site<R> {
+    /// What arrived at a position of a sender; None exactly where nothing did. It takes no memory.
+    pub fn arrival(&self, origin: &SiteName, position: u64) -> Option<&Arrival>
+        ensures { option_copied result ≡ arrived_at origin.now position self.now.senders }
+    {
+        let Some(inbox) = inbox_from(&self.inboxes, origin) else {
+            return None;
+        };
+        inbox.find(position)
+    }
+
     /// Whether what arrived at a position touches a constraint of a table. It takes no memory.
     pub fn has_unique(&self, origin: &SiteName, position: u64) -> bool
         ensures { result ≡ has_unique origin.now position self.now }

@@ -3,26 +3,26 @@ use Rattle.rep_lists.proofs.Places.{found_at}
 use Rattle.site_state.specs.State.{arrivals}
 use Rattle.site_state.specs.Steps.{count_where}
 use Rattle.site_state.specs.Passes.{is_done, is_error, added_count}
-use Rattle.site_core.proofs.Passing.{count_done, count_errors, count_more, kept_more, pass_starts, nothing_added, all_kept, arrivals_stay, pass_goes_on, one_at_most}
-use Rattle.site_core.proofs.site.Site.apply_pass.Goals as goal
+use Rattle.site_core.proofs.Passing.{count_done, count_errors, count_more, kept_more, pass_starts, nothing_added, arrivals_stay, pass_goes_on, one_at_most}
+use Rattle.site_core.proofs.site.Site.finish_pass.Goals as goal
 
 pub loop-place-init : goal.loop-place-init
 loop-place-init g c =
     let old = c.args.self.now in
-    let new = c.begin_pass.new.self in
+    let origin = c.args.origin.now in
     let first = rw c.mark.ensures at c.arrivals_above-start.ensures.place in
     record {
-      so_far = pass_starts c.args.origin.now old new c.arrivals_above-start.result c.begin_pass.ensures first c.arrivals_above-start.ensures.from_one;
-      done = nothing_added c.args.origin.now old is_done new c.begin_pass.ensures;
-      errors = nothing_added c.args.origin.now old is_error new c.begin_pass.ensures;
-      done_kept = all_kept c.args.origin.now old is_done new c.begin_pass.ensures;
-      errors_kept = all_kept c.args.origin.now old is_error new c.begin_pass.ensures;
+      so_far = pass_starts origin old c.arrivals_above-start.result first c.arrivals_above-start.ensures.from_one;
+      done = nothing_added origin old is_done;
+      errors = nothing_added origin old is_error;
+      done_kept = omega arith;
+      errors_kept = omega arith;
       few = omega arith;
     }
 
 pub position_at-position-requires-after_bounds : goal.position_at-position-requires-after_bounds
 position_at-position-requires-after_bounds g c κs lives =
-    let below : c.loop-place.place < length (arrivals c.args.origin.now c.args.self.now) = rw (c.arrived-place-end.ensures, c.begin_pass.ensures) at c.loop-place-test.true in
+    let below : c.loop-place.place < length (arrivals c.args.origin.now c.args.self.now) = rw c.arrived-place-end.ensures at c.loop-place-test.true in
     let stay = arrivals_stay c.args.origin.now c.args.self.now c.loop-place.self c.loop-place.place c.loop-place.invariant.so_far in
     subst (λ xs. c.loop-place.place < length xs) (sym stay) below
 
@@ -35,7 +35,7 @@ loop-place-preserved g c =
     let l = c.loop-place.invariant in
     let all = arrivals origin old in
     let stay = arrivals_stay origin old now place l.so_far in
-    let below : place < length all = rw (c.arrived-place-end.ensures, c.begin_pass.ensures) at c.loop-place-test.true in
+    let below : place < length all = rw c.arrived-place-end.ensures at c.loop-place-test.true in
     let here = found_at all place below in
     let position = c.position_at-position.result in
     let p = c.position_at-position.ensures here.0 (rw stay here.1) in

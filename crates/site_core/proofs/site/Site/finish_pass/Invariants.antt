@@ -1,13 +1,13 @@
 -- The positions up to the place are applied.
 use Rattle.std.proofs.Common.{◌≡◌, ◌+◌, ◌≤◌, take}
 use Rattle.site_state.specs.State.{arrivals}
-use Rattle.site_state.specs.Steps.{begun, count_where}
+use Rattle.site_state.specs.Steps.{count_where}
 use Rattle.site_state.specs.Passes.{apply_each, is_done, is_error, added_count}
-use Rattle.site_core.proofs.site.Site.apply_pass.Given as goal
+use Rattle.site_core.proofs.site.Site.finish_pass.Given as goal
 
 abbrev pub invariant-loop-place : goal.invariant-loop-place
 invariant-loop-place g l = record {
-  so_far : l.self ≡ apply_each l.origin (take l.place (arrivals l.origin l.fn.self)) (begun l.fn.self);
+  so_far : l.self ≡ apply_each l.origin (take l.place (arrivals l.origin l.fn.self)) l.fn.self;
   done : l.count.done ≡ added_count is_done l.fn.self l.self;
   errors : l.count.errors ≡ added_count is_error l.fn.self l.self;
   done_kept : count_where is_done l.fn.self.journal ≤ count_where is_done l.self.journal;
