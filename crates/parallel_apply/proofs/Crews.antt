@@ -1,0 +1,110 @@
+-- What a crew's turns keep, and that what an applier evaluated holds when it is put in.
+use Rattle.std.proofs.Common.{◌≡◌, ℕ, List, [], ◌∷◌, ◌++◌, Bool, true, false, Some, None, refl, sym, ap, ◌∙◌, subst, append-nil}
+use Rattle.std.specs.Prelude.{Option, IfSome}
+use Rattle.rep_values.specs.declared.name.SiteName.{SiteName}
+use Rattle.rep_laws.specs.Commuting.{IsSound}
+use Rattle.site_state.specs.State.{SiteState, arrived_at}
+use Rattle.site_state.specs.Journal.{finished}
+use Rattle.site_state.specs.Ready.{stale_of, is_ready}
+use Rattle.site_state.specs.Passes.{site_apply}
+use Rattle.event_laws.specs.Confluence.{applied_in_turn, AreReadyInTurn, CanPassInAnyOrder}
+use Rattle.event_laws.proofs.MasterArrivals.{IsReadyAt, ready_at}
+use Rattle.txn_work.specs.declared.outcome.Outcome.{Outcome}
+use Rattle.txn_work.specs.Works.{WorkState}
+use Rattle.txn_work.specs.Laws.{SupportOutlastsIndependentTransactions}
+use Rattle.site_core.specs.Working.{IsWorkOf, EndsHere, HoldsWhereAlike}
+use Rattle.site_core.proofs.Beginning.{outcomes_hold}
+use Rattle.parallel_apply.specs.Turns.{positions_of, site_after}
+use Rattle.parallel_apply.specs.Crews.{CrewState, IsCrew, IsOutcomeOf, IsOfEarlierClaim}
+use Rattle.parallel_apply.specs.declared.claim.Evaluated.{Evaluated}
+use Rattle.parallel_apply.proofs.TurnLogs.{positions-append}
+use Rattle.parallel_apply.proofs.InTurn.{Stays, applied-append, ready-append, ready-behind, stays_itself, stays_in_turn}
+use Rattle.parallel_apply.proofs.Outlasting.{all_outlasted}
+
+-- what isn't stale is ready
+pub ready_here : (origin : SiteName) (p : ℕ) (x : SiteState) → stale_of origin p x ≡ None → is_ready origin p x ≡ true
+ready_here origin p x fresh = rw fresh refl
+
+module _ (opened : SiteState) (origin : SiteName) (turns : List (Option ℕ)) (site : SiteState) (is : IsCrew (record { opened = opened; origin = origin; turns = turns; site = site })) where
+  -- a turn that applies nothing
+  pub with_quiet : (more : List (Option ℕ)) (here : SiteState) → more ≡ turns ++ None ∷ [] → here ≡ site → IsCrew (record { opened = opened; origin = origin; turns = more; site = here })
+  with_quiet more here one same =
+      let positions : positions_of more ≡ positions_of turns = ap positions_of one ∙ positions-append turns (None ∷ []) ∙ append-nil (positions_of turns) in
+      record {
+        passes = is.passes;
+        ready = subst (λ ps. AreReadyInTurn origin ps opened) (sym positions) is.ready;
+        led = same ∙ is.led ∙ ap (λ ps. applied_in_turn origin ps opened) (sym positions);
+      }
+
+  -- a turn that applies a position that is ready
+  pub with_applied : (more : List (Option ℕ)) (here : SiteState) (p : ℕ) → stale_of origin p site ≡ None → more ≡ turns ++ Some p ∷ [] → here ≡ site_apply origin p site
+      → IsCrew (record { opened = opened; origin = origin; turns = more; site = here })
+  with_applied more here p fresh one applied =
+      let positions : positions_of more ≡ positions_of turns ++ p ∷ [] = ap positions_of one ∙ positions-append turns (Some p ∷ []) in
+      record {
+        passes = is.passes;
+        ready = subst (λ ps. AreReadyInTurn origin ps opened) (sym positions)
+            (ready-append origin (positions_of turns) (p ∷ []) opened is.ready (subst (λ y. is_ready origin p y ≡ true) is.led (ready_here origin p site fresh), tt));
+        led = applied ∙ ap (site_apply origin p) is.led ∙ sym (applied-append origin (positions_of turns) (p ∷ []) opened) ∙ ap (λ ps. applied_in_turn origin ps opened) (sym positions);
+      }
+
+  stays : Stays origin opened site
+  stays = subst (Stays origin opened) (sym is.led) (stays_in_turn origin (positions_of turns) opened)
+
+  pub sound_here : IsSound site.schema
+  sound_here = subst IsSound (sym stays.schema) is.passes.sound
+
+  -- what was evaluated for an earlier claim, of a position that is ready still
+  module _ (outlasts : SupportOutlastsIndependentTransactions) (done : Evaluated) (earlier : IsOfEarlierClaim (record { opened = opened; origin = origin; turns = turns; site = site }) done)
+      (fresh : stale_of origin done.position site ≡ None) where
+    abbrev before : SiteState
+    before = site_after origin earlier.turns opened
+
+    since : List ℕ
+    since = positions_of earlier.later
+
+    in_parts : positions_of turns ≡ positions_of earlier.turns ++ positions_of earlier.later
+    in_parts = ap positions_of earlier.began ∙ positions-append earlier.turns earlier.later
+
+    here_since : site ≡ applied_in_turn origin (positions_of earlier.later) before
+    here_since = is.led ∙ ap (λ ps. applied_in_turn origin ps opened) in_parts ∙ applied-append origin (positions_of earlier.turns) (positions_of earlier.later) opened
+
+    ready_since : AreReadyInTurn origin (positions_of earlier.later) before
+    ready_since = ready-behind origin (positions_of earlier.turns) (positions_of earlier.later) opened (subst (λ ps. AreReadyInTurn origin ps opened) in_parts is.ready)
+
+    stays_before : Stays origin opened before
+    stays_before = stays_in_turn origin (positions_of earlier.turns) opened
+
+    later_stays : Stays origin before site
+    later_stays = subst (Stays origin before) (sym here_since) (stays_in_turn origin (positions_of earlier.later) before)
+
+    at_claim : IsReadyAt origin done.position before
+    at_claim = ready_at origin done.position before (ready_here origin done.position before (rw earlier.position earlier.is.ready))
+
+    unfinished : finished origin (applied_in_turn origin (positions_of earlier.later) before).journal done.position ≡ false
+    unfinished = subst (λ (y : SiteState). finished origin y.journal done.position ≡ false) here_since (ready_at origin done.position site (ready_here origin done.position site fresh)).unfinished
+
+    ends_of : (work : WorkState) (outcome : Outcome) → IsWorkOf origin done.position before work → HoldsWhereAlike work outcome.ending → EndsHere origin done.position site outcome.ending
+    ends_of work outcome of holds = outcomes_hold origin done.position before site work outcome.ending of holds later_stays.schema (ap (arrived_at origin done.position) later_stays.senders)
+        (subst (λ (y : SiteState). Rattle.txn_work.specs.Works.Supports work (Rattle.site_state.specs.Contents.content_of y)) (sym here_since)
+          (all_outlasted origin opened is.passes outlasts done.position before stays_before at_claim work (of.schema_is ∙ stays_before.schema) (of.txn_is at_claim.arrival at_claim.there)
+            (positions_of earlier.later) before (stays_itself origin before) ready_since unfinished of.supports))
+
+    by_work : (found : Option WorkState) (outcome : Option Outcome) → IfSome found (IsWorkOf origin done.position before) → IsOutcomeOf found outcome → IfSome outcome (λ (o : Outcome). EndsHere origin done.position site o.ending)
+    by_work None None work of = tt
+    by_work None (Some o) work of = absurd of
+    by_work (Some w) None work of = absurd of
+    by_work (Some w) (Some o) work of = ends_of w o work of.2
+
+    pub ends_here : IfSome done.outcome (λ (outcome : Outcome). EndsHere origin done.position site outcome.ending)
+    ends_here = by_work earlier.claim.work done.outcome (rw earlier.position earlier.is.work) earlier.outcome
+
+    of_work : (found : Option WorkState) (outcome : Option Outcome) → IfSome found (IsWorkOf origin done.position before) → IsOutcomeOf found outcome
+        → IfSome outcome (λ (o : Outcome). (o.origin ≡ origin) × (o.position ≡ done.position))
+    of_work None None work of = tt
+    of_work None (Some o) work of = absurd of
+    of_work (Some w) None work of = absurd of
+    of_work (Some w) (Some o) work of = (of.0 ∙ work.origin_is, of.1 ∙ work.position_is)
+
+    pub outcome_is : IfSome done.outcome (λ (outcome : Outcome). (outcome.origin ≡ origin) × (outcome.position ≡ done.position))
+    outcome_is = of_work earlier.claim.work done.outcome (rw earlier.position earlier.is.work) earlier.outcome

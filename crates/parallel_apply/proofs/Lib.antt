@@ -1,0 +1,8 @@
+-- The lemmas of this crate, from the bottom up.
+mod Sharing
+mod InTurn
+mod Outlasting
+mod MadeEntries
+mod SettledPass
+mod TurnLogs
+mod Crews

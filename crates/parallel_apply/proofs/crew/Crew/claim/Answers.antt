@@ -1,0 +1,12 @@
+use Rattle.std.proofs.Common.{refl}
+use Rattle.parallel_apply.proofs.Crews.{with_quiet, sound_here}
+use Rattle.parallel_apply.proofs.crew.Crew.claim.Goals as goal
+
+pub invariant_of-self : goal.invariant_of-self
+invariant_of-self g c = with_quiet _ _ _ _ c.self.invariant _ _ c.pass.ensures refl
+
+pub claimed-requires-clause-sound : goal.claimed-requires-clause-sound
+claimed-requires-clause-sound g c κs within = sound_here _ _ _ _ c.self.invariant
+
+pub invariant_of-self-2 : goal.invariant_of-self-2
+invariant_of-self-2 g c = with_quiet _ _ _ _ c.self.invariant _ _ c.pass.ensures refl

@@ -1,0 +1,51 @@
+-- A crew: a site, how it was when the crew began, and the turns that led from there to here.
+use Rattle.std.specs.Prelude.{◌≡◌, ℕ, List, Option, Some, None, IfSome}
+use Rattle.rep_values.specs.declared.name.SiteName.{SiteName}
+use Rattle.site_state.specs.State.{SiteState}
+use Rattle.site_state.specs.Ready.{stale_of}
+use Rattle.event_laws.specs.Confluence.{applied_in_turn, AreReadyInTurn, CanPassInAnyOrder}
+use Rattle.txn_work.specs.declared.outcome.Outcome.{Outcome}
+use Rattle.txn_work.specs.Works.{WorkState}
+use Rattle.site_core.specs.Working.{IsWorkOf, HoldsWhereAlike}
+use Rattle.parallel_apply.specs.Turns.{positions_of, site_after}
+use Rattle.parallel_apply.specs.declared.claim.Claim.{Claim}
+use Rattle.parallel_apply.specs.declared.claim.Evaluated.{Evaluated}
+
+-- the site as it was when the crew began and as it is, whose positions are applied, and the turns, the oldest first
+pub record CrewState : Type 0 where
+  pub opened : SiteState
+  pub origin : SiteName
+  pub turns : List (Option ℕ)
+  pub site : SiteState
+
+-- the site is that of the opening after the turns, each of which applied a position that was ready in its turn, or none
+pub record IsCrew (c : CrewState) : Type 0 where
+  pub passes : CanPassInAnyOrder c.origin c.opened
+  pub ready : AreReadyInTurn c.origin (positions_of c.turns) c.opened
+  pub led : c.site ≡ site_after c.origin c.turns c.opened
+
+-- a position is claimed at a site where it is ready, and its work is that of what arrived there
+pub record IsClaimAt (origin : SiteName) (x : SiteState) (claim : Claim) : Type 0 where
+  pub ready : stale_of origin claim.position x ≡ None
+  pub work : IfSome claim.work (IsWorkOf origin claim.position x)
+
+-- an outcome is that of a work, and holds wherever the work's rows are
+abbrev pub IsOutcomeOf : Option WorkState → Option Outcome → Type 0
+IsOutcomeOf None None = Unit {0}
+IsOutcomeOf None (Some outcome) = ⊥
+IsOutcomeOf (Some work) None = ⊥
+IsOutcomeOf (Some work) (Some outcome) = (outcome.origin ≡ work.origin) × (outcome.position ≡ work.position) × HoldsWhereAlike work outcome.ending
+
+-- what was evaluated is of a claim that was made after some of the crew's turns
+pub record IsOfEarlierClaim (c : CrewState) (done : Evaluated) : Type 0 where
+  pub turns : List (Option ℕ)
+  pub later : List (Option ℕ)
+  pub began : c.turns ≡ Rattle.std.specs.Prelude.◌++◌ turns later
+  pub claim : Claim
+  pub is : IsClaimAt c.origin (site_after c.origin turns c.opened) claim
+  pub position : done.position ≡ claim.position
+  pub outcome : IsOutcomeOf claim.work done.outcome
+
+-- positions were applied to a site, each of them ready in its turn
+abbrev pub IsPartlyApplied : SiteName → SiteState → SiteState → Type 0
+IsPartlyApplied origin x y = (positions : List ℕ) × AreReadyInTurn origin positions x × (y ≡ applied_in_turn origin positions x)

@@ -1,0 +1,85 @@
+//! Which position an applier claims next.
+ghost use Rattle.std.specs.Prelude.{◌≡◌, ◌<◌, None, IfSome};
+ghost use Rattle.site_state.specs.Ready.{stale_of};
+
+use rep_schema::RowStore;
+use rep_values::SiteName;
+use site_core::Site;
+
+/// The most appliers of a crew.
+pub const MOST_APPLIERS: u32 = 8;
+
+/// The positions that the appliers work on, and how far a crew has looked ahead. The lowest position that isn't finished is
+/// claimed first, once it is ready, and else the next one ahead that is. Both only rise, so that each position is looked at
+/// a few times and not at each claim.
+#[derive(Drop)]
+pub struct Claims {
+    // By applier; 0 where it works on none.
+    working: [u64; 8],
+    ahead: u64,
+}
+
+impl Claims {
+    pub(crate) fn new() -> Claims {
+        Claims {
+            working: [0; 8],
+            ahead: 0,
+        }
+    }
+
+    /// Whether an applier works on a position.
+    fn is_worked_on(&self, position: u64) -> bool {
+        self.working.iter().any(|working: &u64| -> bool { *working == position })
+    }
+
+    /// Whether a position may be claimed: it is ready, and nobody works on it.
+    fn is_free<R: RowStore>(&self, site: &Site<R>, origin: &SiteName, position: u64) -> bool
+        ensures { result ≡ Rattle.std.specs.Prelude.true → stale_of origin.now position site.now ≡ None }
+    {
+        site.stale(origin, position).is_none() && !self.is_worked_on(position)
+    }
+
+    /// The next position ahead that is free.
+    fn next_ahead<R: RowStore>(&mut self, site: &Site<R>, origin: &SiteName) -> Option<u64>
+        ensures { IfSome result (λ position. stale_of origin.now position site.now ≡ None) }
+    {
+        for _ in 0..=MOST_APPLIERS {
+            let Some(position) = site.lowest_ready(origin, self.ahead) else {
+                self.ahead = u64::MAX;
+                return None;
+            };
+            self.ahead = position;
+            if self.is_free(site, origin, position) {
+                return Some(position);
+            }
+        }
+        None
+    }
+
+    /// The position that an applier works on from now; None where nothing is free.
+    pub(crate) fn next<R: RowStore>(
+        &mut self,
+        site: &Site<R>,
+        origin: &SiteName,
+        applier: u32,
+    ) -> Option<u64>
+        requires { applier < 8 }
+        ensures { IfSome result (λ position. stale_of origin.now position site.now ≡ None) }
+    {
+        let lowest = site.mark(origin).saturating_add(1);
+        let position = if self.is_free(site, origin, lowest) {
+            lowest
+        } else {
+            self.next_ahead(site, origin)?
+        };
+        self.working[applier as usize] = position;
+        Some(position)
+    }
+
+    /// An applier works on nothing from now.
+    pub(crate) fn leave(&mut self, applier: u32)
+        requires { applier < 8 }
+    {
+        self.working[applier as usize] = 0;
+    }
+}

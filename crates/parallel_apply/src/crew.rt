@@ -1,0 +1,137 @@
+//! The value that the appliers of a crew share.
+ghost use Rattle.std.specs.Prelude.{◌≡◌, ℕ, ◌+◌, ◌^◌, ◌<◌, [], ◌∷◌, ◌++◌, None, Option, length, IfSome, OnOk, OnErr};
+ghost use Rattle.site_state.specs.Ready.{stale_of};
+ghost use Rattle.site_state.specs.Passes.{site_apply};
+ghost use Rattle.site_core.specs.Working.{EndsHere};
+ghost use Rattle.event_laws.specs.Confluence.{CanPassInAnyOrder};
+ghost use Rattle.parallel_apply.specs.Crews.{IsCrew, IsClaimAt, IsOfEarlierClaim};
+
+use crate::claim::{Claim, Evaluated, claimed};
+use crate::claims::Claims;
+use crate::turns::TurnLog;
+use rep_lists::NoMemory;
+use rep_schema::RowStore;
+use rep_values::SiteName;
+use site_core::Site;
+use std::alloc::Global;
+use std::marker::Model;
+use std::snapshot::Snapshot;
+use txn_work::support_outlasts_independent_transactions;
+
+/// A site on which the appliers of a crew make a pass for a sender, turn by turn: what they work on, the turns that they made,
+/// and how the site was before the first of these, which only contracts look at.
+#[derive(Drop)]
+pub struct Crew<R: RowStore> {
+    site: Site<R>,
+    origin: SiteName,
+    opened: Snapshot<Site<R>>,
+    turns: TurnLog,
+    claims: Claims,
+}
+
+impl<R: RowStore> Model for Crew<R> {
+    ghost use Rattle.parallel_apply.specs.Turns.{turns_in};
+    ghost use Rattle.parallel_apply.specs.Crews.{CrewState, IsCrew};
+
+    ghost Value = { CrewState };
+
+    ghost view = { λ c. record { opened = c.opened.value; origin = c.origin; turns = turns_in c.turns; site = c.site } };
+
+    ghost invariant = { λ c. IsCrew (record { opened = c.opened.value; origin = c.origin; turns = turns_in c.turns; site = c.site }) };
+}
+
+/// Puts what was evaluated into a site, or evaluates it there.
+fn put_in<R: RowStore>(
+    site: &mut Site<R>,
+    alloc: Global,
+    origin: &SiteName,
+    done: Evaluated,
+) -> Result<(), NoMemory>
+    requires ready { stale_of origin.now done.position site.old ≡ None }
+    requires of { IfSome done.outcome (λ outcome. (outcome.origin ≡ origin.now) × (outcome.position ≡ done.position)) }
+    requires ending { IfSome done.outcome (λ outcome. EndsHere origin.now done.position site.old outcome.ending) }
+    ensures ok { OnOk result (site.new ≡ site_apply origin.now done.position site.old) }
+    ensures err { OnErr result (site.new ≡ site.old) }
+{
+    let Evaluated { position, outcome } = done;
+    match outcome {
+        Some(outcome) => {
+            site.install(alloc, outcome)?;
+        }
+        None => {
+            site.apply_one(alloc, origin, position)?;
+        }
+    }
+    Ok(())
+}
+
+impl<R: RowStore> Crew<R> {
+    /// A crew that has made no turn yet.
+    pub(crate) fn make(alloc: Global, site: Site<R>, origin: &SiteName) -> Crew<R>
+        requires { CanPassInAnyOrder origin.now site }
+        ensures opened { result.opened ≡ site }
+        ensures origin { result.origin ≡ origin.now }
+        ensures turns { result.turns ≡ [] }
+    {
+        let opened = Snapshot::of(&site);
+        Crew {
+            site,
+            origin: *origin,
+            opened,
+            turns: TurnLog::new(alloc),
+            claims: Claims::new(),
+        }
+    }
+
+    /// Claims a position for an applier, in a turn that applies nothing; None where nothing is free, or where there is no
+    /// memory.
+    pub(crate) fn claim(&mut self, alloc: Global, applier: u32) -> Option<Claim>
+        requires few { length self.old.turns + 1 < 2 ^ 64 }
+        requires applier { applier < 8 }
+        ensures opened { self.new.opened ≡ self.old.opened }
+        ensures origin { self.new.origin ≡ self.old.origin }
+        ensures turn { self.new.turns ≡ self.old.turns ++ None ∷ [] }
+        ensures claim { IfSome result (IsClaimAt self.new.origin self.new.site) }
+    {
+        self.turns.pass();
+        let position = self.claims.next(&self.site, &self.origin, applier)?;
+        claimed(&self.site, alloc, &self.origin, position)
+    }
+
+    /// Puts in what an applier evaluated, in one turn, and answers whether there was memory. A position that isn't ready any
+    /// more is let go.
+    pub(crate) fn install(&mut self, alloc: Global, applier: u32, done: Evaluated) -> bool
+        requires few { length self.old.turns + 1 < 2 ^ 64 }
+        requires applier { applier < 8 }
+        requires earlier { IsOfEarlierClaim self.old done }
+        ensures opened { self.new.opened ≡ self.old.opened }
+        ensures origin { self.new.origin ≡ self.old.origin }
+        ensures turn { (turn : Option ℕ) × (self.new.turns ≡ self.old.turns ++ turn ∷ []) }
+    {
+        support_outlasts_independent_transactions();
+        let position = done.position;
+        self.claims.leave(applier);
+        if self.site.stale(&self.origin, position).is_some() {
+            self.turns.pass();
+            return true;
+        }
+        let Ok(()) = self.turns.reserve() else {
+            self.turns.pass();
+            return false;
+        };
+        let Ok(()) = put_in(&mut self.site, alloc, &self.origin, done) else {
+            self.turns.pass();
+            return false;
+        };
+        self.turns.apply(position);
+        true
+    }
+
+    /// The site, after the turns that were made.
+    pub(crate) fn into_site(self) -> Site<R>
+        ensures site { result ≡ self.site }
+        ensures crew { IsCrew self }
+    {
+        self.site
+    }
+}
