@@ -1,0 +1,6 @@
+pub mod Seen
+pub mod Claims
+pub mod Views
+pub mod Entering
+pub mod Leaving
+pub mod Sharing

@@ -1,0 +1,1 @@
+//! Laws of what passes have seen.
