@@ -1,5 +1,5 @@
 -- The first state, a ticket that is drawn, and the value that is taken out, keep the rule.
-use Rattle.std.proofs.Common.{◌≡◌, ◌≢◌, ℕ, ◌+◌, ◌^◌, ◌<◌, ◌≤◌, eqb, List, [], ◌∷◌, false, ◌⊎◌, inl, inr, Some, length, get_or, set, refl, sym, ap, ◌∙◌, subst, arith, eq-eqb, ne_eqb}
+use Rattle.std.proofs.Common.{◌≡◌, ℕ, ◌+◌, ◌^◌, ◌<◌, eqb, List, [], ◌∷◌, false, ◌⊎◌, inl, inr, Some, length, get_or, set, refl, sym, ap, ◌∙◌, subst, arith, eq-eqb, ne_eqb}
 use Rattle.std.proofs.lemmas.List.{set-get_or}
 use Rattle.std.specs.declared.option.Option.{Option}
 use mathlib.Core.Option.{Option as Maybe, some, none}
@@ -9,7 +9,7 @@ use lib.ListN.{get_elem?}
 use prog.Atomic.{either}
 use Rattle.atomic_table.specs.Table.{State, Me, step, keeps, takes, stepped, opening as opened, Allows}
 use Rattle.atomic_table.proofs.Lists.{set_here}
-use Rattle.site_gate.specs.Seen.{Begins, turns_in, is_own, seen_to, Meets}
+use Rattle.site_gate.specs.Seen.{Begins, turns_in, seen_to}
 use Rattle.site_gate.specs.Views.{view, first_view}
 use Rattle.site_gate.specs.Rule.{HasTicket, Holds, Owns, ticket_count, FitsStage, Fits, IsHome, IsOut, IsKept}
 use Rattle.site_gate.specs.Plays.{Draws, Looks}

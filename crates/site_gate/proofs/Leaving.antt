@@ -1,10 +1,10 @@
 -- A value that comes back with one turn more keeps the rule.
-use Rattle.std.proofs.Common.{◌≡◌, ◌≢◌, ℕ, ◌+◌, ◌%◌, ◌^◌, ◌<◌, ◌≤◌, List, [], ◌∷◌, ◌++◌, true, ◌||◌, ◌==◌, ◌⊎◌, inl, inr, Some, None, length, get_or, set, refl, sym, ap, ◌∙◌, subst, arith, length-append}
+use Rattle.std.proofs.Common.{◌≡◌, ◌≢◌, ℕ, ◌+◌, ◌%◌, ◌^◌, ◌<◌, List, [], ◌∷◌, ◌++◌, true, ◌⊎◌, inl, inr, Some, None, length, get_or, set, refl, sym, ap, ◌∙◌, subst, arith, length-append}
 use Rattle.std.specs.declared.option.Option.{Option}
 use mathlib.Core.Option.{Option as Maybe, some, none}
 use lib.ListN.{get_elem?}
 use Rattle.atomic_table.specs.Table.{State, Me, step, gives, put_back, rest, Allows}
-use Rattle.site_gate.specs.Seen.{Begins, turns_in, is_own, seen_to}
+use Rattle.site_gate.specs.Seen.{Begins, turns_in, seen_to}
 use Rattle.site_gate.specs.Views.{view}
 use Rattle.site_gate.specs.Rule.{Agrees, HasTicket, Holds, Owns, ticket_count, FitsStage, Fits, IsHome, IsOut, IsKept}
 use Rattle.site_gate.specs.Plays.{Raises}
@@ -12,7 +12,7 @@ use Rattle.site_gate.specs.declared.view.View.{View}
 use Rattle.site_gate.specs.declared.view.Stage.{Stage}
 use Rattle.site_gate.specs.declared.view.Stage.TheVariants.{Outside, Waiting, Inside}
 use Rattle.site_gate.proofs.Seen.{begins_all, begins_more, length-Begins, length-turns_in, turns_in-seen_to, own_within, own_before_or_new, meets_more}
-use Rattle.site_gate.proofs.Claims.{IsFree, exclusive_set}
+use Rattle.site_gate.proofs.Claims.{exclusive_set}
 use Rattle.site_gate.proofs.Views.{tickets_out-set, each_set, turns_made}
 
 no_wrap : (k : ℕ) → k + 1 < 2 ^ 64 → (k + 1) % 2 ^ 64 ≡ k + 1

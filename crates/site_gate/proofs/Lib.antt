@@ -4,3 +4,4 @@ pub mod Views
 pub mod Entering
 pub mod Leaving
 pub mod Sharing
+pub mod OwnTurns

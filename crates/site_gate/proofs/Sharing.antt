@@ -1,5 +1,5 @@
 -- Views that are split and joined keep the rule, and what joins tell is so.
-use Rattle.std.proofs.Common.{◌≡◌, ◌≢◌, ℕ, ◌+◌, List, [], ◌∷◌, ◌++◌, Bool, true, false, ◌⊎◌, inl, inr, set, refl, sym, ap, ◌∙◌, subst, arith}
+use Rattle.std.proofs.Common.{◌≡◌, ℕ, List, [], ◌∷◌, ◌++◌, Bool, true, false, ◌⊎◌, inl, inr, set, refl, sym, ap, ◌∙◌, subst, arith}
 use Rattle.std.specs.declared.option.Option.{Option}
 use mathlib.Core.Option.{Option as Maybe, some, none}
 use lib.ListN.{get_elem?}
@@ -7,7 +7,7 @@ use Rattle.atomic_table.specs.Table.{State, Me, step, keeps, Allows, Splits, Joi
 use Rattle.atomic_table.proofs.Lists.{at_snoc, at_longer, set_again, set_else}
 use Rattle.site_gate.specs.Seen.{Begins, turns_in, marked, is_own, joined, meeting}
 use Rattle.site_gate.specs.Seen as seen
-use Rattle.site_gate.specs.Views.{view, split_view, joined_view, spent_view}
+use Rattle.site_gate.specs.Views.{split_view, joined_view, spent_view}
 use Rattle.site_gate.specs.Rule.{Holds, Owns, ticket_count, Fits, IsHome, IsOut, IsKept}
 use Rattle.site_gate.specs.Plays.{Meets}
 use Rattle.site_gate.specs.declared.view.View.{View}

@@ -1,13 +1,13 @@
 -- The list of all views, after a step of one seat.
-use Rattle.std.proofs.Common.{◌≡◌, ◌≢◌, ℕ, zero, suc, ◌+◌, ◌<◌, ◌≤◌, List, [], ◌∷◌, ◌++◌, ◌⊎◌, inl, inr, Some, None, is_some, true, length, get_or, set, refl, sym, ap, ◌∙◌, subst, arith}
+use Rattle.std.proofs.Common.{◌≡◌, ◌≢◌, ℕ, zero, suc, ◌+◌, ◌<◌, List, [], ◌∷◌, ◌++◌, ◌⊎◌, inl, inr, Some, None, is_some, true, length, get_or, set, refl, sym, ap, ◌∙◌, subst, arith}
 use Rattle.std.proofs.lemmas.List.{set-get_or}
 use Rattle.std.proofs.lemmas.List.Sums.{sum_by-cons, sum_by_push}
 use Rattle.std.specs.declared.option.Option.{Option}
-use mathlib.Core.Option.{Option as Maybe, some, none, some-injective, some-ne-none}
+use mathlib.Core.Option.{Option as Maybe, some, some-injective, some-ne-none}
 use lib.ListN.{get_elem?}
 use Rattle.atomic_table.specs.Table.{State, Me, keeps, stepped}
 use Rattle.atomic_table.proofs.Lists.{at_set, set_again, set_else}
-use Rattle.site_gate.specs.Rule.{Agrees, HasTicket, ticket_count, tickets_out, FitsStage, IsHome, IsOut, IsKept}
+use Rattle.site_gate.specs.Rule.{Agrees, ticket_count, tickets_out, IsHome, IsOut, IsKept}
 use Rattle.site_gate.specs.declared.view.View.{View}
 use Rattle.site_gate.specs.declared.view.Stage.{Stage}
 use Rattle.site_gate.specs.declared.view.Stage.TheVariants.{Outside, Waiting, Inside}

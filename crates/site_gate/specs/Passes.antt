@@ -1,5 +1,5 @@
 -- What contracts see of passes and turns at a gate.
-use Rattle.std.specs.Prelude.{◌≡◌, ℕ, List, [], ◌∷◌, ◌++◌, Bool}
+use Rattle.std.specs.Prelude.{◌≡◌, ℕ, List, Bool}
 use Rattle.std.specs.declared.option.Option.{Option}
 use Rattle.site_gate.specs.Seen.{turns_in, own_turns, is_own}
 use Rattle.site_gate.specs.declared.turns.Turns.{Ghosts}

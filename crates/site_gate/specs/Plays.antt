@@ -1,5 +1,5 @@
 -- What the steps on the gate's table tell.
-use Rattle.std.specs.Prelude.{◌≡◌, ℕ, ◌≢◌, List, [], ◌∷◌, true, false, length, Some, None}
+use Rattle.std.specs.Prelude.{◌≡◌, ℕ, ◌≢◌, List, [], ◌∷◌, true, false, length, Some}
 use Rattle.std.specs.List.{AllByRecursion}
 use Rattle.std.specs.declared.option.Option.{Option}
 use Rattle.atomic_table.specs.Table.{Me, Step}
@@ -25,8 +25,8 @@ module _ {T U O : Type 0} (history_of : T → List U) (opening_of : T → O) whe
   abbrev pub Looks : Step (Option T) → Mine → ℕ → Mine → Type 0
   Looks st old found new = (ticket : ℕ) → old.0.stage ≡ Waiting ticket →
       (found ≡ ticket → (x : T) × (new.1 ≡ (0, Some x) ∷ [])
-          × (new.0 ≡ view old.0.opening (seen_to false old.0.seen (history_of x)) (Inside ticket) old.0.joins)
-          × Agrees (opening_of x) old.0.opening × Begins (turns_in old.0.seen) (history_of x) × (length (history_of x) ≡ ticket))
+      × (new.0 ≡ view old.0.opening (seen_to false old.0.seen (history_of x)) (Inside ticket) old.0.joins)
+      × Agrees (opening_of x) old.0.opening × Begins (turns_in old.0.seen) (history_of x) × (length (history_of x) ≡ ticket))
       × (found ≢ ticket → (new.0 ≡ old.0) × (new.1 ≡ old.1))
 
   -- the value is back in its slot, and its last turn is one's own

@@ -1,7 +1,7 @@
 //! The calls of a pass's life at a gate.
 ghost use Rattle.std.specs.Prelude.{◌≡◌, ◌+◌, ◌^◌, ◌<◌, ◌==◌, ◌||◌, ℕ, List, [], ◌∷◌, ◌++◌, false, Some, IfOk, IfErr, length};
 ghost use Rattle.std.specs.List.{AllByRecursion};
-ghost use Rattle.site_gate.specs.Seen.{Begins, longer, meeting, Meets};
+ghost use Rattle.site_gate.specs.Seen.{Begins, joined, longer, meeting, Meets};
 ghost use Rattle.site_gate.specs.Passes.{IsPassOf, IsTurnOf, seen_of, view_of, opening_of, seen_by, own_of, owns, joins_of, opening_at, seen_at, own_at, owns_at, joins_at};
 
 use crate::gate::SiteGate;
@@ -106,6 +106,7 @@ impl<T: Turns> SiteGate<T> {
         requires other { IsPassOf self.now other }
         ensures gate { IsPassOf self.now pass.new }
         ensures opening { opening_of pass.new ≡ opening_of pass.old }
+        ensures both { seen_of pass.new ≡ joined (seen_of pass.old) (seen_of other) }
         ensures seen { seen_by pass.new ≡ longer (seen_by pass.old) (seen_by other) }
         ensures places { (place : ℕ) → owns pass.new place ≡ (owns pass.old place || owns other place) }
         ensures joins { joins_of pass.new ≡ meeting (seen_of pass.old) (seen_of other) ∷ joins_of pass.old ++ joins_of other }

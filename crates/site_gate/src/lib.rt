@@ -11,5 +11,6 @@ mod turns;
 mod view;
 
 pub use gate::SiteGate;
+pub use laws::own_turns_laws;
 pub use pass::{Pass, Turn};
 pub use turns::Turns;

@@ -1,4 +1,4 @@
-use Rattle.std.proofs.Common.{rules, arith, ap, ◌∙◌, ◌<◌, ◌+◌, ◌^◌}
+use Rattle.std.proofs.Common.{rules, arith, ap, ◌∙◌}
 use Rattle.site_gate.proofs.Entering.{draws}
 use Rattle.site_gate.proofs.gate.SiteGate.draw.Goals as goal
 

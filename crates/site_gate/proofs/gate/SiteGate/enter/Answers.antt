@@ -19,10 +19,10 @@ pub returns-clause-own : goal.returns-clause-own
 returns-clause-own g c =
     let e = c.take-value.ensures in
     ap (λ v. own_turns v.seen) e.view
-        ∙ (own_turns-seen_to_false c.draw-ticket.new.seat.me.0.seen (g.T.Turns.history c.take-value.result) e.seen ∙ ap (λ v. own_turns v.seen) c.draw-ticket.ensures.view)
+    ∙ (own_turns-seen_to_false c.draw-ticket.new.seat.me.0.seen (g.T.Turns.history c.take-value.result) e.seen ∙ ap (λ v. own_turns v.seen) c.draw-ticket.ensures.view)
 
 pub returns-clause-places : goal.returns-clause-places
 returns-clause-places g c = λ place.
     let e = c.take-value.ensures in
     ap (λ v. is_own v.seen place) e.view
-        ∙ (is_own-seen_to_false c.draw-ticket.new.seat.me.0.seen (g.T.Turns.history c.take-value.result) place e.seen ∙ ap (λ v. is_own v.seen place) c.draw-ticket.ensures.view)
+    ∙ (is_own-seen_to_false c.draw-ticket.new.seat.me.0.seen (g.T.Turns.history c.take-value.result) place e.seen ∙ ap (λ v. is_own v.seen place) c.draw-ticket.ensures.view)

@@ -17,4 +17,4 @@ returns-clause-places g c = λ place.
     let seen = c.args.turn.seat.me.0.seen in
     let one = c.requires.one in
     ap (λ v. is_own v.seen place) c.put_back.ensures.view
-        ∙ (is_own-seen_to_true seen (g.T.Turns.history c.args.turn.value) one.0 place one.1 ∙ ap (λ n. is_own seen place || place == n) (sym (length-turns_in seen)))
+    ∙ (is_own-seen_to_true seen (g.T.Turns.history c.args.turn.value) one.0 place one.1 ∙ ap (λ n. is_own seen place || place == n) (sym (length-turns_in seen)))
