@@ -131,6 +131,7 @@ impl<T: Turns> SiteGate<T> {
         requires gate { IsPassOf self pass }
         ensures opening { opening_of pass ≡ Some (T.opening result) }
         ensures seen { Begins (seen_by pass) (T.history result) }
+        ensures few { length (T.history result) + 1 < 2 ^ 64 }
     {
         let Turn { value, .. } = self.enter(rt, pass);
         value
