@@ -1,5 +1,5 @@
 //! Threads that add numbers under a gate.
-ghost use Rattle.std.specs.Prelude.{◌≡◌, ◌+◌, IfOk, sum};
+ghost use Rattle.std.specs.Prelude.{◌≡◌, IfOk};
 ghost use Rattle.site_gate.specs.Passes.{IsPassOf};
 
 use crate::tally::Tally;

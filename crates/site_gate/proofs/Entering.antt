@@ -9,8 +9,8 @@ use lib.ListN.{get_elem?}
 use prog.Atomic.{either}
 use Rattle.atomic_table.specs.Table.{State, Me, step, keeps, takes, stepped, opening as opened, Allows}
 use Rattle.atomic_table.proofs.Lists.{set_here}
-use Rattle.site_gate.specs.Seen.{Begins, turns_in, seen_to}
-use Rattle.site_gate.specs.Views.{view, first_view}
+use Rattle.site_gate.specs.Seen.{Begins, turns_in}
+use Rattle.site_gate.specs.Views.{with_ticket, with_value, first_view}
 use Rattle.site_gate.specs.Rule.{HasTicket, Holds, Owns, ticket_count, FitsStage, Fits, IsHome, IsOut, IsKept}
 use Rattle.site_gate.specs.Plays.{Draws, Looks}
 use Rattle.site_gate.specs.declared.view.View.{View}
@@ -54,9 +54,9 @@ module _ {T U O : Type 0} (history_of : T → List U) (opening_of : T → O) whe
       }
 
   drawn : (s : State (Option T) (View U O)) (r : Kept s) (id : ℕ) (v : View U O) → get_elem? s.views id ≡ some v → v.stage ≡ Outside → r.next + 1 < 2 ^ 64
-      → Kept record { words = length r.history ∷ (r.next + 1) ∷ []; homes = s.homes; views = set s.views id (view v.opening v.seen (Waiting r.next) v.joins) }
+      → Kept record { words = length r.history ∷ (r.next + 1) ∷ []; homes = s.homes; views = set s.views id (with_ticket v r.next) }
   drawn s r id v at outside small =
-      let w : View U O = view v.opening v.seen (Waiting r.next) v.joins in
+      let w : View U O = with_ticket v r.next in
       let f = r.each id v at in
       let order = r.order in record {
         history = r.history;
@@ -86,10 +86,10 @@ module _ {T U O : Type 0} (history_of : T → List U) (opening_of : T → O) whe
       let t = drawn s r id me.0 at outside (subst (λ k. k + 1 < 2 ^ 64) is small) in
       let words : length r.history ∷ (r.next + 1) ∷ [] ≡ set s.words 1 (either (eqb n old) (old + 1) n) =
       ap (λ k. length r.history ∷ (k + 1) ∷ []) (sym is) ∙ (ap (λ ws. set ws 1 (old + 1)) (sym r.words) ∙ ap (λ b. set s.words 1 (either b (old + 1) n)) (sym (eq-eqb n old hit))) in (
-        view me.0.opening me.0.seen (Waiting n) me.0.joins,
+        with_ticket me.0 n,
         keeps,
         tt,
-        subst (λ (x : List ℕ × ℕ). Kept record { words = x.0; homes = s.homes; views = set s.views id (view me.0.opening me.0.seen (Waiting x.1) me.0.joins) })
+        subst (λ (x : List ℕ × ℕ). Kept record { words = x.0; homes = s.homes; views = set s.views id (with_ticket me.0 x.1) })
             (λ k. (words k, sym (next_ticket history_of opening_of s r) k)) t,
         (refl, (λ _. refl), λ miss. absurd (miss hit)),
       ))
@@ -112,9 +112,9 @@ module _ {T U O : Type 0} (history_of : T → List U) (opening_of : T → O) whe
 
   taken : (s : State (Option T) (View U O)) (r : Kept s) (id : ℕ) (v : View U O) (ticket : ℕ) (x : T) → get_elem? s.views id ≡ some v → v.stage ≡ Waiting ticket
       → ticket ≡ length r.history → history_of x ≡ r.history
-      → Kept record { words = s.words; homes = none ∷ []; views = set s.views id (view v.opening (seen_to false v.seen (history_of x)) (Inside ticket) v.joins) }
+      → Kept record { words = s.words; homes = none ∷ []; views = set s.views id (with_value v ticket (history_of x)) }
   taken s r id v ticket x at waits now is =
-      let w : View U O = view v.opening (seen_to false v.seen (history_of x)) (Inside ticket) v.joins in
+      let w : View U O = with_value v ticket (history_of x) in
       let f = r.each id v at in
       let waiting : FitsStage r.history r.next (turns_in v.seen) (Waiting ticket) = subst (FitsStage r.history r.next (turns_in v.seen)) waits f.stage in
       let begins : Begins (turns_in v.seen) (history_of x) = subst (Begins (turns_in v.seen)) (sym is) f.seen in
@@ -147,7 +147,7 @@ module _ {T U O : Type 0} (history_of : T → List U) (opening_of : T → O) whe
       let now : ticket ≡ length r.history = sym hit ∙ turns_made history_of opening_of s r in
       let home = is_home s r id me.0 ticket at waits.1 now r.place in
       let x : T = home.0 in
-      let w : View U O = view me.0.opening (seen_to false me.0.seen (history_of x)) (Inside ticket) me.0.joins in
+      let w : View U O = with_value me.0 ticket (history_of x) in
       let f = r.each id me.0 at in
       let t = taken s r id me.0 ticket x at waits.1 now home.2 in (
         w,
@@ -159,7 +159,7 @@ module _ {T U O : Type 0} (history_of : T → List U) (opening_of : T → O) whe
           (λ _. (
             x,
             ap (λ held. (0, Some x) ∷ held) empty,
-            ap (λ q. view me.0.opening (seen_to false me.0.seen (history_of x)) (Inside q) me.0.joins) (sym (one u e)),
+            ap (λ q. with_value me.0 q (history_of x)) (sym (one u e)),
             agrees (opening_of x) r.start me.0.opening home.3 f.opening,
             subst (Begins (turns_in me.0.seen)) (sym home.2) f.seen,
             ap length home.2 ∙ (sym now ∙ sym (one u e)),

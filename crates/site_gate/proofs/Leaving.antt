@@ -4,8 +4,8 @@ use Rattle.std.specs.declared.option.Option.{Option}
 use mathlib.Core.Option.{Option as Maybe, some, none}
 use lib.ListN.{get_elem?}
 use Rattle.atomic_table.specs.Table.{State, Me, step, gives, put_back, rest, Allows}
-use Rattle.site_gate.specs.Seen.{Begins, turns_in, seen_to}
-use Rattle.site_gate.specs.Views.{view}
+use Rattle.site_gate.specs.Seen.{Begins, turns_in}
+use Rattle.site_gate.specs.Views.{with_turn}
 use Rattle.site_gate.specs.Rule.{Agrees, HasTicket, Holds, Owns, ticket_count, FitsStage, Fits, IsHome, IsOut, IsKept}
 use Rattle.site_gate.specs.Plays.{Raises}
 use Rattle.site_gate.specs.declared.view.View.{View}
@@ -47,9 +47,9 @@ module _ {T U O : Type 0} (history_of : T → List U) (opening_of : T → O) whe
 
   returned : (s : State (Option T) (View U O)) (r : Kept s) (id : ℕ) (v : View U O) (ticket : ℕ) (x : T) (turn : U) → get_elem? s.views id ≡ some v → v.stage ≡ Inside ticket
       → history_of x ≡ turns_in v.seen ++ turn ∷ [] → v.opening ≡ Some (opening_of x)
-      → Kept record { words = (length r.history + 1) ∷ r.next ∷ []; homes = some (Some x) ∷ []; views = set s.views id (view v.opening (seen_to true v.seen (history_of x)) Outside v.joins) }
+      → Kept record { words = (length r.history + 1) ∷ r.next ∷ []; homes = some (Some x) ∷ []; views = set s.views id (with_turn v (history_of x)) }
   returned s r id v ticket x turn at inside more begun =
-      let w : View U O = view v.opening (seen_to true v.seen (history_of x)) Outside v.joins in
+      let w : View U O = with_turn v (history_of x) in
       let f = r.each id v at in
       let served : FitsStage r.history r.next (turns_in v.seen) (Inside ticket) = subst (FitsStage r.history r.next (turns_in v.seen)) inside f.stage in
       let is : history_of x ≡ r.history ++ turn ∷ [] = more ∙ ap (λ l. l ++ turn ∷ []) served.2 in
@@ -108,11 +108,11 @@ module _ {T U O : Type 0} (history_of : T → List U) (opening_of : T → O) whe
       let word : (n + 1) % 2 ^ 64 ≡ length r.history + 1 = ap (λ k. (k + 1) % 2 ^ 64) (turns_made history_of opening_of s r) ∙ no_wrap (length r.history) (omega arith) in
       let words : (length r.history + 1) ∷ r.next ∷ [] ≡ set s.words 0 ((n + 1) % 2 ^ 64) = ap (λ ws. set ws 0 (length r.history + 1)) (sym r.words) ∙ ap (set s.words 0) (sym word) in
       let homes : some (Some x) ∷ [] ≡ put_back s.homes me.1 = sym (is_back r.history r.start s.views s.homes x r.place) ∙ ap (put_back s.homes) (sym held) in
-      let w : View U O = view v.opening (seen_to true v.seen (history_of x)) Outside v.joins in (
+      let w : View U O = with_turn v (history_of x) in (
         w,
         gives,
         tt,
         subst (λ (y : List ℕ × List (Maybe (Option T))). Kept record { words = y.0; homes = y.1; views = set s.views id w }) (λ i. (words i, homes i))
             (returned s r id v ticket x turn at inside more begun),
-        λ ticket' x' e e'. (ap rest held, ap (λ (y : T). view v.opening (seen_to true v.seen (history_of y)) Outside v.joins) (same_value x x' (sym held ∙ e'))),
+        λ ticket' x' e e'. (ap rest held, ap (λ (y : T). with_turn v (history_of y)) (same_value x x' (sym held ∙ e'))),
       )

@@ -15,7 +15,7 @@ or_true true b e = inl refl
 or_true false b e = inr e
 
 module _ {U : Type 0} where
-  -- ---- beginnings of a history
+  -- beginnings of a history
 
   pub begins_all : {xs ys : List U} → xs ≡ ys → Begins xs ys
   begins_all {xs} e = ([], sym e ∙ sym (append-nil xs))
@@ -41,7 +41,7 @@ module _ {U : Type 0} where
       let r = begins_longer xs ys history (b.0, b') (c.0, c') (omega arith) in
       (r.0, λ i. head i ∷ r.1 i)
 
-  -- ---- seen further
+  -- seen further
 
   pub turns_in-append : (xs ys : List (U × Bool)) → turns_in (xs ++ ys) ≡ turns_in xs ++ turns_in ys
   turns_in-append xs ys = map-append (λ e. e.0) xs ys
@@ -65,7 +65,7 @@ module _ {U : Type 0} where
   turns_in-seen_to own seen history b =
       ap turns_in (seen_to-rest own seen history b.0 b.1) ∙ (turns_in-append seen (marked own b.0) ∙ (ap (λ l. turns_in seen ++ l) (turns_in-marked own b.0) ∙ sym b.1))
 
-  -- ---- whose turns they are
+  -- whose turns they are
 
   pub is_own-marked_false : (xs : List U) (place : ℕ) → is_own (marked false xs) place ≡ false
   is_own-marked_false [] place = refl
@@ -118,7 +118,7 @@ module _ {U : Type 0} where
   pub own_turns-seen_to_true : (seen : List (U × Bool)) (history : List U) (turn : U) → history ≡ turns_in seen ++ turn ∷ [] → own_turns (seen_to true seen history) ≡ own_turns seen ++ turn ∷ []
   own_turns-seen_to_true seen history turn is = ap own_turns (seen_to-rest true seen history (turn ∷ []) is) ∙ own_turns-append seen (marked true (turn ∷ []))
 
-  -- ---- joined
+  -- joined
 
   turns_in-with_marks : (xs : List (U × Bool)) (marks : List Bool) → turns_in (with_marks xs marks) ≡ turns_in xs
   turns_in-with_marks [] marks = refl
@@ -183,7 +183,7 @@ module _ {U : Type 0} where
     pub other_begins : Begins (turns_in other) (turns_in (joined one other))
     other_begins = subst (Begins (turns_in other)) (sym (turns_in-joined one other)) (other_begins_by (turns_in one) (turns_in other) history (nat_lt (length (turns_in one)) (length (turns_in other))) refl b c)
 
-  -- ---- what was joined
+  -- what was joined
 
   pub meets_more : (xs ys : List U) (joins : List (Meeting U)) → Begins xs ys → AllByRecursion (Meets xs) joins → AllByRecursion (Meets ys) joins
   meets_more xs ys [] b all = tt

@@ -42,10 +42,11 @@ module _ {T U O : Type 0} {g : Ghosts T U O} where
   abbrev pub owns : Pass T U O g → ℕ → Bool
   owns pass place = is_own (view_of pass).seen place
 
-  -- what was seen by the passes that were joined to this one
+  -- for each join that the pass comes from, what the two had seen
   abbrev pub joins_of : Pass T U O g → List (Meeting U)
   joins_of pass = (view_of pass).joins
 
+  -- the same of a turn, from its beginning to its end
   abbrev pub view_at : Turn T U O g → View U O
   view_at turn = turn.seat.me.0
 
@@ -56,7 +57,7 @@ module _ {T U O : Type 0} {g : Ghosts T U O} where
   abbrev pub seen_at : Turn T U O g → List U
   seen_at turn = turns_in (view_at turn).seen
 
-  -- the own turns of the pass that entered
+  -- the own turns, without this one
   abbrev pub own_at : Turn T U O g → List U
   own_at turn = own_turns (view_at turn).seen
 

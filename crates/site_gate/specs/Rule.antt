@@ -25,6 +25,7 @@ HasTicket Outside n = ⊥
 HasTicket (Waiting ticket) n = ticket ≡ n
 HasTicket (Inside ticket) n = ticket ≡ n
 
+-- how many tickets a view has
 abbrev pub ticket_count : Stage → ℕ
 ticket_count Outside = 0
 ticket_count (Waiting ticket) = 1
@@ -37,12 +38,15 @@ FitsStage history next seen (Waiting ticket) = (length history ≤ ticket) × (t
 FitsStage history next seen (Inside ticket) = (ticket ≡ length history) × (ticket < next) × (seen ≡ history)
 
 module _ {U O : Type 0} where
+  -- the view has this ticket
   abbrev pub Holds : View U O → ℕ → Type 0
   Holds v n = HasTicket v.stage n
 
+  -- the turn at this place is the view's own
   abbrev pub Owns : View U O → ℕ → Type 0
   Owns v place = is_own v.seen place ≡ true
 
+  -- how many tickets were drawn and aren't spent
   abbrev pub tickets_out : List (View U O) → ℕ
   tickets_out views = sum_by (λ v. ticket_count v.stage) views
 
@@ -62,6 +66,7 @@ module _ {T U O : Type 0} (history_of : T → List U) (opening_of : T → O) whe
   abbrev pub IsOut : List (View U O) → List (Maybe (Option T)) → Type 0
   IsOut views homes = (homes ≡ none ∷ []) × (j ticket : ℕ) × (v : View U O) × (get_elem? views j ≡ some v) × (v.stage ≡ Inside ticket)
 
+  -- the rule, with the history, the opening and the next ticket of which the words, the slot and the views tell
   pub record IsKept (s : State (Option T) (View U O)) : Type 0 where
     pub history : List U
     pub start : O

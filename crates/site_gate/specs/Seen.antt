@@ -46,6 +46,7 @@ module _ {U : Type 0} where
   abbrev pub joined : List (U × Bool) → List (U × Bool) → List (U × Bool)
   joined one other = if nat_lt (length one) (length other) then with_marks other (marks_in one) else with_marks one (marks_in other)
 
+  -- two who join
   abbrev pub meeting : List (U × Bool) → List (U × Bool) → Meeting U
   meeting one other = record { one = one; other = other }
 

@@ -1,5 +1,5 @@
 //! The calls of a pass's life at a gate.
-ghost use Rattle.std.specs.Prelude.{◌≡◌, ◌+◌, ◌^◌, ◌<◌, ◌==◌, ◌||◌, ℕ, List, [], ◌∷◌, ◌++◌, false, Some, IfOk, IfErr, length};
+ghost use Rattle.std.specs.Prelude.{◌≡◌, ◌+◌, ◌^◌, ◌<◌, ◌==◌, ◌||◌, ℕ, [], ◌∷◌, ◌++◌, false, Some, IfOk, IfErr, length};
 ghost use Rattle.std.specs.List.{AllByRecursion};
 ghost use Rattle.site_gate.specs.Seen.{Begins, joined, longer, meeting, Meets};
 ghost use Rattle.site_gate.specs.Passes.{IsPassOf, IsTurnOf, seen_of, view_of, opening_of, seen_by, own_of, owns, joins_of, opening_at, seen_at, own_at, owns_at, joins_at};

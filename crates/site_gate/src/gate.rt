@@ -1,7 +1,7 @@
 //! The gate, and how a seat comes to the value.
 ghost use Rattle.std.specs.Prelude.{◌≡◌, ◌+◌, ◌^◌, ◌<◌, [], ◌∷◌, ◌++◌, true, false, Some, length};
 ghost use Rattle.site_gate.specs.Seen.{Begins, seen_to, turns_in};
-ghost use Rattle.site_gate.specs.Views.{view, empty_handed, IsSameSeat};
+ghost use Rattle.site_gate.specs.Views.{with_ticket, with_value, with_turn, empty_handed, IsSameSeat};
 ghost use Rattle.site_gate.specs.Rule.{Agrees};
 ghost use Rattle.site_gate.specs.declared.view.Stage.TheVariants.{Outside, Waiting, Inside};
 
@@ -32,7 +32,7 @@ impl<T: Turns> SiteGate<T> {
         requires gate { seat.old.table_id ≡ self.now.table.shared.table_id }
         requires outside { seat.old.me.0.stage ≡ Outside }
         ensures seat { IsSameSeat seat.old seat.new }
-        ensures view { seat.new.me.0 ≡ view seat.old.me.0.opening seat.old.me.0.seen (Waiting result) seat.old.me.0.joins }
+        ensures view { seat.new.me.0 ≡ with_ticket seat.old.me.0 result }
         ensures held { seat.new.me.1 ≡ seat.old.me.1 }
         ensures few { result + 1 < 2 ^ 64 }
     {
@@ -63,7 +63,7 @@ impl<T: Turns> SiteGate<T> {
         requires waiting { seat.old.me.0.stage ≡ Waiting ticket }
         requires empty { seat.old.me.1 ≡ [] }
         ensures seat { IsSameSeat seat.old seat.new }
-        ensures view { seat.new.me.0 ≡ view seat.old.me.0.opening (seen_to false seat.old.me.0.seen (T.history result)) (Inside ticket) seat.old.me.0.joins }
+        ensures view { seat.new.me.0 ≡ with_value seat.old.me.0 ticket (T.history result) }
         ensures held { seat.new.me.1 ≡ empty_handed }
         ensures opening { Agrees (T.opening result) seat.old.me.0.opening }
         ensures seen { Begins (turns_in seat.old.me.0.seen) (T.history result) }
@@ -95,7 +95,7 @@ impl<T: Turns> SiteGate<T> {
         requires opening { seat.old.me.0.opening ≡ Some (T.opening value) }
         requires one { (done : T.Turn) × (T.history value ≡ turns_in seat.old.me.0.seen ++ done ∷ []) }
         ensures seat { IsSameSeat seat.old seat.new }
-        ensures view { seat.new.me.0 ≡ view seat.old.me.0.opening (seen_to true seat.old.me.0.seen (T.history value)) Outside seat.old.me.0.joins }
+        ensures view { seat.new.me.0 ≡ with_turn seat.old.me.0 (T.history value) }
         ensures held { seat.new.me.1 ≡ [] }
     {
         let _ticket = ticket;

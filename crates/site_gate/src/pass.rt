@@ -1,5 +1,5 @@
 //! What a thread knows of a gate, outside a turn and in it.
-ghost use Rattle.std.specs.Prelude.{◌≡◌, [], true, None, is_some};
+ghost use Rattle.std.specs.Prelude.{◌≡◌, [], true, is_some};
 ghost use Rattle.site_gate.specs.Views.{empty_handed};
 ghost use Rattle.site_gate.specs.declared.view.Stage.TheVariants.{Outside, Inside};
 

@@ -1,10 +1,8 @@
-use Rattle.std.proofs.Common.{rules, ap, sym, subst, refl, ◌∙◌, ◌∷◌, [], Some, ◌+◌, ◌%◌, ◌^◌, true}
+use Rattle.std.proofs.Common.{rules, ap, sym, subst, refl, ◌∙◌, ◌∷◌, [], Some, ◌+◌, ◌%◌, ◌^◌}
 use mathlib.Core.Option.{none}
 use Rattle.atomic_table.specs.Table.{rest, Allows, step}
-use Rattle.site_gate.specs.Seen.{seen_to}
-use Rattle.site_gate.specs.Views.{view}
+use Rattle.site_gate.specs.Views.{with_turn}
 use Rattle.site_gate.specs.Rule.{IsKept}
-use Rattle.site_gate.specs.declared.view.Stage.TheVariants.{Outside}
 use Rattle.site_gate.specs.Plays.{Raises}
 use Rattle.site_gate.proofs.Leaving.{raises}
 use Rattle.site_gate.proofs.gate.SiteGate.put_back.Goals as goal
@@ -29,7 +27,7 @@ returns-clause-view g c =
     let me = c.args.seat.now.me in
     let back = c.exchange.ensures.3 ∙ ap (λ held. (me.0, (0, Some c.args.value) ∷ held)) (ap rest c.requires.held) in
     let told = c.fetch_add.ensures.2 c.args.ticket.value c.args.value (ap (λ m. m.0.stage) back ∙ c.requires.inside) (ap (λ m. m.1) back) in
-    told.1 ∙ ap (λ m. view m.0.opening (seen_to true m.0.seen (g.T.Turns.history c.args.value)) Outside m.0.joins) back
+    told.1 ∙ ap (λ m. with_turn m.0 (g.T.Turns.history c.args.value)) back
 
 pub returns-clause-held : goal.returns-clause-held
 returns-clause-held g c =
