@@ -1,5 +1,5 @@
 -- What a crew's turns keep, and that what an applier evaluated holds when it is put in.
-use Rattle.std.proofs.Common.{◌≡◌, ℕ, List, [], ◌∷◌, ◌++◌, Bool, true, false, Some, None, refl, sym, ap, ◌∙◌, subst, append-nil}
+use Rattle.std.proofs.Common.{◌≡◌, ℕ, List, [], ◌∷◌, ◌++◌, true, false, Some, None, refl, sym, ap, ◌∙◌, subst, append-nil}
 use Rattle.std.specs.Prelude.{Option, IfSome}
 use Rattle.rep_values.specs.declared.name.SiteName.{SiteName}
 use Rattle.rep_laws.specs.Commuting.{IsSound}
@@ -7,7 +7,7 @@ use Rattle.site_state.specs.State.{SiteState, arrived_at}
 use Rattle.site_state.specs.Journal.{finished}
 use Rattle.site_state.specs.Ready.{stale_of, is_ready}
 use Rattle.site_state.specs.Passes.{site_apply}
-use Rattle.event_laws.specs.Confluence.{applied_in_turn, AreReadyInTurn, CanPassInAnyOrder}
+use Rattle.event_laws.specs.Confluence.{applied_in_turn, AreReadyInTurn}
 use Rattle.event_laws.proofs.MasterArrivals.{IsReadyAt, ready_at}
 use Rattle.txn_work.specs.declared.outcome.Outcome.{Outcome}
 use Rattle.txn_work.specs.Works.{WorkState}
@@ -15,7 +15,8 @@ use Rattle.txn_work.specs.Laws.{SupportOutlastsIndependentTransactions}
 use Rattle.site_core.specs.Working.{IsWorkOf, EndsHere, HoldsWhereAlike}
 use Rattle.site_core.proofs.Beginning.{outcomes_hold}
 use Rattle.parallel_apply.specs.Turns.{positions_of, site_after}
-use Rattle.parallel_apply.specs.Crews.{CrewState, IsCrew, IsOutcomeOf, IsOfEarlierClaim}
+use Rattle.parallel_apply.specs.Crews.{CrewState, IsCrew, IsClaimAt, IsOutcomeOf, IsOfEarlierClaim, IsPartlyApplied}
+use Rattle.parallel_apply.specs.declared.claim.Claim.{Claim}
 use Rattle.parallel_apply.specs.declared.claim.Evaluated.{Evaluated}
 use Rattle.parallel_apply.proofs.TurnLogs.{positions-append}
 use Rattle.parallel_apply.proofs.InTurn.{Stays, applied-append, ready-append, ready-behind, stays_itself, stays_in_turn}
@@ -24,6 +25,20 @@ use Rattle.parallel_apply.proofs.Outlasting.{all_outlasted}
 -- what isn't stale is ready
 pub ready_here : (origin : SiteName) (p : ℕ) (x : SiteState) → stale_of origin p x ≡ None → is_ready origin p x ≡ true
 ready_here origin p x fresh = rw fresh refl
+
+pub told_alike : {X : Type 0} (x y : X) → Some x ≡ Some y → x ≡ y
+told_alike x y same = cc
+
+-- what was claimed in one turn and evaluated is put in in a later one
+pub earlier_claim : (then now : CrewState) (later : List (Option ℕ)) → now.turns ≡ then.turns ++ later → now.opened ≡ then.opened → now.origin ≡ then.origin
+    → (claim : Claim) → IsClaimAt then.origin (site_after then.origin then.turns then.opened) claim
+    → (done : Evaluated) → done.position ≡ claim.position → IsOutcomeOf claim.work done.outcome → IsOfEarlierClaim now done
+earlier_claim then now later more opened origin claim is done position outcome =
+    record { turns = then.turns; later = later; began = more; claim = claim; is = rw (opened, origin) is; position = position; outcome = outcome }
+
+-- a crew's site is partly applied
+pub crew_applied : (c : CrewState) → IsCrew c → IsPartlyApplied c.origin c.opened c.site
+crew_applied c is = (positions_of c.turns, is.ready, is.led)
 
 module _ (opened : SiteState) (origin : SiteName) (turns : List (Option ℕ)) (site : SiteState) (is : IsCrew (record { opened = opened; origin = origin; turns = turns; site = site })) where
   -- a turn that applies nothing
@@ -87,8 +102,8 @@ module _ (opened : SiteState) (origin : SiteName) (turns : List (Option ℕ)) (s
     ends_of : (work : WorkState) (outcome : Outcome) → IsWorkOf origin done.position before work → HoldsWhereAlike work outcome.ending → EndsHere origin done.position site outcome.ending
     ends_of work outcome of holds = outcomes_hold origin done.position before site work outcome.ending of holds later_stays.schema (ap (arrived_at origin done.position) later_stays.senders)
         (subst (λ (y : SiteState). Rattle.txn_work.specs.Works.Supports work (Rattle.site_state.specs.Contents.content_of y)) (sym here_since)
-          (all_outlasted origin opened is.passes outlasts done.position before stays_before at_claim work (of.schema_is ∙ stays_before.schema) (of.txn_is at_claim.arrival at_claim.there)
-            (positions_of earlier.later) before (stays_itself origin before) ready_since unfinished of.supports))
+        (all_outlasted origin opened is.passes outlasts done.position before stays_before at_claim work (of.schema_is ∙ stays_before.schema) (of.txn_is at_claim.arrival at_claim.there)
+        (positions_of earlier.later) before (stays_itself origin before) ready_since unfinished of.supports))
 
     by_work : (found : Option WorkState) (outcome : Option Outcome) → IfSome found (IsWorkOf origin done.position before) → IsOutcomeOf found outcome → IfSome outcome (λ (o : Outcome). EndsHere origin done.position site o.ending)
     by_work None None work of = tt

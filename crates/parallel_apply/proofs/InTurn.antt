@@ -1,5 +1,5 @@
 -- Positions of a sender that are applied one after the other, and what stays of a site meanwhile.
-use Rattle.std.proofs.Common.{◌≡◌, ℕ, ◌<◌, List, [], ◌∷◌, ◌++◌, Bool, true, false, cond, Some, None, refl, sym, ap, ◌∙◌, subst}
+use Rattle.std.proofs.Common.{◌≡◌, ℕ, List, [], ◌∷◌, ◌++◌, Bool, true, false, cond, Some, None, refl, ap, ◌∙◌}
 use Rattle.std.specs.Prelude.{◌||◌, is_none, Option, Result, Ok, Err}
 use Rattle.rep_values.specs.declared.name.SiteName.{SiteName}
 use Rattle.txn_effects.specs.Calls.{Effect}
@@ -8,16 +8,16 @@ use Rattle.txn_effects.specs.Contents.{content_after}
 use Rattle.site_state.specs.declared.answers.Why.{Why}
 use Rattle.site_state.specs.declared.arrival.Arrival.{Arrival}
 use Rattle.site_state.specs.declared.entry.Entry.{Entry}
-use Rattle.site_state.specs.State.{SiteState, is_master_site, arrived_at, arrivals}
+use Rattle.site_state.specs.State.{SiteState, is_master_site, arrived_at}
 use Rattle.site_state.specs.Journal.{finished, is_position}
 use Rattle.site_state.specs.Contents.{content_of}
 use Rattle.site_state.specs.Ready.{stale_of, is_ready}
 use Rattle.site_state.specs.Passes.{effect_here, finished_by, applied_unless, site_apply, apply_each}
 use Rattle.site_state.proofs.LowWater.{finished-append}
-use Rattle.site_state.proofs.Stepping.{Steps, with_entry, arrived_has, apply_steps}
+use Rattle.site_state.proofs.Stepping.{with_entry, arrived_has, apply_steps}
 use Rattle.event_laws.specs.Confluence.{applied_in_turn, AreReadyInTurn}
 use Rattle.event_laws.proofs.ErrorLaws.{is_position-own}
-use Rattle.event_laws.proofs.MasterArrivals.{Told, IsReadyAt, ready_at, finished_by-master, told-master}
+use Rattle.event_laws.proofs.MasterArrivals.{Told, IsReadyAt, finished_by-master, told-master}
 
 module _ (origin : SiteName) where
   -- ---- one list behind another

@@ -6,3 +6,5 @@ mod MadeEntries
 mod SettledPass
 mod TurnLogs
 mod Crews
+mod CrewPass
+mod Crossing

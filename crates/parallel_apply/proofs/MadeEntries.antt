@@ -1,6 +1,6 @@
 -- The entries that ready positions of a master lead to: each finishes its position, and those whose transactions share a token
 -- stand in order.
-use Rattle.std.proofs.Common.{◌≡◌, ℕ, ◌<◌, ◌≤◌, List, [], ◌∷◌, ◌++◌, reverse, map, true, false, Some, refl, sym, ap, ◌∙◌, subst, arith, inl, inr}
+use Rattle.std.proofs.Common.{◌≡◌, ℕ, ◌<◌, List, [], ◌∷◌, ◌++◌, reverse, map, true, Some, refl, sym, ap, ◌∙◌, subst, inl, inr}
 use Rattle.std.specs.Prelude.{Result, Ok, Err}
 use Rattle.std.specs.List.{AllByRecursion}
 use mathlib.Core.Logic.{◌⊎◌}
@@ -10,7 +10,6 @@ use Rattle.rep_values.specs.declared.name.SiteName.{SiteName}
 use Rattle.rep_calls.specs.declared.call.Txn.{Txn}
 use Rattle.txn_effects.specs.Calls.{Effect}
 use Rattle.txn_effects.specs.Transactions.{Failure}
-use Rattle.site_state.specs.declared.arrival.Arrival.{Arrival}
 use Rattle.site_state.specs.declared.entry.Entry.{Entry}
 use Rattle.site_state.specs.declared.entry.Entry.TheVariants.{Local, Done, Error, Executed, Dropped, Refreshed}
 use Rattle.site_state.specs.State.{SiteState, is_master_site, arrived_at}
@@ -85,7 +84,7 @@ module _ (origin : SiteName) (start : SiteState) (is : CanPassInAnyOrder origin 
     stands_first f behind =
         has_then (λ (txn : Txn). txn ≡ at.arrival.txn) (λ (txn : Txn). EntryHas (λ (other : Txn). shares x.schema txn other ≡ true → position_of one < position_of f) f)
         (λ txn own. has_then (λ (other : Txn). other ≡ behind.at.arrival.txn) (λ (other : Txn). shares x.schema txn other ≡ true → position_of one < position_of f)
-          (λ other own_other shared. subst (λ (n : ℕ). n < position_of f) (sym position_one) (lower (three_ways p (position_of f)) (rw (stays.schema, own, own_other) at shared))) f behind.carries) one carries_one
+        (λ other own_other shared. subst (λ (n : ℕ). n < position_of f) (sym position_one) (lower (three_ways p (position_of f)) (rw (stays.schema, own, own_other) at shared))) f behind.carries) one carries_one
       where
         whole : Stays origin x behind.later
         whole = stays_then origin x (site_apply origin p x) behind.later (stays_one origin p x) behind.stays
@@ -111,8 +110,11 @@ module _ (origin : SiteName) (start : SiteState) (is : CanPassInAnyOrder origin 
           ∙ sym (append_assoc (reverse rest.entries) (one ∷ []) x.journal) ∙ ap (λ es. es ++ x.journal) (sym (reverse_onto rest.entries one []));
       finishes = (finish_one, rest.finishes);
       positions = λ i. position_one i ∷ rest.positions i;
-      behind = (behind_one, AllByRecursion-weaker (ComesBehind origin (site_apply origin p x)) (ComesBehind origin x)
-          (λ f b. record { later = b.later; stays = stays_then origin x (site_apply origin p x) b.later (stays_one origin p x) b.stays; at = b.at; carries = b.carries }) rest.entries rest.behind);
+      behind = (
+        behind_one,
+        AllByRecursion-weaker (ComesBehind origin (site_apply origin p x)) (ComesBehind origin x)
+            (λ f b. record { later = b.later; stays = stays_then origin x (site_apply origin p x) b.later (stays_one origin p x) b.stays; at = b.at; carries = b.carries }) rest.entries rest.behind,
+      );
       order = (AllByRecursion-weaker (ComesBehind origin (site_apply origin p x)) (StandsFirst x.schema one) stands_first rest.entries rest.behind, subst (λ s. AreInOrder s rest.entries) (stays_one origin p x).schema rest.order);
     }
 

@@ -5,7 +5,6 @@ use Rattle.std.specs.List.{list_all}
 use mathlib.Core.Logic.{◌⊎◌}
 use Rattle.std.proofs.lemmas.Bool.Decides.{nat_tests}
 use Rattle.rep_values.specs.declared.name.SiteName.{SiteName}
-use Rattle.rep_calls.specs.declared.call.Txn.{Txn}
 use Rattle.conflict_detect.specs.Fits.{TxnFits}
 use Rattle.txn_effects.specs.Contents.{Content}
 use Rattle.dependency_index.specs.Tokens.{txn_tokens, AreIndependent}
@@ -14,7 +13,7 @@ use Rattle.site_state.specs.State.{SiteState, is_master_site, arrived_at, arriva
 use Rattle.site_state.specs.Journal.{finished, low_water}
 use Rattle.site_state.specs.Contents.{content_of}
 use Rattle.site_state.specs.Streams.{shares}
-use Rattle.site_state.specs.Ready.{is_covered, is_due}
+use Rattle.site_state.specs.Ready.{is_covered}
 use Rattle.site_state.specs.Passes.{site_apply}
 use Rattle.site_state.proofs.LowWater.{low_water-below}
 use Rattle.site_state.proofs.Stepping.{arrived_has}

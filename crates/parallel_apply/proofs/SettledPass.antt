@@ -1,11 +1,10 @@
 -- What a crew applied, put into rising order of position, is the pass of one applier.
-use Rattle.std.proofs.Common.{◌≡◌, ◌≢◌, ℕ, ◌+◌, ◌<◌, ◌≤◌, List, [], ◌∷◌, ◌++◌, take, drop, reverse, map, length, Bool, true, false, cond, refl, sym, ap, ◌∙◌, subst, arith, inl, inr, length-append}
+use Rattle.std.proofs.Common.{◌≡◌, ℕ, ◌+◌, ◌<◌, ◌≤◌, List, [], ◌∷◌, ◌++◌, take, drop, reverse, map, length, Bool, true, false, cond, refl, sym, ap, ◌∙◌, subst, arith, inl, inr, length-append}
 use Rattle.std.specs.List.{AllByRecursion}
 use Rattle.std.specs.List.Sorted.{IsPermutation}
 use Rattle.std.specs.Cmp.{nat_cmp_is}
 use Rattle.std.specs.Ordering.{nat_cmp}
 use Rattle.std.specs.declared.cmp.Ordering.TheVariants.{Less}
-use mathlib.Core.Logic.{◌⊎◌}
 use Rattle.std.proofs.lemmas.Bool.Decides.{nat_tests}
 use Rattle.std.proofs.lemmas.List.{reverse-append, length-reverse}
 use Rattle.std.proofs.lemmas.List.Sorted.{IsPermutation-sym, IsPermutation-trans, IsPermutation-reverse}
@@ -17,12 +16,12 @@ use Rattle.site_state.specs.declared.entry.Entry.{Entry}
 use Rattle.site_state.specs.State.{SiteState, is_master_site, arrivals}
 use Rattle.site_state.specs.Ready.{is_ready}
 use Rattle.site_state.specs.Steps.{begun}
-use Rattle.site_state.specs.Passes.{site_apply, apply_each, site_pass}
+use Rattle.site_state.specs.Passes.{site_apply, site_pass}
 use Rattle.event_laws.specs.Confluence.{applied_in_turn, AreReadyInTurn, AreAllThatIsReady, CanPassInAnyOrder, SameButForOrder}
 use Rattle.event_laws.proofs.PassLaws.{passes_leave_nothing_ready}
 use Rattle.event_laws.proofs.Confluence.{one_site_comes_of_any_order}
 use Rattle.journal_order.specs.Settling.{position_of, by_position, entries_from, entries_before, IsSettleable, IsSettled}
-use Rattle.journal_order.proofs.Selecting.{Has, AllByRecursion-weaker, has_itself}
+use Rattle.journal_order.proofs.Selecting.{Has, has_itself}
 use Rattle.journal_order.proofs.SettledJournals.{AllByRecursion-IsPermutation, journal_parts, settled_parts}
 use Rattle.parallel_apply.proofs.InTurn.{ready_among, each_applied, stays_itself, stays_in_turn}
 use Rattle.parallel_apply.proofs.MadeEntries.{AreMade, are_made}
@@ -45,8 +44,8 @@ above_then : (e f : Entry) (es : List Entry) → by_position e f ≡ Less → Al
 above_then e f [] less all = tt
 above_then e f (g ∷ es) less all = (
   (let one : position_of e < position_of f = grind (arith, nat_tests, less) in
-  let other : position_of f < position_of g = grind (arith, nat_tests, all.0) in
-  sym (nat_cmp_is (position_of e) (position_of g) Less (omega (arith, one, other)))),
+      let other : position_of f < position_of g = grind (arith, nat_tests, all.0) in
+      sym (nat_cmp_is (position_of e) (position_of g) Less (omega (arith, one, other)))),
   above_then e f es less all.1,
 )
 
@@ -83,8 +82,8 @@ one_rising [] (f ∷ fs) rising other_rising has other_has = absurd other_has.0
 one_rising (e ∷ es) [] rising other_rising has other_has = absurd has.0
 one_rising (e ∷ es) (f ∷ fs) rising other_rising has other_has =
     λ i. same i ∷ one_rising es fs rising.1 other_rising.1
-      (has_rest f fs es (subst (λ g. AllByRecursion (λ h. by_position g h ≡ Less) es) same rising.0) has.1)
-      (has_rest e es fs (subst (λ g. AllByRecursion (λ h. by_position g h ≡ Less) fs) (sym same) other_rising.0) other_has.1) i
+    (has_rest f fs es (subst (λ g. AllByRecursion (λ h. by_position g h ≡ Less) es) same rising.0) has.1)
+    (has_rest e es fs (subst (λ g. AllByRecursion (λ h. by_position g h ≡ Less) fs) (sym same) other_rising.0) other_has.1) i
   where
     low : position_of f ≤ position_of e
     low = not_below e f fs other_rising.0 has.0

@@ -37,6 +37,25 @@ pub(crate) fn calls_at<R: RowStore>(site: &Site<R>, origin: &SiteName, position:
     }
 }
 
+/// Whether two positions of a sender are ready whose transactions are worth evaluating outside the lock.
+pub(crate) fn has_work_for_two<R: RowStore>(site: &Site<R>, origin: &SiteName) -> bool {
+    let mut found = false;
+    let mut above = 0;
+    for _ in 0..site.arrived(origin) {
+        let Some(position) = site.lowest_ready(origin, above) else {
+            return false;
+        };
+        if calls_at(site, origin, position) >= LEAST_CALLS {
+            if found {
+                return true;
+            }
+            found = true;
+        }
+        above = position;
+    }
+    false
+}
+
 /// The claim of a position that is ready; None where there is no memory. A transaction that touches a constraint of a table,
 /// or has few calls, is evaluated in the turn that installs it.
 pub(crate) fn claimed<R: RowStore>(

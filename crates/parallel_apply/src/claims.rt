@@ -29,7 +29,9 @@ impl Claims {
 
     /// Whether an applier works on a position.
     fn is_worked_on(&self, position: u64) -> bool {
-        self.working.iter().any(|working: &u64| -> bool { *working == position })
+        self.working
+            .iter()
+            .any(|working: &u64| -> bool { *working == position })
     }
 
     /// Whether a position may be claimed: it is ready, and nobody works on it.

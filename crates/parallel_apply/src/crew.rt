@@ -4,6 +4,7 @@ ghost use Rattle.site_state.specs.Ready.{stale_of};
 ghost use Rattle.site_state.specs.Passes.{site_apply};
 ghost use Rattle.site_core.specs.Working.{EndsHere};
 ghost use Rattle.event_laws.specs.Confluence.{CanPassInAnyOrder};
+ghost use Rattle.parallel_apply.specs.Turns.{site_after};
 ghost use Rattle.parallel_apply.specs.Crews.{IsCrew, IsClaimAt, IsOfEarlierClaim};
 
 use crate::claim::{Claim, Evaluated, claimed};
@@ -13,6 +14,7 @@ use rep_lists::NoMemory;
 use rep_schema::RowStore;
 use rep_values::SiteName;
 use site_core::Site;
+use site_gate::Turns;
 use std::alloc::Global;
 use std::marker::Model;
 use std::snapshot::Snapshot;
@@ -38,6 +40,23 @@ impl<R: RowStore> Model for Crew<R> {
     ghost view = { λ c. record { opened = c.opened.value; origin = c.origin; turns = turns_in c.turns; site = c.site } };
 
     ghost invariant = { λ c. IsCrew (record { opened = c.opened.value; origin = c.origin; turns = turns_in c.turns; site = c.site }) };
+}
+
+/// How a crew began. No value of it is made.
+#[derive(Drop)]
+pub struct Opening<R: RowStore> {
+    pub site: Site<R>,
+    pub origin: SiteName,
+}
+
+impl<R: RowStore> Turns for Crew<R> {
+    type Turn = Option<u64>;
+
+    type Opening = Opening<R>;
+
+    ghost history = { λ c. c.turns };
+
+    ghost opening = { λ c. record { site = c.opened; origin = c.origin } };
 }
 
 /// Puts what was evaluated into a site, or evaluates it there.
@@ -91,7 +110,7 @@ impl<R: RowStore> Crew<R> {
         ensures opened { self.new.opened ≡ self.old.opened }
         ensures origin { self.new.origin ≡ self.old.origin }
         ensures turn { self.new.turns ≡ self.old.turns ++ None ∷ [] }
-        ensures claim { IfSome result (IsClaimAt self.new.origin self.new.site) }
+        ensures claim { IfSome result (IsClaimAt self.new.origin (site_after self.new.origin self.new.turns self.new.opened)) }
     {
         self.turns.pass();
         let position = self.claims.next(&self.site, &self.origin, applier)?;

@@ -1,10 +1,13 @@
 //! A pass of several appliers, which leaves the site that a pass of one leaves.
 #![tactic(auto)]
 
+mod applier;
+mod apply;
 mod claim;
 mod claims;
 mod crew;
 mod turns;
 
+pub use apply::apply_crew;
 pub use claim::LEAST_CALLS;
 pub use claims::MOST_APPLIERS;

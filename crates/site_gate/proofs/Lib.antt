@@ -4,4 +4,5 @@ pub mod Views
 pub mod Entering
 pub mod Leaving
 pub mod Sharing
+pub mod Crossing
 pub mod OwnTurns

@@ -1,4 +1,6 @@
-use Rattle.std.proofs.Common.{refl}
+use Rattle.std.proofs.Common.{refl, subst}
+use Rattle.std.specs.Prelude.{IfSome}
+use Rattle.parallel_apply.specs.Crews.{IsClaimAt}
 use Rattle.parallel_apply.proofs.Crews.{with_quiet, sound_here}
 use Rattle.parallel_apply.proofs.crew.Crew.claim.Goals as goal
 
@@ -10,3 +12,7 @@ claimed-requires-clause-sound g c κs within = sound_here _ _ _ _ c.self.invaria
 
 pub invariant_of-self-2 : goal.invariant_of-self-2
 invariant_of-self-2 g c = with_quiet _ _ _ _ c.self.invariant _ _ c.pass.ensures refl
+
+pub returns-clause-claim : goal.returns-clause-claim
+returns-clause-claim g c =
+    subst (λ x. IfSome c.claimed.result (IsClaimAt c.self.inside.origin x)) (with_quiet _ _ _ _ c.self.invariant _ _ c.pass.ensures refl).led c.claimed.ensures

@@ -1,5 +1,3 @@
-use Rattle.std.proofs.Common.{◌≡◌, ◌∷◌, [], ◌++◌}
-use Rattle.parallel_apply.specs.Turns.{turns_up_to, quiet_turns}
 use Rattle.parallel_apply.proofs.TurnLogs.{turn-applied}
 use Rattle.parallel_apply.proofs.turns.TurnLog.apply.Goals as goal
 

@@ -1,0 +1,84 @@
+//! What each applier of a crew does.
+ghost use Rattle.std.specs.Prelude.{◌≡◌, ◌<◌, ◌≤◌};
+ghost use Rattle.std.specs.List.{All};
+ghost use Rattle.site_gate.specs.Passes.{IsPassOf, opening_of};
+
+use crate::claim::evaluate;
+use crate::crew::Crew;
+use rep_io::Watch;
+use rep_schema::RowStore;
+use site_gate::{Pass, SiteGate, Turns};
+use std::alloc::Global;
+use std::sync::Wait;
+
+/// An applier by its number, and its pass to the crew's gate.
+#[derive(Drop)]
+pub struct Applier<R: RowStore>
+where
+    Crew<R>: Turns,
+{
+    pub number: u32,
+    pub pass: Pass<Crew<R>>,
+}
+
+/// So many appliers, or as many as there is memory for.
+pub(crate) fn appliers_at<R: RowStore>(
+    alloc: Global,
+    gate: &SiteGate<Crew<R>>,
+    pass: &mut Pass<Crew<R>>,
+    number: u32,
+) -> Vec<Applier<R>>
+    requires gate { IsPassOf gate.now pass.old }
+    requires number { number ≤ 8 }
+    ensures gate { IsPassOf gate.now pass.new }
+    ensures opening { opening_of pass.new ≡ opening_of pass.old }
+    ensures passes { All (λ applier. IsPassOf gate.now applier.pass) result.items }
+    ensures numbers { All (λ applier. applier.number < 8) result.items }
+{
+    let mut appliers = Vec::new(alloc);
+    for number in 0..number {
+        let applier = Applier {
+            number,
+            pass: gate.split(pass),
+        };
+        let Ok(()) = appliers.push(applier) else {
+            break;
+        };
+    }
+    appliers
+}
+
+/// Claims one position after the other, each in a turn, evaluates it outside the lock, and puts it in, in a turn of its own,
+/// until nothing is free or there is no memory.
+pub(crate) fn work<R: RowStore, X: Wait, W: Watch>(
+    rt: &X,
+    alloc: Global,
+    gate: &SiteGate<Crew<R>>,
+    watch: &W,
+    applier: Applier<R>,
+) -> Pass<Crew<R>>
+    requires gate { IsPassOf gate.now applier.pass }
+    requires number { applier.number < 8 }
+    ensures { IsPassOf gate.now result }
+{
+    let Applier { number, mut pass } = applier;
+    for _ in rt.forever() {
+        let mut turn = gate.enter(rt, pass);
+        let claim = turn.value.claim(alloc, number);
+        pass = gate.leave(turn);
+        let Some(claim) = claim else {
+            break;
+        };
+        watch.working(number, claim.position);
+        let Ok(done) = evaluate(alloc, claim) else {
+            break;
+        };
+        let mut turn = gate.enter(rt, pass);
+        let went = turn.value.install(alloc, number, done);
+        pass = gate.leave(turn);
+        if !went {
+            break;
+        }
+    }
+    pass
+}

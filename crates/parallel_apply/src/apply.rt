@@ -1,0 +1,86 @@
+//! A pass for a sender by a crew.
+ghost use Rattle.std.specs.Prelude.{◌≡◌, ◌+◌, ◌^◌, ◌<◌, ◌≤◌, IfOk, IfErr};
+ghost use Rattle.site_state.specs.Steps.{begun};
+ghost use Rattle.site_state.specs.Passes.{site_pass};
+ghost use Rattle.event_laws.specs.Confluence.{CanPassInAnyOrder};
+ghost use Rattle.site_gate.specs.Passes.{IsPassOf};
+ghost use Rattle.parallel_apply.specs.Crews.{IsPartlyApplied};
+
+use crate::applier::{Applier, appliers_at, work};
+use crate::claim::has_work_for_two;
+use crate::crew::Crew;
+use rep_io::Watch;
+use rep_lists::NoMemory;
+use rep_schema::RowStore;
+use rep_values::SiteName;
+use site_core::Site;
+use site_gate::{Pass, SiteGate};
+use std::alloc::Global;
+use std::sync::Wait;
+use std::thread;
+use std::thread::Threads;
+
+/// Appliers side by side apply what is ready of a sender, until none of them finds more; nothing is applied where there is no
+/// work for two.
+fn apply_together<R: RowStore, X: Threads + Wait + Sync, W: Watch>(
+    rt: &X,
+    alloc: Global,
+    site: Site<R>,
+    origin: &SiteName,
+    appliers: u32,
+    watch: &W,
+) -> Site<R>
+    requires passes { CanPassInAnyOrder origin.now site }
+    requires appliers { appliers ≤ 8 }
+    ensures { IsPartlyApplied origin.now site result }
+{
+    if appliers < 2 || !has_work_for_two(&site, origin) {
+        return site;
+    }
+    let (gate, mut pass) = match SiteGate::make(alloc, Crew::make(alloc, site, origin)) {
+        Ok(made) => made,
+        Err((crew, _)) => return crew.into_site(),
+    };
+    let crew = appliers_at(alloc, &gate, &mut pass, appliers);
+    let shared = &gate;
+    let apply = |applier: Applier<R>| -> Pass<Crew<R>>
+        requires gate { IsPassOf shared.now applier.pass }
+        requires number { applier.number < 8 }
+    { work(rt, alloc, shared, watch, applier) };
+    let passes = thread::map_vec(rt, crew, &apply);
+    drop(passes);
+    gate.close(rt, pass).into_site()
+}
+
+/// A pass of several appliers for a sender that is a master: the site that comes back is the site after the pass of one. Where
+/// there is no memory, some of what was ready is applied, each transaction whole and journalled.
+///
+/// What arrived from the sender can be passed in any order, as it can at every site of a script's world; there are 1 to 8
+/// appliers. Threads are started only where two positions are ready whose transactions have enough calls to be evaluated side by
+/// side.
+pub fn apply_crew<R: RowStore, X: Threads + Wait + Sync, W: Watch>(
+    rt: &X,
+    alloc: Global,
+    site: Site<R>,
+    origin: &SiteName,
+    appliers: u32,
+    watch: &W,
+) -> Result<Site<R>, (Site<R>, NoMemory)>
+    requires passes { CanPassInAnyOrder origin.now site }
+    requires few { site.moment + 1 < 2 ^ 64 }
+    requires appliers { (1 ≤ appliers) × (appliers ≤ 8) }
+    ensures ok { IfOk result (λ passed. passed ≡ site_pass origin.now site) }
+    ensures err { IfErr result (λ refused. IsPartlyApplied origin.now (begun site) refused.0) }
+{
+    let mut site = site;
+    site.begin_pass();
+    let from = site.journal_len();
+    let mut site = apply_together(rt, alloc, site, origin, appliers, watch);
+    if let Err(refused) = site.finish_pass(alloc, origin) {
+        return Err((site, refused));
+    }
+    if let Err(refused) = site.settle_pass(alloc, from) {
+        return Err((site, refused));
+    }
+    Ok(site)
+}
