@@ -1,2 +1,7 @@
 -- The lemmas of this crate.
-mod Numerals
+mod NumeralLemmas
+mod WordLemmas
+mod FormLemmas
+mod WalkLemmas
+mod ReadLemmas
+mod AskedLemmas

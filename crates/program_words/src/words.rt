@@ -1,68 +1,43 @@
 //! What the words of the command line ask for.
-ghost use Rattle.std.specs.Prelude.{◌≡◌, ◌≤◌, true, IfSome};
-ghost use Rattle.std.specs.List.{list_all};
-ghost use Rattle.rep_values.specs.Bytes.{is_digit};
-ghost use Rattle.program_words.specs.Words.{asked_by, is_numeral, number_in, HasCount};
+ghost use Rattle.std.specs.Prelude.{◌≡◌, ◌≢◌, None, IfOk, IfSome, IfErr};
+ghost use Rattle.program_words.specs.Words.{asked_by, IsInRange};
 
-use rep_values::is_digit;
+use crate::command::read;
+use crate::forms::is_form;
+use rep_values::NoMemory;
+use std::alloc::Global;
 
-/// What the program is asked to do.
+/// What the program is asked to do, and how many appliers do it, from 1 to 8.
 #[derive(Clone, Copy, Debug, PartialEq, Eq)]
 pub enum Asked {
     /// `run`
-    Run,
+    Run {
+        appliers: u32,
+    },
     /// `storm SEED COUNT`
-    Storm { seed: u64, count: u32 },
+    Storm {
+        seed: u64,
+        count: u32,
+        appliers: u32,
+    },
 }
 
 /// The most transactions of a storm.
-const MOST_COUNT: u64 = 50_000;
+pub(crate) const MOST_COUNT: u64 = 50_000;
 
-fn are_digits(word: &[u8]) -> bool
-    ensures { result ≡ list_all is_digit word.now }
-{
-    word.iter().all(|byte| is_digit(*byte))
-}
-
-fn is_numeral(word: &[u8]) -> bool
-    ensures { result ≡ is_numeral word.now }
-{
-    !word.is_empty() && are_digits(word)
-}
-
-/// The number that a word writes in decimal digits alone, where it is in a range.
-fn number_in(word: &str, least: u64, most: u64) -> Option<u64>
-    ensures value { result ≡ number_in least most word.now }
-    ensures least { IfSome result (λ number. least ≤ number) }
-    ensures most { IfSome result (λ number. number ≤ most) }
-{
-    if !is_numeral(word.as_bytes()) {
-        return None;
-    }
-    match word.parse::<u64>() {
-        Ok(number) => {
-            if least <= number && number <= most {
-                Some(number)
-            } else {
-                None
-            }
-        }
-        Err(_) => None,
-    }
-}
+/// The most appliers.
+pub(crate) const MOST_APPLIERS: u64 = 8;
 
 /// What the words behind the program's name ask for: `run`, or `storm SEED COUNT` with a seed of 64 bits and 1 to 50,000
-/// transactions. The numbers are decimal digits alone. None for all other words.
-pub fn asked_by(words: &[&str]) -> Option<Asked>
-    ensures value { result ≡ asked_by words.now }
-    ensures count { IfSome result HasCount }
+/// transactions, and `--appliers N` or `--appliers=N` at most once behind the first word. The numbers are decimal digits alone.
+/// None for all other words, and then no memory is taken.
+pub fn asked_by(alloc: Global, words: &[&str]) -> Result<Option<Asked>, NoMemory>
+    ensures value { IfOk result (λ asked. asked ≡ asked_by words.now) }
+    ensures memory { IfErr result (λ _. asked_by words.now ≢ None) }
+    ensures in_range { IfOk result (λ asked. IfSome asked IsInRange) }
 {
-    match words {
-        [word] if word.as_bytes() == b"run".as_slice() => Some(Asked::Run),
-        [word, seed, count] if word.as_bytes() == b"storm".as_slice() => Some(Asked::Storm {
-            seed: number_in(seed, 0, u64::MAX)?,
-            count: number_in(count, 1, MOST_COUNT)? as u32,
-        }),
-        _ => None,
+    if !is_form(words) {
+        return Ok(None);
     }
+    read(alloc, words)
 }

@@ -1,0 +1,18 @@
+use Rattle.std.proofs.Common.{rules, ap, ap₂, ◌≡◌, ◌∙◌, true}
+use Rattle.std.proofs.lemmas.Result.{IfOk-weaker}
+use Rattle.clap.specs.Words.{app_of, rule_of, with_rule}
+use Rattle.clap.specs.Simple.{app_of_fields, on_top}
+use Rattle.program_words.specs.Command.{appliers_rule, count_rule, form_rule, nameless, seed_rule}
+use Rattle.program_words.proofs.command.command.Goals as goal
+
+pub returns : goal.returns
+returns c =
+    let form : rule_of c.action-form.result ≡ form_rule = search rules in
+    let seed : rule_of c.action-seed.result ≡ seed_rule = search rules in
+    let count : rule_of c.action-count.result ≡ count_rule = search rules in
+    let appliers : rule_of c.action-appliers.result ≡ appliers_rule = search rules in
+    let empty : app_of c.no_binary_name.result ≡ nameless = ap app_of_fields c.no_binary_name.ensures ∙ ap (on_top (λ shape. record shape { no_binary_name = true })) c.new-5.ensures.app in
+    let one = c.in_ok-arg.ensures.shape (search rules) ∙ ap₂ with_rule empty form in
+    let two = c.in_ok-arg-2.ensures.shape (search rules) ∙ ap₂ with_rule one seed in
+    let three = c.in_ok-arg-3.ensures.shape (search rules) ∙ ap₂ with_rule two count in
+    IfOk-weaker c.arg-4.result _ _ (λ command added. added.shape (search rules) ∙ ap₂ with_rule three appliers) c.arg-4.ensures

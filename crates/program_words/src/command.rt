@@ -1,0 +1,70 @@
+//! The words of the command line as `clap` reads them.
+ghost use Rattle.std.specs.Prelude.{◌≡◌, IfErr, IfOk, IfSome, is_some, true};
+ghost use Rattle.clap.specs.Words.{app_of, found_of, kind_of};
+ghost use Rattle.program_words.specs.Command.{asked_of_found, command_app};
+ghost use Rattle.program_words.specs.Words.{asked_by, IsInRange};
+
+use crate::numerals::number_in;
+use crate::words::{Asked, MOST_APPLIERS, MOST_COUNT};
+use clap::error::ErrorKind;
+use clap::{Arg, ArgAction, ArgMatches, Command, Error};
+use rep_values::NoMemory;
+use std::alloc::{AllocError, Global};
+
+/// A form, a seed and a count in their places, and the option.
+fn command<'a>(alloc: Global) -> Result<Command<'a>, AllocError>
+    ensures { IfOk result (λ command. app_of command ≡ command_app) }
+{
+    let form = Arg::new(alloc, "form").action(ArgAction::Set);
+    let seed = Arg::new(alloc, "seed").action(ArgAction::Set);
+    let count = Arg::new(alloc, "count").action(ArgAction::Set);
+    let appliers = Arg::new(alloc, "appliers")
+        .long("appliers")
+        .action(ArgAction::Set);
+    Command::new(alloc, "pirkausu")
+        .no_binary_name(true)
+        .arg(form)?
+        .arg(seed)?
+        .arg(count)?
+        .arg(appliers)
+}
+
+/// What the values that `clap` found ask for.
+fn asked_of_found(matches: &ArgMatches<'_>) -> Option<Asked>
+    ensures value { result ≡ asked_of_found (found_of matches.now) }
+    ensures in_range { IfSome result IsInRange }
+{
+    let appliers = match matches.get_str("appliers") {
+        Some(value) => number_in(value, 1, MOST_APPLIERS)? as u32,
+        None => 1,
+    };
+    match (matches.get_str("seed"), matches.get_str("count")) {
+        (Some(seed), Some(count)) => Some(Asked::Storm {
+            seed: number_in(seed, 0, u64::MAX)?,
+            count: number_in(count, 1, MOST_COUNT)? as u32,
+            appliers,
+        }),
+        _ => Some(Asked::Run { appliers }),
+    }
+}
+
+/// The matches of words that ask for something. `clap` refuses them only for want of memory.
+fn matches_of<'a>(alloc: Global, words: &'a [&'a str]) -> Result<ArgMatches<'a>, Error>
+    requires { is_some (asked_by words.now) ≡ true }
+    ensures value { IfOk result (λ matches. asked_of_found (found_of matches) ≡ asked_by words.now) }
+    ensures memory { IfErr result (λ error. kind_of error ≡ ErrorKind.OutOfMemory) }
+{
+    command(alloc)?.try_get_matches_from(words)
+}
+
+/// What words that ask for something ask for.
+pub(crate) fn read<'a>(alloc: Global, words: &'a [&'a str]) -> Result<Option<Asked>, NoMemory>
+    requires { is_some (asked_by words.now) ≡ true }
+    ensures value { IfOk result (λ asked. asked ≡ asked_by words.now) }
+    ensures in_range { IfOk result (λ asked. IfSome asked IsInRange) }
+{
+    match matches_of(alloc, words) {
+        Ok(matches) => Ok(asked_of_found(&matches)),
+        Err(_) => Err(NoMemory),
+    }
+}
