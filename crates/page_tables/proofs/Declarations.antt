@@ -16,7 +16,7 @@ use Rattle.rep_schema.specs.Shape.{key_name}
 use Rattle.rep_schema.specs.declared.schema.UniqueMethod.{UniqueMethod}
 use Rattle.rep_declare.specs.declared.declaration.Declare.{Declare}
 use Rattle.rep_declare.specs.declared.declaration.Declare.TheVariants as declare
-use Rattle.rep_declare.specs.Additions.{with_changed, with_constraints, with_method_on, with_unique_method, declared}
+use Rattle.rep_declare.specs.Additions.{with_changed, with_constraints, with_method_on, with_unique_method}
 use Rattle.page_tables.specs.Stored.{StoredTable, rows_in, columns_of_each, AreIndexed}
 use Rattle.page_tables.specs.Changes.{AreStoredWith, AreStoredWithUnique}
 use Rattle.page_tables.proofs.OneTable.{rows_of-stored, rows_in-set_same}

@@ -5,10 +5,10 @@ use Rattle.std.specs.Prelude.{slice_get}
 use Rattle.std.proofs.lemmas.List.{drop_more}
 use Rattle.std.specs.declared.cmp.Ordering.{Ordering}
 use Rattle.std.specs.declared.cmp.Ordering.TheVariants.{Less, Equal, Greater}
-use Rattle.rep_lists.specs.Rising.{find_at, put_at, take_at, found_here, put_here, taken_here, IsThere, IsGap}
-use Rattle.rep_lists.proofs.Each.{each_at, each_drop}
+use Rattle.rep_lists.specs.Rising.{find_at, put_at, take_at, found_here, put_here, taken_here}
+use Rattle.rep_lists.proofs.Each.{each_at}
 use Rattle.page_tables.specs.Pages.{joined, at_first, IsParted, IsPage, IsPageFor}
-use Rattle.page_tables.proofs.Parted.{all_right, within_drop, parted_right, parted_left, all_before}
+use Rattle.page_tables.proofs.Parted.{parted_right, parted_left, all_before}
 
 module _ {X : Type 0} (at : X → Ordering) where
   -- values before the place are passed
@@ -120,7 +120,7 @@ module _ {X : Type 0} (at : X → Ordering) where
   parted_from pages p within parted = parted_right at (joined (take p pages)) _ (subst (IsParted at) (joined_around pages p within) parted)
 
   -- the pages before one whose first value isn't behind the place
-  pages_before : (pages : List (List X)) (p : ℕ) → p < length pages → AllByRecursion IsPage pages → IsParted at (joined pages) → at_first at (get_or pages p []) ≢ Greater
+  pub pages_before : (pages : List (List X)) (p : ℕ) → p < length pages → AllByRecursion IsPage pages → IsParted at (joined pages) → at_first at (get_or pages p []) ≢ Greater
       → AllByRecursion (λ x. at x ≡ Less) (joined (take p pages))
   pages_before pages p within filled parted past = go (get_or pages p []) (each_at IsPage pages p [] within filled) past (subst (IsParted at) (joined_around pages p within) parted)
     where
@@ -128,73 +128,16 @@ module _ {X : Type 0} (at : X → Ordering) where
       go [] is past parted = absurd (omega (arith, is.some))
       go (z ∷ zs) is past parted = all_before at (joined (take p pages)) z (zs ++ joined (drop (suc p) pages)) past parted
 
-  -- the pages behind one whose first value isn't before the place
-  pages_behind : (pages : List (List X)) (p : ℕ) → p < length pages → AllByRecursion IsPage pages → IsParted at (joined pages) → at_first at (get_or pages p []) ≢ Less
-      → AllByRecursion (λ x. at x ≡ Greater) (joined (drop (suc p) pages))
-  pages_behind pages p within filled parted past = go (get_or pages p []) (each_at IsPage pages p [] within filled) past (parted_from pages p within parted)
+  -- the pages from one on whose first value is behind the place
+  pub pages_from : (pages : List (List X)) (p : ℕ) → p < length pages → IsParted at (joined pages) → at_first at (get_or pages p []) ≡ Greater → AllByRecursion (λ x. at x ≡ Greater) (joined (drop p pages))
+  pages_from pages p within parted here =
+      let next : p + 1 ≡ suc p = omega arith in
+      subst (AllByRecursion (λ x. at x ≡ Greater)) (sym (rw next at (joined-drop pages p [] within))) (go (get_or pages p []) here (parted_from pages p within parted))
     where
-      go : (page : List X) → IsPage page → at_first at page ≢ Less → IsParted at (page ++ joined (drop (suc p) pages)) → AllByRecursion (λ x. at x ≡ Greater) (joined (drop (suc p) pages))
-      go [] is past parted = absurd (omega (arith, is.some))
-      go (z ∷ zs) is past parted = all_right (λ x. at x ≡ Greater) zs (joined (drop (suc p) pages)) (parted.0 past)
-
-  -- pages whose first values are behind the place
-  pages_beyond : (pages : List (List X)) → AllByRecursion IsPage pages → IsParted at (joined pages) → AllByRecursion (λ page. at_first at page ≡ Greater) pages → AllByRecursion (λ x. at x ≡ Greater) (joined pages)
-  pages_beyond [] filled parted all = tt
-  pages_beyond ([] ∷ pages) filled parted all = absurd (omega (arith, filled.0.some))
-  pages_beyond ((z ∷ zs) ∷ pages) filled parted all = (all.0, parted.0 (λ less. not_both less all.0))
-    where
-      not_both : at z ≡ Less → at z ≡ Greater → ⊥
-      not_both a b = cc
-
-  -- a page whose first value is at the place
-  pub page_there : (pages : List (List X)) (p : ℕ) → AllByRecursion IsPage pages → IsParted at (joined pages) → IsThere (at_first at) pages p → IsPageFor at pages p
-  page_there pages p filled parted there =
-      let here : at_first at (get_or pages p []) ≡ Equal = there.here [] in
-      record {
-        in_range = there.in_range;
-        before = pages_before pages p there.in_range filled parted (λ e. cc);
-        behind = pages_behind pages p there.in_range filled parted (λ e. cc);
-      }
-
-  -- no page's first value is there, and the place is before all of them
-  pub page_first : (pages : List (List X)) → 0 < length pages → AllByRecursion IsPage pages → IsParted at (joined pages) → IsGap (at_first at) pages 0 → IsPageFor at pages 0
-  page_first pages some filled parted gap = record {
-    in_range = some;
-    before = tt;
-    behind = all_drop_one pages (pages_beyond pages filled parted (within_drop (λ page. at_first at page ≡ Greater) pages 0 gap.behind));
-  }
-    where
-      all_drop_one : (qs : List (List X)) → AllByRecursion (λ x. at x ≡ Greater) (joined qs) → AllByRecursion (λ x. at x ≡ Greater) (joined (drop 1 qs))
-      all_drop_one [] all = tt
-      all_drop_one (q ∷ qs) all = all_right (λ x. at x ≡ Greater) q (joined qs) all
-
-  -- or the place is behind some of them
-  pub page_gap : (pages : List (List X)) (p : ℕ) → AllByRecursion IsPage pages → IsParted at (joined pages) → IsGap (at_first at) pages (suc p) → IsPageFor at pages p
-  page_gap pages p filled parted gap =
-      let within : p < length pages = omega (arith, gap.in_range) in
-      let here : at_first at (get_or pages p []) ≡ Less = gap.before p [] (omega arith) (omega arith) in
-      record {
-        in_range = within;
-        before = pages_before pages p within filled parted (λ e. cc);
-        behind = pages_beyond (drop (suc p) pages) (each_drop IsPage (suc p) pages filled) (parted_right at (get_or pages p []) _ (parted_from pages p within parted))
-            (within_drop (λ page. at_first at page ≡ Greater) pages (suc p) gap.behind);
-      }
+      go : (page : List X) → at_first at page ≡ Greater → IsParted at (page ++ joined (drop (suc p) pages)) → AllByRecursion (λ x. at x ≡ Greater) (page ++ joined (drop (suc p) pages))
+      go [] here parted = cc
+      go (z ∷ zs) here parted = (here, parted.0 (λ less. cc))
 
   -- the values of a page are parted
   pub page_parted : (pages : List (List X)) (p : ℕ) → p < length pages → IsParted at (joined pages) → IsParted at (get_or pages p [])
   page_parted pages p within parted = parted_left at (get_or pages p []) _ (parted_from pages p within parted)
-
-  -- what holds of all values holds of the first of each page
-  all_firsts : (pages : List (List X)) → AllByRecursion IsPage pages → AllByRecursion (λ x. at x ≡ Greater) (joined pages) → AllByRecursion (λ page. at_first at page ≡ Greater) pages
-  all_firsts [] filled all = tt
-  all_firsts ([] ∷ pages) filled all = absurd (omega (arith, filled.0.some))
-  all_firsts ((z ∷ zs) ∷ pages) filled all = (all.0, all_firsts pages filled.1 (all_right (λ x. at x ≡ Greater) zs (joined pages) all.1))
-
-  -- and so are the first values of the pages
-  pub firsts_parted : (pages : List (List X)) → AllByRecursion IsPage pages → IsParted at (joined pages) → IsParted (at_first at) pages
-  firsts_parted [] filled parted = tt
-  firsts_parted ([] ∷ pages) filled parted = absurd (omega (arith, filled.0.some))
-  firsts_parted ((z ∷ zs) ∷ pages) filled parted = (
-    λ past. all_firsts pages filled.1 (all_right (λ x. at x ≡ Greater) zs (joined pages) (parted.0 past)),
-    firsts_parted pages filled.1 (parted_right at (z ∷ zs) (joined pages) parted),
-  )

@@ -1,13 +1,13 @@
 -- Lists whose values stand before a place, at it and behind it, in this order.
-use Rattle.std.proofs.Common.{◌≡◌, ◌≢◌, ℕ, zero, suc, ◌<◌, ◌≤◌, List, [], ◌∷◌, ◌++◌, length, drop, get_or, Result, Ok, Err, IfOk, IfErr, refl, sym, ap, ◌∙◌, arith}
+use Rattle.std.proofs.Common.{◌≡◌, ◌≢◌, ℕ, zero, suc, ◌+◌, ◌<◌, List, [], ◌∷◌, ◌++◌, length, get_or, refl, sym, ap, ◌∙◌, subst, arith}
 use Rattle.std.specs.List.{AllByRecursion, AllWithin, HoldsAt}
-use Rattle.std.specs.List.Sorted.{IsSearchInRange, IsBinarySearchResult, IsNonDecreasingBy}
 use Rattle.std.specs.Cmp.{IsTotalOrder}
-use Rattle.std.specs.Ordering.{ordering_reverse, ordering_index}
+use Rattle.std.specs.Ordering.{ordering_reverse}
 use Rattle.std.specs.declared.cmp.Ordering.{Ordering}
 use Rattle.std.specs.declared.cmp.Ordering.TheVariants.{Less, Equal, Greater}
-use Rattle.std.proofs.lemmas.List.Elements.{All-from_recursion}
-use Rattle.rep_lists.specs.Rising.{IsThere, IsGap}
+use Rattle.std.proofs.lemmas.List.Elements.{All-from_recursion, AllWithin-more}
+use Rattle.std.proofs.lemmas.Option.{get_or_from_slice_get, slice_get-get_or}
+use Rattle.rep_lists.specs.Rising.{IsThere}
 use Rattle.rep_lists.specs.RisingLaws.{at_key, RisesBy}
 use Rattle.rep_lists.proofs.Each.{each_then}
 use Rattle.page_tables.specs.Pages.{IsParted}
@@ -22,11 +22,9 @@ module _ {X : Type 0} (P : X → Type 0) where
   all_left [] ys all = tt
   all_left (x ∷ xs) ys all = (all.0, all_left xs ys all.1)
 
-  pub within_drop : (xs : List X) (i : ℕ) → AllWithin P xs i (length xs) → AllByRecursion P (drop i xs)
-  within_drop [] zero all = tt
-  within_drop [] (suc i) all = tt
-  within_drop (x ∷ xs) zero all = (all 0 x (omega arith) (omega arith), within_drop xs zero (λ k d low lt. all (suc k) d (omega arith) (omega arith)))
-  within_drop (x ∷ xs) (suc i) all = within_drop xs i (λ k d low lt. all (suc k) d (omega arith) (omega arith))
+-- what is so of a value that is read at a place, by whatever default
+holds_at : {X : Type 0} (P : X → Type 0) (xs : List X) (i : ℕ) (d : X) → i < length xs → P (get_or xs i d) → HoldsAt P xs i
+holds_at P xs i d within here e = subst P (sym (get_or_from_slice_get xs i (get_or xs i d) e (slice_get-get_or xs i d within))) here
 
 module _ {X : Type 0} (at : X → Ordering) where
   pub parted_right : (xs ys : List X) → IsParted at (xs ++ ys) → IsParted at ys
@@ -50,62 +48,41 @@ module _ {X : Type 0} (at : X → Ordering) where
       go Equal e = absurd (past (behind (λ less. cc)))
       go Greater e = absurd (past (behind (λ less. cc)))
 
-  -- what is in front of a value at the place is before it
-  before_there : (xs : List X) (i : ℕ) → i < length xs → HoldsAt (λ x. at x ≡ Equal) xs i → IsParted at xs → (j : ℕ) (d : X) → j < i → at (get_or xs j d) ≡ Less
-  before_there [] i within here parted j d lt = absurd (omega (arith, within))
-  before_there (x ∷ xs) zero within here parted j d lt = absurd (omega (arith, lt))
-  before_there (x ∷ xs) (suc i) within here parted zero d lt = go (at x) refl
+  -- and so, place by place
+  before_here : (xs : List X) (i : ℕ) (d : X) → i < length xs → at (get_or xs i d) ≢ Greater → IsParted at xs → AllWithin (λ x. at x ≡ Less) xs 0 i
+  before_here [] i d within past parted j e low lt = absurd (omega (arith, within))
+  before_here (x ∷ xs) zero d within past parted j e low lt = absurd (omega (arith, lt))
+  before_here (x ∷ xs) (suc i) d within past parted zero e low lt = go (at x) refl
     where
       behind : at x ≢ Less → at (get_or xs i d) ≡ Greater
       behind other = All-from_recursion (λ y. at y ≡ Greater) xs (parted.0 other) i d (omega (arith, within))
 
-      both : at (get_or xs i d) ≡ Greater → at (get_or xs i d) ≡ Equal → ⊥
-      both a b = cc
-
       go : (o : Ordering) → at x ≡ o → at x ≡ Less
-      go Less e = e
-      go Equal e = absurd (both (behind (λ less. cc)) (here d))
-      go Greater e = absurd (both (behind (λ less. cc)) (here d))
-  before_there (x ∷ xs) (suc i) within here parted (suc j) d lt = before_there xs i (omega (arith, within)) (λ e. here e) parted.1 j d (omega (arith, lt))
+      go Less is = is
+      go Equal is = absurd (past (behind (λ less. cc)))
+      go Greater is = absurd (past (behind (λ less. cc)))
+  before_here (x ∷ xs) (suc i) d within past parted (suc j) e low lt = before_here xs i d (omega (arith, within)) past parted.1 j e (omega arith) (omega (arith, lt))
 
-  -- the answers that a search asks for rise along the list
-  answers_rise : (xs : List X) → IsParted at xs → IsNonDecreasingBy (λ x. ordering_index (at x)) xs
-  answers_rise [] parted i j d le in_range = absurd (omega (arith, in_range))
-  answers_rise (x ∷ xs) parted zero zero d le in_range = omega arith
-  answers_rise (x ∷ xs) parted zero (suc j) d le in_range = go (at x) refl
-    where
-      last : at (get_or xs j d) ≡ Greater → ordering_index (at x) ≤ ordering_index (at (get_or xs j d))
-      last e = rw e (most (at x))
-        where
-          most : (o : Ordering) → ordering_index o ≤ ordering_index Greater
-          most Less = omega arith
-          most Equal = omega arith
-          most Greater = omega arith
+  -- up to a value before the place, all are before it
+  pub upto_less : (xs : List X) (i : ℕ) (d : X) → i < length xs → at (get_or xs i d) ≡ Less → IsParted at xs → AllWithin (λ x. at x ≡ Less) xs 0 (i + 1)
+  upto_less xs i d within here parted =
+      AllWithin-more (λ x. at x ≡ Less) xs 0 i (before_here xs i d within (λ greater. cc) parted) (holds_at (λ x. at x ≡ Less) xs i d within here)
 
-      behind : at x ≢ Less → at (get_or xs j d) ≡ Greater
-      behind other = All-from_recursion (λ y. at y ≡ Greater) xs (parted.0 other) j d (omega (arith, in_range))
-
-      go : (o : Ordering) → at x ≡ o → ordering_index (at x) ≤ ordering_index (at (get_or xs j d))
-      go Less e = rw e (omega arith)
-      go Equal e = last (behind (λ less. cc))
-      go Greater e = last (behind (λ less. cc))
-  answers_rise (x ∷ xs) parted (suc i) zero d le in_range = absurd (omega (arith, le))
-  answers_rise (x ∷ xs) parted (suc i) (suc j) d le in_range = answers_rise xs parted.1 i j d (omega (arith, le)) (omega (arith, in_range))
-
-  -- a binary search ends at the place, or at its gap
-  pub searched_parted : (xs : List X) → IsParted at xs → (r : Result ℕ ℕ) → IsSearchInRange r (length xs) → IsBinarySearchResult at xs r → record { found : IfOk r (IsThere at xs); absent : IfErr r (IsGap at xs) }
-  searched_parted xs parted (Ok place) in_range here = record {
-    found = record {
-      in_range = in_range;
-      here = here;
-      before = λ j d low lt. before_there xs place in_range here parted j d lt;
-    };
-    absent = tt;
+  -- a value at the place
+  pub stands_there : (xs : List X) (i : ℕ) (d : X) → i < length xs → at (get_or xs i d) ≡ Equal → IsParted at xs → IsThere at xs i
+  stands_there xs i d within here parted = record {
+    in_range = within;
+    here = holds_at (λ x. at x ≡ Equal) xs i d within here;
+    before = before_here xs i d within (λ greater. cc) parted;
   }
-  searched_parted xs parted (Err place) in_range split = record {
-    found = tt;
-    absent = let p = split (answers_rise xs parted) in record { in_range = in_range; before = λ j d low lt. p.0 j d low lt; behind = λ j d low lt. p.1 j d low lt };
-  }
+
+  -- from a value behind the place on, all are behind it
+  pub from_greater : (xs : List X) (i : ℕ) (d : X) → i < length xs → at (get_or xs i d) ≡ Greater → IsParted at xs → AllWithin (λ x. at x ≡ Greater) xs i (length xs)
+  from_greater [] i d within here parted j e low lt = absurd (omega (arith, within))
+  from_greater (x ∷ xs) zero d within here parted zero e low lt = here
+  from_greater (x ∷ xs) zero d within here parted (suc j) e low lt = All-from_recursion (λ y. at y ≡ Greater) xs (parted.0 (λ less. cc)) j e (omega (arith, lt))
+  from_greater (x ∷ xs) (suc i) d within here parted zero e low lt = absurd (omega (arith, low))
+  from_greater (x ∷ xs) (suc i) d within here parted (suc j) e low lt = from_greater xs i d (omega (arith, within)) here parted.1 j e (omega (arith, low)) (omega (arith, lt))
 
 -- a list in rising order is parted at each key
 module _ {X K : Type 0} (key : X → K) (R : K → K → Ordering) (total : IsTotalOrder R) (k : K) where

@@ -1,6 +1,7 @@
 //! Slots in some order, in pages.
 ghost use Rattle.std.specs.Prelude.{◌≡◌, ℕ, ◌+◌, ◌-◌, ◌*◌, ◌<◌, ◌≤◌, ◌⊎◌, ◌↔◌, [], ◌∷◌, ◌++◌, None, length, vec_len, vec_capacity, slice_get, slice_index_or, slice_set, insert, remove, IsTrue, IsSome, IsOk, IfOk, IfErr, OnOk};
 ghost use Rattle.std.specs.List.{AllByRecursion};
+ghost use Rattle.std.specs.declared.cmp.Ordering.TheVariants.{Greater};
 ghost use Rattle.rep_lists.specs.Rising.{IsThere, IsGap, find_at, take_at};
 ghost use Rattle.page_tables.specs.Pages.{joined, at_first, entered, most_in, starts_of, IsParted, IsPage, IsPageFor, ArePages, AreStarts};
 
@@ -15,37 +16,36 @@ use std::marker::Model;
 // More would not fit into any memory.
 const MOST_PAGES: usize = 1 << 32;
 
-/// The place of the page whose first slot is sought, or else the place where such a page would stand.
-fn search_pages<S: Sought>(pages: &[Page], sought: &S) -> Result<usize, usize>
-    requires filled { AllByRecursion IsPage pages.now }
-    requires parted { IsParted (S.at sought.now) (joined pages.now) }
-    ensures found { IfOk result (IsThere (at_first (S.at sought.now)) pages.now) }
-    ensures absent { IfErr result (IsGap (at_first (S.at sought.now)) pages.now) }
+/// Whether the first slot of a page stands behind the place.
+#[inline(always)]
+fn begins_behind<S: Sought>(page: &Page, sought: &S) -> bool
+    ensures { IsTrue result ↔ (at_first (S.at sought.now) page.now ≡ Greater) }
 {
-    pages.binary_search_by(
-        |page: &Page| -> Ordering
-            ensures { result ≡ at_first (S.at sought.entry.now) page.now }
-        {
-            match page.first() {
-                Some(slot) => sought.beside(slot),
-                None => Ordering::Less,
-            }
-        },
-    )
+    match page.first() {
+        Some(slot) => sought.beside(slot).is_gt(),
+        None => false,
+    }
 }
 
-/// The page in which what is sought stands or would stand.
+/// The page in which what is sought stands or would stand: the last one that doesn't begin behind it, or else the
+/// first one.
 fn page_for<S: Sought>(pages: &[Page], sought: &S) -> usize
     requires some { 0 < length pages.now }
     requires filled { AllByRecursion IsPage pages.now }
     requires parted { IsParted (S.at sought.now) (joined pages.now) }
     ensures { IsPageFor (S.at sought.now) pages.now result }
 {
-    match search_pages(pages, sought) {
-        Ok(place) => place,
-        Err(0) => 0,
-        Err(place) => place - 1,
+    let mut low = 0;
+    let mut high = pages.len();
+    while high - low > 1 {
+        let middle = low + (high - low) / 2;
+        if begins_behind(&pages[middle], sought) {
+            high = middle;
+        } else {
+            low = middle;
+        }
     }
+    low
 }
 
 /// The place of the slot that is sought, or else the place where it would stand.
@@ -54,11 +54,17 @@ fn search<S: Sought>(slots: &[u32], sought: &S) -> Result<usize, usize>
     ensures found { IfOk result (IsThere (S.at sought.now) slots.now) }
     ensures absent { IfErr result (IsGap (S.at sought.now) slots.now) }
 {
-    slots.binary_search_by(
-        |slot: &u32| -> Ordering
-            ensures { result ≡ S.at sought.entry.now slot.now }
-        { sought.beside(*slot) },
-    )
+    let mut low = 0;
+    let mut high = slots.len();
+    while low < high {
+        let middle = low + (high - low) / 2;
+        match sought.beside(slots[middle]) {
+            Ordering::Less => low = middle + 1,
+            Ordering::Equal => return Ok(middle),
+            Ordering::Greater => high = middle,
+        }
+    }
+    Err(low)
 }
 
 fn slot_in(slots: &[u32], place: usize) -> Option<u32>

@@ -7,7 +7,7 @@ ghost use Rattle.rep_schema.specs.Tables.{beside, row_cmp, picked};
 ghost use Rattle.page_tables.specs.Slots.{row_at, row_in};
 ghost use Rattle.page_tables.specs.Index.{picked_cmp};
 
-use rep_schema::{Column, compare_row, compare_rows};
+use rep_schema::{Column, compare_rows};
 use rep_values::{Row, Value, compare_values};
 use std::cmp::Ordering;
 
@@ -37,6 +37,59 @@ pub(crate) fn row_in(rows: &[Option<Row>], slot: u32) -> &[Value]
     match rows.get(slot as usize) {
         Some(Some(row)) => row.values(),
         Some(None) | None => &[],
+    }
+}
+
+// Texts are compared out of line, which keeps a search small.
+#[inline(never)]
+fn compare_with_text(a: &Value, b: &Value) -> Ordering
+    ensures { result ≡ value_cmp a.now b.now }
+{
+    compare_values(a, b)
+}
+
+/// Where a value stands beside another one.
+#[inline(always)]
+fn compare_in_place(a: &Value, b: &Value) -> Ordering
+    ensures { result ≡ value_cmp a.now b.now }
+{
+    match (a, b) {
+        (Value::Num(x), Value::Num(y)) if x < y => Ordering::Less,
+        (Value::Num(x), Value::Num(y)) if x > y => Ordering::Greater,
+        (Value::Num(_), Value::Num(_)) => Ordering::Equal,
+        (Value::Num(_), Value::Words(_)) | (Value::Words(_), _) => compare_with_text(a, b),
+    }
+}
+
+/// Where a row stands beside a key. It is `compare_row`, in place, since a search makes it at each step.
+#[inline(always)]
+fn compare_key(columns: &[Column], key: &[Value], row: &[Value]) -> Ordering
+    ensures { result ≡ beside columns.now key.now row.now }
+{
+    let mut columns_left = columns;
+    let mut key_left = key;
+    let mut row_left = row;
+    while let [column, columns @ ..] = columns_left {
+        let [value, values @ ..] = row_left else {
+            break;
+        };
+        if column.key {
+            let [sought, rest @ ..] = key_left else {
+                return Ordering::Greater;
+            };
+            match compare_in_place(value, sought) {
+                Ordering::Equal => key_left = rest,
+                Ordering::Less => return Ordering::Less,
+                Ordering::Greater => return Ordering::Greater,
+            }
+        }
+        columns_left = columns;
+        row_left = values;
+    }
+    if key_left.is_empty() {
+        Ordering::Equal
+    } else {
+        Ordering::Less
     }
 }
 
@@ -76,8 +129,9 @@ pub(crate) struct ByKey<'a> {
 impl<'a> Sought for ByKey<'a> {
     ghost at = { λ s slot. beside s.columns.now s.key.now (row_in s.rows.now slot) };
 
+    #[inline(always)]
     fn beside(&self, slot: u32) -> Ordering {
-        compare_row(self.columns, self.key, row_in(self.rows, slot))
+        compare_key(self.columns, self.key, row_in(self.rows, slot))
     }
 }
 

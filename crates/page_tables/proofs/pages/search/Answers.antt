@@ -1,11 +1,22 @@
-use Rattle.std.proofs.Common.{rules}
-use Rattle.std.proofs.lemmas.Fn.{always_returns_same}
-use Rattle.page_tables.proofs.Parted.{searched_parted}
+use Rattle.std.proofs.Common.{sym, ◌∙◌, arith}
+use Rattle.page_tables.proofs.Parted.{upto_less, stands_there, from_greater}
 use Rattle.page_tables.proofs.pages.search.Goals as goal
 
--- the closure tells where a slot stands, and the slots are parted
-pub returns : goal.returns
-returns g c =
-    let facts = c.binary_search_by.ensures in
-    let by_slot = facts.position (g.S.Sought.at c.args.sought.now) (always_returns_same _ _ _ (λ a r g called. search rules)) in
-    searched_parted (g.S.Sought.at c.args.sought.now) _ c.requires _ facts.bound by_slot
+pub loop-low-preserved-in-Less : goal.loop-low-preserved-in-Less
+loop-low-preserved-in-Less g c = record {
+  part = omega arith;
+  within = omega arith;
+  before = upto_less (g.S.Sought.at c.args.sought.now) c.args.slots.now _ 0 (omega arith) (sym c.beside.ensures ∙ c.in-Less.is) c.requires;
+  behind = c.loop-low.invariant.behind;
+}
+
+pub returns-in-Equal-clause-found : goal.returns-in-Equal-clause-found
+returns-in-Equal-clause-found g c = stands_there (g.S.Sought.at c.args.sought.now) c.args.slots.now _ 0 (omega arith) (sym c.beside.ensures ∙ c.in-Equal.is) c.requires
+
+pub loop-low-preserved : goal.loop-low-preserved
+loop-low-preserved g c = record {
+  part = omega arith;
+  within = omega arith;
+  before = c.loop-low.invariant.before;
+  behind = from_greater (g.S.Sought.at c.args.sought.now) c.args.slots.now _ 0 (omega arith) (sym c.beside.ensures ∙ c.in-Greater.is) c.requires;
+}

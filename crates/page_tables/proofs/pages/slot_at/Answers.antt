@@ -1,7 +1,7 @@
 use Rattle.std.proofs.Common.{◌<◌, ◌≤◌, ap, sym, ◌∙◌, subst, arith}
 use Rattle.std.specs.List.Sorted.{IsNonDecreasingBy, IsPartitionPoint}
 use Rattle.std.specs.Prelude.{slice_get}
-use Rattle.page_tables.specs.Pages.{joined, starts_of}
+use Rattle.page_tables.specs.Pages.{joined}
 use Rattle.page_tables.proofs.InStarts.{length-sums, starts_rise, none_started, slot_there}
 use Rattle.page_tables.proofs.pages.slot_at.Goals as goal
 

@@ -1,4 +1,4 @@
-use Rattle.std.proofs.Common.{arith, ◌≡◌, ◌≤◌, ◌+◌, length, ◌∙◌}
+use Rattle.std.proofs.Common.{arith, ◌∙◌}
 use Rattle.page_tables.proofs.InStarts.{length-sums}
 use Rattle.page_tables.proofs.pages.Pages.copy.Goals as goal
 
