@@ -1,31 +1,60 @@
--- Passes in parts, one after the other: as events, and what they count.
-use Rattle.std.proofs.Common.{◌≡◌, ℕ, suc, ◌+◌, ◌≤◌, List, [], ◌∷◌, ◌++◌, length, Bool, true, false, cond, refl, sym, ap, ◌∙◌, arith}
-use Rattle.std.specs.Prelude.{Result, Ok, Err, OnErr}
-use Rattle.std.proofs.Math.Seq.{take-length}
+-- Passes in parts, one after the other: as events, what they count, and what they leave as it is.
+use Rattle.std.proofs.Common.{◌≡◌, ℕ, suc, ◌+◌, ◌≤◌, List, [], ◌∷◌, ◌++◌, length, map, Bool, true, false, cond, refl, sym, ap, ◌∙◌, subst, arith}
+use Rattle.std.specs.Prelude.{◌||◌, not}
 use Rattle.rep_values.specs.declared.name.SiteName.{SiteName}
+use Rattle.rep_schema.specs.declared.schema.Schema.{Schema}
+use Rattle.txn_effects.specs.Contents.{IsContent}
+use Rattle.deferred_queue.proofs.Sites.{is_same_site-refl}
+use Rattle.rep_laws.specs.Commuting.{IsSound}
 use Rattle.site_state.specs.declared.answers.PassCount.{PassCount}
 use Rattle.site_state.specs.declared.arrival.Arrival.{Arrival}
-use Rattle.site_state.specs.State.{SiteState, arrivals}
+use Rattle.site_state.specs.State.{SiteState, is_master_site, is_among, arrivals}
+use Rattle.site_state.specs.Contents.{content_of}
 use Rattle.site_state.specs.Steps.{begun, count_where}
-use Rattle.site_state.specs.Passes.{apply_each, site_pass, pass_answer, is_done, is_error}
-use Rattle.world_laws.proofs.SiteSteps.{SiteRuns, part_does, then_runs, same_does}
+use Rattle.site_state.specs.Passes.{site_apply, apply_each, site_pass, pass_answer, is_done, is_error}
+use Rattle.site_state.proofs.Stepping.{apply_steps}
+use Rattle.event_laws.specs.Core.{Core, site_of, at_site}
+use Rattle.event_laws.specs.Events.{is_master_in, applied_where, happens}
+use Rattle.event_laws.specs.Events as event
+use Rattle.event_laws.specs.Confluence.{applied_in_turn, CanPassInAnyOrder}
+use Rattle.world_laws.proofs.Finding.{at_twice}
+use Rattle.world_laws.proofs.SiteSteps.{Runs, runs_behind, SiteRuns, then_runs, same_does, does_runs}
 use Rattle.world_laws.proofs.RoundsEnd.{pass_goes}
 use Rattle.world_laws.proofs.PushCounts.{pass_grows, added_count-then}
-use Rattle.site_rounds.specs.Parts.{part_of, parts_done, PartlySettled, Passes}
+use Rattle.site_rounds.specs.Parts.{part_of, parts_done, PartlySettled, MastersCanPass, Passes}
 
--- parts of passes are events of their site
-pub parts_do : (site : SiteName) (parts : List (SiteName × ℕ)) → SiteRuns site (parts_done parts)
+-- ---- parts of passes are events of their site
+
+-- positions are applied in turn where a pass was begun
+turn_runs : (site origin : SiteName) (positions : List ℕ) (v : Core) → is_among v.begun site ≡ true → Runs v (at_site site (applied_in_turn origin positions) v.sites)
+turn_runs site origin [] v is = does_runs site (λ x. x) (same_does site) v
+turn_runs site origin (position ∷ later) v is =
+    let one : (happens (event.Apply site origin position) v).sites ≡ at_site site (site_apply origin position) v.sites
+    = ap (λ (b : Bool). applied_where (b || not (is_master_in (site_of site v.sites))) site origin position v.sites) is in
+    runs_behind (event.Apply site origin position) v _ _ refl (turn_runs site origin later (happens (event.Apply site origin position) v) is)
+    (ap (at_site site (applied_in_turn origin later)) one ∙ at_twice site (site_apply origin position) (applied_in_turn origin later) v.sites (λ x. (apply_steps origin position x).here))
+
+turn_here : (origin : SiteName) (positions : List ℕ) (x : SiteState) → (applied_in_turn origin positions x).here ≡ x.here
+turn_here origin [] x = refl
+turn_here origin (position ∷ later) x = turn_here origin later (site_apply origin position x) ∙ (apply_steps origin position x).here
+
+begun_among : (site : SiteName) (names : List SiteName) → is_among (site ∷ names) site ≡ true
+begun_among site names = rw (is_same_site-refl site) refl
+
+part_does : (site origin : SiteName) (positions : List ℕ) → SiteRuns site (part_of origin positions)
+part_does site origin positions = record {
+  keeps = λ x. turn_here origin positions (begun x);
+  runs = λ x v found. runs_behind (event.Begin site) v _ _ refl (turn_runs site origin positions (happens (event.Begin site) v) (begun_among site v.begun))
+      (at_twice site begun (applied_in_turn origin positions) v.sites (λ y. refl));
+}
+
+pub parts_do : (site : SiteName) (parts : List (SiteName × List ℕ)) → SiteRuns site (parts_done parts)
 parts_do site [] = same_does site
 parts_do site (part ∷ parts) = then_runs site (part_of part.0 part.1) (parts_done parts) (part_does site part.0 part.1) (parts_do site parts)
 
--- what holds in any case holds where there was no memory
-pub always_on_err : {T E : Type 0} {P : Type 0} (r : Result T E) → P → OnErr r P
-always_on_err (Ok value) holds = tt
-always_on_err (Err e) holds = holds
-
 -- ---- parts
 
-parts_done-append : (first next : List (SiteName × ℕ)) (x : SiteState) → parts_done (first ++ next) x ≡ parts_done next (parts_done first x)
+parts_done-append : (first next : List (SiteName × List ℕ)) (x : SiteState) → parts_done (first ++ next) x ≡ parts_done next (parts_done first x)
 parts_done-append [] next x = refl
 parts_done-append (part ∷ parts) next x = parts_done-append parts next (part_of part.0 part.1 x)
 
@@ -36,11 +65,19 @@ pub partly_then : (x y z : SiteState) → PartlySettled x y → PartlySettled y 
 partly_then x y z first next = (first.0 ++ next.0, next.1 ∙ ap (parts_done next.0) first.1 ∙ sym (parts_done-append first.0 next.0 x))
 
 -- a part of one pass
-pub partly_part : (origin : SiteName) (k : ℕ) (x y : SiteState) → y ≡ part_of origin k x → PartlySettled x y
-partly_part origin k x y is = ((origin, k) ∷ [], is)
+pub partly_part : (origin : SiteName) (positions : List ℕ) (x y : SiteState) → y ≡ part_of origin positions x → PartlySettled x y
+partly_part origin positions x y is = ((origin, positions) ∷ [], is)
 
-pub partly_pass : (origin : SiteName) (x : SiteState) → PartlySettled x (site_pass origin x)
-partly_pass origin x = partly_part origin (length (arrivals origin x)) x (site_pass origin x) (ap (λ (arrived : List Arrival). apply_each origin arrived (begun x)) (sym (take-length (arrivals origin x))))
+abbrev pub positions_of : List Arrival → List ℕ
+positions_of arrived = map (λ (a : Arrival). a.position) arrived
+
+-- arrivals are applied one after the other: their positions in turn
+pub apply_each-in_turn : (origin : SiteName) (arrived : List Arrival) (x : SiteState) → apply_each origin arrived x ≡ applied_in_turn origin (positions_of arrived) x
+apply_each-in_turn origin [] x = refl
+apply_each-in_turn origin (a ∷ arrived) x = apply_each-in_turn origin arrived (site_apply origin a.position x)
+
+partly_pass : (origin : SiteName) (x : SiteState) → PartlySettled x (site_pass origin x)
+partly_pass origin x = partly_part origin (positions_of (arrivals origin x)) x (site_pass origin x) (apply_each-in_turn origin (arrivals origin x) (begun x))
 
 -- ---- counts
 
@@ -52,11 +89,49 @@ count_at_most test (x ∷ xs) = go (test x) (count_at_most test xs)
     go true le = omega (arith, le)
     go false le = omega (arith, le)
 
-pub passes_none : (x : SiteState) (count : PassCount) → count.done ≡ 0 → count.errors ≡ 0 → Passes x x count
-passes_none x count done errors = record { senders = refl; grows = λ test. omega arith; done = omega (arith, done); errors = omega (arith, errors); partly = partly_same x }
+-- ---- masters
 
-pub passes_pass : (origin : SiteName) (x : SiteState) → Passes x (site_pass origin x) (pass_answer origin x)
-passes_pass origin x = record { senders = (pass_goes origin x).senders; grows = λ test. pass_grows test origin x; done = refl; errors = refl; partly = partly_pass origin x }
+each_schema : (origin : SiteName) (arrived : List Arrival) (x : SiteState) → (apply_each origin arrived x).schema ≡ x.schema
+each_schema origin [] x = refl
+each_schema origin (a ∷ arrived) x = each_schema origin arrived (site_apply origin a.position x) ∙ (apply_steps origin a.position x).schema
+
+-- what is ready of masters can be applied in any order after a pass as it could before: schema and arrivals stay, and tables are
+-- tables
+masters_after : (origin : SiteName) (x : SiteState) → IsContent (site_pass origin x).schema (content_of (site_pass origin x)) → MastersCanPass x → MastersCanPass (site_pass origin x)
+masters_after origin x content can sender master = go (can sender (subst (λ (s : Schema). is_master_site s sender ≡ true) schema master))
+  where
+    schema : (site_pass origin x).schema ≡ x.schema
+    schema = each_schema origin (arrivals origin x) (begun x)
+
+    go : CanPassInAnyOrder sender x → CanPassInAnyOrder sender (site_pass origin x)
+    go before = record {
+      sound = subst IsSound (sym schema) before.sound;
+      master = master;
+      content = content;
+      fits = rw (schema, (pass_goes origin x).senders) before.fits;
+      passes = rw (pass_goes origin x).senders before.passes;
+      numbered = rw (schema, (pass_goes origin x).senders) before.numbered;
+    }
+
+-- ---- passes, and what they count
+
+pub passes_none : (x : SiteState) (count : PassCount) → count.done ≡ 0 → count.errors ≡ 0 → MastersCanPass x → Passes x x count
+passes_none x count done errors masters = record { senders = refl; grows = λ test. omega arith; done = omega (arith, done); errors = omega (arith, errors); partly = partly_same x; masters = masters }
+
+passes_pass : (origin : SiteName) (x : SiteState) → IsContent (site_pass origin x).schema (content_of (site_pass origin x)) → MastersCanPass x → Passes x (site_pass origin x) (pass_answer origin x)
+passes_pass origin x content can = record {
+  senders = (pass_goes origin x).senders;
+  grows = λ test. pass_grows test origin x;
+  done = refl;
+  errors = refl;
+  partly = partly_pass origin x;
+  masters = masters_after origin x content can;
+}
+
+-- a pass that was made
+pub passes_made : (origin : SiteName) (x y : SiteState) (count : PassCount) → y ≡ site_pass origin x → count ≡ pass_answer origin x → IsContent y.schema (content_of y) → MastersCanPass x → Passes x y count
+passes_made origin x y count is counted content can =
+    rw (is, counted) (passes_pass origin x (subst (λ (z : SiteState). IsContent z.schema (content_of z)) is content) can)
 
 module _ (x y z : SiteState) (first more : PassCount) (before : Passes x y first) (after : Passes y z more) where
   pub passes_then : (all : PassCount) → all.done ≡ first.done + more.done → all.errors ≡ first.errors + more.errors → Passes x z all
@@ -66,4 +141,5 @@ module _ (x y z : SiteState) (first more : PassCount) (before : Passes x y first
     done = omega (arith, done, before.done, after.done, added_count-then is_done x y z (before.grows is_done) (after.grows is_done));
     errors = omega (arith, errors, before.errors, after.errors, added_count-then is_error x y z (before.grows is_error) (after.grows is_error));
     partly = partly_then x y z before.partly after.partly;
+    masters = after.masters;
   }

@@ -1,7 +1,8 @@
 -- Rounds one by one, and the round that does nothing.
-use Rattle.std.proofs.Common.{◌≡◌, ℕ, ◌+◌, List, [], ◌∷◌, drop, Bool, true, false, cond, refl, sym, ap, ◌∙◌, subst}
+use Rattle.std.proofs.Common.{◌≡◌, ℕ, ◌+◌, ◌≤◌, List, [], ◌∷◌, length, drop, Bool, true, false, cond, refl, sym, ap, ◌∙◌, subst, arith}
 use Rattle.std.specs.Prelude.{◌||◌, not}
 use Rattle.std.specs.List.{list_any}
+use Rattle.std.proofs.lemmas.List.{length-map, drop_all}
 use Rattle.rep_values.specs.declared.name.SiteName.{SiteName}
 use Rattle.site_state.specs.State.{SenderState, SiteState, arrivals}
 use Rattle.site_state.specs.Passes.{site_pass}
@@ -66,6 +67,13 @@ untrue true is = absurd (cc is)
 untrue false is = refl
 
 -- ---- the end
+
+-- behind the last sender, where none was ready so far none is
+pub none_at_end : (senders : List SenderState) (place : ℕ) (x : SiteState) → length senders ≤ place
+    → any_ready (drop place (sender_names senders)) x ≡ any_ready (sender_names senders) x → any_ready (sender_names senders) x ≡ false
+none_at_end senders place x past same =
+    let none : drop place (sender_names senders) ≡ [] = drop_all place (sender_names senders) (omega (arith, past, length-map senders (λ (s : SenderState). s.origin))) in
+    sym same ∙ ap (λ (names : List SiteName). any_ready names x) none
 
 -- a round in which nothing was ready is the last
 pub last_round : (x y : SiteState) (target : SiteState) → site_rounds x ≡ target → any_ready (sender_names x.senders) x ≡ false → y ≡ round (sender_names x.senders) x → y ≡ target

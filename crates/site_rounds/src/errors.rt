@@ -5,6 +5,7 @@ ghost use Rattle.report_text.specs.Sheet.{StandBefore};
 ghost use Rattle.site_state.specs.Journal.{error_at, is_position, settles};
 ghost use Rattle.site_rounds.specs.NewErrors.{brings, error_entry_text, new_errors, text_where_new};
 
+use crate::entries::entry_behind;
 use error_queue::{ErrorEntry, Errors};
 use rep_lists::NoMemory;
 use rep_schema::RowStore;
@@ -54,17 +55,6 @@ fn settles(origin: &SiteName, position: u64, entry: &Entry) -> bool
         } => is_position(origin, position, o, *p),
         Entry::Local { .. } | Entry::Done { .. } | Entry::Error { .. } | Entry::Refreshed { .. } =>
             false,
-    }
-}
-
-/// The entry that stands so many behind the newest.
-fn entry_behind<R: RowStore>(site: &Site<R>, behind: u64) -> &Entry
-    requires { behind < length site.now.journal }
-    ensures { drop behind site.now.journal ≡ result.now ∷ drop (behind + 1) site.now.journal }
-{
-    match site.journal(site.journal_len() - 1 - behind) {
-        Some(entry) => entry,
-        None => unreachable!(),
     }
 }
 

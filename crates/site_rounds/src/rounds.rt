@@ -1,13 +1,15 @@
 //! The passes of a receiver: one for the sender that pushed, and then rounds until nothing is ready.
-ghost use Rattle.std.specs.Prelude.{◌≡◌, ◌+◌, ◌<◌, ◌^◌, ◌∷◌, Bool, false, length, drop, is_some, IfOk, OnOk, OnErr};
+ghost use Rattle.std.specs.Prelude.{◌≡◌, ◌+◌, ◌<◌, ◌^◌, ◌∷◌, Bool, false, length, drop, is_some, IfOk, IfErr};
 ghost use Rattle.std.specs.List.{list_any};
 ghost use Rattle.site_state.specs.declared.entry.Entry.{Entry};
 ghost use Rattle.site_state.specs.Steps.{count_where};
 ghost use Rattle.site_state.specs.Passes.{site_pass, is_done, is_error, added_count};
 ghost use Rattle.world_state.specs.Rounds.{has_ready, passed_where_ready, round, sender_names, site_settle};
-ghost use Rattle.site_rounds.specs.Parts.{PartlySettled, Passes};
+ghost use Rattle.site_rounds.specs.Parts.{PartlySettled, MastersCanPass, Passes};
 
 use crate::passed::{NOTHING, Passed, added, joined};
+use crate::passing::Passing;
+use page_tables::PageTables;
 use rep_lists::NoMemory;
 use rep_schema::RowStore;
 use rep_values::SiteName;
@@ -41,81 +43,99 @@ fn entries_fit<R: RowStore>(site: &Site<R>)
     let _ = site.journal_len();
 }
 
-/// A pass for a sender. Where there is no memory, the positions up to some place are applied, or none.
-fn pass<R: RowStore>(
+/// A pass for a sender. Where there is no memory, some positions are applied, or none.
+fn pass<P: Passing>(
     alloc: Global,
-    site: &mut Site<R>,
+    passing: &P,
+    site: Site<PageTables>,
     origin: &SiteName,
-) -> Result<PassCount, NoMemory>
-    ensures ok { OnOk result (site.new ≡ site_pass origin.now site.old) }
-    ensures passes { IfOk result (λ count. Passes site.old site.new count) }
-    ensures err { OnErr result (PartlySettled site.old site.new) }
+) -> Result<(Site<PageTables>, PassCount), (Site<PageTables>, NoMemory)>
+    requires able { P.able passing.now }
+    requires masters { MastersCanPass site }
+    ensures ok { IfOk result (λ made. made.0 ≡ site_pass origin.now site) }
+    ensures passes { IfOk result (λ made. Passes site made.0 made.1) }
+    ensures err { IfErr result (λ stopped. PartlySettled site stopped.0) }
 {
     // No machine makes so many passes.
     if site.moment() == u64::MAX {
-        return Err(NoMemory);
+        return Err((site, NoMemory));
     }
-    let count = site.apply_pass(alloc, origin)?;
-    Ok(count)
+    let (site, count) = passing.pass(alloc, site, origin)?;
+    site.laws();
+    Ok((site, count))
 }
 
 /// A pass for a sender of which some position is ready; else nothing.
-fn pass_where_ready<R: RowStore>(
+fn pass_where_ready<P: Passing>(
     alloc: Global,
-    site: &mut Site<R>,
+    passing: &P,
+    site: Site<PageTables>,
     origin: &SiteName,
-) -> Result<Passed, NoMemory>
-    ensures ok { OnOk result (site.new ≡ passed_where_ready origin.now site.old) }
-    ensures passes { IfOk result (λ passed. Passes site.old site.new passed.count) }
-    ensures some { IfOk result (λ passed. passed.some ≡ has_ready origin.now site.old) }
-    ensures err { OnErr result (PartlySettled site.old site.new) }
+) -> Result<(Site<PageTables>, Passed), (Site<PageTables>, NoMemory)>
+    requires able { P.able passing.now }
+    requires masters { MastersCanPass site }
+    ensures ok { IfOk result (λ made. made.0 ≡ passed_where_ready origin.now site) }
+    ensures passes { IfOk result (λ made. Passes site made.0 made.1.count) }
+    ensures some { IfOk result (λ made. made.1.some ≡ has_ready origin.now site) }
+    ensures err { IfErr result (λ stopped. PartlySettled site stopped.0) }
 {
-    if !has_ready(site, origin) {
-        return Ok(NOTHING);
+    if !has_ready(&site, origin) {
+        return Ok((site, NOTHING));
     }
-    let count = pass(alloc, site, origin)?;
-    Ok(Passed { count, some: true })
+    let (site, count) = pass(alloc, passing, site, origin)?;
+    Ok((site, Passed { count, some: true }))
 }
 
 /// A round: one sender after the other in declared order, each with a pass where some position of its is ready then.
-fn round<R: RowStore>(alloc: Global, site: &mut Site<R>) -> Result<Passed, NoMemory>
-    ensures ok { OnOk result (site.new ≡ round (sender_names site.old.senders) site.old) }
-    ensures passes { IfOk result (λ passed. Passes site.old site.new passed.count) }
-    ensures none { IfOk result (λ passed. passed.some ≡ false → list_any (λ origin. has_ready origin site.old) (sender_names site.old.senders) ≡ false) }
-    ensures err { OnErr result (PartlySettled site.old site.new) }
+fn round<P: Passing>(
+    alloc: Global,
+    passing: &P,
+    mut site: Site<PageTables>,
+) -> Result<(Site<PageTables>, Passed), (Site<PageTables>, NoMemory)>
+    requires able { P.able passing.now }
+    requires masters { MastersCanPass site }
+    ensures ok { IfOk result (λ made. made.0 ≡ round (sender_names site.senders) site) }
+    ensures passes { IfOk result (λ made. Passes site made.0 made.1.count) }
+    ensures none { IfOk result (λ made. made.1.some ≡ false → list_any (λ origin. has_ready origin site) (sender_names site.senders) ≡ false) }
+    ensures err { IfErr result (λ stopped. PartlySettled site stopped.0) }
 {
     let mut passed = NOTHING;
     for place in 0..site.sender_count() {
-        let origin = *sender_at(site, place);
-        let more = pass_where_ready(alloc, site, &origin)?;
-        entries_fit(site);
+        let origin = *sender_at(&site, place);
+        let (next, more) = pass_where_ready(alloc, passing, site, &origin)?;
+        entries_fit(&next);
+        site = next;
         passed = joined(passed, more);
     }
-    Ok(passed)
+    Ok((site, passed))
 }
 
 /// What a receiver does with all that has arrived, once a sender pushed: a pass for that sender, and then rounds, one sender
 /// after the other in declared order, each with a pass where some position of its is ready, until a round does nothing. It
-/// answers how many transactions were finished. Where there is no memory, some of these passes are made, the last perhaps up
-/// to some position.
-pub fn settle<R: RowStore>(
+/// answers the site then, and how many transactions were finished. Where there is no memory, some of these passes are made, the
+/// last perhaps in part.
+pub fn settle<P: Passing>(
     alloc: Global,
-    site: &mut Site<R>,
+    passing: &P,
+    site: Site<PageTables>,
     origin: &SiteName,
-) -> Result<PassCount, NoMemory>
-    ensures ok { OnOk result (site.new ≡ site_settle origin.now site.old) }
-    ensures count { IfOk result (λ count. (count.done ≡ added_count is_done site.old site.new) × (count.errors ≡ added_count is_error site.old site.new)) }
-    ensures err { OnErr result (PartlySettled site.old site.new) }
+) -> Result<(Site<PageTables>, PassCount), (Site<PageTables>, NoMemory)>
+    requires able { P.able passing.now }
+    requires masters { MastersCanPass site }
+    ensures ok { IfOk result (λ made. made.0 ≡ site_settle origin.now site) }
+    ensures count { IfOk result (λ made. (made.1.done ≡ added_count is_done site made.0) × (made.1.errors ≡ added_count is_error site made.0)) }
+    ensures err { IfErr result (λ stopped. PartlySettled site stopped.0) }
 {
-    let mut count = pass(alloc, site, origin)?;
+    let (mut site, mut count) = pass(alloc, passing, site, origin)?;
     for _ in 0..u64::MAX {
-        let more = round(alloc, site)?;
+        let (next, more) = round(alloc, passing, site)?;
+        site = next;
         if !more.some {
-            return Ok(count);
+            return Ok((site, count));
         }
-        entries_fit(site);
+        entries_fit(&site);
         count = added(count, more.count);
     }
     // No machine makes so many rounds.
-    Err(NoMemory)
+    Err((site, NoMemory))
 }

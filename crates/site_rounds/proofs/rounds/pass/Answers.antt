@@ -1,11 +1,13 @@
 -- A pass is one part, whole or not.
-use Rattle.site_rounds.proofs.Parts.{always_on_err, partly_part, passes_pass}
+use Rattle.std.proofs.lemmas.Result.{err_from_is_err_and}
+use Rattle.site_rounds.proofs.Parts.{partly_part, passes_made}
 use Rattle.site_rounds.proofs.rounds.pass.Goals as goal
 
-pub returns-in_err-count-clause-err : goal.returns-in_err-count-clause-err
-returns-in_err-count-clause-err g c =
-    let part = c.in_err-count.ensures.err in
-    always_on_err c.from_residual.result (partly_part c.args.origin.now part.0 c.args.site.now c.apply_pass.new.self part.1)
+pub returns-in_err-site-clause-err : goal.returns-in_err-site-clause-err
+returns-in_err-site-clause-err g c =
+    let p = err_from_is_err_and c.from_residual.result c.from_residual.ensures.1 in
+    let part = c.in_err-site.ensures in
+    rw (p.1, p.2) (partly_part c.args.origin.now part.0 c.args.site c.in_err-site.field-0.0.0 part.1)
 
 pub returns-clause-passes : goal.returns-clause-passes
-returns-clause-passes g c = rw (c.in_ok-count.ensures.ok, c.in_ok-count.ensures.count) (passes_pass c.args.origin.now c.args.site.now)
+returns-clause-passes g c = passes_made c.args.origin.now c.args.site c.in_ok-site.site c.in_ok-site.count c.in_ok-site.ensures.0 c.in_ok-site.ensures.1 c.laws.ensures.content c.requires.masters

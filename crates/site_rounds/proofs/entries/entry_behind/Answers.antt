@@ -1,7 +1,7 @@
 -- The entry at a place from the end is the first from there on.
 use Rattle.std.proofs.Common.{sym}
 use Rattle.site_rounds.proofs.Newest.{newest_found}
-use Rattle.site_rounds.proofs.errors.entry_behind.Goals as goal
+use Rattle.site_rounds.proofs.entries.entry_behind.Goals as goal
 
 pub returns : goal.returns
 returns g c =
