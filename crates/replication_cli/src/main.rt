@@ -10,7 +10,7 @@ mod whole;
 mod words;
 
 pub use program::run_program;
-use rep_io::{StdSink, StdSource};
+use rep_io::{StdSink, StdSource, Still};
 pub use script_drive::Status;
 use std::alloc::{AllocError, Global};
 use std::env::Env;
@@ -52,5 +52,6 @@ fn main(rt: HostRuntime) -> ExitCode {
     };
     let mut source = StdSource::make(rt.reader());
     let mut sink = StdSink::make(io::writer(&rt));
-    ExitCode::from(run_program(alloc, &words, &mut source, &mut sink).code())
+    let status = run_program(&rt, alloc, &words, &mut source, &mut sink, &Still);
+    ExitCode::from(status.code())
 }

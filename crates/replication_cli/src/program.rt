@@ -13,35 +13,49 @@ ghost use Rattle.program_words.specs.Words.{asked_by};
 
 use crate::whole::storm;
 use program_words::{Asked, asked_by};
-use rep_io::{Sink, Source};
+use rep_io::{Sink, Source, Watch};
 use script_drive::Status;
 use std::alloc::Global;
-use world_run::run_alone;
+use std::sync::Wait;
+use std::thread::Threads;
+use world_run::{reported_worlds_hold, run_alone, run_crew};
 
-/// What the program does with the words behind its name. For the one word `run` it runs the script of the source as `run_alone`
-/// does. For `storm SEED COUNT` it runs the script of that storm and writes its summary; it reads nothing. For all other words
-/// it answers `Usage`, and reads and writes nothing.
-pub fn run_program<S: Source, K: Sink>(
+/// What the program does with the words behind its name. For `run` it runs the script of the source, as `run_alone` does, or with
+/// more appliers than one as `run_crew` does: the report is the same. For `storm SEED COUNT` it runs the script of that storm and
+/// writes its summary; it reads nothing. For all other words it answers `Usage`, and reads and writes nothing. With more appliers
+/// than one it may wait for a lock.
+pub fn run_program<X: Threads + Wait + Sync, S: Source, K: Sink, W: Watch>(
+    rt: &X,
     alloc: Global,
     words: &[&str],
     source: &mut S,
     sink: &mut K,
+    watch: &W,
 ) -> Status
     ensures usage { (result ≡ Status.Usage) ↔ (asked_by words.now ≡ None) }
-    ensures unread { asked_by words.now ≢ Some Asked.Run → source.new ≡ source.old }
+    ensures unread { ((appliers : ℕ) → asked_by words.now ≢ Some (Asked.Run appliers)) → source.new ≡ source.old }
     ensures unwritten { result ≡ Status.Usage → sink.new ≡ sink.old }
-    ensures told { asked_by words.now ≡ Some Asked.Run → Tells (Told (line_step script_step) first_world result)
+    ensures told { (appliers : ℕ) → asked_by words.now ≡ Some (Asked.Run appliers) → Tells (Told (line_step script_step) first_world result)
         (S.left source.old) (S.left source.new) (K.taken sink.old) (K.taken sink.new) }
-    ensures stormed { (seed count : ℕ) → asked_by words.now ≡ Some (Asked.Storm seed count)
+    ensures stormed { (seed count appliers : ℕ) → asked_by words.now ≡ Some (Asked.Storm seed count appliers)
         → TellsOf result (storm_summary seed count) (K.taken sink.old) (K.taken sink.new) }
     ensures read { result ≡ Status.ReadFault → Rose (S.faults source.old) (S.faults source.new) }
     ensures write { result ≡ Status.WriteFault → Rose (K.faults sink.old) (K.faults sink.new) }
-    ensures worlds { asked_by words.now ≡ Some Asked.Run → EachWorldHolds (S.left source.old) }
-    ensures complete { asked_by words.now ≡ Some Asked.Run → RunsToItsEnd (S.left source.old) (K.taken sink.old) (S.faults source.old) (S.faults source.new) (K.faults sink.old) (K.faults sink.new) result }
+    ensures worlds { (appliers : ℕ) → asked_by words.now ≡ Some (Asked.Run appliers) → EachWorldHolds (S.left source.old) }
+    ensures complete { (appliers : ℕ) → asked_by words.now ≡ Some (Asked.Run appliers) → RunsToItsEnd (S.left source.old) (K.taken sink.old) (S.faults source.old) (S.faults source.new) (K.faults sink.old) (K.faults sink.new) result }
 {
-    match asked_by(words) {
+    reported_worlds_hold();
+    let Ok(asked) = asked_by(alloc, words) else {
+        return Status::Memory;
+    };
+    match asked {
         None => Status::Usage,
-        Some(Asked::Run) => run_alone(alloc, source, sink),
-        Some(Asked::Storm { seed, count }) => storm(alloc, seed, count, sink),
+        Some(Asked::Run { appliers: 1 }) => run_alone(alloc, source, sink),
+        Some(Asked::Run { appliers }) => run_crew(rt, alloc, appliers, source, sink, watch),
+        Some(Asked::Storm {
+            seed,
+            count,
+            appliers,
+        }) => storm(rt, alloc, seed, count, appliers, sink, watch),
     }
 }
