@@ -7,7 +7,7 @@ ghost use Rattle.site_gate.specs.Passes.{IsPassOf};
 ghost use Rattle.parallel_apply.specs.Crews.{IsPartlyApplied};
 
 use crate::applier::{Applier, appliers_at, work};
-use crate::claim::has_work_for_two;
+use crate::claim::appliers_worth;
 use crate::crew::Crew;
 use rep_io::Watch;
 use rep_lists::NoMemory;
@@ -34,7 +34,8 @@ fn apply_together<R: RowStore, X: Threads + Wait + Sync, W: Watch>(
     requires appliers { appliers ≤ 8 }
     ensures { IsPartlyApplied origin.now site result }
 {
-    if appliers < 2 || !has_work_for_two(&site, origin) {
+    let appliers = appliers_worth(&site, origin, appliers);
+    if appliers < 2 {
         return site;
     }
     let (gate, mut pass) = match SiteGate::make(alloc, Crew::make(alloc, site, origin)) {
@@ -56,8 +57,7 @@ fn apply_together<R: RowStore, X: Threads + Wait + Sync, W: Watch>(
 /// there is no memory, some of what was ready is applied, each transaction whole and journalled.
 ///
 /// What arrived from the sender can be passed in any order, as it can at every site of a script's world; there are 1 to 8
-/// appliers. Threads are started only where two positions are ready whose transactions have enough calls to be evaluated side by
-/// side.
+/// appliers. Threads are started only where two positions are ready, and more than one only where there are enough calls.
 pub fn apply_crew<R: RowStore, X: Threads + Wait + Sync, W: Watch>(
     rt: &X,
     alloc: Global,

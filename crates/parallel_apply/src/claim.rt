@@ -1,5 +1,5 @@
 //! What an applier claims, and what it comes to.
-ghost use Rattle.std.specs.Prelude.{◌≡◌, None, IfOk, IfSome};
+ghost use Rattle.std.specs.Prelude.{◌≡◌, ◌≤◌, None, IfOk, IfSome};
 ghost use Rattle.rep_laws.specs.Commuting.{IsSound};
 ghost use Rattle.site_state.specs.Ready.{stale_of};
 ghost use Rattle.parallel_apply.specs.Crews.{IsClaimAt, IsOutcomeOf};
@@ -14,6 +14,9 @@ use txn_work::{Outcome, Work};
 /// A transaction of fewer calls than this is applied in the turn that installs it: to evaluate it elsewhere costs more than
 /// it saves.
 pub const LEAST_CALLS: usize = 32;
+
+/// For each so many calls that are ready there is one applier more, since it costs to start a thread.
+pub const CALLS_EACH: usize = 64;
 
 /// A position that an applier claimed, with its work where it is evaluated outside the lock.
 #[derive(Drop)]
@@ -37,23 +40,34 @@ pub(crate) fn calls_at<R: RowStore>(site: &Site<R>, origin: &SiteName, position:
     }
 }
 
-/// Whether two positions of a sender are ready whose transactions are worth evaluating outside the lock.
-pub(crate) fn has_work_for_two<R: RowStore>(site: &Site<R>, origin: &SiteName) -> bool {
-    let mut found = false;
+/// How many appliers have work where so many positions are ready, of so many calls: one where there are no two positions, else
+/// two, and one more for each `CALLS_EACH` calls.
+fn worth(positions: usize, calls: usize) -> usize {
+    if positions < 2 {
+        return 1;
+    }
+    (2 + calls / CALLS_EACH).min(positions)
+}
+
+/// How many appliers have work for what is ready of a sender, at most so many.
+pub(crate) fn appliers_worth<R: RowStore>(site: &Site<R>, origin: &SiteName, most: u32) -> u32
+    ensures { result ≤ most }
+{
+    let mut positions: usize = 0;
+    let mut calls: usize = 0;
     let mut above = 0;
     for _ in 0..site.arrived(origin) {
         let Some(position) = site.lowest_ready(origin, above) else {
-            return false;
+            break;
         };
-        if calls_at(site, origin, position) >= LEAST_CALLS {
-            if found {
-                return true;
-            }
-            found = true;
+        positions = positions.saturating_add(1);
+        calls = calls.saturating_add(calls_at(site, origin, position));
+        if worth(positions, calls) >= most as usize {
+            return most;
         }
         above = position;
     }
-    false
+    worth(positions, calls).min(most as usize) as u32
 }
 
 /// The claim of a position that is ready; None where there is no memory. A transaction that touches a constraint of a table,
