@@ -2,6 +2,6 @@
 pub mod Steps
 pub mod Sending
 pub mod Delivering
-pub mod Journals
 pub mod Settled
+pub mod Masters
 pub mod Whole

@@ -1,6 +1,7 @@
 -- What a receiver tells of what it settled, and that what it does is events.
-use Rattle.std.proofs.Common.{◌≡◌, ℕ, suc, ◌+◌, ◌-◌, List, [], ◌∷◌, ◌++◌, length, take, Bool, true, false, cond, Option, Some, None, refl, sym, ap, ◌∙◌, arith, append_assoc, append-nil, length-append, get_or, set, subst, inl, inr}
+use Rattle.std.proofs.Common.{◌≡◌, ℕ, zero, suc, ◌+◌, ◌-◌, ◌<◌, List, [], ◌∷◌, ◌++◌, length, take, Bool, true, false, cond, Option, Some, None, refl, sym, ap, ◌∙◌, arith, append_assoc, append-nil, get_or, set, subst, inl, inr}
 use Rattle.std.specs.Prelude.{filter_map, flat_map}
+use Rattle.std.specs.List.{insert, remove}
 use Rattle.rep_values.specs.declared.name.SiteName.{SiteName}
 use Rattle.error_queue.specs.declared.entry.ErrorEntry.{ErrorEntry}
 use Rattle.report_text.specs.Texts.{push_text}
@@ -12,7 +13,7 @@ use Rattle.site_state.specs.Journal.{is_position, error_at, low_water}
 use Rattle.site_state.specs.Passes.{is_done, is_error, added_count}
 use Rattle.site_state.specs.Steps.{count_where}
 use Rattle.site_state.specs.Errors.{errors_from}
-use Rattle.event_laws.specs.Core.{site_of}
+use Rattle.event_laws.specs.Core.{site_of, at_site}
 use Rattle.world_state.specs.World.{WorldState}
 use Rattle.world_state.specs.Rounds.{site_settle}
 use Rattle.world_state.specs.Pushes.{world_settle}
@@ -20,6 +21,7 @@ use Rattle.world_state.specs.PushAnswers.{count_in, entries_since, errors_in}
 use Rattle.world_laws.proofs.SiteSteps.{SiteRuns, settle_does}
 use Rattle.site_rounds.specs.NewErrors.{error_entry_text, new_errors}
 use Rattle.site_rounds.specs.Parts.{parts_done}
+use Rattle.site_rounds.proofs.Growing.{settle_grows, take-front, count_where-append}
 use Rattle.site_rounds.proofs.Parts.{parts_do}
 use Rattle.environment.specs.Finding.{IsAt}
 use Rattle.environment.specs.Following.{Follows}
@@ -27,23 +29,8 @@ use Rattle.environment.specs.Texts.{new_error_text}
 use Rattle.environment.proofs.Written.{site_of-read, at_site-written}
 use Rattle.environment.proofs.Following.{follows_site}
 use Rattle.environment_push.specs.Settling.{told_text, IsSettling}
-use Rattle.environment_push.proofs.Journals.{settle_grows}
 
 -- ---- no errors
-
-take-front : {X : Type 0} (front xs : List X) → take (length (front ++ xs) - length xs) (front ++ xs) ≡ front
-take-front [] xs = let none : length xs - length xs ≡ 0 = omega arith in rw none refl
-take-front (x ∷ front) xs = let longer : length ((x ∷ front) ++ xs) - length xs ≡ suc (length (front ++ xs) - length xs) = omega (arith, length-append front xs) in
-    rw longer (ap (λ ys. x ∷ ys) (take-front front xs))
-
-count_where-append : {X : Type 0} (test : X → Bool) (xs ys : List X) → count_where test (xs ++ ys) ≡ count_where test xs + count_where test ys
-count_where-append test [] ys = omega arith
-count_where-append test (x ∷ xs) ys = go (test x) (count_where-append test xs ys)
-  where
-    go : (b : Bool) → count_where test (xs ++ ys) ≡ count_where test xs + count_where test ys
-        → cond b (count_where test (xs ++ ys) + 1) (count_where test (xs ++ ys)) ≡ cond b (count_where test xs + 1) (count_where test xs) + count_where test ys
-    go true later = omega (arith, later)
-    go false later = later
 
 either_none : (b : Bool) (o : Option ErrorEntry) → o ≡ None → cond b None o ≡ None
 either_none true o none = refl
@@ -113,20 +100,34 @@ module _ (origin to : SiteName) (sent done errors low before : ℕ) (x y : SiteS
 
 -- ---- the world
 
-module _ (origin name : SiteName) (w : WorldState) (place : ℕ) (found : IsAt name w.sites place) (x y : SiteState) (read : x ≡ get_or w.sites place x) where
-  written_follows : (change : SiteState → SiteState) → SiteRuns name change → y ≡ change x → Follows w (record w { sites = set w.sites place y })
-  written_follows change does is =
-      subst (λ (sites : List SiteState). Follows w (record w { sites = sites })) (sym (at_site-written name w.sites w.sites place x refl found read change y is)) (follows_site name change does w)
+-- what is taken out and put in again is set
+insert-removed : {X : Type 0} (xs : List X) (place : ℕ) (y : X) → place < length xs → insert (remove xs place) place y ≡ set xs place y
+insert-removed [] place y within = absurd (omega (arith, within))
+insert-removed (x ∷ xs) zero y within = refl
+insert-removed (x ∷ xs) (suc place) y within = ap (λ (zs : List _). x ∷ zs) (insert-removed xs place y (omega (arith, within)))
 
-  -- passes of the receiver are events
-  pub settling_follows : IsSettling origin x y → Follows w (record w { sites = set w.sites place y })
-  settling_follows (inl parts) = written_follows (parts_done parts.0) (parts_do name parts.0) parts.1
-  settling_follows (inr is) = written_follows (site_settle origin) (settle_does name origin) is
+-- what is told of the receiver is told of the site of its name
+pub told-there : (origin name : SiteName) (sites : List SiteState) (place : ℕ) → IsAt name sites place → (x : SiteState) → x ≡ get_or sites place x
+    → (to : SiteName) (sent : ℕ) (old told : List ℕ) → told ≡ old ++ told_text origin to sent (Some x) → told ≡ old ++ told_text origin to sent (site_of name sites)
+told-there origin name sites place found x read to sent old told is =
+    is ∙ ap (λ (there : Option SiteState). old ++ told_text origin to sent there) (sym (site_of-read name sites sites place x refl found read))
 
-  -- all of them settle what came
-  pub settled_world : y ≡ site_settle origin x → record w { sites = set w.sites place y } ≡ world_settle origin name w
-  settled_world is = ap (λ (sites : List SiteState). record w { sites = sites }) (at_site-written name w.sites w.sites place x refl found read (site_settle origin) y is)
+module _ (origin name : SiteName) (w : WorldState) (place : ℕ) (found : IsAt name w.sites place) (x : SiteState) (read : x ≡ get_or w.sites place x) where
+  -- it is taken out, and put in again as it is then
+  module _ (y : SiteState) (others sites : List SiteState) (taken : others ≡ remove w.sites place) (put : sites ≡ insert others place y) where
+    put_is : (change : SiteState → SiteState) → y ≡ change x → sites ≡ at_site name change w.sites
+    put_is change is =
+        put ∙ ap (λ (rest : List SiteState). insert rest place y) taken ∙ insert-removed w.sites place y found.within
+        ∙ at_site-written name w.sites w.sites place x refl found read change y is
 
-  -- what is told of the receiver
-  pub told-there : (to : SiteName) (sent : ℕ) → told_text origin to sent (Some x) ≡ told_text origin to sent (site_of name w.sites)
-  told-there to sent = ap (told_text origin to sent) (sym (site_of-read name w.sites w.sites place x refl found read))
+    put_follows : (change : SiteState → SiteState) → SiteRuns name change → y ≡ change x → Follows w (record w { sites = sites })
+    put_follows change does is = subst (λ (xs : List SiteState). Follows w (record w { sites = xs })) (sym (put_is change is)) (follows_site name change does w)
+
+    -- passes of the receiver are events
+    pub settling_follows : IsSettling origin x y → Follows w (record w { sites = sites })
+    settling_follows (inl parts) = put_follows (parts_done parts.0) (parts_do name parts.0) parts.1
+    settling_follows (inr is) = put_follows (site_settle origin) (settle_does name origin) is
+
+    -- all of them settle what came
+    pub settled_world : y ≡ site_settle origin x → record w { sites = sites } ≡ world_settle origin name w
+    settled_world is = ap (λ (xs : List SiteState). record w { sites = xs }) (put_is (site_settle origin) is)

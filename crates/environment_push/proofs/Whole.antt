@@ -31,7 +31,8 @@ module _ (from to : SiteName) (count : Option ℕ) (w : WorldState) where
     steps : (behind_setup_step w ≡ None) × (first_refusal (further_steps (command.Push from to count) w) ≡ None)
     steps = or_then-None (behind_setup_step w) (first_refusal (further_steps (command.Push from to count) w)) passes
 
-    behind : is_setup w.phase ≡ false
+    -- Setup is over
+    pub behind : is_setup w.phase ≡ false
     behind = first_false (is_setup w.phase) (has_block w) (refused-None (is_setup w.phase || has_block w) refusal.WrongPhase steps.0)
 
     sender : (are_there w to from ≡ true) × (gets_from w to from ≡ true)

@@ -1,11 +1,13 @@
 -- What a receiver does with what came by a push, and what it tells of it.
-use Rattle.std.specs.Prelude.{◌≡◌, ◌⊎◌, ℕ, List, ◌++◌, flat_map, Option}
+use Rattle.std.specs.Prelude.{◌≡◌, ◌⊎◌, ℕ, List, ◌++◌, flat_map, Option, Some}
 use Rattle.rep_values.specs.declared.name.SiteName.{SiteName}
 use Rattle.report_text.specs.Texts.{push_text}
 use Rattle.site_state.specs.State.{SiteState}
+use Rattle.event_laws.specs.Core.{site_of}
+use Rattle.world_state.specs.World.{WorldState}
 use Rattle.world_state.specs.Rounds.{site_settle}
 use Rattle.world_state.specs.PushAnswers.{count_in, errors_in}
-use Rattle.site_rounds.specs.Parts.{PartlySettled}
+use Rattle.site_rounds.specs.Parts.{PartlySettled, MastersCanPass}
 use Rattle.environment.specs.Texts.{new_error_text}
 
 -- what is told of a push that sent so many positions, of the receiver before it settles them
@@ -15,3 +17,7 @@ told_text from to sent x = push_text from.0 to.0 (count_in sent from x) ++ flat_
 -- the receiver has made some of its passes, or all
 abbrev pub IsSettling : SiteName → SiteState → SiteState → Type 0
 IsSettling origin x y = PartlySettled x y ⊎ (y ≡ site_settle origin x)
+
+-- at the site of a name what is ready of masters can be applied in any order
+abbrev pub CanSettle : SiteName → WorldState → Type 0
+CanSettle name w = (x : SiteState) → site_of name w.sites ≡ Some x → MastersCanPass x

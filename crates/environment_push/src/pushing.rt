@@ -1,9 +1,10 @@
 //! A push, whole.
-ghost use Rattle.std.specs.Prelude.{◌≡◌, ◌++◌, ◌≤◌, None, true, length, IfOk, OnOk};
+ghost use Rattle.std.specs.Prelude.{◌≡◌, ◌++◌, ◌≤◌, None, true, false, length, IfOk, OnOk};
 ghost use Rattle.net_plan.specs.Directions.{HasDirection};
 ghost use Rattle.report_text.specs.Sheet.{most_line};
 ghost use Rattle.script_parse.specs.declared.command.Command.TheVariants as Command;
 ghost use Rattle.world_state.specs.World.{is_there};
+ghost use Rattle.world_state.specs.Phases.{is_setup};
 ghost use Rattle.world_state.specs.Pushes.{positions_above, pushed_in, world_push};
 ghost use Rattle.environment.specs.Following.{Follows, IsBuilt};
 ghost use Rattle.environment.specs.Known.{known_refusal};
@@ -18,6 +19,7 @@ use environment::Environment;
 use rep_lists::NoMemory;
 use rep_values::{Refusal, SiteName};
 use report_text::{Lines, MOST_LINE};
+use site_rounds::Passing;
 use std::alloc::Global;
 use world_state::Refused;
 
@@ -41,15 +43,19 @@ fn bring(
 }
 
 /// A push for whose line there is room.
-fn push_in_room(
+fn push_in_room<P: Passing>(
     environment: &mut Environment,
     alloc: Global,
+    passing: &P,
     lines: &mut Lines,
     from: &SiteName,
     to: &SiteName,
     count: Option<u64>,
 ) -> Result<(), NoMemory>
     requires room { most_line ≤ lines.old.room }
+    requires able { P.able passing.now }
+    requires built { IsBuilt environment.old }
+    requires behind { is_setup environment.old.phase ≡ false }
     requires there { is_there environment.old to.now ≡ true }
     requires linked { HasDirection environment.old.net from.now to.now }
     requires back { HasDirection environment.old.net to.now from.now }
@@ -63,19 +69,23 @@ fn push_in_room(
         to: *to,
         sent,
     };
-    settle_and_tell(environment, alloc, lines, pushed)?;
+    settle_and_tell(environment, alloc, passing, lines, pushed)?;
     answer(environment, alloc, to, from)?;
     Ok(())
 }
 
 /// A push between sites that are there, with a direction each way.
-fn push_linked(
+fn push_linked<P: Passing>(
     environment: &mut Environment,
     alloc: Global,
+    passing: &P,
     from: &SiteName,
     to: &SiteName,
     count: Option<u64>,
 ) -> Result<Lines, NoMemory>
+    requires able { P.able passing.now }
+    requires built { IsBuilt environment.old }
+    requires behind { is_setup environment.old.phase ≡ false }
     requires there { is_there environment.old to.now ≡ true }
     requires linked { HasDirection environment.old.net from.now to.now }
     requires back { HasDirection environment.old.net to.now from.now }
@@ -86,27 +96,29 @@ fn push_linked(
     // The room for the push's own line comes before anything changes.
     let mut lines = Lines::make(alloc);
     lines.reserve(MOST_LINE)?;
-    push_in_room(environment, alloc, &mut lines, from, to, count)?;
+    push_in_room(environment, alloc, passing, &mut lines, from, to, count)?;
     Ok(lines)
 }
 
 /// Does the line of a push that isn't refused: what is held between the sites goes on the way, what the receiver hasn't
 /// acknowledged is sent, at most so many positions where a count is given, and the receiver takes all in, settles it and tells
-/// what came of it. Its mark goes back where that direction is up. Where there is no memory, the push may be done in part:
-/// what is left follows by events.
-pub fn push(
+/// what came of it. Its mark goes back where that direction is up. Whoever makes the receiver's passes, the site is the same.
+/// Where there is no memory, the push may be done in part: what is left follows by events.
+pub fn push<P: Passing>(
     environment: &mut Environment,
     alloc: Global,
+    passing: &P,
     line: u32,
     from: &SiteName,
     to: &SiteName,
     count: Option<u64>,
 ) -> Result<Lines, Refused>
+    requires able { P.able passing.now }
     requires built { IsBuilt environment.old }
     requires passes { known_refusal (Command.Push from.now to.now count) environment.old ≡ None }
     ensures { Does line (Command.Push from.now to.now count) environment.old environment.new result }
 {
-    match push_linked(environment, alloc, from, to, count) {
+    match push_linked(environment, alloc, passing, from, to, count) {
         Ok(lines) => Ok(lines),
         Err(NoMemory) => Err(Refused {
             line,

@@ -1,19 +1,21 @@
 //! What the receiver does with what came, and what it tells of it.
-ghost use Rattle.std.specs.Prelude.{◌≡◌, ◌++◌, ◌≤◌, true, OnOk, OnErr};
+ghost use Rattle.std.specs.Prelude.{◌≡◌, ◌++◌, ◌<◌, ◌≤◌, true, length, OnOk, vec_capacity};
+ghost use Rattle.std.specs.List.{insert};
 ghost use Rattle.report_text.specs.Sheet.{most_line};
-ghost use Rattle.event_laws.specs.Core.{site_of, at_site};
+ghost use Rattle.event_laws.specs.Core.{site_of};
 ghost use Rattle.world_state.specs.World.{is_there};
 ghost use Rattle.world_state.specs.Rounds.{site_settle};
 ghost use Rattle.world_state.specs.Pushes.{world_settle};
 ghost use Rattle.environment.specs.Following.{Follows};
-ghost use Rattle.environment_push.specs.Settling.{told_text, IsSettling};
+ghost use Rattle.site_rounds.specs.Parts.{MastersCanPass};
+ghost use Rattle.environment_push.specs.Settling.{told_text, IsSettling, CanSettle};
 
 use environment::{Environment, Site, place_of};
 use page_tables::PageTables;
 use rep_lists::NoMemory;
 use rep_values::SiteName;
 use report_text::{Lines, PushCount, push_line};
-use site_rounds::{add_new_errors, settle};
+use site_rounds::{Passing, add_new_errors, settle};
 use std::alloc::Global;
 
 /// The site that is pushed to, and how many positions were sent to it.
@@ -24,20 +26,26 @@ pub(crate) struct Pushed {
     pub sent: u64,
 }
 
-/// A receiver settles what came, and tells it.
-fn settle_site(
-    site: &mut Site<PageTables>,
+/// A receiver settles what came, and tells it. Where there is no memory, some of its passes are made.
+fn settle_site<P: Passing>(
+    site: Site<PageTables>,
     alloc: Global,
+    passing: &P,
     lines: &mut Lines,
     pushed: Pushed,
-) -> Result<(), NoMemory>
-    requires { most_line ≤ lines.old.room }
-    ensures ok { OnOk result (site.new ≡ site_settle pushed.from site.old) }
-    ensures text { OnOk result (lines.new.bytes ≡ lines.old.bytes ++ told_text pushed.from pushed.to pushed.sent (Some site.old)) }
-    ensures err { OnErr result (IsSettling pushed.from site.old site.new) }
+) -> (Site<PageTables>, Result<(), NoMemory>)
+    requires room { most_line ≤ lines.old.room }
+    requires able { P.able passing.now }
+    requires masters { MastersCanPass site }
+    ensures ok { OnOk result.1 (result.0 ≡ site_settle pushed.from site) }
+    ensures text { OnOk result.1 (lines.new.bytes ≡ lines.old.bytes ++ told_text pushed.from pushed.to pushed.sent (Some site)) }
+    ensures settling { IsSettling pushed.from site result.0 }
 {
     let before = site.journal_len();
-    let passed = settle(alloc, site, &pushed.from)?;
+    let (site, passed) = match settle(alloc, passing, site, &pushed.from) {
+        Ok(made) => made,
+        Err((site, NoMemory)) => return (site, Err(NoMemory)),
+    };
     let count = PushCount {
         sent: pushed.sent,
         done: passed.done,
@@ -46,21 +54,33 @@ fn settle_site(
     };
     push_line(lines, pushed.from, pushed.to, count);
     if count.errors == 0 {
-        return Ok(());
+        return (site, Ok(()));
     }
-    add_new_errors(lines, site, before)?;
-    Ok(())
+    let told = add_new_errors(lines, &site, before);
+    (site, told)
+}
+
+/// A site is put back at the place from which it was taken. There is room for it.
+fn put_back(sites: &mut Vec<Site<PageTables>>, place: usize, site: Site<PageTables>)
+    requires place { place ≤ length sites.old.items }
+    requires room { length sites.old.items < vec_capacity sites.old }
+    ensures { sites.new.items ≡ insert sites.old.items place site }
+{
+    let _ = sites.insert(place, site);
 }
 
 /// The receiver settles what came, and tells it. Where there is no memory, some of its passes are made.
-pub(crate) fn settle_and_tell(
+pub(crate) fn settle_and_tell<P: Passing>(
     environment: &mut Environment,
     alloc: Global,
+    passing: &P,
     lines: &mut Lines,
     pushed: Pushed,
 ) -> Result<(), NoMemory>
     requires room { most_line ≤ lines.old.room }
+    requires able { P.able passing.now }
     requires there { is_there environment.old pushed.to ≡ true }
+    requires masters { CanSettle pushed.to environment.old }
     ensures ok { OnOk result (environment.new ≡ world_settle pushed.from pushed.to environment.old) }
     ensures text { OnOk result (lines.new.bytes ≡ lines.old.bytes ++ told_text pushed.from pushed.to pushed.sent (site_of pushed.to environment.old.sites)) }
     ensures follows { Follows environment.old environment.new }
@@ -68,7 +88,8 @@ pub(crate) fn settle_and_tell(
     let Some(place) = place_of(&environment.sites, &pushed.to) else {
         unreachable!()
     };
-    let site = &mut environment.sites[place];
-    settle_site(site, alloc, lines, pushed)?;
-    Ok(())
+    let site = environment.sites.remove(place);
+    let (site, told) = settle_site(site, alloc, passing, lines, pushed);
+    put_back(&mut environment.sites, place, site);
+    told
 }

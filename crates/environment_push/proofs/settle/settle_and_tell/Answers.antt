@@ -1,15 +1,21 @@
-use Rattle.std.proofs.Common.{inr}
-use Rattle.environment_push.proofs.Settled.{settling_follows, settled_world}
+-- The receiver is taken out, settles what came, and is put in again.
+use Rattle.std.proofs.lemmas.Result.{on_ok_weaker}
+use Rattle.environment_push.proofs.Settled.{told-there, settling_follows, settled_world}
 use Rattle.environment_push.proofs.settle.settle_and_tell.Goals as goal
 
-pub returns-in_err-settle_site-clause-follows : goal.returns-in_err-settle_site-clause-follows
-returns-in_err-settle_site-clause-follows c =
-    rw (← c.environment.view_is) (settling_follows c.args.pushed.from c.args.pushed.to _ c.in-Some.place (rw c.deref.ensures.value at c.in-Some.ensures) _ _ c.index_mut-site.ensures.value c.in_err-settle_site.ensures.err)
-
 pub returns-clause-ok : goal.returns-clause-ok
-returns-clause-ok c =
-    rw (← c.environment.view_is) (settled_world c.args.pushed.from c.args.pushed.to _ c.in-Some.place (rw c.deref.ensures.value at c.in-Some.ensures) _ _ c.index_mut-site.ensures.value c.in_ok-settle_site.ensures.ok)
+returns-clause-ok g c =
+    rw (← c.environment.view_is) (on_ok_weaker c.settle_site-site.result.1
+    (settled_world c.args.pushed.from c.args.pushed.to _ c.in-Some.place (rw c.deref.ensures.value at c.in-Some.ensures) c.remove-site.result c.remove-site.ensures.value _ _ _ c.remove-site.ensures.items c.put_back.ensures)
+    c.settle_site-site.ensures.ok)
+
+pub returns-clause-text : goal.returns-clause-text
+returns-clause-text g c =
+    rw (← c.environment.view_is) (on_ok_weaker c.settle_site-site.result.1
+    (told-there c.args.pushed.from c.args.pushed.to _ c.in-Some.place (rw c.deref.ensures.value at c.in-Some.ensures) c.remove-site.result c.remove-site.ensures.value c.args.pushed.to c.args.pushed.sent c.args.lines.now.bytes c.settle_site-site.new.lines.bytes)
+    c.settle_site-site.ensures.text)
 
 pub returns-clause-follows : goal.returns-clause-follows
-returns-clause-follows c =
-    rw (← c.environment.view_is) (settling_follows c.args.pushed.from c.args.pushed.to _ c.in-Some.place (rw c.deref.ensures.value at c.in-Some.ensures) _ _ c.index_mut-site.ensures.value (inr c.in_ok-settle_site.ensures.ok))
+returns-clause-follows g c =
+    rw (← c.environment.view_is)
+    (settling_follows c.args.pushed.from c.args.pushed.to _ c.in-Some.place (rw c.deref.ensures.value at c.in-Some.ensures) c.remove-site.result c.remove-site.ensures.value _ _ _ c.remove-site.ensures.items c.put_back.ensures c.settle_site-site.ensures.settling)

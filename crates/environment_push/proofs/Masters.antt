@@ -1,0 +1,35 @@
+-- At each site of a world of a script what is ready of a master can be applied in any order, in the middle of a push too.
+use Rattle.std.proofs.Common.{◌≡◌, false, true, Some, sym, ap, ◌∙◌, subst}
+use Rattle.rep_values.specs.declared.name.SiteName.{SiteName}
+use Rattle.rep_schema.specs.declared.schema.Schema.{Schema}
+use Rattle.site_state.specs.State.{is_master_site}
+use Rattle.event_laws.specs.Core.{site_of}
+use Rattle.event_laws.specs.Events.{run}
+use Rattle.event_laws.proofs.Sites.{found_all}
+use Rattle.event_laws.proofs.MarkLaws.{IsOfSchema, run_schema}
+use Rattle.event_laws.proofs.Confluence.{every_site_can_pass_in_any_order}
+use Rattle.world_state.specs.World.{WorldState}
+use Rattle.world_state.specs.Phases.{is_setup}
+use Rattle.environment.specs.Reached.{IsOfConvergence, Declaring, Going, GoesOnAlike}
+use Rattle.environment.specs.Following.{Follows, IsBuilt}
+use Rattle.environment.proofs.Following.{built_follows}
+use Rattle.environment_push.specs.Settling.{CanSettle}
+
+-- behind Setup, events lead here from where all fits
+going_can : (w : WorldState) → GoesOnAlike w → (name : SiteName) → CanSettle name w
+going_can w a name x found origin master =
+    every_site_can_pass_in_any_order a.schema a.start a.leads.events a.fit a.meshed.declared name origin x there (subst (λ (s : Schema). is_master_site s origin ≡ true) same master)
+  where
+    there : site_of name (run a.leads.events a.start).sites ≡ Some x
+    there = ap (site_of name) (sym a.leads.simulates.sites) ∙ found
+
+    same : x.schema ≡ a.schema
+    same = found_all (IsOfSchema a.schema) name (run a.leads.events a.start).sites x (run_schema a.schema a.start a.leads.events a.fit.start) there
+
+built_can : (w : WorldState) → is_setup w.phase ≡ false → IsOfConvergence w → (name : SiteName) → CanSettle name w
+built_can w behind (Declaring so_far) name = absurd (cc (behind, so_far.setup.setup))
+built_can w behind (Going a) name = going_can w a name
+
+-- so it is in what follows a world of the forms that are built
+pub can_settle : (w y : WorldState) → is_setup w.phase ≡ false → IsBuilt w → Follows w y → (name : SiteName) → CanSettle name y
+can_settle w y behind built follows name = built_can y (subst (λ p. is_setup p ≡ false) (sym follows.phase) behind) (built_follows w y behind built follows).of_convergence name
