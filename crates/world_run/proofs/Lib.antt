@@ -3,3 +3,4 @@ mod Stepping
 mod Steps
 mod Completeness
 mod Worlds
+mod Crews

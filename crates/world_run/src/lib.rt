@@ -2,12 +2,13 @@
 //! source, whose lines are run one by one on a world, and whose report goes to a sink.
 #![tactic(auto)]
 
-mod alone;
+mod crew;
 mod laws;
 mod lines;
 mod run;
+mod runner;
 mod world;
 
 pub use laws::reported_worlds_hold;
-pub use run::run_alone;
+pub use run::{run_alone, run_crew};
 pub use world::World;

@@ -14,16 +14,19 @@ use environment_lines::{
 use environment_push::push;
 use report_text::Lines;
 use script_parse::Command;
+use site_rounds::Passing;
 use std::alloc::Global;
 use world_state::Refused;
 
-/// Runs a line of a form that is built, which meets no refusal that is known before it is tried.
-pub fn run_line(
+/// Runs a line of a form that is built, which meets no refusal that is known before it is tried. Passes are made as it is told.
+pub fn run_line<P: Passing>(
     environment: &mut Environment,
     alloc: Global,
+    passing: &P,
     line: u32,
     command: &Command,
 ) -> Result<Lines, Refused>
+    requires able { P.able passing.now }
     requires built { IsBuilt environment.old }
     requires form { is_built command.now ≡ true }
     requires named { NamesColumn command.now }
@@ -45,7 +48,9 @@ pub fn run_line(
         Command::Txn { site } => open_block(environment, alloc, line, site),
         Command::Commit => commit(environment, alloc, line),
         Command::Abandon => abandon(environment, alloc, line),
-        Command::Push { from, to, count } => push(environment, alloc, line, from, to, *count),
+        Command::Push { from, to, count } => {
+            push(environment, alloc, passing, line, from, to, *count)
+        }
         Command::Fates { from, to, fates } => add_fates(
             environment,
             alloc,

@@ -1,19 +1,50 @@
 //! The call that runs a whole script.
-ghost use Rattle.std.specs.Prelude.{◌≡◌, ◌≢◌};
+ghost use Rattle.std.specs.Prelude.{◌≡◌, ◌≢◌, ◌≤◌};
 ghost use Rattle.rep_io.specs.Faults.{Rose};
 ghost use Rattle.rep_lines.specs.Told.{Tells};
 ghost use Rattle.world_state.specs.World.{first_world};
 ghost use Rattle.script_drive.specs.Lines.{line_step};
 ghost use Rattle.script_drive.specs.Outcome.{Told};
+ghost use Rattle.site_rounds.specs.Passing.{TakesPass, AnswersPass};
 ghost use Rattle.world_run.specs.Completeness.{RunsToItsEnd};
 ghost use Rattle.world_run.specs.Scripts.{script_step, EachWorldHolds};
 
-use crate::alone::Alone;
+use crate::crew::crew_pass;
 use crate::laws::reported_worlds_hold;
-use crate::world::World;
-use rep_io::{Sink, Source};
+use crate::runner::Runner;
+use page_tables::PageTables;
+use rep_io::{Sink, Source, Watch};
+use rep_lists::NoMemory;
+use rep_values::SiteName;
 use script_drive::{Status, drive};
+use site_core::Site;
+use site_rounds::{By, Passing, Serial};
+use site_state::PassCount;
 use std::alloc::Global;
+use std::sync::Wait;
+use std::thread::Threads;
+
+/// Runs a script, whoever makes the passes.
+fn run_by<P: Passing + Drop, S: Source, K: Sink>(
+    alloc: Global,
+    passing: P,
+    source: &mut S,
+    sink: &mut K,
+) -> Status
+    requires { P.able passing }
+    ensures told { Tells (Told (line_step script_step) first_world result) (S.left source.old) (S.left source.new) (K.taken sink.old) (K.taken sink.new) }
+    ensures read { result ≡ Status.ReadFault → Rose (S.faults source.old) (S.faults source.new) }
+    ensures write { result ≡ Status.WriteFault → Rose (K.faults sink.old) (K.faults sink.new) }
+    ensures ran { result ≢ Status.Usage }
+    ensures complete { RunsToItsEnd (S.left source.old) (K.taken sink.old) (S.faults source.old) (S.faults source.new) (K.faults sink.old) (K.faults sink.new) result }
+    ensures worlds { EachWorldHolds (S.left source.old) }
+{
+    reported_worlds_hold();
+    let Ok(runner) = Runner::make(alloc, passing) else {
+        return Status::Memory;
+    };
+    drive(alloc, runner, source, sink)
+}
 
 /// Runs a script from the source and writes its report to the sink. It takes no lock, and always returns.
 ///
@@ -30,9 +61,34 @@ pub fn run_alone<S: Source, K: Sink>(alloc: Global, source: &mut S, sink: &mut K
     ensures complete { RunsToItsEnd (S.left source.old) (K.taken sink.old) (S.faults source.old) (S.faults source.new) (K.faults sink.old) (K.faults sink.new) result }
     ensures worlds { EachWorldHolds (S.left source.old) }
 {
-    reported_worlds_hold();
-    let Ok(world) = World::make(alloc) else {
-        return Status::Memory;
-    };
-    drive(alloc, Alone { world }, source, sink)
+    run_by(alloc, Serial, source, sink)
+}
+
+/// Runs a script as `run_alone` does, with so many appliers, 1 to 8: passes for what masters sent are made by as many threads.
+/// The report is that of one applier, byte for byte. It may wait for a lock.
+pub fn run_crew<X: Threads + Wait + Sync, S: Source, K: Sink, W: Watch>(
+    rt: &X,
+    alloc: Global,
+    appliers: u32,
+    source: &mut S,
+    sink: &mut K,
+    watch: &W,
+) -> Status
+    requires { (1 ≤ appliers) × (appliers ≤ 8) }
+    ensures told { Tells (Told (line_step script_step) first_world result) (S.left source.old) (S.left source.new) (K.taken sink.old) (K.taken sink.new) }
+    ensures read { result ≡ Status.ReadFault → Rose (S.faults source.old) (S.faults source.new) }
+    ensures write { result ≡ Status.WriteFault → Rose (K.faults sink.old) (K.faults sink.new) }
+    ensures ran { result ≢ Status.Usage }
+    ensures complete { RunsToItsEnd (S.left source.old) (K.taken sink.old) (S.faults source.old) (S.faults source.new) (K.faults sink.old) (K.faults sink.new) result }
+    ensures worlds { EachWorldHolds (S.left source.old) }
+{
+    let pass = |alloc: Global, site: Site<PageTables>, origin: SiteName| -> Result<
+        (Site<PageTables>, PassCount),
+        (Site<PageTables>, NoMemory),
+    >
+        requires takes { TakesPass origin site }
+        requires appliers { (1 ≤ appliers) × (appliers ≤ 8) }
+        ensures { AnswersPass origin site result }
+    { crew_pass(rt, alloc, site, &origin, appliers, watch) };
+    run_by(alloc, By { pass }, source, sink)
 }

@@ -1,5 +1,5 @@
 //! The world of a script.
-ghost use Rattle.std.specs.Prelude.{◌≡◌, true, option_copied, IfOk};
+ghost use Rattle.std.specs.Prelude.{◌≡◌, ◌≤◌, true, option_copied, IfOk};
 ghost use Rattle.script_parse.specs.Built.{is_built};
 ghost use Rattle.script_parse.specs.Named.{NamesColumn};
 ghost use Rattle.event_laws.specs.Core.{site_of};
@@ -8,17 +8,24 @@ ghost use Rattle.environment_lines.specs.Worlds.{WorldHolds};
 ghost use Rattle.environment_lines.specs.Doing.{Does, AnswersKnown};
 ghost use Rattle.environment_lines.specs.Worlds.{SnapshotsHold};
 ghost use Rattle.environment_lines.specs.Convergence.{ConvergenceHolds};
+ghost use Rattle.site_rounds.specs.Passing.{TakesPass, AnswersPass};
 ghost use Rattle.world_run.specs.Reporting.{PushLeavesNothingReady, RefreshShowsTheQuery};
 
+use crate::crew::crew_pass;
 use crate::lines::run_line;
 use environment_lines::{Environment, Site, convergence_holds, place_of};
 use page_tables::PageTables;
+use rep_io::Watch;
 use rep_lists::NoMemory;
 use rep_values::SiteName;
 use report_text::Lines;
 use script_parse::Command;
+use site_rounds::{By, Passing, Serial};
+use site_state::PassCount;
 use std::alloc::Global;
 use std::marker::Model;
+use std::sync::Wait;
+use std::thread::Threads;
 use world_state::Refused;
 
 /// A world: what a script has declared so far, its sites, the net between them, and the open block. From the end of Setup on
@@ -70,11 +77,66 @@ impl World {
         ensures snapshots { SnapshotsHold self.new }
         ensures convergence { ConvergenceHolds self.new }
     {
+        self.step_by(alloc, &Serial, line, command)
+    }
+
+    /// The same with so many appliers, 1 to 8: passes for what masters sent are made by as many threads. What comes of it is as
+    /// with one. It may wait for a lock.
+    pub fn step_crew<X: Threads + Wait + Sync, W: Watch>(
+        &mut self,
+        rt: &X,
+        alloc: Global,
+        line: u32,
+        command: &Command,
+        appliers: u32,
+        watch: &W,
+    ) -> Result<Lines, Refused>
+        requires form { is_built command.now ≡ true }
+        requires named { NamesColumn command.now }
+        requires appliers { (1 ≤ appliers) × (appliers ≤ 8) }
+        ensures does { Does line command.now self.old self.new result }
+        ensures known { AnswersKnown line command.now self.old result }
+        ensures pushed { PushLeavesNothingReady command.now self.new result }
+        ensures refreshed { RefreshShowsTheQuery command.now self.old self.new result }
+        ensures laws { WorldHolds self.new }
+        ensures snapshots { SnapshotsHold self.new }
+        ensures convergence { ConvergenceHolds self.new }
+    {
+        let pass = |alloc: Global, site: Site<PageTables>, origin: SiteName| -> Result<
+            (Site<PageTables>, PassCount),
+            (Site<PageTables>, NoMemory),
+        >
+            requires takes { TakesPass origin site }
+            requires appliers { (1 ≤ appliers) × (appliers ≤ 8) }
+            ensures { AnswersPass origin site result }
+        { crew_pass(rt, alloc, site, &origin, appliers, watch) };
+        self.step_by(alloc, &By { pass }, line, command)
+    }
+
+    /// The same, whoever makes the passes.
+    pub(crate) fn step_by<P: Passing>(
+        &mut self,
+        alloc: Global,
+        passing: &P,
+        line: u32,
+        command: &Command,
+    ) -> Result<Lines, Refused>
+        requires able { P.able passing.now }
+        requires form { is_built command.now ≡ true }
+        requires named { NamesColumn command.now }
+        ensures does { Does line command.now self.old self.new result }
+        ensures known { AnswersKnown line command.now self.old result }
+        ensures pushed { PushLeavesNothingReady command.now self.new result }
+        ensures refreshed { RefreshShowsTheQuery command.now self.old self.new result }
+        ensures laws { WorldHolds self.new }
+        ensures snapshots { SnapshotsHold self.new }
+        ensures convergence { ConvergenceHolds self.new }
+    {
         convergence_holds();
         if let Some(refusal) = self.environment.refusal(command) {
             return Err(Refused { line, refusal });
         }
-        run_line(&mut self.environment, alloc, line, command)
+        run_line(&mut self.environment, alloc, passing, line, command)
     }
 
     /// The site of a name, None exactly where it isn't there.

@@ -7,7 +7,7 @@ use Rattle.world_state.specs.World.{WorldState, first_world}
 use Rattle.world_run.specs.Scripts.{script_step}
 use Rattle.world_run.proofs.Worlds.{each_world_holds}
 use Rattle.world_run.proofs.Completeness.{runs_to_its_end}
-use Rattle.world_run.proofs.run.run_alone.Goals as goal
+use Rattle.world_run.proofs.run.run_by.Goals as goal
 
 pub returns-clause-told : goal.returns-clause-told
 returns-clause-told g c =

@@ -1,6 +1,7 @@
 //! The world of a script, whose lines are run one by one.
 ghost use Rattle.std.specs.Prelude.{◌≡◌, false, IfOk};
 ghost use Rattle.report_text.specs.Refusals.{is_memory, refused_text};
+ghost use Rattle.world_state.specs.World.{first_world};
 ghost use Rattle.world_run.specs.Scripts.{script_step};
 
 use crate::world::World;
@@ -10,13 +11,37 @@ use report_text::{Lines, MOST_LINE, refused_line};
 use script_drive::LineRunner;
 use script_lex::LineStop;
 use script_parse::parse_line;
+use site_rounds::Passing;
 use std::alloc::Global;
+use std::marker::Model;
 use world_state::Refused;
 
-/// A world that runs each line by itself and waits for nothing.
+/// A world that runs each line, and what makes its passes.
 #[derive(Drop)]
-pub struct Alone {
-    pub world: World,
+pub struct Runner<P: Passing> {
+    world: World,
+    passing: P,
+}
+
+impl<P: Passing> Model for Runner<P> {
+    ghost use Rattle.world_state.specs.World.{WorldState};
+
+    ghost Value = { WorldState };
+
+    ghost view = { λ r. r.world };
+
+    ghost invariant = { λ r. P.able r.passing };
+}
+
+impl<P: Passing + Drop> Runner<P> {
+    /// A runner of a world in which nothing is declared.
+    pub fn make(alloc: Global, passing: P) -> Result<Runner<P>, NoMemory>
+        requires { P.able passing }
+        ensures { IfOk result (λ runner. runner ≡ first_world) }
+    {
+        let world = World::make(alloc)?;
+        Ok(Runner { world, passing })
+    }
 }
 
 // Tells why a line was refused.
@@ -32,16 +57,16 @@ fn told(alloc: Global, refused: &Refused) -> Result<Lines, NoMemory>
     Ok(lines)
 }
 
-impl LineRunner for Alone {
+impl<P: Passing + Drop> LineRunner for Runner<P> {
     type State = World;
 
-    ghost state = { λ a. a.world };
+    ghost state = { λ r. r };
 
     ghost step = { script_step };
 
     fn run_line(&mut self, alloc: Global, number: u32, line: &[u8]) -> Result<Lines, LineStop> {
         let command = parse_line(alloc, line)?;
-        match self.world.step(alloc, number, &command) {
+        match self.world.step_by(alloc, &self.passing, number, &command) {
             Ok(lines) => Ok(lines),
             Err(refused) => {
                 let lines = told(alloc, &refused)?;

@@ -10,49 +10,49 @@ use Rattle.environment_lines.proofs.Worlds.{snapshots_hold_of}
 use Rattle.environment_lines.proofs.Scripts.{of_snapshots}
 use Rattle.world_run.specs.Reporting.{RefreshShowsTheQuery}
 use Rattle.world_run.proofs.Stepping.{ready-done, refreshed-done}
-use Rattle.world_run.proofs.world.World.step.Goals as goal
+use Rattle.world_run.proofs.world.World.step_by.Goals as goal
 
 pub returns-in-Some-clause-does : goal.returns-in-Some-clause-does
-returns-in-Some-clause-does c =
+returns-in-Some-clause-does g c =
     let known : known_refusal c.args.command.now c.args.self.now ≡ Some c.in-Some.refusal = cc (c.in-Some.ensures, c.self.view_is) in
     inr (known_refused c.args.line c.args.command.now c.args.self.now c.in-Some.refusal known)
 
 pub returns-in-Some-clause-laws : goal.returns-in-Some-clause-laws
-returns-in-Some-clause-laws c =
+returns-in-Some-clause-laws g c =
     let same : c.self.inside.environment ≡ c.args.self.now = cc c.self.view_is in
     of_script_holds _ (subst IsBuilt same c.self.invariant).of_script
 
 pub invariant_of-self : goal.invariant_of-self
-invariant_of-self c =
+invariant_of-self g c =
     lines_keep_built c.args.line c.args.command.now c.self.inside.environment c.run_line.new.environment c.run_line.result c.requires.form c.requires.named c.run_line.ensures c.self.invariant
 
 pub returns-clause-pushed : goal.returns-clause-pushed
-returns-clause-pushed c = ready-done c.args.line c.args.command.now c.self.inside.environment c.run_line.new.environment c.run_line.result c.self.invariant c.run_line.ensures
+returns-clause-pushed g c = ready-done c.args.line c.args.command.now c.self.inside.environment c.run_line.new.environment c.run_line.result c.self.invariant c.run_line.ensures
 
 pub returns-clause-laws : goal.returns-clause-laws
-returns-clause-laws c =
+returns-clause-laws g c =
     of_script_holds _ (lines_keep_built c.args.line c.args.command.now c.self.inside.environment c.run_line.new.environment c.run_line.result c.requires.form c.requires.named c.run_line.ensures c.self.invariant).of_script
 
 pub returns-clause-refreshed : goal.returns-clause-refreshed
-returns-clause-refreshed c =
+returns-clause-refreshed g c =
     let same : c.self.inside.environment ≡ c.args.self.now = cc c.self.view_is in
     subst (λ (old : WorldState). RefreshShowsTheQuery c.args.command.now old c.run_line.new.environment c.run_line.result) same
     (refreshed-done c.args.line c.args.command.now c.self.inside.environment c.run_line.new.environment c.run_line.result c.self.invariant c.run_line.ensures)
 
 pub returns-in-Some-clause-snapshots : goal.returns-in-Some-clause-snapshots
-returns-in-Some-clause-snapshots c =
+returns-in-Some-clause-snapshots g c =
     let same : c.self.inside.environment ≡ c.args.self.now = cc c.self.view_is in
     snapshots_hold_of _ (of_snapshots _ (subst IsBuilt same c.self.invariant).of_convergence)
 
 pub returns-clause-snapshots : goal.returns-clause-snapshots
-returns-clause-snapshots c =
+returns-clause-snapshots g c =
     snapshots_hold_of _ (of_snapshots _ (lines_keep_built c.args.line c.args.command.now c.self.inside.environment c.run_line.new.environment c.run_line.result c.requires.form c.requires.named c.run_line.ensures c.self.invariant).of_convergence)
 
 pub returns-in-Some-clause-convergence : goal.returns-in-Some-clause-convergence
-returns-in-Some-clause-convergence c =
+returns-in-Some-clause-convergence g c =
     let same : c.self.inside.environment ≡ c.args.self.now = cc c.self.view_is in
     c.convergence_holds.ensures.kept _ (subst IsBuilt same c.self.invariant).of_convergence
 
 pub returns-clause-convergence : goal.returns-clause-convergence
-returns-clause-convergence c =
+returns-clause-convergence g c =
     c.convergence_holds.ensures.kept _ (lines_keep_built c.args.line c.args.command.now c.self.inside.environment c.run_line.new.environment c.run_line.result c.requires.form c.requires.named c.run_line.ensures c.self.invariant).of_convergence
