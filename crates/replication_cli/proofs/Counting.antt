@@ -1,16 +1,14 @@
 -- The counts of a storm's run are those over its texts, and its world is the one behind its commands.
-use Rattle.std.proofs.Common.{◌≡◌, ℕ, zero, suc, ◌+◌, ◌*◌, ◌^◌, ◌≤◌, ◌<◌, Bool, true, false, cond, List, [], ◌∷◌, length, refl, ap, sym, ◌∙◌, fold, arith, add-zero, zero-add, add_assoc}
-use Rattle.std.specs.Prelude.{count_by, sum_by, min}
-use Rattle.std.proofs.lemmas.List.Sums.{sum_by-cons, fold_more}
+use Rattle.std.proofs.Common.{◌≡◌, ℕ, ◌+◌, cond, List, [], ◌∷◌, length, refl, ap, sym, ◌∙◌, fold, arith, add-zero, zero-add}
+use Rattle.std.specs.Prelude.{count_by, sum_by}
+use Rattle.std.proofs.lemmas.List.Sums.{sum_by-cons}
 use Rattle.script_parse.specs.declared.command.Command.{Command}
-use Rattle.world_state.specs.World.{WorldState, first_world}
-use Rattle.world_state.specs.Steps.{world_step, world_steps}
-use Rattle.world_run.specs.Texts.{line_text}
+use Rattle.world_state.specs.World.{first_world}
+use Rattle.world_state.specs.Steps.{world_steps}
 use Rattle.replication_cli.specs.declared.tally.Tally.{Tally}
 use Rattle.replication_cli.specs.Texts.{texts}
-use Rattle.replication_cli.specs.Words.{last_number, with_digit, number_of, word_at}
 use Rattle.replication_cli.specs.Tallies.{is_commit, is_refused, is_push, errors_of, tally_of, with_text}
-use Rattle.replication_cli.specs.Runs.{Running, beginning, with_command, with_commands, IsCounted}
+use Rattle.replication_cli.specs.Runs.{Running, beginning, with_command, with_commands}
 
 commits_in : (t : Tally) (xs : List (List ℕ)) → (fold with_text t xs).commits ≡ t.commits + count_by is_commit xs
 commits_in t [] = sym (add-zero t.commits)

@@ -1,6 +1,6 @@
 -- No more is told than commands are run, so the counts have room.
-use Rattle.std.proofs.Common.{◌≡◌, ℕ, zero, suc, ◌+◌, ◌*◌, ◌^◌, ◌≤◌, ◌<◌, Bool, true, false, cond, List, [], ◌∷◌, refl, arith, lit≤}
-use Rattle.std.specs.Prelude.{fold, min}
+use Rattle.std.proofs.Common.{ℕ, ◌+◌, ◌^◌, ◌≤◌, ◌<◌, Bool, true, false, cond, List, [], ◌∷◌, arith, lit≤}
+use Rattle.std.specs.Prelude.{fold}
 use Rattle.replication_cli.specs.declared.tally.Tally.{Tally}
 use Rattle.replication_cli.specs.Words.{last_number, with_digit, number_of, word_at}
 use Rattle.replication_cli.specs.Tallies.{is_commit, is_refused, is_push, errors_of, with_refusal, with_text, HasRoom}

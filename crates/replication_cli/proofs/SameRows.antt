@@ -1,5 +1,5 @@
 -- The test of rows tells whether they are the same.
-use Rattle.std.proofs.Common.{◌≡◌, Bool, true, false, List, refl, sym}
+use Rattle.std.proofs.Common.{◌≡◌, Bool, true, false, refl}
 use Rattle.std.specs.Bool.{Decides}
 use Rattle.std.specs.Prelude.{◌↔◌, IsTrue}
 use Rattle.std.specs.Cmp.Lexicographic.{pointwise}

@@ -1,5 +1,5 @@
 -- What a command does to a storm that is being run.
-use Rattle.std.proofs.Common.{◌≡◌, ℕ, suc, ◌+◌, List, Some, None, false, refl, sym, ap, inl, inr, add-zero, add-one}
+use Rattle.std.proofs.Common.{◌≡◌, ℕ, ◌+◌, List, Some, None, false, refl, sym, ap, inl, inr, add-zero, add-one}
 use Rattle.std.specs.Prelude.{◌⊎◌, Option}
 use Rattle.rep_values.specs.declared.refusal.Refusal.{Refusal}
 use Rattle.report_text.specs.Refusals.{is_memory, refused_text}
@@ -7,7 +7,7 @@ use Rattle.script_parse.specs.declared.command.Command.{Command}
 use Rattle.world_state.specs.declared.refused.Refused.{Refused}
 use Rattle.world_state.specs.World.{WorldState}
 use Rattle.world_state.specs.Refusals.{world_refusal}
-use Rattle.world_state.specs.Steps.{world_refused, world_step, step_by, told_by}
+use Rattle.world_state.specs.Steps.{world_step, step_by, told_by}
 use Rattle.world_run.specs.Texts.{line_text, told_text}
 use Rattle.world_run.specs.Doing.{IsDone, IsShort, IsRefused}
 use Rattle.replication_cli.specs.declared.tally.Tally.{Tally}

@@ -1,5 +1,5 @@
 -- One row more of what the rows of a table come to.
-use Rattle.std.proofs.Common.{◌≡◌, ℕ, ℤ, ◌+ℤ◌, List, [], ◌∷◌, fold}
+use Rattle.std.proofs.Common.{◌≡◌, ℤ, ◌+ℤ◌, ◌∷◌, fold}
 use Rattle.std.specs.Prelude.{Option}
 use Rattle.rep_schema.specs.Tables.{Cells, Rows}
 use Rattle.replication_cli.specs.Stocks.{qty_of, top_of, raised}

@@ -1,8 +1,8 @@
 -- Texts that are counted by hand.
-use Rattle.std.proofs.Common.{◌≡◌, [], ◌∷◌, ◌++◌, true, false, refl}
+use Rattle.std.proofs.Common.{◌≡◌, [], ◌∷◌, ◌++◌, false, refl}
 use Rattle.std.specs.Prelude.{codes}
 use Rattle.replication_cli.specs.Words.{word_at, number_of}
-use Rattle.replication_cli.specs.Tallies.{is_commit, is_refused, is_push, errors_of, tally_of}
+use Rattle.replication_cli.specs.Tallies.{is_commit, errors_of, tally_of}
 
 third_word : word_at 2 (codes "commit B none" ++ 10 ∷ []) ≡ codes "none"
 third_word = refl

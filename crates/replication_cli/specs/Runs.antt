@@ -1,5 +1,5 @@
 -- A storm that is being run.
-use Rattle.std.specs.Prelude.{◌≡◌, ℕ, suc, ◌*◌, ◌^◌, ◌≤◌, true, List, [], fold}
+use Rattle.std.specs.Prelude.{ℕ, suc, ◌*◌, ◌^◌, ◌≤◌, List, [], fold}
 use Rattle.script_parse.specs.declared.command.Command.{Command}
 use Rattle.world_state.specs.World.{WorldState, first_world}
 use Rattle.world_state.specs.Steps.{world_step}

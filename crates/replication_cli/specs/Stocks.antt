@@ -1,5 +1,5 @@
 -- The storm's table at the sites of a world.
-use Rattle.std.specs.Prelude.{◌+ℤ◌, ℤ, pos, int_lt, Bool, ◌&&◌, if◌then◌else◌, List, [], length, fold, slice_get, Option, Some, None, unwrap_or}
+use Rattle.std.specs.Prelude.{◌+ℤ◌, ℤ, pos, int_lt, Bool, ◌&&◌, if◌then◌else◌, [], length, fold, slice_get, Option, Some, None, unwrap_or}
 use Rattle.std.specs.Cmp.Lexicographic.{pointwise}
 use Rattle.rep_values.specs.declared.name.SiteName.{SiteName}
 use Rattle.rep_values.specs.declared.value.Value.{Value}

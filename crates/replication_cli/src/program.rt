@@ -52,10 +52,12 @@ pub fn run_program<X: Threads + Wait + Sync, S: Source, K: Sink, W: Watch>(
         None => Status::Usage,
         Some(Asked::Run { appliers: 1 }) => run_alone(alloc, source, sink),
         Some(Asked::Run { appliers }) => run_crew(rt, alloc, appliers, source, sink, watch),
-        Some(Asked::Storm {
-            seed,
-            count,
-            appliers,
-        }) => storm(rt, alloc, seed, count, appliers, sink, watch),
+        Some(
+            Asked::Storm {
+                seed,
+                count,
+                appliers,
+            },
+        ) => storm(rt, alloc, seed, count, appliers, sink, watch),
     }
 }

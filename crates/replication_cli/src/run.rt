@@ -6,11 +6,14 @@ ghost use Rattle.storm_script.specs.Storm.{storm_commands};
 ghost use Rattle.replication_cli.specs.Runs.{beginning, with_command, with_commands};
 
 use crate::tally::Tally;
+use rep_io::Watch;
 use rep_lists::NoMemory;
 use rep_values::Refusal;
 use script_parse::Command;
 use std::alloc::Global;
 use std::marker::Model;
+use std::sync::Wait;
+use std::thread::Threads;
 use storm_script::{Draws, closing, opening};
 use world_run::World;
 
@@ -59,14 +62,25 @@ impl Run {
     }
 
     // Runs a command, and counts what it tells.
-    fn run(&mut self, alloc: Global, command: &Command) -> Result<(), NoMemory>
+    fn run<X: Threads + Wait + Sync, W: Watch>(
+        &mut self,
+        rt: &X,
+        alloc: Global,
+        command: &Command,
+        appliers: u32,
+        watch: &W,
+    ) -> Result<(), NoMemory>
         requires line { IsLine command.now }
+        requires appliers { (1 ≤ appliers) × (appliers ≤ 8) }
         requires room { self.old.number + 1 < 2 ^ 32 }
         ensures { OnOk result (self.new ≡ with_command self.old command.now) }
     {
         let number = self.number;
         self.number += 1;
-        match self.world.step(alloc, number, command) {
+        match self
+            .world
+            .step_crew(rt, alloc, number, command, appliers, watch)
+        {
             Ok(lines) => {
                 self.tally.add(lines.bytes());
                 Ok(())
@@ -82,40 +96,65 @@ impl Run {
     }
 
     // Runs commands one after another.
-    fn run_all(&mut self, alloc: Global, commands: &[Command]) -> Result<(), NoMemory>
+    fn run_all<X: Threads + Wait + Sync, W: Watch>(
+        &mut self,
+        rt: &X,
+        alloc: Global,
+        commands: &[Command],
+        appliers: u32,
+        watch: &W,
+    ) -> Result<(), NoMemory>
         requires lines { All IsLine commands.now }
+        requires appliers { (1 ≤ appliers) × (appliers ≤ 8) }
         requires room { self.old.number + length commands.now < 2 ^ 32 }
         ensures { OnOk result (self.new ≡ with_commands self.old commands.now) }
     {
         for command in commands {
-            self.run(alloc, command)?;
+            self.run(rt, alloc, command, appliers, watch)?;
         }
         Ok(())
     }
 
     // Runs so many rounds.
-    fn run_rounds(&mut self, alloc: Global, seed: u64, count: u32) -> Result<(), NoMemory>
+    fn run_rounds<X: Threads + Wait + Sync, W: Watch>(
+        &mut self,
+        rt: &X,
+        alloc: Global,
+        seed: u64,
+        count: u32,
+        appliers: u32,
+        watch: &W,
+    ) -> Result<(), NoMemory>
         requires count { count ≤ most_rounds }
+        requires appliers { (1 ≤ appliers) × (appliers ≤ 8) }
         requires room { self.old.number + 5 * count < 2 ^ 32 }
         ensures { OnOk result (self.new ≡ with_commands self.old (rounds count 1 seed)) }
     {
         let mut draws = Draws { state: seed };
         for before in 0..count {
             let commands = draws.round(alloc, before + 1)?;
-            self.run_all(alloc, &commands)?;
+            self.run_all(rt, alloc, &commands, appliers, watch)?;
         }
         Ok(())
     }
 }
 
-/// Runs the storm of a seed and a number of rounds.
-pub fn run_storm(alloc: Global, seed: u64, count: u32) -> Result<Run, NoMemory>
-    requires { count ≤ most_rounds }
+/// Runs the storm of a seed and a number of rounds, with so many appliers.
+pub fn run_storm<X: Threads + Wait + Sync, W: Watch>(
+    rt: &X,
+    alloc: Global,
+    seed: u64,
+    count: u32,
+    appliers: u32,
+    watch: &W,
+) -> Result<Run, NoMemory>
+    requires count { count ≤ most_rounds }
+    requires appliers { (1 ≤ appliers) × (appliers ≤ 8) }
     ensures { IfOk result (λ run. run ≡ with_commands beginning (storm_commands seed count)) }
 {
     let mut run = Run::start(alloc)?;
-    run.run_all(alloc, &opening(alloc)?)?;
-    run.run_rounds(alloc, seed, count)?;
-    run.run_all(alloc, &closing(alloc)?)?;
+    run.run_all(rt, alloc, &opening(alloc)?, appliers, watch)?;
+    run.run_rounds(rt, alloc, seed, count, appliers, watch)?;
+    run.run_all(rt, alloc, &closing(alloc)?, appliers, watch)?;
     Ok(run)
 }

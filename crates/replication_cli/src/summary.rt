@@ -9,9 +9,12 @@ use crate::run::run_storm;
 use crate::stocks::{Totals, masters_agree, site_totals};
 use crate::tally::Tally;
 use itoa::{Buffer, Integer};
+use rep_io::Watch;
 use rep_lists::NoMemory;
 use report_text::Lines;
 use std::alloc::Global;
+use std::sync::Wait;
+use std::thread::Threads;
 use storm_script::first_site;
 
 // Adds a line of a word and a number.
@@ -67,12 +70,20 @@ fn add_agree(lines: &mut Lines, agree: bool) -> Result<(), NoMemory>
     }
 }
 
-/// Runs the storm of a seed and a number of rounds, and tells what came of it.
-pub fn summary(alloc: Global, seed: u64, count: u32) -> Result<Lines, NoMemory>
-    requires { count ≤ most_rounds }
+/// Runs the storm of a seed and a number of rounds with so many appliers, and tells what came of it.
+pub fn summary<X: Threads + Wait + Sync, W: Watch>(
+    rt: &X,
+    alloc: Global,
+    seed: u64,
+    count: u32,
+    appliers: u32,
+    watch: &W,
+) -> Result<Lines, NoMemory>
+    requires count { count ≤ most_rounds }
+    requires appliers { (1 ≤ appliers) × (appliers ≤ 8) }
     ensures { IfOk result (λ lines. lines.bytes ≡ storm_summary seed count) }
 {
-    let run = run_storm(alloc, seed, count)?;
+    let run = run_storm(rt, alloc, seed, count, appliers, watch)?;
     let mut lines = Lines::make(alloc);
     add_words(&mut lines, seed, count)?;
     add_tally(&mut lines, run.tally())?;

@@ -1,7 +1,6 @@
 -- The next row is counted.
-use Rattle.std.proofs.Common.{◌≡◌, arith}
+use Rattle.std.proofs.Common.{arith}
 use Rattle.std.proofs.lemmas.Int.{ints, to_z-of_z}
-use Rattle.replication_cli.specs.Stocks.{raised}
 use Rattle.replication_cli.proofs.TotalLemmas.{total_more, greatest_more}
 use Rattle.replication_cli.proofs.stocks.totals_in.Goals as goal
 

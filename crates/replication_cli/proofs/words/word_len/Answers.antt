@@ -1,5 +1,5 @@
 -- The first byte that ends a word stands behind those that don't.
-use Rattle.std.proofs.Common.{◌≡◌, ℕ, ◌<◌, ◌≤◌, true, get_or, length, sym, arith, rules}
+use Rattle.std.proofs.Common.{length, sym, arith, rules}
 use Rattle.std.proofs.lemmas.List.Sums.{position_or_len_is}
 use Rattle.replication_cli.specs.Words.{ends_word}
 use Rattle.replication_cli.proofs.words.word_len.Goals as goal
