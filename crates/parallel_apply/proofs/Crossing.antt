@@ -180,7 +180,7 @@ module _ (R : RattleType) (g : Ghosts R.Denot) (s : IsSend R) where
   pub applier_send : IsSend (applier.the_row R (option.the_row u64-field.row) (opening.the_row R g) (told.ghosts R g told.no_dict told.no_dict) g)
   applier_send =
       let all : AllSend (fields (applier.the_type R (option.the_row u64-field.row) (opening.the_row R g) (told.ghosts R g told.no_dict told.no_dict) g)) =
-      (search sendable, (field_pass_send (crew.the_row R g) (option.the_row u64-field.row) (opening.the_row R g) (told.ghosts R g told.no_dict told.no_dict) crew_send, tt)) in
+      (search sendable, (search sendable, (field_pass_send (crew.the_row R g) (option.the_row u64-field.row) (opening.the_row R g) (told.ghosts R g told.no_dict told.no_dict) crew_send, tt))) in
       recorded_send _ _ _ (applier.the_type R (option.the_row u64-field.row) (opening.the_row R g) (told.ghosts R g told.no_dict told.no_dict) g).to_one
       (struct_send (shape (applier.the_type R (option.the_row u64-field.row) (opening.the_row R g) (told.ghosts R g told.no_dict told.no_dict) g)) all)
 

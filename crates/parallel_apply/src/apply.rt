@@ -7,7 +7,7 @@ ghost use Rattle.site_gate.specs.Passes.{IsPassOf};
 ghost use Rattle.parallel_apply.specs.Crews.{IsPartlyApplied};
 
 use crate::applier::{Applier, appliers_at, work};
-use crate::claim::appliers_worth;
+use crate::claim::Load;
 use crate::crew::Crew;
 use rep_io::Watch;
 use rep_lists::NoMemory;
@@ -34,7 +34,8 @@ fn apply_together<R: RowStore, X: Threads + Wait + Sync, W: Watch>(
     requires appliers { appliers ≤ 8 }
     ensures { IsPartlyApplied origin.now site result }
 {
-    let appliers = appliers_worth(&site, origin, appliers);
+    let load = Load::of(&site, origin, appliers);
+    let appliers = load.appliers(appliers);
     if appliers < 2 {
         return site;
     }
@@ -42,7 +43,7 @@ fn apply_together<R: RowStore, X: Threads + Wait + Sync, W: Watch>(
         Ok(made) => made,
         Err((crew, _)) => return crew.into_site(),
     };
-    let crew = appliers_at(alloc, &gate, &mut pass, appliers);
+    let crew = appliers_at(alloc, &gate, &mut pass, appliers, load.share());
     let shared = &gate;
     let apply = |applier: Applier<R>| -> Pass<Crew<R>>
         requires gate { IsPassOf shared.now applier.pass }

@@ -18,6 +18,9 @@ pub const LEAST_CALLS: usize = 32;
 /// For each so many calls that are ready there is one applier more, since it costs to start a thread.
 pub const CALLS_EACH: usize = 64;
 
+/// How many positions an applier claims in a pass of small transactions.
+pub const FEW_CLAIMS: u64 = 2;
+
 /// A position that an applier claimed, with its work where it is evaluated outside the lock.
 #[derive(Drop)]
 pub struct Claim {
@@ -40,34 +43,54 @@ pub(crate) fn calls_at<R: RowStore>(site: &Site<R>, origin: &SiteName, position:
     }
 }
 
-/// How many appliers have work where so many positions are ready, of so many calls: one where there are no two positions, else
-/// two, and one more for each `CALLS_EACH` calls.
-fn worth(positions: usize, calls: usize) -> usize {
-    if positions < 2 {
-        return 1;
-    }
-    (2 + calls / CALLS_EACH).min(positions)
+/// What is ready of a sender: how many positions, counted up to a number, and how many calls they have.
+#[derive(Clone, Copy, Debug, PartialEq, Eq)]
+pub(crate) struct Load {
+    positions: usize,
+    calls: usize,
 }
 
-/// How many appliers have work for what is ready of a sender, at most so many.
-pub(crate) fn appliers_worth<R: RowStore>(site: &Site<R>, origin: &SiteName, most: u32) -> u32
-    ensures { result ≤ most }
-{
-    let mut positions: usize = 0;
-    let mut calls: usize = 0;
-    let mut above = 0;
-    for _ in 0..site.arrived(origin) {
-        let Some(position) = site.lowest_ready(origin, above) else {
-            break;
+impl Load {
+    /// What is ready of a sender, up to so many positions.
+    pub(crate) fn of<R: RowStore>(site: &Site<R>, origin: &SiteName, most: u32) -> Load {
+        let mut load = Load {
+            positions: 0,
+            calls: 0,
         };
-        positions = positions.saturating_add(1);
-        calls = calls.saturating_add(calls_at(site, origin, position));
-        if worth(positions, calls) >= most as usize {
-            return most;
+        let mut above = 0;
+        for _ in 0..most {
+            let Some(position) = site.lowest_ready(origin, above) else {
+                break;
+            };
+            load.positions = load.positions.saturating_add(1);
+            load.calls = load.calls.saturating_add(calls_at(site, origin, position));
+            above = position;
         }
-        above = position;
+        load
     }
-    worth(positions, calls).min(most as usize) as u32
+
+    /// How many appliers have work, at most so many: one where no two positions are ready, else two, and one more for each
+    /// `CALLS_EACH` calls.
+    pub(crate) fn appliers(self, most: u32) -> u32
+        ensures { result ≤ most }
+    {
+        if self.positions < 2 {
+            return most.min(1);
+        }
+        (2 + self.calls / CALLS_EACH)
+            .min(self.positions)
+            .min(most as usize) as u32
+    }
+
+    /// How many positions an applier claims at most: a few, where transactions have few calls on the whole, since the rest is
+    /// applied sooner without turns.
+    pub(crate) fn share(self) -> u64 {
+        if self.calls / LEAST_CALLS < self.positions {
+            FEW_CLAIMS
+        } else {
+            u64::MAX
+        }
+    }
 }
 
 /// The claim of a position that is ready; None where there is no memory. A transaction that touches a constraint of a table,
