@@ -10,12 +10,11 @@ mod pair;
 mod told;
 
 use case_lines::CaseStop;
+use noting::Puts;
+use order::Order;
 use std::alloc::Global;
 use std::sync::{Arc, Wait};
 use std::thread::Threads;
-
-use noting::Puts;
-use order::Order;
 use told::Told;
 
 /// What is printed of the pass.

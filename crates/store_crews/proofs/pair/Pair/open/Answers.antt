@@ -16,4 +16,4 @@ invariant_of-result c =
     let unbroken : broken_rule c.args.schema.now ≡ None = c.in-Ok.ensures.sound in
     let apart : is_same_site c.in_ok-from.from.here.site c.in_ok-to.to.here.site ≡ false = rw (c.in_ok-from.ensures.name, c.in_ok-to.ensures.name) (sym c.if-is_same.ensures.value) in
     as_opened c.args.schema.now c.in_ok-from.from c.in_ok-to.to c.in_ok-from.ensures.opened c.in_ok-to.ensures.opened
-      (c.two_sites_run.ensures.begin c.args.schema.now c.in_ok-from.from.here c.in_ok-to.to.here (record { shape = c.requires; unbroken = unbroken }) c.in_ok-from.ensures.master c.in_ok-to.ensures.master apart)
+    (c.two_sites_run.ensures.begin c.args.schema.now c.in_ok-from.from.here c.in_ok-to.to.here (record { shape = c.requires; unbroken = unbroken }) c.in_ok-from.ensures.master c.in_ok-to.ensures.master apart)
