@@ -4,7 +4,6 @@ use Rattle.std.specs.Prelude.{Option, length, replicate, nat_le, nat_lt}
 use Rattle.std.specs.List.{range_with_len}
 use Rattle.site_state.specs.Steps.{is_empty}
 use mathlib.Core.Bool.{true≢false}
-use Rattle.std.specs.Option.{option_map}
 use Rattle.rep_values.specs.declared.name.SiteName.{SiteName}
 use Rattle.rep_schema.specs.declared.schema.Schema.{Schema}
 use Rattle.rep_schema.proofs.KeptTables.{AreTables-empty}
@@ -25,15 +24,14 @@ use Rattle.event_laws.specs.Starts.{IsNewSite}
 use Rattle.site_state.specs.Commits.{site_commit, block_at, committed_by, committed}
 use Rattle.site_state.specs.Packets.{site_packet, packet_found, carry_of, number_at, site_accept, is_foreign, taken_unless, taken_in, arrived_by}
 use Rattle.site_state.specs.DeclaredSites.{IsDeclared}
-use Rattle.rep_laws.specs.Commuting.{IsSound}
-use Rattle.event_laws.specs.Core.{Core, site_of, at_site}
-use Rattle.event_laws.specs.Events.{Event, run, happens, receiver, packet_from, with_packet, delivered}
+use Rattle.event_laws.specs.Core.{site_of, at_site}
+use Rattle.event_laws.specs.Events.{Event, run, receiver}
 use Rattle.event_laws.specs.Events.Event.{Commit, Send, Deliver}
 use Rattle.event_laws.specs.Fitting.{StartsFit}
 use Rattle.event_laws.proofs.Sites.{KeepsHere, at_split}
 use Rattle.event_laws.proofs.NewSites.{new_site_is_new}
 use Rattle.event_laws.proofs.Confluence.{every_site_can_pass_in_any_order}
-use Rattle.store_crews.specs.Runs.{AreInARun, opened, TwoBegin, TwoCommit, TwoDeliver, TwoPass}
+use Rattle.store_crews.specs.Runs.{opened, TwoBegin, TwoCommit, TwoDeliver, TwoPass}
 
 -- ---- what a commit and a packet leave
 

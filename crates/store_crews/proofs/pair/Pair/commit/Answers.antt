@@ -1,5 +1,5 @@
 -- A block keeps the run.
-use Rattle.std.proofs.Common.{◌≡◌, [], ◌∷◌}
+use Rattle.std.proofs.Common.{[], ◌∷◌}
 use Rattle.store_crews.proofs.pair.Pair.commit.Goals as goal
 
 pub invariant_of-self : goal.invariant_of-self

@@ -1,7 +1,6 @@
 -- Two new sites begin a run.
-use Rattle.std.proofs.Common.{◌≡◌, Bool, true, false, None, sym, ap, ◌∙◌, subst}
+use Rattle.std.proofs.Common.{◌≡◌, false, None, sym, subst}
 use Rattle.rep_schema.specs.declared.schema.Schema.{Schema}
-use Rattle.rep_laws.specs.Commuting.{IsSound}
 use Rattle.schema_rules.specs.Rules.{broken_rule}
 use Rattle.deferred_queue.specs.Streams.{is_same_site}
 use Rattle.site_state.specs.State.{SiteState}
