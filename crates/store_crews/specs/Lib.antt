@@ -1,2 +1,0 @@
--- The specs of this crate.
-pub mod Runs
