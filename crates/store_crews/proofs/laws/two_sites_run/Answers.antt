@@ -1,0 +1,15 @@
+-- The laws of two sites.
+use Rattle.store_crews.proofs.Runs.{two_begin, two_commit, two_deliver, two_pass}
+use Rattle.store_crews.proofs.laws.two_sites_run.Goals as goal
+
+pub returns-clause-begin : goal.returns-clause-begin
+returns-clause-begin c = two_begin
+
+pub returns-clause-commit : goal.returns-clause-commit
+returns-clause-commit c = two_commit
+
+pub returns-clause-deliver : goal.returns-clause-deliver
+returns-clause-deliver c = two_deliver
+
+pub returns-clause-pass : goal.returns-clause-pass
+returns-clause-pass c = two_pass

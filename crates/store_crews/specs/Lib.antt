@@ -1,0 +1,2 @@
+-- The specs of this crate.
+pub mod Runs

@@ -1,0 +1,10 @@
+//! Laws of two sites of a run. The functions are empty: their contracts are the laws.
+ghost use Rattle.store_crews.specs.Runs.{TwoBegin, TwoCommit, TwoDeliver, TwoPass};
+
+/// Two new sites are in a run, stay in it, and can pass.
+pub fn two_sites_run()
+    ensures begin { TwoBegin }
+    ensures commit { TwoCommit }
+    ensures deliver { TwoDeliver }
+    ensures pass { TwoPass }
+{}

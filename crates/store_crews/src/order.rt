@@ -1,0 +1,94 @@
+//! A watch that holds appliers until they meet, and looks at what was put meanwhile.
+
+use crate::noting::Puts;
+use rep_io::Watch;
+use std::hint::spin_loop;
+use std::sync::Arc;
+use std::sync::atomic::{AtomicU64, Ordering};
+
+const SECOND: u64 = 1;
+
+const THIRD: u64 = 2;
+
+const BOTH: u64 = SECOND | THIRD;
+
+const LATE: u64 = 4;
+
+const EARLY: u64 = 8;
+
+/// The most turns for which an applier is held.
+const TURNS: u64 = 1_000_000_000;
+
+/// Holds the appliers that work on positions 2 and 3 until both do.
+#[derive(Drop)]
+pub struct Order {
+    puts: Arc<Puts>,
+    // A bit for each of the two positions that an applier came with, one where an applier was held in vain, and one where a row
+    // was put too early, or not yet.
+    came: AtomicU64,
+}
+
+impl Order {
+    /// Nobody came yet.
+    pub fn new(puts: Arc<Puts>) -> Order {
+        Order {
+            puts,
+            came: AtomicU64::new(0),
+        }
+    }
+
+    /// Whether both came, and neither was held in vain, and each row was put when it had to be.
+    pub fn was_kept(&self) -> bool {
+        self.came.load(Ordering::SeqCst) == BOTH
+    }
+
+    fn add(&self, bits: u64) {
+        self.came.fetch_or(bits, Ordering::SeqCst);
+    }
+
+    fn wait_for_both(&self) {
+        for _ in 0..TURNS {
+            if self.came.load(Ordering::SeqCst) & BOTH == BOTH {
+                return;
+            }
+            spin_loop();
+        }
+        self.add(LATE);
+    }
+
+    // Row 1 wasn't put before.
+    fn work_on_first(&self) {
+        if self.puts.has_first() {
+            self.add(EARLY);
+        }
+    }
+
+    // Row 2 isn't put as long as the applier is held.
+    fn work_on_second(&self) {
+        self.add(SECOND);
+        self.wait_for_both();
+        if self.puts.has_second() {
+            self.add(EARLY);
+        }
+    }
+
+    // Row 1 was put before.
+    fn work_on_third(&self) {
+        if !self.puts.has_first() {
+            self.add(EARLY);
+        }
+        self.add(THIRD);
+        self.wait_for_both();
+    }
+}
+
+impl Watch for Order {
+    fn working(&self, _applier: u32, position: u64) {
+        match position {
+            1 => self.work_on_first(),
+            2 => self.work_on_second(),
+            3 => self.work_on_third(),
+            _ => {}
+        }
+    }
+}

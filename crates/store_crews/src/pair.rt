@@ -1,0 +1,136 @@
+//! A site that writes, and one that takes in what it sends.
+ghost use Rattle.std.specs.Prelude.{◌≡◌, ◌+◌, ◌^◌, ◌<◌, [], length, replicate, true, false, IfOk};
+ghost use Rattle.event_laws.specs.Confluence.{CanPassInAnyOrder};
+ghost use Rattle.rep_schema.specs.Shape.{HasShape};
+ghost use Rattle.rep_laws.specs.Commuting.{IsSound};
+ghost use Rattle.site_state.specs.State.{is_master_site};
+ghost use Rattle.store_crews.specs.Runs.{AreInARun, opened};
+
+use crate::laws::two_sites_run;
+use crate::noting::{NotingTables, Puts};
+use case_lines::CaseStop;
+use local_txn::Here;
+use rep_calls::Statement;
+use rep_laws::sound_schemas_have_keys;
+use rep_lists::{Copies, Items};
+use rep_schema::{RowStore, Schema, TableSet};
+use rep_values::SiteName;
+use schema_rules::check;
+use schema_sites::{destinations_of, is_master_site, senders_of};
+use site_core::Site;
+use std::alloc::Global;
+use std::marker::Model;
+use std::sync::Arc;
+
+/// The two sites.
+#[derive(Drop)]
+pub struct Pair {
+    from: Site<NotingTables>,
+    to: Site<NotingTables>,
+}
+
+impl Model for Pair {
+    ghost use Rattle.store_crews.specs.Runs.{Two, AreInARun};
+
+    ghost Value = { Two };
+
+    ghost view = { λ p. record { from = p.from; to = p.to } };
+
+    ghost invariant = { λ p. AreInARun p.from p.to };
+}
+
+/// A new site of a schema.
+fn open(
+    alloc: Global,
+    schema: &Schema,
+    name: SiteName,
+    puts: Arc<Puts>,
+) -> Result<Site<NotingTables>, CaseStop>
+    requires { IsSound schema.now }
+    ensures opened { IfOk result (λ site. site ≡ opened schema.now site.here) }
+    ensures name { IfOk result (λ site. site.here.site ≡ name) }
+    ensures master { IfOk result (λ site. site.here.is_master ≡ is_master_site schema.now site.here.site) }
+{
+    sound_schemas_have_keys();
+    let store = NotingTables::make(alloc, schema.copy(alloc)?, puts)?;
+    let here = Here {
+        site: name,
+        is_master: is_master_site(schema, &name),
+        tables: TableSet::of(&[0, 1, 2, 3]),
+    };
+    let senders = senders_of(alloc, schema, &name)?;
+    let destinations = destinations_of(alloc, schema, &name)?;
+    let site = Site::make(
+        alloc,
+        store,
+        here,
+        senders.as_slice(),
+        destinations.as_slice(),
+        &TableSet::below(0),
+        Items::new(alloc),
+    )?;
+    Ok(site)
+}
+
+impl Pair {
+    /// Two new sites of a schema that breaks no rule, which a master and another site of it are.
+    pub fn open(
+        alloc: Global,
+        schema: &Schema,
+        names: (SiteName, SiteName),
+        puts: Arc<Puts>,
+    ) -> Result<Pair, CaseStop>
+        requires { HasShape schema.now }
+    {
+        let (first, second) = names;
+        let Ok(()) = check(schema) else {
+            return Err(CaseStop::NoCase);
+        };
+        if first.is_same(&second) {
+            return Err(CaseStop::NoCase);
+        }
+        two_sites_run();
+        let from = open(alloc, schema, first, puts.clone()?)?;
+        let to = open(alloc, schema, second, puts)?;
+        Ok(Pair { from, to })
+    }
+
+    /// A block of the site that writes.
+    pub fn commit(&mut self, alloc: Global, statement: Statement) -> Result<(), CaseStop> {
+        if self.from.moment() == u64::MAX {
+            return Err(CaseStop::NoCase);
+        }
+        two_sites_run();
+        match self.from.commit(alloc, &[statement]) {
+            Ok(_) => Ok(()),
+            Err(_) => Err(CaseStop::NoCase),
+        }
+    }
+
+    /// The packet of a position comes to the other site.
+    pub fn deliver(&mut self, alloc: Global, position: u64) -> Result<(), CaseStop> {
+        two_sites_run();
+        let Some(sealed) = self.from.packet(alloc, self.to.name(), position)? else {
+            return Err(CaseStop::NoCase);
+        };
+        let packet = sealed.unseal(alloc)?;
+        self.to.accept(packet)?;
+        Ok(())
+    }
+
+    /// The other site, where it can make a pass for the one that writes, and that one's name.
+    pub fn into_receiver(self) -> Result<(Site<NotingTables>, SiteName), CaseStop>
+        ensures passes { IfOk result (λ receiver. CanPassInAnyOrder receiver.1 receiver.0) }
+        ensures few { IfOk result (λ receiver. receiver.0.moment + 1 < 2 ^ 64) }
+    {
+        two_sites_run();
+        let origin = *self.from.name();
+        let Pair { from, to } = self;
+        drop(from);
+        if to.moment() < u64::MAX && is_master_site(to.store().schema(), &origin) {
+            Ok((to, origin))
+        } else {
+            Err(CaseStop::NoCase)
+        }
+    }
+}
