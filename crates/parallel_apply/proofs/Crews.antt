@@ -1,11 +1,13 @@
 -- What a crew's turns keep, and that what an applier evaluated holds when it is put in.
-use Rattle.std.proofs.Common.{◌≡◌, ℕ, List, [], ◌∷◌, ◌++◌, true, false, Some, None, refl, sym, ap, ◌∙◌, subst, append-nil}
-use Rattle.std.specs.Prelude.{Option, IfSome}
+use Rattle.std.proofs.Common.{◌≡◌, ℕ, List, [], ◌∷◌, ◌++◌, Bool, true, false, cond, Some, None, refl, sym, ap, ◌∙◌, subst, append-nil}
+use Rattle.std.specs.Prelude.{Option, IfSome, ◌&&◌, is_none, nat_lt}
 use Rattle.rep_values.specs.declared.name.SiteName.{SiteName}
 use Rattle.rep_laws.specs.Commuting.{IsSound}
 use Rattle.site_state.specs.State.{SiteState, arrived_at}
 use Rattle.site_state.specs.Journal.{finished}
-use Rattle.site_state.specs.Ready.{stale_of, is_ready}
+use Rattle.site_state.specs.declared.answers.Why.{Why}
+use Rattle.site_state.specs.declared.arrival.Arrival.{Arrival}
+use Rattle.site_state.specs.Ready.{stale_of, is_ready, first_ready_in}
 use Rattle.site_state.specs.Passes.{site_apply}
 use Rattle.event_laws.specs.Confluence.{applied_in_turn, AreReadyInTurn}
 use Rattle.event_laws.proofs.MasterArrivals.{IsReadyAt, ready_at}
@@ -25,6 +27,17 @@ use Rattle.parallel_apply.proofs.Outlasting.{all_outlasted}
 -- what isn't stale is ready
 pub ready_here : (origin : SiteName) (p : ℕ) (x : SiteState) → stale_of origin p x ≡ None → is_ready origin p x ≡ true
 ready_here origin p x fresh = rw fresh refl
+
+-- the least ready position is ready
+pub first_is_ready : (origin : SiteName) (above : ℕ) (x : SiteState) (arrived : List Arrival) (p : ℕ) → first_ready_in origin above x arrived ≡ Some p → stale_of origin p x ≡ None
+first_is_ready origin above x [] p is = absurd (cc is)
+first_is_ready origin above x (a ∷ arrived) p is = go (nat_lt above a.position) (stale_of origin a.position x) refl is (first_is_ready origin above x arrived p)
+  where
+    go : (b : Bool) (why : Option Why) → stale_of origin a.position x ≡ why → cond (b && is_none why) (Some a.position) (first_ready_in origin above x arrived) ≡ Some p
+        → (first_ready_in origin above x arrived ≡ Some p → stale_of origin p x ≡ None) → stale_of origin p x ≡ None
+    go true None fresh is later = let same : a.position ≡ p = cc is in rw (← same) fresh
+    go true (Some why) fresh is later = later is
+    go false why fresh is later = later is
 
 pub told_alike : {X : Type 0} (x y : X) → Some x ≡ Some y → x ≡ y
 told_alike x y same = cc

@@ -39,7 +39,11 @@ fn apply_together<R: RowStore, X: Threads + Wait + Sync, W: Watch>(
     if appliers < 2 {
         return site;
     }
-    let (gate, mut pass) = match SiteGate::make(alloc, Crew::make(alloc, site, origin)) {
+    let crew = match Crew::make(alloc, site, origin) {
+        Ok(crew) => crew,
+        Err(site) => return site,
+    };
+    let (gate, mut pass) = match SiteGate::make(alloc, crew) {
         Ok(made) => made,
         Err((crew, _)) => return crew.into_site(),
     };

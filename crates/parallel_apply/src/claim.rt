@@ -105,7 +105,7 @@ pub(crate) fn claimed<R: RowStore>(
     requires ready { stale_of origin.now position site.now ≡ None }
     ensures { IfSome result (IsClaimAt origin.now site.now) }
 {
-    if site.has_unique(origin, position) || calls_at(site, origin, position) < LEAST_CALLS {
+    if calls_at(site, origin, position) < LEAST_CALLS || site.has_unique(origin, position) {
         return Some(Claim {
             position,
             work: None,

@@ -1,5 +1,5 @@
 //! The value that the appliers of a crew share.
-ghost use Rattle.std.specs.Prelude.{◌≡◌, ℕ, ◌+◌, ◌^◌, ◌<◌, [], ◌∷◌, ◌++◌, None, Option, length, IfSome, OnOk, OnErr};
+ghost use Rattle.std.specs.Prelude.{◌≡◌, ℕ, ◌+◌, ◌^◌, ◌<◌, [], ◌∷◌, ◌++◌, None, Option, length, IfSome, IfOk, IfErr, OnOk, OnErr};
 ghost use Rattle.site_state.specs.Ready.{stale_of};
 ghost use Rattle.site_state.specs.Passes.{site_apply};
 ghost use Rattle.site_core.specs.Working.{EndsHere};
@@ -24,7 +24,8 @@ use txn_work::support_outlasts_independent_transactions;
 /// and how the site was before the first of these, which only contracts look at.
 #[derive(Drop)]
 pub struct Crew<R: RowStore> {
-    site: Site<R>,
+    // Apart, since the crew goes from applier to applier.
+    site: Box<Site<R>>,
     origin: SiteName,
     opened: Snapshot<Site<R>>,
     turns: TurnLog,
@@ -37,9 +38,9 @@ impl<R: RowStore> Model for Crew<R> {
 
     ghost Value = { CrewState };
 
-    ghost view = { λ c. record { opened = c.opened.value; origin = c.origin; turns = turns_in c.turns; site = c.site } };
+    ghost view = { λ c. record { opened = c.opened.value; origin = c.origin; turns = turns_in c.turns; site = c.site.value } };
 
-    ghost invariant = { λ c. IsCrew (record { opened = c.opened.value; origin = c.origin; turns = turns_in c.turns; site = c.site }) };
+    ghost invariant = { λ c. IsCrew (record { opened = c.opened.value; origin = c.origin; turns = turns_in c.turns; site = c.site.value }) };
 }
 
 /// How a crew began. No value of it is made.
@@ -85,21 +86,26 @@ fn put_in<R: RowStore>(
 }
 
 impl<R: RowStore> Crew<R> {
-    /// A crew that has made no turn yet.
-    pub(crate) fn make(alloc: Global, site: Site<R>, origin: &SiteName) -> Crew<R>
+    /// A crew that has made no turn yet. Where there is no memory, the site comes back.
+    pub(crate) fn make(alloc: Global, site: Site<R>, origin: &SiteName) -> Result<Crew<R>, Site<R>>
         requires { CanPassInAnyOrder origin.now site }
-        ensures opened { result.opened ≡ site }
-        ensures origin { result.origin ≡ origin.now }
-        ensures turns { result.turns ≡ [] }
+        ensures opened { IfOk result (λ crew. crew.opened ≡ site) }
+        ensures origin { IfOk result (λ crew. crew.origin ≡ origin.now) }
+        ensures turns { IfOk result (λ crew. crew.turns ≡ []) }
+        ensures err { IfErr result (λ back. back ≡ site) }
     {
         let opened = Snapshot::of(&site);
-        Crew {
+        let site = match Box::new(alloc, site) {
+            Ok(site) => site,
+            Err(refused) => return Err(refused.value),
+        };
+        Ok(Crew {
             site,
             origin: *origin,
             opened,
             turns: TurnLog::new(alloc),
             claims: Claims::new(),
-        }
+        })
     }
 
     /// Claims a position for an applier, in a turn that applies nothing; None where nothing is free, or where there is no
@@ -151,6 +157,6 @@ impl<R: RowStore> Crew<R> {
         ensures site { result ≡ self.site }
         ensures crew { IsCrew self }
     {
-        self.site
+        Box::into_inner(self.site)
     }
 }

@@ -11,7 +11,7 @@ invariant_of-self-in_default g c =
 
 pub put_in-requires-clause-ending : goal.put_in-requires-clause-ending
 put_in-requires-clause-ending g c κs within =
-    ends_here _ _ _ _ c.self.invariant c.support_outlasts_independent_transactions.ensures c.args.done (rw (← c.self.view_is) at c.requires.earlier) (search rules)
+    rw c.deref_mut.ensures.value (ends_here _ _ _ _ c.self.invariant c.support_outlasts_independent_transactions.ensures c.args.done (rw (← c.self.view_is) at c.requires.earlier) (search rules))
 
 pub invariant_of-self-in_default-put_in : goal.invariant_of-self-in_default-put_in
 invariant_of-self-in_default-put_in g c =
@@ -19,4 +19,4 @@ invariant_of-self-in_default-put_in g c =
 
 pub invariant_of-self-2 : goal.invariant_of-self-2
 invariant_of-self-2 g c =
-    with_applied _ _ _ _ c.self.invariant _ _ c.args.done.position (search rules) (c.apply.ensures ∙ ap (λ ts. ts ++ Some c.args.done.position ∷ []) c.reserve.ensures.same) c.in-Ok-put_in.ensures.ok
+    with_applied _ _ _ _ c.self.invariant _ _ c.args.done.position (search rules) (c.apply.ensures ∙ ap (λ ts. ts ++ Some c.args.done.position ∷ []) c.reserve.ensures.same) (rw (← c.deref_mut.ensures.value) c.in-Ok-put_in.ensures.ok)
