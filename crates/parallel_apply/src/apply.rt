@@ -47,7 +47,7 @@ fn apply_together<R: RowStore, X: Threads + Wait + Sync, W: Watch>(
         Ok(made) => made,
         Err((crew, _)) => return crew.into_site(),
     };
-    let crew = appliers_at(alloc, &gate, &mut pass, appliers, load.share());
+    let crew = appliers_at(alloc, &gate, &mut pass, appliers, load);
     let shared = &gate;
     let apply = |applier: Applier<R>| -> Pass<Crew<R>>
         requires gate { IsPassOf shared.now applier.pass }

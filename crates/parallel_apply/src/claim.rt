@@ -18,7 +18,7 @@ pub const LEAST_CALLS: usize = 32;
 /// For each so many calls that are ready there is one applier more, since it costs to start a thread.
 pub const CALLS_EACH: usize = 64;
 
-/// How many positions an applier claims in a pass of small transactions.
+/// How many positions an applier claims in a pass of small transactions, but for the last one.
 pub const FEW_CLAIMS: u64 = 2;
 
 /// A position that an applier claimed, with its work where it is evaluated outside the lock.
@@ -43,7 +43,8 @@ pub(crate) fn calls_at<R: RowStore>(site: &Site<R>, origin: &SiteName, position:
     }
 }
 
-/// What is ready of a sender: how many positions, counted up to a number, and how many calls they have.
+/// What is ready of a sender: its first positions, as many as there are appliers wanted for them, and how many calls they
+/// have.
 #[derive(Clone, Copy, Debug, PartialEq, Eq)]
 pub(crate) struct Load {
     positions: usize,
@@ -59,6 +60,9 @@ impl Load {
         };
         let mut above = 0;
         for _ in 0..most {
+            if load.positions >= load.wanted() {
+                break;
+            }
             let Some(position) = site.lowest_ready(origin, above) else {
                 break;
             };
@@ -69,23 +73,27 @@ impl Load {
         load
     }
 
-    /// How many appliers have work, at most so many: one where no two positions are ready, else two, and one more for each
-    /// `CALLS_EACH` calls.
+    /// How many appliers there are calls for: two, and one more for each `CALLS_EACH` calls.
+    fn wanted(self) -> usize {
+        (self.calls / CALLS_EACH).saturating_add(2)
+    }
+
+    /// How many appliers have work, at most so many: one where no two positions are ready.
     pub(crate) fn appliers(self, most: u32) -> u32
         ensures { result ≤ most }
     {
         if self.positions < 2 {
             return most.min(1);
         }
-        (2 + self.calls / CALLS_EACH)
-            .min(self.positions)
-            .min(most as usize) as u32
+        self.wanted().min(self.positions).min(most as usize) as u32
     }
 
-    /// How many positions an applier claims at most: a few, where transactions have few calls on the whole, since the rest is
-    /// applied sooner without turns.
-    pub(crate) fn share(self) -> u64 {
-        if self.calls / LEAST_CALLS < self.positions {
+    /// How many positions an applier claims at most, by its place among so many: a few, where transactions have few calls on
+    /// the whole. The last one, which the calling thread is, goes on until nothing is free, since it would only wait for the
+    /// others.
+    pub(crate) fn share(self, place: u32, number: u32) -> u64 {
+        let is_last = place >= number.saturating_sub(1);
+        if !is_last && self.calls / LEAST_CALLS < self.positions {
             FEW_CLAIMS
         } else {
             u64::MAX
