@@ -3,7 +3,7 @@ ghost use Rattle.std.specs.Prelude.{◌≡◌, ◌<◌, ◌≤◌};
 ghost use Rattle.std.specs.List.{All};
 ghost use Rattle.site_gate.specs.Passes.{IsPassOf, opening_of};
 
-use crate::claim::{Load, evaluate};
+use crate::claim::evaluate;
 use crate::crew::Crew;
 use rep_io::Watch;
 use rep_schema::RowStore;
@@ -22,13 +22,13 @@ where
     pub pass: Pass<Crew<R>>,
 }
 
-/// So many appliers, or as many as there is memory for, each with its share of a load.
+/// So many appliers, or as many as there is memory for, each with a share.
 pub(crate) fn appliers_at<R: RowStore>(
     alloc: Global,
     gate: &SiteGate<Crew<R>>,
     pass: &mut Pass<Crew<R>>,
     number: u32,
-    load: Load,
+    share: u64,
 ) -> Vec<Applier<R>>
     requires gate { IsPassOf gate.now pass.old }
     requires number { number ≤ 8 }
@@ -38,10 +38,10 @@ pub(crate) fn appliers_at<R: RowStore>(
     ensures numbers { All (λ applier. applier.number < 8) result.items }
 {
     let mut appliers = Vec::new(alloc);
-    for place in 0..number {
+    for number in 0..number {
         let applier = Applier {
-            number: place,
-            share: load.share(place, number),
+            number,
+            share,
             pass: gate.split(pass),
         };
         let Ok(()) = appliers.push(applier) else {

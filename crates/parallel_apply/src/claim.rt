@@ -18,8 +18,12 @@ pub const LEAST_CALLS: usize = 32;
 /// For each so many calls that are ready there is one applier more, since it costs to start a thread.
 pub const CALLS_EACH: usize = 64;
 
-/// How many positions an applier claims in a pass of small transactions, but for the last one.
+/// How many positions an applier claims in a pass of small transactions.
 pub const FEW_CLAIMS: u64 = 2;
+
+/// For small transactions threads are started in a sender's first so many positions, and then once in as many: to start one
+/// and to wait for it takes as long as some twenty of them, which are evaluated under the lock all the same.
+pub const SMALL_EACH: u64 = 256;
 
 /// A position that an applier claimed, with its work where it is evaluated outside the lock.
 #[derive(Drop)]
@@ -43,8 +47,7 @@ pub(crate) fn calls_at<R: RowStore>(site: &Site<R>, origin: &SiteName, position:
     }
 }
 
-/// What is ready of a sender: its first positions, as many as there are appliers wanted for them, and how many calls they
-/// have.
+/// What is ready of a sender: how many positions, counted up to a number, and how many calls they have.
 #[derive(Clone, Copy, Debug, PartialEq, Eq)]
 pub(crate) struct Load {
     positions: usize,
@@ -60,9 +63,6 @@ impl Load {
         };
         let mut above = 0;
         for _ in 0..most {
-            if load.positions >= load.wanted() {
-                break;
-            }
             let Some(position) = site.lowest_ready(origin, above) else {
                 break;
             };
@@ -73,32 +73,50 @@ impl Load {
         load
     }
 
-    /// How many appliers there are calls for: two, and one more for each `CALLS_EACH` calls.
-    fn wanted(self) -> usize {
-        (self.calls / CALLS_EACH).saturating_add(2)
-    }
-
-    /// How many appliers have work, at most so many: one where no two positions are ready.
+    /// How many appliers have work, at most so many: one where no two positions are ready, else two, and one more for each
+    /// `CALLS_EACH` calls.
     pub(crate) fn appliers(self, most: u32) -> u32
         ensures { result ≤ most }
     {
         if self.positions < 2 {
             return most.min(1);
         }
-        self.wanted().min(self.positions).min(most as usize) as u32
+        (2 + self.calls / CALLS_EACH)
+            .min(self.positions)
+            .min(most as usize) as u32
     }
 
-    /// How many positions an applier claims at most, by its place among so many: a few, where transactions have few calls on
-    /// the whole. The last one, which the calling thread is, goes on until nothing is free, since it would only wait for the
-    /// others.
-    pub(crate) fn share(self, place: u32, number: u32) -> u64 {
-        let is_last = place >= number.saturating_sub(1);
-        if !is_last && self.calls / LEAST_CALLS < self.positions {
+    /// How many positions an applier claims at most: a few, where transactions have few calls on the whole, since the rest is
+    /// applied sooner without turns.
+    pub(crate) fn share(self) -> u64 {
+        if self.calls / LEAST_CALLS < self.positions {
             FEW_CLAIMS
         } else {
             u64::MAX
         }
     }
+}
+
+/// Whether the first transactions behind a sender's low-water mark, so many, have `LEAST_CALLS` calls each on the whole.
+fn has_many_calls<R: RowStore>(site: &Site<R>, origin: &SiteName, mark: u64, most: u32) -> bool {
+    let mut calls: usize = 0;
+    for behind in 1..=u64::from(most) {
+        calls = calls.saturating_add(calls_at(site, origin, mark.saturating_add(behind)));
+    }
+    calls / LEAST_CALLS >= most as usize
+}
+
+/// Whether a pass for a sender by so many appliers may start threads: always where transactions have many calls; else in the
+/// sender's first `SMALL_EACH` positions, and where the pass reaches over a multiple of these.
+pub(crate) fn may_start_threads<R: RowStore>(
+    site: &Site<R>,
+    origin: &SiteName,
+    appliers: u32,
+) -> bool {
+    let mark = site.mark(origin);
+    mark < SMALL_EACH
+        || mark / SMALL_EACH != site.arrived(origin) / SMALL_EACH
+        || has_many_calls(site, origin, mark, appliers)
 }
 
 /// The claim of a position that is ready; None where there is no memory. A transaction that touches a constraint of a table,
