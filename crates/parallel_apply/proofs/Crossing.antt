@@ -6,6 +6,8 @@ use denote.Struct.Tuple.{type_at, TupleAt}
 use mir.Syntax.{Sym}
 use Rattle.std.specs.Prelude.{[], ◌∷◌}
 use Rattle.std.specs.contracts.alloc.Global as global
+use Rattle.std.specs.contracts.impls.GlobalAllocator.TheImpl as heap
+use Rattle.std.specs.contracts.boxed.Box as box
 use Rattle.std.proofs.Crossing.{crosses}
 use Rattle.std.proofs.MapsCrossing as maps
 use Rattle.std.specs.contracts.snapshot.Snapshot as snapshot
@@ -164,9 +166,12 @@ module _ (R : RattleType) (g : Ghosts R.Denot) (s : IsSend R) where
   field_opened_send : IsSend (snapshot.the_field (site.the_row R g)).row
   field_opened_send = search (sendable, crosses) depth 10
 
+  field_site_send : IsSend (box.the_field (site.the_row R g) global.the_row heap.ghosts).row
+  field_site_send = search (sendable, crosses, site_send) depth 10
+
   inside_send : IsSend (inside.the_row R g)
   inside_send =
-      let all : AllSend (fields (inside.the_type R g)) = (site_send R g s, (field_name_send, (field_opened_send, (field_turns_send, (field_claims_send, tt))))) in
+      let all : AllSend (fields (inside.the_type R g)) = (field_site_send, (field_name_send, (field_opened_send, (field_turns_send, (field_claims_send, tt))))) in
       recorded_send _ _ _ (inside.the_type R g).to_one (struct_send (shape (inside.the_type R g)) all)
 
   -- so may a crew

@@ -1,7 +1,9 @@
 -- A crew: a site, how it was when the crew began, and the turns that led from there to here.
-use Rattle.std.specs.Prelude.{◌≡◌, ℕ, List, Option, Some, None, IfSome}
+use Rattle.std.specs.Prelude.{◌≡◌, ℕ, Bool, true, false, List, Option, Some, None, IfSome}
 use Rattle.rep_values.specs.declared.name.SiteName.{SiteName}
 use Rattle.site_state.specs.State.{SiteState}
+use Rattle.site_state.specs.declared.answers.Applied.{Applied}
+use Rattle.site_state.specs.declared.answers.Applied.TheVariants as applied
 use Rattle.site_state.specs.Ready.{stale_of}
 use Rattle.event_laws.specs.Confluence.{applied_in_turn, AreReadyInTurn, CanPassInAnyOrder}
 use Rattle.txn_work.specs.declared.outcome.Outcome.{Outcome}
@@ -10,6 +12,12 @@ use Rattle.site_core.specs.Working.{IsWorkOf, HoldsWhereAlike}
 use Rattle.parallel_apply.specs.Turns.{positions_of, site_after}
 use Rattle.parallel_apply.specs.declared.claim.Claim.{Claim}
 use Rattle.parallel_apply.specs.declared.claim.Evaluated.{Evaluated}
+
+-- a position wasn't ready, by what became of it
+abbrev pub is_stale : Applied → Bool
+is_stale (applied.Done) = false
+is_stale (applied.Error error) = false
+is_stale (applied.Stale why) = true
 
 -- the site as it was when the crew began and as it is, whose positions are applied, and the turns, the oldest first
 pub record CrewState : Type 0 where

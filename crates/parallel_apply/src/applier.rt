@@ -76,10 +76,10 @@ pub(crate) fn work<R: RowStore, X: Wait, W: Watch>(
         let Some(claim) = claim else {
             break;
         };
-        watch.working(number, claim.position);
         let Ok(done) = evaluate(alloc, claim) else {
             break;
         };
+        watch.working(number, done.position);
         let mut turn = gate.enter(rt, pass);
         let went = turn.value.install(alloc, number, done);
         pass = gate.leave(turn);

@@ -7,7 +7,7 @@ ghost use Rattle.site_gate.specs.Passes.{IsPassOf};
 ghost use Rattle.parallel_apply.specs.Crews.{IsPartlyApplied};
 
 use crate::applier::{Applier, appliers_at, work};
-use crate::claim::Load;
+use crate::claim::{Load, may_start_threads};
 use crate::crew::Crew;
 use rep_io::Watch;
 use rep_lists::NoMemory;
@@ -39,7 +39,11 @@ fn apply_together<R: RowStore, X: Threads + Wait + Sync, W: Watch>(
     if appliers < 2 {
         return site;
     }
-    let (gate, mut pass) = match SiteGate::make(alloc, Crew::make(alloc, site, origin)) {
+    let crew = match Crew::make(alloc, site, origin) {
+        Ok(crew) => crew,
+        Err(site) => return site,
+    };
+    let (gate, mut pass) = match SiteGate::make(alloc, crew) {
         Ok(made) => made,
         Err((crew, _)) => return crew.into_site(),
     };
@@ -58,7 +62,8 @@ fn apply_together<R: RowStore, X: Threads + Wait + Sync, W: Watch>(
 /// there is no memory, some of what was ready is applied, each transaction whole and journalled.
 ///
 /// What arrived from the sender can be passed in any order, as it can at every site of a script's world; there are 1 to 8
-/// appliers. Threads are started only where two positions are ready, and more than one only where there are enough calls.
+/// appliers. Threads are started only where two positions are ready, and more than one only where there are enough calls; for
+/// small transactions only from time to time.
 pub fn apply_crew<R: RowStore, X: Threads + Wait + Sync, W: Watch>(
     rt: &X,
     alloc: Global,
@@ -74,6 +79,12 @@ pub fn apply_crew<R: RowStore, X: Threads + Wait + Sync, W: Watch>(
     ensures err { IfErr result (λ refused. IsPartlyApplied origin.now (begun site) refused.0) }
 {
     let mut site = site;
+    if !may_start_threads(&site, origin, appliers) {
+        return match site.apply_pass(alloc, origin) {
+            Ok(_) => Ok(site),
+            Err(refused) => Err((site, refused)),
+        };
+    }
     site.begin_pass();
     let from = site.journal_len();
     let mut site = apply_together(rt, alloc, site, origin, appliers, watch);

@@ -21,6 +21,10 @@ pub const CALLS_EACH: usize = 64;
 /// How many positions an applier claims in a pass of small transactions.
 pub const FEW_CLAIMS: u64 = 2;
 
+/// For small transactions threads are started in a sender's first so many positions, and then once in as many: to start one
+/// and to wait for it takes as long as some twenty of them, which are evaluated under the lock all the same.
+pub const SMALL_EACH: u64 = 256;
+
 /// A position that an applier claimed, with its work where it is evaluated outside the lock.
 #[derive(Drop)]
 pub struct Claim {
@@ -93,6 +97,28 @@ impl Load {
     }
 }
 
+/// Whether the first transactions behind a sender's low-water mark, so many, have `LEAST_CALLS` calls each on the whole.
+fn has_many_calls<R: RowStore>(site: &Site<R>, origin: &SiteName, mark: u64, most: u32) -> bool {
+    let mut calls: usize = 0;
+    for behind in 1..=u64::from(most) {
+        calls = calls.saturating_add(calls_at(site, origin, mark.saturating_add(behind)));
+    }
+    calls / LEAST_CALLS >= most as usize
+}
+
+/// Whether a pass for a sender by so many appliers may start threads: always where transactions have many calls; else in the
+/// sender's first `SMALL_EACH` positions, and where the pass reaches over a multiple of these.
+pub(crate) fn may_start_threads<R: RowStore>(
+    site: &Site<R>,
+    origin: &SiteName,
+    appliers: u32,
+) -> bool {
+    let mark = site.mark(origin);
+    mark < SMALL_EACH
+        || mark / SMALL_EACH != site.arrived(origin) / SMALL_EACH
+        || has_many_calls(site, origin, mark, appliers)
+}
+
 /// The claim of a position that is ready; None where there is no memory. A transaction that touches a constraint of a table,
 /// or has few calls, is evaluated in the turn that installs it.
 pub(crate) fn claimed<R: RowStore>(
@@ -105,7 +131,7 @@ pub(crate) fn claimed<R: RowStore>(
     requires ready { stale_of origin.now position site.now ≡ None }
     ensures { IfSome result (IsClaimAt origin.now site.now) }
 {
-    if site.has_unique(origin, position) || calls_at(site, origin, position) < LEAST_CALLS {
+    if calls_at(site, origin, position) < LEAST_CALLS || site.has_unique(origin, position) {
         return Some(Claim {
             position,
             work: None,

@@ -34,11 +34,11 @@ impl Claims {
             .any(|working: &u64| -> bool { *working == position })
     }
 
-    /// Whether a position may be claimed: it is ready, and nobody works on it.
+    /// Whether a position may be claimed: nobody works on it, and it is ready.
     fn is_free<R: RowStore>(&self, site: &Site<R>, origin: &SiteName, position: u64) -> bool
         ensures { result ≡ Rattle.std.specs.Prelude.true → stale_of origin.now position site.now ≡ None }
     {
-        site.stale(origin, position).is_none() && !self.is_worked_on(position)
+        !self.is_worked_on(position) && site.stale(origin, position).is_none()
     }
 
     /// The next position ahead that is free.
@@ -51,7 +51,7 @@ impl Claims {
                 return None;
             };
             self.ahead = position;
-            if self.is_free(site, origin, position) {
+            if !self.is_worked_on(position) {
                 return Some(position);
             }
         }

@@ -1,11 +1,11 @@
 //! The value that the appliers of a crew share.
-ghost use Rattle.std.specs.Prelude.{◌≡◌, ℕ, ◌+◌, ◌^◌, ◌<◌, [], ◌∷◌, ◌++◌, None, Option, length, IfSome, OnOk, OnErr};
-ghost use Rattle.site_state.specs.Ready.{stale_of};
+ghost use Rattle.std.specs.Prelude.{◌≡◌, ℕ, ◌+◌, ◌^◌, ◌<◌, [], ◌∷◌, ◌++◌, None, Option, not, length, IfSome, IfOk, IfErr, OnOk, OnErr};
+ghost use Rattle.site_state.specs.Ready.{stale_of, is_ready};
 ghost use Rattle.site_state.specs.Passes.{site_apply};
 ghost use Rattle.site_core.specs.Working.{EndsHere};
 ghost use Rattle.event_laws.specs.Confluence.{CanPassInAnyOrder};
 ghost use Rattle.parallel_apply.specs.Turns.{site_after};
-ghost use Rattle.parallel_apply.specs.Crews.{IsCrew, IsClaimAt, IsOfEarlierClaim};
+ghost use Rattle.parallel_apply.specs.Crews.{is_stale, IsCrew, IsClaimAt, IsOfEarlierClaim};
 
 use crate::claim::{Claim, Evaluated, claimed};
 use crate::claims::Claims;
@@ -15,6 +15,7 @@ use rep_schema::RowStore;
 use rep_values::SiteName;
 use site_core::Site;
 use site_gate::Turns;
+use site_state::Applied;
 use std::alloc::Global;
 use std::marker::Model;
 use std::snapshot::Snapshot;
@@ -24,7 +25,8 @@ use txn_work::support_outlasts_independent_transactions;
 /// and how the site was before the first of these, which only contracts look at.
 #[derive(Drop)]
 pub struct Crew<R: RowStore> {
-    site: Site<R>,
+    // Apart, since the crew goes from applier to applier.
+    site: Box<Site<R>>,
     origin: SiteName,
     opened: Snapshot<Site<R>>,
     turns: TurnLog,
@@ -37,9 +39,9 @@ impl<R: RowStore> Model for Crew<R> {
 
     ghost Value = { CrewState };
 
-    ghost view = { λ c. record { opened = c.opened.value; origin = c.origin; turns = turns_in c.turns; site = c.site } };
+    ghost view = { λ c. record { opened = c.opened.value; origin = c.origin; turns = turns_in c.turns; site = c.site.value } };
 
-    ghost invariant = { λ c. IsCrew (record { opened = c.opened.value; origin = c.origin; turns = turns_in c.turns; site = c.site }) };
+    ghost invariant = { λ c. IsCrew (record { opened = c.opened.value; origin = c.origin; turns = turns_in c.turns; site = c.site.value }) };
 }
 
 /// How a crew began. No value of it is made.
@@ -59,47 +61,63 @@ impl<R: RowStore> Turns for Crew<R> {
     ghost opening = { λ c. record { site = c.opened; origin = c.origin } };
 }
 
-/// Puts what was evaluated into a site, or evaluates it there.
+/// Whether a position was ready, by what became of it.
+fn was_ready(applied: &Applied) -> bool
+    ensures { result ≡ not (is_stale applied.now) }
+{
+    match applied {
+        Applied::Done | Applied::Error(_) => true,
+        Applied::Stale(_) => false,
+    }
+}
+
+/// Puts what was evaluated into a site where its position is ready still, or evaluates it there, and answers whether it was
+/// ready.
 fn put_in<R: RowStore>(
     site: &mut Site<R>,
     alloc: Global,
     origin: &SiteName,
     done: Evaluated,
-) -> Result<(), NoMemory>
-    requires ready { stale_of origin.now done.position site.old ≡ None }
+) -> Result<bool, NoMemory>
     requires of { IfSome done.outcome (λ outcome. (outcome.origin ≡ origin.now) × (outcome.position ≡ done.position)) }
-    requires ending { IfSome done.outcome (λ outcome. EndsHere origin.now done.position site.old outcome.ending) }
+    requires ending { stale_of origin.now done.position site.old ≡ None → IfSome done.outcome (λ outcome. EndsHere origin.now done.position site.old outcome.ending) }
+    ensures ready { IfOk result (λ ready. ready ≡ is_ready origin.now done.position site.old) }
     ensures ok { OnOk result (site.new ≡ site_apply origin.now done.position site.old) }
     ensures err { OnErr result (site.new ≡ site.old) }
 {
     let Evaluated { position, outcome } = done;
-    match outcome {
-        Some(outcome) => {
-            site.install(alloc, outcome)?;
-        }
-        None => {
-            site.apply_one(alloc, origin, position)?;
-        }
+    let Some(outcome) = outcome else {
+        let applied = site.apply_one(alloc, origin, position)?;
+        return Ok(was_ready(&applied));
+    };
+    if site.stale(origin, position).is_some() {
+        return Ok(false);
     }
-    Ok(())
+    site.install(alloc, outcome)?;
+    Ok(true)
 }
 
 impl<R: RowStore> Crew<R> {
-    /// A crew that has made no turn yet.
-    pub(crate) fn make(alloc: Global, site: Site<R>, origin: &SiteName) -> Crew<R>
+    /// A crew that has made no turn yet. Where there is no memory, the site comes back.
+    pub(crate) fn make(alloc: Global, site: Site<R>, origin: &SiteName) -> Result<Crew<R>, Site<R>>
         requires { CanPassInAnyOrder origin.now site }
-        ensures opened { result.opened ≡ site }
-        ensures origin { result.origin ≡ origin.now }
-        ensures turns { result.turns ≡ [] }
+        ensures opened { IfOk result (λ crew. crew.opened ≡ site) }
+        ensures origin { IfOk result (λ crew. crew.origin ≡ origin.now) }
+        ensures turns { IfOk result (λ crew. crew.turns ≡ []) }
+        ensures err { IfErr result (λ back. back ≡ site) }
     {
         let opened = Snapshot::of(&site);
-        Crew {
+        let site = match Box::new(alloc, site) {
+            Ok(site) => site,
+            Err(refused) => return Err(refused.value),
+        };
+        Ok(Crew {
             site,
             origin: *origin,
             opened,
             turns: TurnLog::new(alloc),
             claims: Claims::new(),
-        }
+        })
     }
 
     /// Claims a position for an applier, in a turn that applies nothing; None where nothing is free, or where there is no
@@ -130,20 +148,24 @@ impl<R: RowStore> Crew<R> {
         support_outlasts_independent_transactions();
         let position = done.position;
         self.claims.leave(applier);
-        if self.site.stale(&self.origin, position).is_some() {
-            self.turns.pass();
-            return true;
-        }
         let Ok(()) = self.turns.reserve() else {
             self.turns.pass();
             return false;
         };
-        let Ok(()) = put_in(&mut self.site, alloc, &self.origin, done) else {
-            self.turns.pass();
-            return false;
-        };
-        self.turns.apply(position);
-        true
+        match put_in(&mut self.site, alloc, &self.origin, done) {
+            Ok(true) => {
+                self.turns.apply(position);
+                true
+            }
+            Ok(false) => {
+                self.turns.pass();
+                true
+            }
+            Err(NoMemory) => {
+                self.turns.pass();
+                false
+            }
+        }
     }
 
     /// The site, after the turns that were made.
@@ -151,6 +173,6 @@ impl<R: RowStore> Crew<R> {
         ensures site { result ≡ self.site }
         ensures crew { IsCrew self }
     {
-        self.site
+        Box::into_inner(self.site)
     }
 }

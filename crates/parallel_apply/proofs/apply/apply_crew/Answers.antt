@@ -1,7 +1,7 @@
 use Rattle.std.proofs.Common.{ap, ◌∙◌, length, take}
 use Rattle.site_state.specs.State.{arrivals}
 use Rattle.parallel_apply.proofs.SettledPass.{can_pass_begun}
-use Rattle.parallel_apply.proofs.CrewPass.{more_applied, sound_then, settleable_then, passed_then}
+use Rattle.parallel_apply.proofs.CrewPass.{none_applied, more_applied, sound_then, settleable_then, passed_then}
 use Rattle.parallel_apply.proofs.apply.apply_crew.Goals as goal
 
 pub apply_together-site-requires-clause-passes : goal.apply_together-site-requires-clause-passes
@@ -9,7 +9,11 @@ apply_together-site-requires-clause-passes g c κs within = rw c.begin_pass.ensu
 
 pub returns-in-Err-clause-err : goal.returns-in-Err-clause-err
 returns-in-Err-clause-err g c =
-    more_applied _ _ _ _ (take c.in-Err.ensures.err.0 (arrivals c.args.origin.now c.apply_together-site.result)) (rw c.begin_pass.ensures at c.apply_together-site.ensures) c.in-Err.ensures.err.1
+    more_applied _ _ _ _ (take c.in-Err.ensures.err.0 (arrivals c.args.origin.now c.args.site)) (none_applied _ _) c.in-Err.ensures.err.1
+
+pub returns-in-Err-finish_pass-clause-err : goal.returns-in-Err-finish_pass-clause-err
+returns-in-Err-finish_pass-clause-err g c =
+    more_applied _ _ _ _ (take c.in-Err-finish_pass.ensures.err.0 (arrivals c.args.origin.now c.apply_together-site.result)) (rw c.begin_pass.ensures at c.apply_together-site.ensures) c.in-Err-finish_pass.ensures.err.1
 
 pub settle_pass-requires-clause-sound : goal.settle_pass-requires-clause-sound
 settle_pass-requires-clause-sound g c κs within =

@@ -1,7 +1,11 @@
 use denote.Exit.{no}
 use denote.Param.Send.{param_send, arg_send, param_sync, arg_sync, shr_sync}
 use Rattle.parallel_apply.proofs.Crossing.{crew_send, crew_pass_send, applier_send, crew_gate_sync, heap_sync, four_sync}
+use Rattle.parallel_apply.proofs.CrewPass.{none_applied}
 use Rattle.parallel_apply.proofs.apply.apply_together.Goals as goal
+
+pub returns-in-Err : goal.returns-in-Err
+returns-in-Err g c = rw c.in-Err.ensures.err (none_applied _ _)
 
 pub make-requires-2-send-T : goal.make-requires-2-send-T
 make-requires-2-send-T g c κs within = param_send 0 _ (arg_send _ no _ (crew_send _ g.R.RowStore c.type_bounds.send-R))

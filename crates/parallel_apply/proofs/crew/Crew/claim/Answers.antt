@@ -8,11 +8,11 @@ pub invariant_of-self : goal.invariant_of-self
 invariant_of-self g c = with_quiet _ _ _ _ c.self.invariant _ _ c.pass.ensures refl
 
 pub claimed-requires-clause-sound : goal.claimed-requires-clause-sound
-claimed-requires-clause-sound g c κs within = sound_here _ _ _ _ c.self.invariant
+claimed-requires-clause-sound g c κs within = rw c.deref-2.ensures (sound_here _ _ _ _ c.self.invariant)
 
 pub invariant_of-self-2 : goal.invariant_of-self-2
 invariant_of-self-2 g c = with_quiet _ _ _ _ c.self.invariant _ _ c.pass.ensures refl
 
 pub returns-clause-claim : goal.returns-clause-claim
 returns-clause-claim g c =
-    subst (λ x. IfSome c.claimed.result (IsClaimAt c.self.inside.origin x)) (with_quiet _ _ _ _ c.self.invariant _ _ c.pass.ensures refl).led c.claimed.ensures
+    subst (λ x. IfSome c.claimed.result (IsClaimAt c.self.inside.origin x)) (with_quiet _ _ _ _ c.self.invariant _ _ c.pass.ensures refl).led (rw (← c.deref-2.ensures) c.claimed.ensures)

@@ -1,22 +1,25 @@
-use Rattle.std.proofs.Common.{rules, refl, ap, ◌∙◌, ◌++◌, ◌∷◌, [], None, Some}
-use Rattle.parallel_apply.proofs.Crews.{with_quiet, with_applied, ends_here}
+use Rattle.std.proofs.Common.{refl, sym, ap, ◌∙◌, ◌++◌, ◌∷◌, [], None, Some}
+use Rattle.parallel_apply.proofs.Crews.{with_quiet, with_applied, ends_here, stays_where_stale}
 use Rattle.parallel_apply.proofs.crew.Crew.install.Goals as goal
 
 pub invariant_of-self : goal.invariant_of-self
-invariant_of-self g c = with_quiet _ _ _ _ c.self.invariant _ _ c.pass.ensures refl
-
-pub invariant_of-self-in_default : goal.invariant_of-self-in_default
-invariant_of-self-in_default g c =
-    with_quiet _ _ _ _ c.self.invariant _ _ (c.pass-in_default.ensures ∙ ap (λ ts. ts ++ None ∷ []) c.reserve.ensures.same) refl
+invariant_of-self g c =
+    with_quiet _ _ _ _ c.self.invariant _ _ (c.pass.ensures ∙ ap (λ ts. ts ++ None ∷ []) c.reserve.ensures.same) refl
 
 pub put_in-requires-clause-ending : goal.put_in-requires-clause-ending
 put_in-requires-clause-ending g c κs within =
-    ends_here _ _ _ _ c.self.invariant c.support_outlasts_independent_transactions.ensures c.args.done (rw (← c.self.view_is) at c.requires.earlier) (search rules)
+    rw c.deref_mut.ensures.value (ends_here _ _ _ _ c.self.invariant c.support_outlasts_independent_transactions.ensures c.args.done (rw (← c.self.view_is) at c.requires.earlier))
 
-pub invariant_of-self-in_default-put_in : goal.invariant_of-self-in_default-put_in
-invariant_of-self-in_default-put_in g c =
-    with_quiet _ _ _ _ c.self.invariant _ _ (c.pass-in_default-put_in.ensures ∙ ap (λ ts. ts ++ None ∷ []) c.reserve.ensures.same) (search rules)
+pub invariant_of-self-in-Ok-true : goal.invariant_of-self-in-Ok-true
+invariant_of-self-in-Ok-true g c =
+    with_applied _ _ _ _ c.self.invariant _ _ c.args.done.position (rw (← c.deref_mut.ensures.value) (sym c.in-Ok-true.ensures.ready ∙ c.in-Ok-true.field-0-test))
+    (c.apply.ensures ∙ ap (λ ts. ts ++ Some c.args.done.position ∷ []) c.reserve.ensures.same) (rw (← c.deref_mut.ensures.value) c.in-Ok-true.ensures.ok)
 
-pub invariant_of-self-2 : goal.invariant_of-self-2
-invariant_of-self-2 g c =
-    with_applied _ _ _ _ c.self.invariant _ _ c.args.done.position (search rules) (c.apply.ensures ∙ ap (λ ts. ts ++ Some c.args.done.position ∷ []) c.reserve.ensures.same) c.in-Ok-put_in.ensures.ok
+pub invariant_of-self-in-Ok-false : goal.invariant_of-self-in-Ok-false
+invariant_of-self-in-Ok-false g c =
+    with_quiet _ _ _ _ c.self.invariant _ _ (c.pass-in-Ok-false.ensures ∙ ap (λ ts. ts ++ None ∷ []) c.reserve.ensures.same)
+    (c.in-Ok-false.ensures.ok ∙ stays_where_stale c.self.inside.origin c.args.done.position c.deref_mut.result.now (sym c.in-Ok-false.ensures.ready ∙ c.in-Ok-false.field-0-test) ∙ c.deref_mut.ensures.value)
+
+pub invariant_of-self-in-Err : goal.invariant_of-self-in-Err
+invariant_of-self-in-Err g c =
+    with_quiet _ _ _ _ c.self.invariant _ _ (c.pass-in-Err.ensures ∙ ap (λ ts. ts ++ None ∷ []) c.reserve.ensures.same) (c.in-Err.ensures.err ∙ c.deref_mut.ensures.value)
