@@ -16,13 +16,11 @@ const LATE: u64 = 4;
 
 const EARLY: u64 = 8;
 
-/// The most turns for which an applier is held.
-const TURNS: u64 = 1_000_000_000;
-
-/// Holds the appliers that work on positions 2 and 3 until both do.
+/// Holds the appliers that work on positions 2 and 3 until both do, each for at most so many turns.
 #[derive(Drop)]
 pub struct Order {
     puts: Arc<Puts>,
+    turns: u64,
     // A bit for each of the two positions that an applier came with, one where an applier was held in vain, and one where a row
     // was put too early, or not yet.
     came: AtomicU64,
@@ -30,9 +28,10 @@ pub struct Order {
 
 impl Order {
     /// Nobody came yet.
-    pub fn new(puts: Arc<Puts>) -> Order {
+    pub fn new(puts: Arc<Puts>, turns: u64) -> Order {
         Order {
             puts,
+            turns,
             came: AtomicU64::new(0),
         }
     }
@@ -47,7 +46,7 @@ impl Order {
     }
 
     fn wait_for_both(&self) {
-        for _ in 0..TURNS {
+        for _ in 0..self.turns {
             if self.came.load(Ordering::SeqCst) & BOTH == BOTH {
                 return;
             }
