@@ -7,7 +7,7 @@ mod runs;
 use anyhow::{Context, Result};
 use case_lines::CaseStop;
 use rep_laws::sound_schemas_have_keys;
-use row_tables::ListTables;
+use page_tables::PageTables;
 use runs::{Bench, filled, updated};
 use schema_rules::check;
 use std::alloc::Global;
@@ -27,7 +27,7 @@ fn transactions_applied(alloc: Global, rows: u64, count: u64) -> Result<u64, Cas
         return Err(CaseStop::NoCase);
     };
     let mut counters = Counters::make(alloc, &schema)?;
-    let mut store = ListTables::make(alloc, schema)?;
+    let mut store = PageTables::make(alloc, schema)?;
     filled(&mut store, &mut counters, &bench, rows)?;
     updated(&mut store, &mut counters, &bench, rows, count)
 }

@@ -11,7 +11,7 @@ use rep_calls::Txn;
 use rep_lists::Items;
 use rep_schema::{RowStore, Schema};
 use rep_values::{Name, SiteName};
-use row_tables::ListTables;
+use page_tables::PageTables;
 use script_lex::lex;
 use std::alloc::Global;
 use txn_apply::apply_txn;
@@ -53,7 +53,7 @@ fn can_be_applied(schema: &Schema, txn: &Txn) -> bool
 }
 
 /// Whether the transaction is applied.
-fn is_applied(store: &mut ListTables, counters: &mut Counters, bench: &Bench, txn: &Txn) -> bool
+fn is_applied(store: &mut PageTables, counters: &mut Counters, bench: &Bench, txn: &Txn) -> bool
     requires shape { HasShape store.old.schema }
     requires keys { HasKeys store.old.schema }
     requires apart { KeysStandAlone store.old.schema }
@@ -68,7 +68,7 @@ fn is_applied(store: &mut ListTables, counters: &mut Counters, bench: &Bench, tx
 
 /// Whether the transaction whose turn it is is applied: at even numbers the first one.
 fn is_turn_applied(
-    store: &mut ListTables,
+    store: &mut PageTables,
     counters: &mut Counters,
     bench: &Bench,
     first: &Txn,
@@ -95,7 +95,7 @@ fn is_turn_applied(
 
 /// Inserts so many rows.
 pub fn filled(
-    store: &mut ListTables,
+    store: &mut PageTables,
     counters: &mut Counters,
     bench: &Bench,
     rows: u64,
@@ -123,7 +123,7 @@ pub fn filled(
 /// Updates the row in the middle so many times, in turn to other values and back, and counts the updates that were
 /// applied.
 pub fn updated(
-    store: &mut ListTables,
+    store: &mut PageTables,
     counters: &mut Counters,
     bench: &Bench,
     rows: u64,

@@ -8,7 +8,7 @@ use local_txn::{Here, Stamps, run_local};
 use rep_calls::Statement;
 use rep_schema::TableSet;
 use rep_values::{Name, SiteName};
-use row_tables::ListTables;
+use page_tables::PageTables;
 use script_lex::lex;
 use std::alloc::Global;
 
@@ -41,7 +41,7 @@ fn statement(alloc: Global, line: &str) -> Result<Statement, CaseStop> {
 }
 
 /// Whether the block ran.
-fn run(store: &mut ListTables, bench: &mut Bench, block: &[Statement]) -> bool
+fn run(store: &mut PageTables, bench: &mut Bench, block: &[Statement]) -> bool
     requires shape { HasShape store.old.schema }
     requires keys { HasKeys store.old.schema }
     requires apart { KeysStandAlone store.old.schema }
@@ -51,7 +51,7 @@ fn run(store: &mut ListTables, bench: &mut Bench, block: &[Statement]) -> bool
 }
 
 /// Inserts so many rows.
-pub fn filled(store: &mut ListTables, bench: &mut Bench, rows: u64) -> Result<(), CaseStop>
+pub fn filled(store: &mut PageTables, bench: &mut Bench, rows: u64) -> Result<(), CaseStop>
     requires shape { HasShape store.old.schema }
     requires keys { HasKeys store.old.schema }
     requires apart { KeysStandAlone store.old.schema }
@@ -69,7 +69,7 @@ pub fn filled(store: &mut ListTables, bench: &mut Bench, rows: u64) -> Result<()
 
 /// Updates the row in the middle so many times, in turn to other values and back, and counts the updates that ran.
 pub fn updated(
-    store: &mut ListTables,
+    store: &mut PageTables,
     bench: &mut Bench,
     rows: u64,
     count: u64,

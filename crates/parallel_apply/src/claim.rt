@@ -21,9 +21,12 @@ pub const CALLS_EACH: usize = 64;
 /// How many positions an applier claims in a pass of small transactions.
 pub const FEW_CLAIMS: u64 = 2;
 
-/// For small transactions threads are started in a sender's first so many positions, and then once in as many: to start one
-/// and to wait for it takes as long as some twenty of them, which are evaluated under the lock all the same.
-pub const SMALL_EACH: u64 = 256;
+/// For small transactions threads are started in a sender's first so many positions, and then once in `SMALL_EACH`: to start
+/// one and to wait for it takes as long as some twenty of them, which are evaluated under the lock all the same.
+pub const SMALL_FIRST: u64 = 64;
+
+/// Of so many positions of small transactions behind the first ones, threads are started once.
+pub const SMALL_EACH: u64 = 1_024;
 
 /// A position that an applier claimed, with its work where it is evaluated outside the lock.
 #[derive(Drop)]
@@ -107,14 +110,14 @@ fn has_many_calls<R: RowStore>(site: &Site<R>, origin: &SiteName, mark: u64, mos
 }
 
 /// Whether a pass for a sender by so many appliers may start threads: always where transactions have many calls; else in the
-/// sender's first `SMALL_EACH` positions, and where the pass reaches over a multiple of these.
+/// sender's first `SMALL_FIRST` positions, and where the pass reaches over a multiple of `SMALL_EACH`.
 pub(crate) fn may_start_threads<R: RowStore>(
     site: &Site<R>,
     origin: &SiteName,
     appliers: u32,
 ) -> bool {
     let mark = site.mark(origin);
-    mark < SMALL_EACH
+    mark < SMALL_FIRST
         || mark / SMALL_EACH != site.arrived(origin) / SMALL_EACH
         || has_many_calls(site, origin, mark, appliers)
 }
