@@ -7,11 +7,11 @@ ghost use Rattle.txn_effects.specs.Calls.{HasKeys, KeysStandAlone};
 
 use case_lines::{CaseStop, Words, read_call};
 use conflict_detect::fits;
+use page_tables::PageTables;
 use rep_calls::Txn;
 use rep_lists::Items;
 use rep_schema::{RowStore, Schema};
 use rep_values::{Name, SiteName};
-use page_tables::PageTables;
 use script_lex::lex;
 use std::alloc::Global;
 use txn_apply::apply_txn;

@@ -6,8 +6,8 @@ mod runs;
 
 use anyhow::{Context, Result};
 use case_lines::CaseStop;
-use rep_laws::sound_schemas_have_keys;
 use page_tables::PageTables;
+use rep_laws::sound_schemas_have_keys;
 use runs::{Bench, filled, updated};
 use schema_rules::check;
 use std::alloc::Global;

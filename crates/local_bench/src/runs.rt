@@ -5,10 +5,10 @@ ghost use Rattle.txn_effects.specs.Calls.{HasKeys, KeysStandAlone};
 
 use case_lines::{CaseStop, Words, read_statement};
 use local_txn::{Here, Stamps, run_local};
+use page_tables::PageTables;
 use rep_calls::Statement;
 use rep_schema::TableSet;
 use rep_values::{Name, SiteName};
-use page_tables::PageTables;
 use script_lex::lex;
 use std::alloc::Global;
 
