@@ -1,5 +1,5 @@
 -- What is found, put and taken in pages is what is found, put and taken in the page of its place.
-use Rattle.std.proofs.Common.{◌≡◌, ◌≢◌, ℕ, zero, suc, ◌+◌, ◌-◌, ◌<◌, ◌≤◌, List, [], ◌∷◌, ◌++◌, append_assoc, length, take, drop, get_or, set, None, refl, sym, ap, ◌∙◌, subst, arith}
+use Rattle.std.proofs.Common.{◌≡◌, ◌≢◌, ℕ, zero, suc, ◌+◌, ◌-◌, ◌<◌, ◌≤◌, List, [], ◌∷◌, ◌++◌, append_assoc, length, take, drop, get_or, set, None, Some, refl, sym, ap, ◌∙◌, subst, arith}
 use Rattle.std.specs.List.{AllByRecursion, insert, remove}
 use Rattle.std.specs.Prelude.{slice_get}
 use Rattle.std.proofs.lemmas.List.{drop_more}
@@ -8,7 +8,9 @@ use Rattle.std.specs.declared.cmp.Ordering.TheVariants.{Less, Equal, Greater}
 use Rattle.rep_lists.specs.Rising.{find_at, put_at, take_at, found_here, put_here, taken_here}
 use Rattle.rep_lists.proofs.Each.{each_at}
 use Rattle.page_tables.specs.Pages.{joined, at_first, IsParted, IsPage, IsPageFor}
-use Rattle.page_tables.proofs.Parted.{parted_right, parted_left, all_before}
+use Rattle.std.proofs.lemmas.Option.{get_or_from_slice_get, slice_get_within}
+use Rattle.rep_lists.proofs.Rising.{find_there}
+use Rattle.page_tables.proofs.Parted.{all_right, parted_right, parted_left, all_before, stands_there}
 
 module _ {X : Type 0} (at : X → Ordering) where
   -- values before the place are passed
@@ -141,3 +143,36 @@ module _ {X : Type 0} (at : X → Ordering) where
   -- the values of a page are parted
   pub page_parted : (pages : List (List X)) (p : ℕ) → p < length pages → IsParted at (joined pages) → IsParted at (get_or pages p [])
   page_parted pages p within parted = parted_left at (get_or pages p []) _ (parted_from pages p within parted)
+
+-- a value that is found in a part of the values is found in them
+module _ {X : Type 0} (at : X → Ordering) where
+  find_left : (xs ys : List X) (s : X) → find_at at xs ≡ Some s → find_at at (xs ++ ys) ≡ Some s
+  find_left [] ys s is = absurd (cc is)
+  find_left (x ∷ xs) ys s is = go (at x) is (find_left xs ys s)
+    where
+      go : (o : Ordering) → found_here o x (find_at at xs) ≡ Some s → (find_at at xs ≡ Some s → find_at at (xs ++ ys) ≡ Some s) → found_here o x (find_at at (xs ++ ys)) ≡ Some s
+      go Less is later = later is
+      go Equal is later = is
+      go Greater is later = absurd (cc is)
+
+  find_right : (xs ys : List X) (s : X) → IsParted at (xs ++ ys) → find_at at ys ≡ Some s → find_at at (xs ++ ys) ≡ Some s
+  find_right [] ys s parted is = is
+  find_right (x ∷ xs) ys s parted is = go (at x) refl (find_right xs ys s parted.1 is)
+    where
+      past : at x ≢ Less → ⊥
+      past other = let none = find_none at ys (all_right (λ y. at y ≡ Greater) xs ys (parted.0 other)) in cc (none, is)
+
+      go : (o : Ordering) → at x ≡ o → find_at at (xs ++ ys) ≡ Some s → found_here o x (find_at at (xs ++ ys)) ≡ Some s
+      go Less e later = later
+      go Equal e later = absurd (past (λ less. cc (e, less)))
+      go Greater e later = absurd (past (λ less. cc (e, less)))
+
+  pub found_in_page : (pages : List (List X)) (p i : ℕ) (s : X) → IsParted at (joined pages) → p < length pages → slice_get (get_or pages p []) i ≡ Some s → at s ≡ Equal → find_at at (joined pages) ≡ Some s
+  found_in_page pages p i s parted within there equal =
+      let within_page : i < length (get_or pages p []) = slice_get_within (get_or pages p []) i s there in
+      let read : get_or (get_or pages p []) i s ≡ s = get_or_from_slice_get (get_or pages p []) i s s there in
+      let stands = stands_there at (get_or pages p []) i s within_page (ap at read ∙ equal) (page_parted at pages p within parted) in
+      let here : find_at at (get_or pages p []) ≡ Some s = find_there at (get_or pages p []) i s stands ∙ ap Some read in
+      ap (find_at at) (joined_around pages p within)
+      ∙ find_right (joined (take p pages)) (get_or pages p [] ++ joined (drop (suc p) pages)) s (subst (IsParted at) (joined_around pages p within) parted)
+      (find_left (get_or pages p []) (joined (drop (suc p) pages)) s here)

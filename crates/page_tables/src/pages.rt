@@ -1,5 +1,5 @@
 //! Slots in some order, in pages.
-ghost use Rattle.std.specs.Prelude.{◌≡◌, ℕ, ◌+◌, ◌-◌, ◌*◌, ◌<◌, ◌≤◌, ◌⊎◌, ◌↔◌, [], ◌∷◌, ◌++◌, None, length, vec_len, vec_capacity, slice_get, slice_index_or, slice_set, insert, remove, IsTrue, IsSome, IsOk, IfOk, IfErr, OnOk};
+ghost use Rattle.std.specs.Prelude.{◌≡◌, ℕ, ◌+◌, ◌-◌, ◌*◌, ◌<◌, ◌≤◌, ◌⊎◌, ◌↔◌, [], ◌∷◌, ◌++◌, None, Some, length, vec_len, vec_capacity, slice_get, slice_index_or, slice_set, insert, remove, IsTrue, IsSome, IsOk, IfOk, IfErr, IfSome, OnOk};
 ghost use Rattle.std.specs.List.{AllByRecursion};
 ghost use Rattle.std.specs.declared.cmp.Ordering.TheVariants.{Greater};
 ghost use Rattle.rep_lists.specs.Rising.{IsThere, IsGap, find_at, take_at};
@@ -10,6 +10,7 @@ use crate::sought::Sought;
 use crate::starts::{add_start, copy_starts, lower, raise, started};
 use rep_lists::NoMemory;
 use std::alloc::Global;
+use std::cell::Cell;
 use std::cmp::Ordering;
 use std::marker::Model;
 
@@ -73,7 +74,25 @@ fn slot_in(slots: &[u32], place: usize) -> Option<u32>
     slots.get(place).copied()
 }
 
-fn find<S: Sought>(pages: &[Page], sought: &S) -> Option<u32>
+/// The slot at a page and a place, where it is the one that is sought.
+#[inline(always)]
+fn found_near<S: Sought>(pages: &[Page], sought: &S, near: (usize, usize)) -> Option<u32>
+    requires { IsParted (S.at sought.now) (joined pages.now) }
+    ensures { IfSome result (λ slot. find_at (S.at sought.now) (joined pages.now) ≡ Some slot) }
+{
+    let (at, place) = near;
+    if at >= pages.len() {
+        return None;
+    }
+    let slot = slot_of(pages, at, place)?;
+    match sought.beside(slot) {
+        Ordering::Equal => Some(slot),
+        Ordering::Less | Ordering::Greater => None,
+    }
+}
+
+/// The slot that is sought. Where it was found is noted.
+fn find<S: Sought>(pages: &[Page], sought: &S, last: &Cell<(usize, usize)>) -> Option<u32>
     requires filled { AllByRecursion IsPage pages.now }
     requires parted { IsParted (S.at sought.now) (joined pages.now) }
     ensures { result ≡ find_at (S.at sought.now) (joined pages.now) }
@@ -84,7 +103,10 @@ fn find<S: Sought>(pages: &[Page], sought: &S) -> Option<u32>
     let at = page_for(pages, sought);
     let slots = pages[at].slots();
     match search(slots, sought) {
-        Ok(place) => slot_in(slots, place),
+        Ok(place) => {
+            last.set((at, place));
+            slot_in(slots, place)
+        }
         Err(_) => None,
     }
 }
@@ -290,13 +312,14 @@ fn insert_into(
     }
 }
 
-/// Puts a slot in its place, unless another one is found there.
+/// Puts a slot in its place, unless another one is found there. It is looked for first where one was found last.
 fn enter_in<S: Sought>(
     pages: &mut Vec<Page>,
     starts: &mut Vec<usize>,
     waiting: &mut Vec<Page>,
     sought: &S,
     slot: u32,
+    last: (usize, usize),
 ) -> Option<u32>
     requires parted { IsParted (S.at sought.now) (joined pages.old.items) }
     requires room { IsSome (find_at (S.at sought.now) (joined pages.old.items))
@@ -312,6 +335,9 @@ fn enter_in<S: Sought>(
     if pages.is_empty() {
         start(pages, starts, waiting, slot);
         return None;
+    }
+    if let Some(found) = found_near(pages, sought, last) {
+        return Some(found);
     }
     let at = page_for(pages, sought);
     let slots = pages[at].slots();
@@ -388,6 +414,8 @@ pub(crate) struct Pages {
     starts: Vec<usize>,
     waiting: Vec<Page>,
     count: usize,
+    // The page and the place of the slot that was found last. What was found is mostly put next.
+    last: Cell<(usize, usize)>,
 }
 
 impl Model for Pages {
@@ -410,6 +438,7 @@ impl Pages {
             starts: Vec::new(alloc),
             waiting: Vec::new(alloc),
             count: 0,
+            last: Cell::new((0, 0)),
         }
     }
 
@@ -423,6 +452,7 @@ impl Pages {
             starts: copy_starts(alloc, &self.starts, places)?,
             waiting: copy_pages(alloc, &self.waiting, places)?,
             count: self.count,
+            last: Cell::new((0, 0)),
         })
     }
 
@@ -449,7 +479,7 @@ impl Pages {
         requires { IsParted (S.at sought.now) self.now.items }
         ensures { result ≡ find_at (S.at sought.now) self.now.items }
     {
-        find(&self.pages, sought)
+        find(&self.pages, sought, &self.last)
     }
 
     /// Makes room for so many in all, or finds no memory. Room is never given up.
@@ -484,6 +514,7 @@ impl Pages {
             &mut self.waiting,
             sought,
             slot,
+            self.last.get(),
         );
         if found.is_none() {
             self.count += 1;

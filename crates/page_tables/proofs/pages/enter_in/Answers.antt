@@ -10,14 +10,14 @@ use Rattle.page_tables.proofs.pages.enter_in.Goals as goal
 
 pub search-requires : goal.search-requires
 search-requires g c =
-    let for = rw c.deref.ensures.value at c.page_for-at.ensures in
+    let for = rw c.deref-2.ensures.value at c.page_for-at.ensures in
     let page = c.slots-slots.ensures.value ∙ get_or_read _ _ _ for.in_range c.index.ensures [] in
     subst (IsParted (g.S.Sought.at c.args.sought.now)) (sym page) (page_parted (g.S.Sought.at c.args.sought.now) _ _ for.in_range c.requires.parted)
 
 -- nothing is found, so there is room
 pub insert_into-requires-clause-room : goal.insert_into-requires-clause-room
 insert_into-requires-clause-room g c =
-    let for = rw c.deref.ensures.value at c.page_for-at.ensures in
+    let for = rw c.deref-2.ensures.value at c.page_for-at.ensures in
     let page = c.slots-slots.ensures.value ∙ get_or_read _ _ _ for.in_range c.index.ensures [] in
     let none = find_paged _ _ _ for ∙ (ap (find_at (g.S.Sought.at c.args.sought.now)) (sym page) ∙ find_gap _ _ _ c.in-Err.ensures.absent) in
     elim c.requires.room [
@@ -27,7 +27,7 @@ insert_into-requires-clause-room g c =
 
 pub insert_into-requires-clause-waits : goal.insert_into-requires-clause-waits
 insert_into-requires-clause-waits g c =
-    let for = rw c.deref.ensures.value at c.page_for-at.ensures in
+    let for = rw c.deref-2.ensures.value at c.page_for-at.ensures in
     let page = c.slots-slots.ensures.value ∙ get_or_read _ _ _ for.in_range c.index.ensures [] in
     let none = find_paged _ _ _ for ∙ (ap (find_at (g.S.Sought.at c.args.sought.now)) (sym page) ∙ find_gap _ _ _ c.in-Err.ensures.absent) in
     elim c.requires.room [
@@ -54,27 +54,27 @@ start-requires-clause-room g c =
 
 pub returns-in-Ok-clause-found : goal.returns-in-Ok-clause-found
 returns-in-Ok-clause-found g c =
-    let for = rw c.deref.ensures.value at c.page_for-at.ensures in
+    let for = rw c.deref-2.ensures.value at c.page_for-at.ensures in
     let page = c.slots-slots.ensures.value ∙ get_or_read _ _ _ for.in_range c.index.ensures [] in
     let read = c.slot.ensures ∙ ap (λ t. get_or t c.in-Ok.place c.slot.result) (get_or_read _ _ _ for.in_range c.index-in-Ok.ensures [] ∙ sym page) in
     ap Some read ∙ (sym (find_there _ _ _ _ c.in-Ok.ensures.found) ∙ (ap (find_at (g.S.Sought.at c.args.sought.now)) page ∙ sym (find_paged _ _ _ for)))
 
 pub returns-in-Err-clause-found : goal.returns-in-Err-clause-found
 returns-in-Err-clause-found g c =
-    let for = rw c.deref.ensures.value at c.page_for-at.ensures in
+    let for = rw c.deref-2.ensures.value at c.page_for-at.ensures in
     let page = c.slots-slots.ensures.value ∙ get_or_read _ _ _ for.in_range c.index.ensures [] in
     sym (find_gap _ _ _ c.in-Err.ensures.absent) ∙ (ap (find_at (g.S.Sought.at c.args.sought.now)) page ∙ sym (find_paged _ _ _ for))
 
 pub returns-in-Err-clause-slots : goal.returns-in-Err-clause-slots
 returns-in-Err-clause-slots g c =
-    let for = rw c.deref.ensures.value at c.page_for-at.ensures in
+    let for = rw c.deref-2.ensures.value at c.page_for-at.ensures in
     let page = c.slots-slots.ensures.value ∙ get_or_read _ _ _ for.in_range c.index.ensures [] in
     let put = ap (put_at (g.S.Sought.at c.args.sought.now) c.args.slot) (sym page) ∙ (put_gap _ c.args.slot _ _ c.in-Err.ensures.absent ∙ ap (λ t. insert t c.in-Err.place c.args.slot) page) in
     c.insert_into.ensures.slots ∙ sym (put_paged _ _ _ for c.args.slot ∙ ap (λ t. joined (set c.args.pages.now.items c.page_for-at.result t)) put)
 
 pub slot-requires : goal.slot-requires
 slot-requires g c =
-    let for = rw c.deref.ensures.value at c.page_for-at.ensures in
+    let for = rw c.deref-2.ensures.value at c.page_for-at.ensures in
     let page = c.slots-slots.ensures.value ∙ get_or_read _ _ _ for.in_range c.index.ensures [] in
     let same = ap length (page ∙ sym (get_or_read _ _ _ for.in_range c.index-in-Ok.ensures [])) in
     omega (arith, c.in-Ok.ensures.found.in_range, same)
