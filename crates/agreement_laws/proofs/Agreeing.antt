@@ -31,7 +31,7 @@ use Rattle.event_laws.specs.Quiet.{are_quiet}
 use Rattle.event_laws.specs.Starts.{IsNewSite}
 use Rattle.event_laws.specs.Fitting.{IsFitStart}
 use Rattle.event_laws.specs.Waiting.{AreMeshed}
-use Rattle.event_laws.proofs.Sites.{found_all, found_again}
+use Rattle.event_laws.proofs.Sites.{found_all, found_again, found_changed}
 use Rattle.event_laws.proofs.DeclaredSites.{IsSiteOf}
 use Rattle.event_laws.proofs.Meeting.{SiteMeets, MeetsAt}
 use Rattle.event_laws.proofs.OrderLaws.{earlier_comes_first}
@@ -44,7 +44,7 @@ use Rattle.agreement_laws.specs.Pairs.{made_by, made_in, calls_in, pair_in}
 use Rattle.agreement_laws.specs.Agreement.{drops_of_master, NothingWasDroppedSince, MastersAgree, QuietMastersAgree, QuietMastersAgreeAgain}
 use Rattle.agreement_laws.proofs.Counting.{among_left, among_right, among_either}
 use Rattle.agreement_laws.proofs.Turns.{Cause, Now, Late, Becomes, Stays, Turns, Joins, happens_becomes}
-use Rattle.agreement_laws.proofs.SitesAt.{Each, turns_here, found_changed, at_none}
+use Rattle.agreement_laws.proofs.SitesAt.{Each, turns_here, at_none}
 use Rattle.agreement_laws.proofs.Reordering.{calls_reordered, above}
 use Rattle.agreement_laws.proofs.MetSites.{AreMet, run_met}
 use Rattle.agreement_laws.proofs.Applied.{IsShaped, none_shaped, error_finished}

@@ -16,14 +16,14 @@ use Rattle.event_laws.specs.Joins.{copied}
 use Rattle.event_laws.specs.Events.{Event, run, happens}
 use Rattle.event_laws.specs.Starts.{IsNewSite}
 use Rattle.event_laws.specs.Fitting.{IsFitStart, FitsHere}
-use Rattle.event_laws.proofs.Sites.{found_all}
+use Rattle.event_laws.proofs.Sites.{found_all, found_changed}
 use Rattle.event_laws.proofs.MarkLaws.{IsOfSchema, run_schema}
 use Rattle.event_laws.proofs.NewSites.{copied_is_new}
 use Rattle.event_laws.proofs.FittingSites.{every_site_fits}
 use Rattle.agreement_laws.specs.Pairs.{own_calls, AreMadeOnce, PairsAreMadeOnce}
 use Rattle.agreement_laws.proofs.OwnPairs.{block_makes}
 use Rattle.agreement_laws.proofs.Turns.{Turn, Same, Own, Did, Left, Renewed, Cause, Now, Late, IsLeft, Becomes, Stays, Turns, Joins, happens_becomes}
-use Rattle.agreement_laws.proofs.SitesAt.{Each, turns_here, found_changed, at_each, joined_each}
+use Rattle.agreement_laws.proofs.SitesAt.{Each, turns_here, at_each, joined_each}
 
 -- what another transaction than the site's own adds
 pub own_calls-did : (x : SiteState) (origin : SiteName) (position number : ℕ) (txn : Txn) (e : Entry) (es : List Entry) → Cause x origin position number txn e → own_calls (e ∷ es) ≡ own_calls es

@@ -22,7 +22,7 @@ use Rattle.event_laws.specs.Marks.{journal_in}
 use Rattle.event_laws.specs.Orders.{IsInOrder}
 use Rattle.event_laws.specs.Fitting.{IsFitStart}
 use Rattle.event_laws.specs.Starts.{IsNewSite}
-use Rattle.event_laws.proofs.Sites.{found_all, found_again, found_name}
+use Rattle.event_laws.proofs.Sites.{found_all, found_again, found_name, found_changed}
 use Rattle.event_laws.proofs.NewSites.{copied_is_new}
 use Rattle.event_laws.proofs.Holding.{HoldsAt}
 use Rattle.event_laws.proofs.MarkLaws.{IsOfSchema, run_schema}
@@ -37,7 +37,7 @@ use Rattle.convergence_laws.proofs.EventsKeepForms as keeping
 use Rattle.agreement_laws.specs.Pairs.{made_in, own_calls, pair_in, has_pair, IsMadeOnce, PairsTellValues}
 use Rattle.agreement_laws.proofs.Counting.{count_where-among, same_by_count}
 use Rattle.agreement_laws.proofs.Turns.{Cause, Becomes, Stays, Turns, Joins, happens_becomes}
-use Rattle.agreement_laws.proofs.SitesAt.{Each, turns_here, found_changed, at_each, joined_each}
+use Rattle.agreement_laws.proofs.SitesAt.{Each, turns_here, at_each, joined_each}
 use Rattle.agreement_laws.proofs.PairsMadeOnce.{run_once}
 use Rattle.agreement_laws.proofs.Told.{IsOwnValue, TxnIsTold, told_calls, all_told_later, becomes_more, QueueIsTold, Known, turn_queues}
 

@@ -25,7 +25,7 @@ use Rattle.site_state.proofs.Destinations.{opened_in-other}
 use Rattle.event_laws.specs.Core.{site_of, at_site}
 use Rattle.event_laws.specs.Joins.{queue_counts, copied, may_join, with_joined}
 use Rattle.event_laws.specs.Quiet.{are_quiet}
-use Rattle.event_laws.proofs.Sites.{found_name, found_or, site_of-joined}
+use Rattle.event_laws.proofs.Sites.{found_name, found_or, site_of-joined, found_changed, found_other}
 use Rattle.event_laws.proofs.NewSites.{copied_is_new, copied_here, open_to_each_keeps}
 use Rattle.event_laws.proofs.DeclaredSites.{joins_from_master}
 use Rattle.convergence_laws.specs.Collections.{IsReordered}
@@ -36,7 +36,7 @@ use Rattle.agreement_laws.specs.Pairs.{calls_in}
 use Rattle.convergence_laws.specs.Joins.{parts_in, inserts_in}
 use Rattle.agreement_laws.proofs.Reordering.{reordered_as, chosen, chosen-same, above}
 use Rattle.agreement_laws.proofs.Turns.{Turn, Becomes, Stays, Turns, Joins}
-use Rattle.agreement_laws.proofs.SitesAt.{Each, turns_here, Entered, Nothing, One, turn_enters, found_changed, found_other, found_opened, WasJoined, Old, New, was_joined, at_each, joined_each}
+use Rattle.agreement_laws.proofs.SitesAt.{Each, turns_here, Entered, Nothing, One, turn_enters, found_opened, WasJoined, Old, New, was_joined, at_each, joined_each}
 use Rattle.agreement_laws.proofs.MetSites.{AreMet}
 use Rattle.agreement_laws.proofs.Applied.{IsShaped, shaped_more, none_shaped}
 use Rattle.agreement_laws.proofs.Told.{TxnIsTold, all_told_later, Known, becomes_more}

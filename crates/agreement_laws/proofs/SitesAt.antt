@@ -10,7 +10,7 @@ use Rattle.site_state.specs.State.{SiteState}
 use Rattle.site_state.specs.Joining.{site_open}
 use Rattle.event_laws.specs.Core.{site_of, at_site}
 use Rattle.event_laws.specs.Joins.{copied, with_joined}
-use Rattle.event_laws.proofs.Sites.{KeepsHere, at_split, found_or, site_of-joined, found_all}
+use Rattle.event_laws.proofs.Sites.{KeepsHere, at_split, found_changed, found_other, found_or, site_of-joined, found_all}
 use Rattle.event_laws.proofs.NewSites.{copied_here}
 use Rattle.site_state.specs.declared.entry.Entry.{Entry}
 use Rattle.site_state.specs.declared.entry.Entry.TheVariants.{Local, Refreshed}
@@ -31,19 +31,6 @@ turn_frame x y (Renewed f plain moment journal last) = f
 pub turns_here : (change : SiteState → SiteState) → ((x : SiteState) → Turn x (change x)) → KeepsHere change
 turns_here change turns x = (turn_frame x (change x) (turns x)).here
 
--- the site that changed is found by its name
-pub found_changed : (name : SiteName) (change : SiteState → SiteState) (sites : List SiteState) (x : SiteState) → KeepsHere change → site_of name sites ≡ Some x → site_of name (at_site name change sites) ≡ Some (change x)
-found_changed name change [] x keeps found = absurd (cc found)
-found_changed name change (s ∷ ss) x keeps found = go (is_same_site s.here.site name) refl found (found_changed name change ss x keeps)
-  where
-    go : (b : Bool) → is_same_site s.here.site name ≡ b → cond b (Some s) (site_of name ss) ≡ Some x → (site_of name ss ≡ Some x → site_of name (at_site name change ss) ≡ Some (change x))
-        → site_of name (cond b (change s ∷ ss) (s ∷ at_site name change ss)) ≡ Some (change x)
-    go true is found later =
-        let same : s ≡ x = cc in
-        let still : is_same_site (change s).here.site name ≡ true = rw (keeps s) is in
-        rw (still, same) refl
-    go false is found later = rw is (later found)
-
 pub at_each : (P : SiteState → Type 0) (name : SiteName) (change : SiteState → SiteState) (sites : List SiteState) → KeepsHere change
     → ((x : SiteState) → site_of name sites ≡ Some x → P x → P (change x)) → Each P sites → Each P (at_site name change sites)
 at_each P name change sites here keeps all site x found =
@@ -62,12 +49,6 @@ joined_each P sites source site opens new all name y found =
     go : (o : Option SiteState) → site_of name sites ≡ o → found_or (site_of name (copied sites source site ∷ [])) (option_map (site_open site) o) ≡ Some y → P y
     go (Some z) is e = let same : site_open site z ≡ y = cc in subst P same (opens z (all name z is))
     go None is e = found_all P name (copied sites source site ∷ []) y (new, tt) e
-
--- another one is as it was
-pub found_other : (name other : SiteName) (change : SiteState → SiteState) (sites : List SiteState) → KeepsHere change → is_same_site name other ≡ false → site_of other (at_site name change sites) ≡ site_of other sites
-found_other name other change sites keeps differ =
-    at_split (λ (o : Option SiteState). o ≡ site_of other sites) name other change sites keeps
-    (λ same. absurd (true≢false (sym (is_same_site-refl name) ∙ ap (is_same_site name) same ∙ differ))) refl
 
 -- where a master joins, those that were there are open to it
 pub found_opened : (sites : List SiteState) (source : SiteState) (site name : SiteName) (x : SiteState) → site_of site sites ≡ None → site_of name sites ≡ Some x → site_of name (with_joined sites source site) ≡ Some (site_open site x)

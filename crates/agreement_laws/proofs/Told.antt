@@ -32,7 +32,7 @@ use Rattle.event_laws.specs.Core.{site_of, at_site}
 use Rattle.event_laws.specs.Joins.{with_joined}
 use Rattle.event_laws.specs.Orders.{FollowsIn, IsInOrder}
 use Rattle.event_laws.specs.Fitting.{FitsHere}
-use Rattle.event_laws.proofs.Sites.{found_name}
+use Rattle.event_laws.proofs.Sites.{found_name, found_changed, found_other}
 use Rattle.event_laws.proofs.Holding.{SentBy, SiteHolds}
 use Rattle.event_laws.proofs.MarkLaws.{arrived_was_sent}
 use Rattle.convergence_laws.specs.GroupForms.{form_at, TxnKeepsForms}
@@ -46,7 +46,7 @@ use Rattle.agreement_laws.proofs.Counting.{among_left, among_right, among_either
 use Rattle.agreement_laws.proofs.OwnPairs.{made_in-append}
 use Rattle.agreement_laws.proofs.OnwardValues.{onward_among}
 use Rattle.agreement_laws.proofs.Turns.{Turn, Same, Own, Did, Left, Renewed, Cause, Now, Late, IsLeft, Becomes, Stays, Turns, Joins}
-use Rattle.agreement_laws.proofs.SitesAt.{Each, turns_here, found_changed, found_other, found_opened}
+use Rattle.agreement_laws.proofs.SitesAt.{Each, turns_here, found_opened}
 use Rattle.agreement_laws.proofs.PairsMadeOnce.{own_calls-did, own_calls-left}
 
 -- ---- what is told

@@ -20,6 +20,7 @@ use Rattle.site_state.specs.declared.entry.Entry.TheVariants.{Refreshed}
 use Rattle.site_state.specs.declared.answers.Why.{Why}
 use Rattle.site_state.specs.declared.arrival.Arrival.{Arrival}
 use Rattle.site_state.specs.State.{SenderState, SiteState, is_master_site, sender_of, arrived_in, arrived_at, arrivals}
+use Rattle.site_state.specs.Arrivals.{NamesOthers}
 use Rattle.site_state.specs.Journal.{finished, low_water, error_at}
 use Rattle.site_state.specs.Contents.{changes_by}
 use Rattle.site_state.specs.Streams.{queue_of, shares}
@@ -32,7 +33,6 @@ use Rattle.site_state.proofs.LowWater.{low_water-below, low_water-greatest}
 use Rattle.site_state.proofs.Stepping.{arrived_has}
 use Rattle.event_laws.specs.Events.{run}
 use Rattle.site_state.specs.Fits.{SendersFit}
-use Rattle.event_laws.specs.PassLaws.{NamesOthers}
 use Rattle.event_laws.specs.Confluence.{applied_in_turn, AreReadyInTurn, CanPassInAnyOrder, OneSiteComesOfAnyOrder, PassesTakeSuchAnOrder, EverySiteCanPassInAnyOrder}
 use Rattle.event_laws.proofs.Sites.{found_all}
 use Rattle.event_laws.proofs.MarkLaws.{IsOfSchema, run_schema, arrivals_are_well_numbered}
@@ -372,7 +372,8 @@ passes_take_such_an_order origin x can =
 
 -- ---- every site can pass in any order
 
-arrivals_fit : (schema : Schema) (origin : SiteName) (ss : List SenderState) → SendersFit schema ss → AllByRecursion (λ (a : Arrival). TxnFits schema a.txn) (arrived_in (sender_of origin ss))
+-- each transaction that arrived from a sender fits
+pub arrivals_fit : (schema : Schema) (origin : SiteName) (ss : List SenderState) → SendersFit schema ss → AllByRecursion (λ (a : Arrival). TxnFits schema a.txn) (arrived_in (sender_of origin ss))
 arrivals_fit schema origin [] fit = tt
 arrivals_fit schema origin (s ∷ ss) fit = go (is_same_site s.origin origin) (arrivals_fit schema origin ss fit.1)
   where

@@ -21,6 +21,7 @@ use Rattle.site_state.specs.declared.entry.Entry.TheVariants.{Done, Error}
 use Rattle.site_state.specs.declared.answers.Why.{Why}
 use Rattle.site_state.specs.declared.arrival.Arrival.{Arrival}
 use Rattle.site_state.specs.State.{DestinationState, SiteState, sender_of, arrived_at, arrivals, beside}
+use Rattle.site_state.specs.Arrivals.{NamesOthers, CanPass}
 use Rattle.site_state.specs.Journal.{finishes, finished, position_by, last_finished, low_water, is_position}
 use Rattle.site_state.specs.Streams.{count_of}
 use Rattle.site_state.specs.Ready.{covered_at, covered, is_covered, is_due, stale_of, is_ready}
@@ -29,7 +30,7 @@ use Rattle.site_state.specs.Passes.{effect_here, finished_by, applied_unless, si
 use Rattle.site_state.specs.Purges.{acknowledged_by, acknowledged_by_all}
 use Rattle.site_state.proofs.LowWater.{low_water-greatest, low_water-below, low_water-is, finished-append}
 use Rattle.site_state.proofs.Stepping.{arrived_has}
-use Rattle.event_laws.specs.PassLaws.{NamesOthers, CanPass, PassesLeaveNothingReady, LowWaterIsThatOfTheFinished, AckedSince, HasAcked, PurgesTakeWhatIsAcknowledged}
+use Rattle.event_laws.specs.PassLaws.{PassesLeaveNothingReady, LowWaterIsThatOfTheFinished, AckedSince, HasAcked, PurgesTakeWhatIsAcknowledged}
 use Rattle.event_laws.proofs.ErrorLaws.{is_position-own}
 
 -- ---- a position is applied: nothing, or one entry that finishes it

@@ -23,6 +23,7 @@ use Rattle.site_state.specs.declared.entry.Entry.{Entry}
 use Rattle.site_state.specs.declared.entry.Entry.TheVariants.{Local, Done, Error, Executed, Dropped, Refreshed}
 use Rattle.site_state.specs.declared.arrival.Arrival.{Arrival}
 use Rattle.site_state.specs.State.{SenderState, SiteState, is_master_site, sender_of, at_sender, arrived_in, arrived_at, beside}
+use Rattle.site_state.specs.Arrivals.{NamesOthers}
 use Rattle.site_state.specs.Streams.{with_one, went_onward, stream_to}
 use Rattle.site_state.specs.Pasts.{beside_name, seen_of, with_seen, past_at, pasts_after, pasts_of}
 use Rattle.site_state.specs.Packets.{past_in, number_at, carry_of, packet_found, with_arrival, arrived_by, taken_unless, is_foreign, site_accept}
@@ -36,7 +37,7 @@ use Rattle.event_laws.specs.Events.{Event, with_packet, packet_from, mark_from, 
 use Rattle.event_laws.specs.Starts.{IsNewSite, IsStart}
 use Rattle.site_state.specs.DeclaredSites.{IsDeclared}
 use Rattle.event_laws.specs.Declared.{AreDeclared}
-use Rattle.event_laws.specs.PassLaws.{NamesOthers, EverySiteCanPass}
+use Rattle.event_laws.specs.PassLaws.{EverySiteCanPass}
 use Rattle.event_laws.proofs.Sites.{found_all, all_at, all_joined, all_at_place}
 use Rattle.event_laws.proofs.Happening.{IsRefreshed, Becomes, run_keeps}
 use Rattle.event_laws.proofs.Happening as happening

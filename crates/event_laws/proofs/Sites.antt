@@ -1,10 +1,11 @@
 -- One site of several.
 use Rattle.std.proofs.Common.{◌≡◌, ℕ, zero, suc, List, [], ◌∷◌, ◌++◌, map, Bool, true, false, cond, Some, None, refl, sym, ap, ◌∙◌, arith, subst}
 use Rattle.std.specs.Prelude.{Option, option_map, slice_get}
+use mathlib.Core.Bool.{true≢false}
 use Rattle.std.specs.List.{AllByRecursion}
 use Rattle.rep_values.specs.declared.name.SiteName.{SiteName}
 use Rattle.deferred_queue.specs.Streams.{is_same_site}
-use Rattle.deferred_queue.proofs.Sites.{is_same_site-true}
+use Rattle.deferred_queue.proofs.Sites.{is_same_site-true, is_same_site-refl}
 use Rattle.local_txn.specs.declared.local.Here.{Here}
 use Rattle.site_state.specs.State.{SiteState}
 use Rattle.event_laws.specs.Core.{site_of, at_site}
@@ -41,6 +42,25 @@ at_split P name other change (x ∷ xs) keeps own off = go (at_split P name othe
         → P (site_of other (cond b (change x ∷ xs) (x ∷ at_site name change xs)))
     go rest true is_name c is_other own off = changed c is_name is_other (λ e. rw (← is_other) (own e)) (rw (← is_other) off)
     go rest false is_name c is_other own off = rw is_other (unchanged c rest (λ e. rw (← is_other) (own e)) (rw (← is_other) off))
+
+-- the site that changed is found by its name
+pub found_changed : (name : SiteName) (change : SiteState → SiteState) (sites : List SiteState) (x : SiteState) → KeepsHere change → site_of name sites ≡ Some x → site_of name (at_site name change sites) ≡ Some (change x)
+found_changed name change [] x keeps found = absurd (cc found)
+found_changed name change (s ∷ ss) x keeps found = go (is_same_site s.here.site name) refl found (found_changed name change ss x keeps)
+  where
+    go : (b : Bool) → is_same_site s.here.site name ≡ b → cond b (Some s) (site_of name ss) ≡ Some x → (site_of name ss ≡ Some x → site_of name (at_site name change ss) ≡ Some (change x))
+        → site_of name (cond b (change s ∷ ss) (s ∷ at_site name change ss)) ≡ Some (change x)
+    go true is found later =
+        let same : s ≡ x = cc in
+        let still : is_same_site (change s).here.site name ≡ true = rw (keeps s) is in
+        rw (still, same) refl
+    go false is found later = rw is (later found)
+
+-- another one is as it was
+pub found_other : (name other : SiteName) (change : SiteState → SiteState) (sites : List SiteState) → KeepsHere change → is_same_site name other ≡ false → site_of other (at_site name change sites) ≡ site_of other sites
+found_other name other change sites keeps differ =
+    at_split (λ (o : Option SiteState). o ≡ site_of other sites) name other change sites keeps
+    (λ same. absurd (true≢false (sym (is_same_site-refl name) ∙ ap (is_same_site name) same ∙ differ))) refl
 
 abbrev pub found_or : Option SiteState → Option SiteState → Option SiteState
 found_or other None = other

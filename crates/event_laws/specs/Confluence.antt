@@ -10,6 +10,7 @@ use Rattle.rep_laws.specs.Commuting.{IsSound}
 use Rattle.site_state.specs.declared.entry.Entry.{Entry}
 use Rattle.site_state.specs.declared.arrival.Arrival.{Arrival}
 use Rattle.site_state.specs.State.{SiteState, is_master_site, arrivals}
+use Rattle.site_state.specs.Arrivals.{CanPass}
 use Rattle.site_state.specs.Journal.{finished, low_water, error_at}
 use Rattle.site_state.specs.Contents.{content_of}
 use Rattle.site_state.specs.Streams.{queue_of}
@@ -23,7 +24,6 @@ use Rattle.event_laws.specs.Events.{Event, run}
 use Rattle.event_laws.specs.Declared.{AreDeclared}
 use Rattle.event_laws.specs.Fitting.{IsFitStart}
 use Rattle.event_laws.specs.Marks.{IsWellNumbered}
-use Rattle.event_laws.specs.PassLaws.{CanPass}
 
 -- positions of a sender are applied, one after the other
 abbrev pub applied_in_turn : SiteName → List ℕ → SiteState → SiteState

@@ -1,16 +1,12 @@
 -- What passes and purges leave, at any site.
-use Rattle.std.specs.Prelude.{◌≡◌, ℕ, ◌-◌, ◌<◌, ◌≤◌, ◌↔◌, true, false, not, List, Option, Some, None}
-use Rattle.std.specs.List.{list_all, AllByRecursion}
-use Rattle.std.specs.Ordering.{nat_cmp}
-use Rattle.rep_lists.specs.RisingLaws.{RisesBy}
+use Rattle.std.specs.Prelude.{◌≡◌, ℕ, ◌-◌, ◌<◌, ◌≤◌, ◌↔◌, false, List, Option, Some, None}
+use Rattle.std.specs.List.{AllByRecursion}
 use Rattle.rep_values.specs.declared.name.SiteName.{SiteName}
 use Rattle.rep_schema.specs.declared.schema.Schema.{Schema}
-use Rattle.rep_calls.specs.declared.past.Past.{Past}
-use Rattle.deferred_queue.specs.Streams.{is_same_site}
 use Rattle.origin_marks.specs.Marks.{IsLowWater}
 use Rattle.site_state.specs.declared.entry.Entry.{Entry}
-use Rattle.site_state.specs.declared.arrival.Arrival.{Arrival}
 use Rattle.site_state.specs.State.{DestinationState, SiteState, arrivals}
+use Rattle.site_state.specs.Arrivals.{CanPass}
 use Rattle.site_state.specs.Journal.{finished, low_water}
 use Rattle.site_state.specs.Streams.{count_of}
 use Rattle.site_state.specs.Ready.{is_ready}
@@ -20,16 +16,6 @@ use Rattle.event_laws.specs.Core.{Core, site_of}
 use Rattle.event_laws.specs.Events.{Event, run}
 use Rattle.event_laws.specs.Starts.{IsStart}
 use Rattle.event_laws.specs.Declared.{AreDeclared}
-
--- no past names this site
-abbrev pub NamesOthers : SiteName → List Past → Type 0
-NamesOthers site past = list_all (λ (seen : Past). not (is_same_site seen.origin site)) past ≡ true
-
--- what arrived from a sender rises, depends on earlier positions, and has pasts that don't name the sender itself
-pub record CanPass (origin : SiteName) (arrived : List Arrival) : Type 0 where
-  pub rising : RisesBy (λ (a : Arrival). a.position) nat_cmp arrived
-  pub earlier : AllByRecursion (λ (a : Arrival). a.dep < a.position) arrived
-  pub others : AllByRecursion (λ (a : Arrival). NamesOthers origin a.past) arrived
 
 -- after a pass no position of the sender is ready
 abbrev pub PassesLeaveNothingReady : Type 0

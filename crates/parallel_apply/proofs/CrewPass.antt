@@ -8,10 +8,10 @@ use Rattle.txn_effects.specs.Transactions.{Failure}
 use Rattle.site_state.specs.declared.answers.Why.{Why}
 use Rattle.site_state.specs.declared.arrival.Arrival.{Arrival}
 use Rattle.site_state.specs.State.{SiteState, arrived_at, arrivals, sender_of, arrived_in}
+use Rattle.site_state.specs.Arrivals.{CanPass}
 use Rattle.site_state.specs.Ready.{stale_of, is_ready}
 use Rattle.site_state.specs.Steps.{begun}
 use Rattle.site_state.specs.Passes.{effect_here, finished_by, applied_unless, site_apply, apply_each, site_pass}
-use Rattle.event_laws.specs.PassLaws.{CanPass}
 use Rattle.event_laws.specs.Confluence.{applied_in_turn, AreReadyInTurn, CanPassInAnyOrder}
 use Rattle.event_laws.proofs.PassLaws.{passes_leave_nothing_ready}
 use Rattle.journal_order.specs.Settling.{IsSettleable}

@@ -1,7 +1,10 @@
 //! A pass for a sender by a crew.
-ghost use Rattle.std.specs.Prelude.{◌≡◌, ◌+◌, ◌^◌, ◌<◌, ◌≤◌, IfOk, IfErr};
+ghost use Rattle.std.specs.Prelude.{◌≡◌, ◌+◌, ◌^◌, ◌<◌, ◌≤◌, true, IfOk, IfErr};
+ghost use Rattle.rep_laws.specs.Commuting.{IsSound};
+ghost use Rattle.site_state.specs.State.{is_master_site, arrivals};
 ghost use Rattle.site_state.specs.Steps.{begun};
 ghost use Rattle.site_state.specs.Passes.{site_pass};
+ghost use Rattle.event_laws.specs.Marks.{IsWellNumbered};
 ghost use Rattle.event_laws.specs.Confluence.{CanPassInAnyOrder};
 ghost use Rattle.site_gate.specs.Passes.{IsPassOf};
 ghost use Rattle.parallel_apply.specs.Crews.{IsPartlyApplied};
@@ -19,6 +22,17 @@ use std::alloc::Global;
 use std::sync::Wait;
 use std::thread;
 use std::thread::Threads;
+
+/// What arrived from a master whose positions are well numbered can be passed in any order.
+fn can_pass_in_any_order<R: RowStore>(site: &Site<R>, origin: &SiteName)
+    requires sound { IsSound site.now.schema }
+    requires master { is_master_site site.now.schema origin.now ≡ true }
+    requires numbered { IsWellNumbered site.now.schema (arrivals origin.now site.now) }
+    ensures { CanPassInAnyOrder origin.now site.now }
+{
+    site.laws();
+    site.arrivals_can_pass(origin);
+}
 
 /// Appliers side by side apply what is ready of a sender, until none of them finds more; nothing is applied where there is no
 /// work for two.
@@ -61,8 +75,8 @@ fn apply_together<R: RowStore, X: Threads + Wait + Sync, W: Watch>(
 /// A pass of several appliers for a sender that is a master: the site that comes back is the site after the pass of one. Where
 /// there is no memory, some of what was ready is applied, each transaction whole and journalled.
 ///
-/// What arrived from the sender can be passed in any order, as it can at every site of a script's world; there are 1 to 8
-/// appliers. Threads are started only where two positions are ready, and more than one only where there are enough calls; for
+/// The schema breaks no rule, and what arrived from the sender is well numbered, as it is at every site of a script's world;
+/// there are 1 to 8 appliers. Threads are started only where two positions are ready, and more than one only where there are enough calls; for
 /// small transactions only from time to time.
 pub fn apply_crew<R: RowStore, X: Threads + Wait + Sync, W: Watch>(
     rt: &X,
@@ -72,13 +86,16 @@ pub fn apply_crew<R: RowStore, X: Threads + Wait + Sync, W: Watch>(
     appliers: u32,
     watch: &W,
 ) -> Result<Site<R>, (Site<R>, NoMemory)>
-    requires passes { CanPassInAnyOrder origin.now site }
+    requires sound { IsSound site.schema }
+    requires master { is_master_site site.schema origin.now ≡ true }
+    requires numbered { IsWellNumbered site.schema (arrivals origin.now site) }
     requires few { site.moment + 1 < 2 ^ 64 }
     requires appliers { (1 ≤ appliers) × (appliers ≤ 8) }
     ensures ok { IfOk result (λ passed. passed ≡ site_pass origin.now site) }
     ensures err { IfErr result (λ refused. IsPartlyApplied origin.now (begun site) refused.0) }
 {
     let mut site = site;
+    can_pass_in_any_order(&site, origin);
     if !may_start_threads(&site, origin, appliers) {
         return match site.apply_pass(alloc, origin) {
             Ok(_) => Ok(site),

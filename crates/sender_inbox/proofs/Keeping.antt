@@ -1,5 +1,5 @@
 -- What an inbox keeps, after each of its steps.
-use Rattle.std.proofs.Common.{◌≡◌, ℕ, ◌≤◌, ◌==◌, Bool, true, false, max, List, [], ◌∷◌, Some, None, refl, sym, ap, ◌∙◌, arith}
+use Rattle.std.proofs.Common.{◌≡◌, ℕ, ◌<◌, ◌≤◌, ◌==◌, Bool, true, false, max, List, [], ◌∷◌, Some, None, refl, sym, ap, ◌∙◌, arith}
 use Rattle.std.specs.Prelude.{◌≢◌, ◌||◌}
 use Rattle.std.specs.List.{AllByRecursion}
 use Rattle.std.specs.Ordering.{nat_cmp}
@@ -10,19 +10,21 @@ use Rattle.std.proofs.lemmas.Bool.Decides.{nat_tests}
 use Rattle.rep_lists.specs.Rising.{find_at, put_at, found_here}
 use Rattle.rep_lists.proofs.Rising.{all_put, rising_put}
 use Rattle.rep_lists.proofs.FoundByKey.{find_put_own, find_put_other}
+use Rattle.rep_values.specs.declared.name.SiteName.{SiteName}
 use Rattle.origin_marks.specs.Edges.{is_between}
 use Rattle.origin_marks.specs.Marks.{Marked, finished}
 use Rattle.origin_marks.proofs.Counts.{cmp_equal}
 use Rattle.site_state.specs.declared.arrival.Arrival.{Arrival}
 use Rattle.site_state.specs.State.{beside}
+use Rattle.site_state.specs.Arrivals.{NamesOthers}
 use Rattle.site_state.specs.Ready.{number_in}
 use Rattle.sender_inbox.specs.Incoming.{greatest_where, IsInbox}
 use Rattle.sender_inbox.specs.Kept.{IsKept}
 use Rattle.sender_inbox.proofs.Greatest.{greatest_where-put, greatest_where-more}
 
 -- what hasn't arrived isn't finished
-unfinished : (xs : List Arrival) (m : Marked) (p : ℕ) → IsInbox xs m → find_at (beside p) xs ≡ None → finished m p ≡ false
-unfinished xs m p is absent = go (finished m p) refl
+unfinished : (origin : SiteName) (xs : List Arrival) (m : Marked) (p : ℕ) → IsInbox origin xs m → find_at (beside p) xs ≡ None → finished m p ≡ false
+unfinished origin xs m p is absent = go (finished m p) refl
   where
     go : (b : Bool) → finished m p ≡ b → b ≡ false
     go true done = absurd (is.come p done absent)
@@ -52,42 +54,49 @@ found-put a xs p there = λ none. go (nat_cmp a.position p) refl none
     go Greater at none = there (sym (find_put_other (λ (b : Arrival). b.position) nat_cmp nat_cmp_total a p xs (λ equal. cc)) ∙ none)
 
 -- at first
-pub IsKept-new : (m : Marked) → ((p : ℕ) → finished m p ≡ false) → IsKept [] m 0
-IsKept-new m none = record {
-  inbox = record { rising = tt; from_one = tt; come = λ p done. absurd (let not_done = none p in cc) };
+pub IsKept-new : (origin : SiteName) (m : Marked) → ((p : ℕ) → finished m p ≡ false) → IsKept origin [] m 0
+IsKept-new origin m none = record {
+  inbox = record { rising = tt; from_one = tt; passes = record { rising = tt; earlier = tt; others = tt }; come = λ p done. absurd (let not_done = none p in cc) };
   greatest_is = refl;
 }
 
 -- with one arrival more
-pub IsKept-put : (a : Arrival) (xs : List Arrival) (m : Marked) (greatest : ℕ) → 1 ≤ a.position → find_at (beside a.position) xs ≡ None → IsKept xs m greatest
-    → IsKept (put_at (beside a.position) a xs) m greatest
-IsKept-put a xs m greatest one absent kept = record {
+pub IsKept-put : (origin : SiteName) (a : Arrival) (xs : List Arrival) (m : Marked) (greatest : ℕ) → a.dep < a.position → NamesOthers origin a.past → find_at (beside a.position) xs ≡ None → IsKept origin xs m greatest
+    → IsKept origin (put_at (beside a.position) a xs) m greatest
+IsKept-put origin a xs m greatest earlier others absent kept = record {
   inbox = record {
     rising = rising_put (λ (b : Arrival). b.position) nat_cmp nat_cmp_total a xs kept.inbox.rising;
-    from_one = all_put (beside a.position) (λ (b : Arrival). 1 ≤ b.position) a xs one kept.inbox.from_one;
+    from_one = all_put (beside a.position) (λ (b : Arrival). 1 ≤ b.position) a xs (omega (arith, earlier)) kept.inbox.from_one;
+    passes = record {
+      rising = rising_put (λ (b : Arrival). b.position) nat_cmp nat_cmp_total a xs kept.inbox.passes.rising;
+      earlier = all_put (beside a.position) (λ (b : Arrival). b.dep < b.position) a xs earlier kept.inbox.passes.earlier;
+      others = all_put (beside a.position) (λ (b : Arrival). NamesOthers origin b.past) a xs others kept.inbox.passes.others;
+    };
     come = λ p done. found-put a xs p (kept.inbox.come p done);
   };
-  greatest_is = kept.greatest_is ∙ sym (greatest_where-put (finished m) a xs (unfinished xs m a.position kept.inbox absent) absent);
+  greatest_is = kept.greatest_is ∙ sym (greatest_where-put (finished m) a xs (unfinished origin xs m a.position kept.inbox absent) absent);
 }
 
 -- with the same finished positions
-pub IsKept-same : (xs : List Arrival) (m n : Marked) (greatest : ℕ) → n.edges ≡ m.edges → IsKept xs m greatest → IsKept xs n greatest
-IsKept-same xs m n greatest same kept = record {
+pub IsKept-same : (origin : SiteName) (xs : List Arrival) (m n : Marked) (greatest : ℕ) → n.edges ≡ m.edges → IsKept origin xs m greatest → IsKept origin xs n greatest
+IsKept-same origin xs m n greatest same kept = record {
   inbox = record {
     rising = kept.inbox.rising;
     from_one = kept.inbox.from_one;
+    passes = kept.inbox.passes;
     come = λ p done. kept.inbox.come p (ap (λ edges. is_between edges p) (sym same) ∙ done);
   };
   greatest_is = kept.greatest_is ∙ ap (λ edges. greatest_where (is_between edges) xs) (sym same);
 }
 
 -- with one finished position more
-pub IsKept-more : (xs : List Arrival) (m n : Marked) (greatest number position : ℕ) → find_at (beside position) xs ≢ None → ((p : ℕ) → finished n p ≡ (p == position || finished m p))
-    → number ≡ number_in (find_at (beside position) xs) → IsKept xs m greatest → IsKept xs n (max greatest number)
-IsKept-more xs m n greatest number position there is number_is kept = record {
+pub IsKept-more : (origin : SiteName) (xs : List Arrival) (m n : Marked) (greatest number position : ℕ) → find_at (beside position) xs ≢ None → ((p : ℕ) → finished n p ≡ (p == position || finished m p))
+    → number ≡ number_in (find_at (beside position) xs) → IsKept origin xs m greatest → IsKept origin xs n (max greatest number)
+IsKept-more origin xs m n greatest number position there is number_is kept = record {
   inbox = record {
     rising = kept.inbox.rising;
     from_one = kept.inbox.from_one;
+    passes = kept.inbox.passes;
     come = λ p done. come p (p == position) refl (sym (is p) ∙ done);
   };
   greatest_is = rw (number_is, kept.greatest_is) (sym (greatest_where-more (finished m) (finished n) position is xs kept.inbox.rising));

@@ -4,9 +4,11 @@ use Rattle.std.specs.List.{AllByRecursion, AllWithin}
 use Rattle.std.specs.Ordering.{nat_cmp}
 use Rattle.std.specs.declared.cmp.Ordering.{Ordering}
 use Rattle.rep_lists.specs.Rising.{IsRising, find_at}
+use Rattle.rep_values.specs.declared.name.SiteName.{SiteName}
 use Rattle.origin_marks.specs.Marks.{Marked, finished}
 use Rattle.site_state.specs.declared.arrival.Arrival.{Arrival}
 use Rattle.site_state.specs.State.{SenderState, beside}
+use Rattle.site_state.specs.Arrivals.{CanPass}
 
 -- what a contract sees of an inbox: the sender with what arrived, and the positions that are finished
 pub record Incoming : Type 0 where
@@ -31,8 +33,9 @@ pub record IsFirstAbove (number : ℕ) (arrived : List Arrival) (place : ℕ) : 
   pub before : AllWithin (λ (a : Arrival). a.position ≤ number) arrived 0 place
   pub behind : AllWithin (λ (a : Arrival). number < a.position) arrived place (length arrived)
 
--- positions rise from 1, and what is finished has arrived
-pub record IsInbox (arrived : List Arrival) (marked : Marked) : Type 0 where
+-- what arrived from a site rises from position 1 and can be passed, and what is finished has arrived
+pub record IsInbox (origin : SiteName) (arrived : List Arrival) (marked : Marked) : Type 0 where
   pub rising : IsRising by_position arrived
   pub from_one : AllByRecursion (λ (a : Arrival). 1 ≤ a.position) arrived
+  pub passes : CanPass origin arrived
   pub come : (position : ℕ) → finished marked position ≡ true → find_at (beside position) arrived ≢ None

@@ -4,6 +4,7 @@ ghost use Rattle.rep_lists.specs.Rising.{find_at};
 ghost use Rattle.deferred_queue.specs.Streams.{is_same_site};
 ghost use Rattle.origin_marks.specs.Marks.{finished, IsLowWater};
 ghost use Rattle.site_state.specs.State.{beside};
+ghost use Rattle.site_state.specs.Arrivals.{NamesOthers};
 ghost use Rattle.site_state.specs.Making.{new_sender};
 ghost use Rattle.site_state.specs.Packets.{with_arrival};
 ghost use Rattle.site_state.specs.Ready.{covered_at};
@@ -37,7 +38,7 @@ impl Model for Inbox {
 
     ghost view = { λ i. record { sender = record { origin = i.origin; first = i.first; arrived = i.arrived.items }; marked = i.finished } };
 
-    ghost invariant = { λ i. IsKept i.arrived.items i.finished i.greatest };
+    ghost invariant = { λ i. IsKept i.origin i.arrived.items i.finished i.greatest };
 }
 
 impl Inbox {
@@ -112,9 +113,10 @@ impl Inbox {
         first_above(&self.arrived, number)
     }
 
-    /// Takes in what hadn't arrived.
+    /// Takes in what hadn't arrived. It depends on an earlier position, if any, and its past doesn't name the sender.
     pub fn accept(&mut self, arrival: Arrival) -> Result<(), NoMemory>
-        requires from_one { 1 ≤ arrival.position }
+        requires earlier { arrival.dep < arrival.position }
+        requires others { NamesOthers self.old.sender.origin arrival.past }
         requires absent { find_at (beside arrival.position) self.old.sender.arrived ≡ None }
         ensures ok { OnOk result (self.new.sender ≡ with_arrival arrival self.old.sender) }
         ensures err { OnErr result (self.new.sender ≡ self.old.sender) }
@@ -156,9 +158,9 @@ impl Inbox {
         self.first.max(self.greatest)
     }
 
-    /// What always holds: positions rise from 1, and what is finished has arrived.
+    /// What always holds: what arrived rises from position 1 and can be passed, and what is finished has arrived.
     pub fn laws(&self)
-        ensures { IsInbox self.now.sender.arrived self.now.marked }
+        ensures { IsInbox self.now.sender.origin self.now.sender.arrived self.now.marked }
     {
         let _ = &self.arrived;
     }

@@ -41,6 +41,7 @@ use Rattle.site_state.specs.declared.arrival.Arrival.{Arrival}
 use Rattle.site_state.specs.declared.answers.Why.TheVariants as why
 use Rattle.site_state.specs.declared.answers.Accepted.TheVariants as accepted
 use Rattle.site_state.specs.State.{SenderState, SiteState, sender_of, at_sender, beside, arrived_at, destination_of, at_destination}
+use Rattle.site_state.specs.Arrivals.{NamesOthers}
 use Rattle.site_state.specs.Journal.{finished, error_at}
 use Rattle.site_state.specs.Contents.{content_of, tables_of, txn_of, changes_by}
 use Rattle.site_state.specs.Streams.{with_one, queue_of, count_of, stream_to}
@@ -73,7 +74,7 @@ use Rattle.site_core.specs.Noting.{IsNoted}
 use Rattle.site_core.specs.Applying.{goes_on, onward_of, entry_by, error_by, with_error, onward_past, refusal_of}
 use Rattle.site_core.proofs.StandingErrors.{StandApart, HasCome, lists_by, errors-added, errors-removed, error_in-lists, error_at-finished, error_at-unfinished, count-added, count-removed, errors-arrival, list_of-sender}
 use Rattle.site_core.proofs.Apart.{NamesApart, senders_apart, senders_stand_apart, destinations_apart, destinations_stand_apart}
-use Rattle.site_core.proofs.SenderInboxes.{sender_of-inboxes}
+use Rattle.site_core.proofs.SenderInboxes.{sender_of-inboxes, found_inbox}
 use Rattle.site_core.proofs.Reading.{stale_none, sender_is, stale_finished, stale_absent, finished_is}
 use Rattle.site_core.proofs.Sending.{last_is, no_packet, packet_is, sent_has}
 use Rattle.site_core.proofs.ChangedInbox.{is_from, inbox_of-place, inbox_of-none, senders_in-same, senders_in-changed, Finishes, follow_same, follow_finished}
@@ -608,6 +609,10 @@ module _ (schema : Schema) (here : Here) (base : List Rows) (journal : List Entr
     module _ (place : ℕ) (i : Incoming) (found : Some place ≡ list.position (is_from from) inboxes) (is : i ≡ get_or inboxes place i) where
       here_is : sender_of from x.senders ≡ Some i.sender
       here_is = sender_of-inboxes from inboxes ∙ ap (option_map sender_in) (inbox_of-place from inboxes place i found is)
+
+      -- a past that doesn't name the sender doesn't name its inbox's sender
+      pub names_others_here : (past : List Past) → NamesOthers from past → NamesOthers i.sender.origin past
+      names_others_here past = subst (λ (o : SiteName). NamesOthers o past) (sym (found_inbox (Follows journal) from inboxes i h.follow (inbox_of-place from inboxes place i found is)).0)
 
       pub repeat_state : (a : Arrival) → find_at (beside position) i.sender.arrived ≡ Some a → x ≡ site_accept (Carry from to number position dep seen txn) x
       repeat_state a there = rw (known, here_is, there) refl

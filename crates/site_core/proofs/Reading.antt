@@ -1,5 +1,5 @@
 -- What is read of a site's inboxes is what the site's state says of its senders.
-use Rattle.std.proofs.Common.{◌≡◌, ℕ, List, Bool, true, false, Some, None, refl, sym, ◌∙◌}
+use Rattle.std.proofs.Common.{◌≡◌, ℕ, List, Bool, true, false, Some, None, refl, sym, ◌∙◌, subst}
 use Rattle.rep_lists.specs.Rising.{IsRising, find_at}
 use Rattle.rep_values.specs.declared.name.SiteName.{SiteName}
 use Rattle.rep_schema.specs.Tables.{Rows}
@@ -10,14 +10,15 @@ use Rattle.error_queue.specs.ErrorLists.{ErrorList}
 use Rattle.site_state.specs.declared.arrival.Arrival.{Arrival}
 use Rattle.site_state.specs.declared.answers.Why.TheVariants as why
 use Rattle.site_state.specs.State.{SenderState, SiteState, sender_of, beside, arrived_at, arrivals, first_number}
+use Rattle.site_state.specs.Arrivals.{CanPass}
 use Rattle.site_state.specs.Journal.{finished, low_water}
 use Rattle.site_state.specs.Pasts.{past_of}
 use Rattle.site_state.specs.Ready.{covered_at, covered, is_due, stale_of}
 use Rattle.sender_inbox.specs.Incoming.{Incoming, by_position}
 use Rattle.site_outbox.specs.Outgoing.{Outgoing}
-use Rattle.site_core.specs.Keeping.{senders_in, inbox_of, Holds}
+use Rattle.site_core.specs.Keeping.{senders_in, inbox_of, Follows, Holds}
 use Rattle.site_core.specs.Seen.{past_from}
-use Rattle.site_core.proofs.SenderInboxes.{sender_of-inboxes, finished_found, mark_found, low_water-found, unfinished_none, low_water-none}
+use Rattle.site_core.proofs.SenderInboxes.{sender_of-inboxes, found_inbox, finished_found, mark_found, low_water-found, unfinished_none, low_water-none}
 use Rattle.site_core.proofs.SeenMasters.{past_from-follows}
 
 module _ (x : SiteState) (rows : List Rows) (numbers : Numbers) (inboxes : List Incoming) (out : Outgoing) (lists : List ErrorList) (room : ℕ) (h : Holds x rows numbers inboxes out lists room) (senders : x.senders ≡ senders_in inboxes) where
@@ -50,6 +51,9 @@ module _ (x : SiteState) (rows : List Rows) (numbers : Numbers) (inboxes : List 
       pub rising_none : (s : SenderState) → sender_of origin x.senders ≡ Some s → IsRising by_position s.arrived
       rising_none s there = absurd (cc (there, no_sender))
 
+      pub can_pass_none : CanPass origin (arrivals origin x)
+      can_pass_none = rw no_sender (record { rising = tt; earlier = tt; others = tt })
+
     -- ---- a sender
 
     module _ (i : Incoming) (found : inbox_of origin inboxes ≡ Some i) where
@@ -65,6 +69,9 @@ module _ (x : SiteState) (rows : List Rows) (numbers : Numbers) (inboxes : List 
       -- its arrivals rise where the inbox's do
       pub rising_found : IsRising by_position i.sender.arrived → (s : SenderState) → sender_of origin x.senders ≡ Some s → IsRising by_position s.arrived
       rising_found rising s there = let same : i.sender ≡ s = cc (there, sender_is) in rw (← same) rising
+
+      pub can_pass_found : CanPass i.sender.origin i.sender.arrived → CanPass origin (arrivals origin x)
+      can_pass_found can = rw sender_is (subst (λ (o : SiteName). CanPass o i.sender.arrived) (found_inbox (Follows x.journal) origin inboxes i h.follow found).0 can)
 
       pub arrivals_are : arrivals origin x ≡ i.sender.arrived
       arrivals_are = rw sender_is refl

@@ -1,5 +1,6 @@
 -- The definitions of this crate.
 pub mod State
+pub mod Arrivals
 pub mod Journal
 pub mod Contents
 pub mod Streams

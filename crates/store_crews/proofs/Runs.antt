@@ -28,7 +28,7 @@ use Rattle.event_laws.specs.Core.{site_of, at_site}
 use Rattle.event_laws.specs.Events.{Event, run, receiver}
 use Rattle.event_laws.specs.Events.Event.{Commit, Send, Deliver}
 use Rattle.event_laws.specs.Fitting.{StartsFit}
-use Rattle.event_laws.proofs.Sites.{KeepsHere, at_split}
+use Rattle.event_laws.proofs.Sites.{KeepsHere, found_changed, found_other}
 use Rattle.event_laws.proofs.NewSites.{new_site_is_new}
 use Rattle.event_laws.proofs.Confluence.{every_site_can_pass_in_any_order}
 use Rattle.store_crews.specs.Runs.{opened, TwoBegin, TwoCommit, TwoDeliver, TwoPass}
@@ -68,24 +68,7 @@ accept_here packet x = arrived_keeps (λ (y : SiteState). y.here ≡ x.here) x (
 accept_schema : (packet : Packet) (x : SiteState) → (site_accept packet x).schema ≡ x.schema
 accept_schema packet x = arrived_keeps (λ (y : SiteState). y.schema ≡ x.schema) x (λ y here schema. schema) packet
 
--- ---- the site of a name, where one changed
-
-found_changed : (name : SiteName) (change : SiteState → SiteState) (sites : List SiteState) (x : SiteState) → KeepsHere change → site_of name sites ≡ Some x → site_of name (at_site name change sites) ≡ Some (change x)
-found_changed name change [] x keeps found = absurd (cc found)
-found_changed name change (s ∷ ss) x keeps found = go (is_same_site s.here.site name) refl found (found_changed name change ss x keeps)
-  where
-    go : (b : Bool) → is_same_site s.here.site name ≡ b → cond b (Some s) (site_of name ss) ≡ Some x → (site_of name ss ≡ Some x → site_of name (at_site name change ss) ≡ Some (change x))
-        → site_of name (cond b (change s ∷ ss) (s ∷ at_site name change ss)) ≡ Some (change x)
-    go true is found later =
-        let same : s ≡ x = cc in
-        let still : is_same_site (change s).here.site name ≡ true = rw (keeps s) is in
-        rw (still, same) refl
-    go false is found later = rw is (later found)
-
-found_other : (name other : SiteName) (change : SiteState → SiteState) (sites : List SiteState) → KeepsHere change → is_same_site name other ≡ false → site_of other (at_site name change sites) ≡ site_of other sites
-found_other name other change sites keeps differ =
-    at_split (λ (o : Option SiteState). o ≡ site_of other sites) name other change sites keeps
-    (λ same. absurd (true≢false (sym (is_same_site-refl name) ∙ ap (is_same_site name) same ∙ differ))) refl
+-- ---- names that differ
 
 turned : (one other : SiteName) → is_same_site one other ≡ false → is_same_site other one ≡ false
 turned one other differ = go (is_same_site other one) refl

@@ -4,6 +4,7 @@ use Rattle.std.specs.List.{AllByRecursion}
 use Rattle.rep_values.specs.declared.name.SiteName.{SiteName}
 use Rattle.rep_schema.specs.Shape.{HasShape}
 use Rattle.site_state.specs.declared.arrival.Arrival.{Arrival}
+use Rattle.site_state.specs.Arrivals.{CanPass}
 use Rattle.site_state.specs.State.{SiteState, arrivals, acked_of}
 use Rattle.site_state.specs.Streams.{stream_to}
 use Rattle.site_state.specs.Packets.{site_packet}
@@ -11,7 +12,6 @@ use Rattle.site_state.specs.Ready.{is_ready}
 use Rattle.event_laws.specs.Core.{site_of}
 use Rattle.event_laws.specs.Marks.{MarksAreLow, PurgedIsFinished, AreWellNumbered}
 use Rattle.event_laws.specs.Orders.{AreFinishedOnce, AreSettledOnce, EarlierComesFirst}
-use Rattle.event_laws.specs.PassLaws.{CanPass}
 use Rattle.event_laws.specs.Waiting.{IsDelivered, PassesFinishNothing, NothingWaits}
 use Rattle.script_parse.specs.declared.command.Command.{Command}
 use Rattle.world_state.specs.World.{WorldState}

@@ -4,6 +4,7 @@ ghost use Rattle.std.specs.List.{AllByRecursion};
 ghost use Rattle.rep_lists.specs.Rising.{IsRising};
 ghost use Rattle.site_state.specs.declared.arrival.Arrival.{Arrival as ArrivalValue};
 ghost use Rattle.site_state.specs.State.{SenderState, sender_of, arrivals};
+ghost use Rattle.site_state.specs.Arrivals.{CanPass};
 ghost use Rattle.site_state.specs.Ready.{stale_of, first_ready};
 ghost use Rattle.site_state.specs.Steps.{begun};
 ghost use Rattle.site_state.specs.Passes.{site_apply, apply_answer, apply_each, site_pass, pass_answer, is_done, is_error, added_count};
@@ -160,6 +161,16 @@ impl<R: RowStore> Site<R> {
         ensures { AllByRecursion (λ a. 1 ≤ a.position) (arrivals origin.now self.now) }
     {
         let _ = self.arrivals_above(origin, 0);
+    }
+
+    /// What arrived from a sender stands in rising order of position, depends on earlier positions, and has pasts that don't name
+    /// the sender: so each packet is that is within all limits.
+    pub fn arrivals_can_pass(&self, origin: &SiteName)
+        ensures { CanPass origin.now (arrivals origin.now self.now) }
+    {
+        if let Some(inbox) = inbox_from(&self.inboxes, origin) {
+            inbox.laws();
+        }
     }
 
     /// The position of a sender at a place in rising order.

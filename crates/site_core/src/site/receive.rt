@@ -1,9 +1,10 @@
 //! What comes to a site.
-ghost use Rattle.std.specs.Prelude.{◌≡◌, ◌≤◌, ℕ, false, is_some, length, IfOk, OnOk, OnErr};
+ghost use Rattle.std.specs.Prelude.{◌≡◌, ◌<◌, ℕ, false, is_some, length, IfOk, OnOk, OnErr};
 ghost use Rattle.std.specs.List.{list_all};
 ghost use Rattle.packet_code.specs.declared.packet.Packet.TheVariants.{Carry, Mark};
 ghost use Rattle.packet_code.specs.Limits.{IsPacket};
 ghost use Rattle.site_state.specs.State.{sender_of, destination_of};
+ghost use Rattle.site_state.specs.Arrivals.{NamesOthers};
 ghost use Rattle.site_state.specs.Streams.{stream_to};
 ghost use Rattle.site_state.specs.Packets.{is_known_past, is_foreign, site_accept, accept_answer};
 ghost use Rattle.site_core.specs.Keeping.{IsSized};
@@ -86,7 +87,8 @@ impl<R: RowStore> Site<R> {
         arrival: Arrival,
     ) -> Result<Accepted, NoMemory>
         requires known { is_foreign (Carry from.now to.now arrival.number arrival.position arrival.dep arrival.past arrival.txn) self.old ≡ false }
-        requires from_one { 1 ≤ arrival.position }
+        requires earlier { arrival.dep < arrival.position }
+        requires others { NamesOthers from.now arrival.past }
         requires sized { IsSized arrival.txn }
         ensures ok { OnOk result (self.new ≡ site_accept (Carry from.now to.now arrival.number arrival.position arrival.dep arrival.past arrival.txn) self.old) }
         ensures answer { IfOk result (λ answer. answer ≡ accept_answer (Carry from.now to.now arrival.number arrival.position arrival.dep arrival.past arrival.txn) self.old) }

@@ -10,4 +10,5 @@ invariant_of-self c = rw c.in_err-put_in.ensures.err c.self.invariant
 pub invariant_of-self-2 : goal.invariant_of-self-2
 invariant_of-self-2 c =
     let absent = rw (← c.self.view_is) at c.requires.absent in
-    rw c.in_ok-put_in.ensures.ok (IsKept-put c.args.arrival c.self.inside.arrived.items c.self.inside.finished c.self.inside.greatest c.requires.from_one absent c.self.invariant)
+    let others = rw (← c.self.view_is) at c.requires.others in
+    rw c.in_ok-put_in.ensures.ok (IsKept-put c.self.inside.origin c.args.arrival c.self.inside.arrived.items c.self.inside.finished c.self.inside.greatest c.requires.earlier others absent c.self.invariant)

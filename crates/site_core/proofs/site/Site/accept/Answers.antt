@@ -1,6 +1,6 @@
 use Rattle.std.proofs.Common.{sym}
 use Rattle.packet_code.specs.declared.packet.Packet.TheVariants.{Carry}
-use Rattle.site_core.proofs.Foreign.{foreign_state, foreign_answer}
+use Rattle.site_core.proofs.Foreign.{foreign_state, foreign_answer, names_others}
 use Rattle.site_core.proofs.Holding.{mark_within, mark_holds}
 use Rattle.site_core.proofs.site.Site.accept.Goals as goal
 
@@ -18,6 +18,13 @@ returns-then-is_foreign_carry-clause-answer g c =
 
 pub take_in-requires-clause-known : goal.take_in-requires-clause-known
 take_in-requires-clause-known g c = λ κs lives. rw c.as_slice.ensures at (sym (c.if-is_foreign_carry.ensures c.in-Carry.number c.in-Carry.position c.in-Carry.dep))
+
+-- what the sender of a packet had seen is of others
+pub take_in-requires-clause-others : goal.take_in-requires-clause-others
+take_in-requires-clause-others g c κs lives =
+    let k = c.in-Carry in
+    let limits = rw k.is at c.requires in
+    names_others k.from k.past limits.seen.each
 
 pub acknowledge-requires : goal.acknowledge-requires
 acknowledge-requires g c =

@@ -4,7 +4,7 @@ use Rattle.origin_marks.specs.Marks.{finished}
 use Rattle.packet_code.specs.declared.packet.Packet.TheVariants.{Carry}
 use Rattle.site_state.specs.Packets.{site_accept}
 use Rattle.site_core.specs.Keeping.{state_of}
-use Rattle.site_core.proofs.Holding.{sender_known, repeat_state, repeat_answer, new_answer, room_state, room_holds, accept_state, accept_holds}
+use Rattle.site_core.proofs.Holding.{sender_known, names_others_here, repeat_state, repeat_answer, new_answer, room_state, room_holds, accept_state, accept_holds}
 use Rattle.site_core.proofs.site.Site.take_in.Goals as goal
 
 pub unreachable-requires : goal.unreachable-requires
@@ -34,6 +34,14 @@ returns-in_default-find-clause-answer g c =
     rw (← c.self.view_is)
     (repeat_answer _ _ _ _ _ _ c.self.inside.notes _ _ _ _ _ _ c.self.invariant c.args.from.now c.args.to.now a.number a.position a.dep a.past a.txn known c.in-Some.place c.index_mut-inbox.result.now found c.index_mut-inbox.ensures.value
     c.in_default-find.field-0.now (sym c.in_default-find.ensures))
+
+pub accept-requires-clause-others : goal.accept-requires-clause-others
+accept-requires-clause-others g c =
+    let a = c.args.arrival in
+    let known = rw (← c.self.view_is) at c.requires.known in
+    let found = rw c.deref.ensures.value at c.in-Some.ensures in
+    names_others_here _ _ _ _ _ _ c.self.inside.notes _ _ _ _ _ _ c.self.invariant c.args.from.now c.args.to.now a.number a.position a.dep a.past a.txn known c.in-Some.place c.index_mut-inbox.result.now found c.index_mut-inbox.ensures.value
+    a.past c.requires.others
 
 pub invariant_of-self-in_err-accept : goal.invariant_of-self-in_err-accept
 invariant_of-self-in_err-accept g c =
