@@ -72,6 +72,7 @@ fn push_value(out: &mut Vec<u8>, value: &Value) -> Result<(), NoMemory>
     }
 }
 
+#[inline(always)]
 fn push_each_value(out: &mut Vec<u8>, values: &[Value]) -> Result<(), NoMemory>
     ensures { OnOk result (out.new.items ≡ out.old.items ++ flat_map value_bytes values.now) }
 {
