@@ -19,6 +19,11 @@ abbrev pub Reads : {A : Type 0} → Reading A → Result A Stop → List ℕ →
 Reads reading (Ok x) old new = reading old ≡ Some (x, new)
 Reads reading (Err e) old new = Fails e (reading old)
 
+-- the value is read into its place, or it fails
+abbrev pub ReadsInto : {A : Type 0} → Reading A → Result (Unit {0}) Stop → List ℕ → List ℕ → A → Type 0
+ReadsInto reading (Ok x) old new into = reading old ≡ Some (into, new)
+ReadsInto reading (Err e) old new into = Fails e (reading old)
+
 -- one more value is read, behind those that were found before, or it fails
 abbrev pub Adds : {A : Type 0} → Reading A → Result (Unit {0}) Stop → List ℕ → List ℕ → List A → List A → Type 0
 Adds reading (Ok x) old new found more = made (λ one. found ++ one ∷ []) reading old ≡ Some (more, new)

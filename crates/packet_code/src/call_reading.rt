@@ -8,10 +8,10 @@ use crate::limits::{groups_rise, is_group_number};
 use crate::reader::Reader;
 use crate::repeated::{Piece, limited, times};
 use crate::stop::Stop;
-use crate::value_reading::{key, row, row_values};
+use crate::value_reading::{key_into, row, row_values};
 use rep_calls::{Call, Part, Txn};
 use rep_lists::Items;
-use rep_values::Value;
+use rep_values::{Key, Value};
 use std::alloc::Global;
 
 fn are_same(a: &[Value], b: &[Value]) -> bool
@@ -78,7 +78,9 @@ fn add_update(alloc: Global, bytes: &mut Reader<'_>, found: &mut Vec<Call>) -> R
     ensures room { OnOk result (vec_capacity found.new ≡ vec_capacity found.old) }
 {
     let table = bytes.u16_number()? as u32;
-    let key = key(bytes)?;
+    // The key is read over this one, since it is large and would be moved with each answer.
+    let mut key = Key::first(Value::Num(0));
+    key_into(bytes, &mut key)?;
     let parts = parts(alloc, bytes)?;
     found.push_reserved(Call::Update { table, key, parts });
     Ok(())

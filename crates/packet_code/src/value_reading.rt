@@ -3,7 +3,7 @@ ghost use Rattle.std.specs.Prelude.{◌≡◌, ◌+◌, ◌<◌, ◌≤◌, vec_
 ghost use Rattle.rep_schema.specs.Fitting.{is_in_range};
 ghost use Rattle.packet_code.specs.Forms.{site, number_value, text_value, value, values, row, key};
 ghost use Rattle.packet_code.specs.Reading.{times};
-ghost use Rattle.packet_code.specs.Readers.{Reads, ReadsAs, Adds};
+ghost use Rattle.packet_code.specs.Readers.{Reads, ReadsInto, Adds};
 
 use crate::reader::Reader;
 use crate::repeated::{Piece, limited};
@@ -133,27 +133,27 @@ pub fn row(alloc: Global, bytes: &mut Reader<'_>) -> Result<Row, Stop>
     }
 }
 
-/// A key of so many values.
-fn key_values(bytes: &mut Reader<'_>, count: usize) -> Result<Key, Stop>
+/// A key of so many values, read into its place.
+fn key_values(bytes: &mut Reader<'_>, count: usize, into: &mut Key) -> Result<(), Stop>
     requires some { 1 ≤ count }
     requires most { count ≤ 4 }
-    ensures { Reads (times count value) result bytes.old bytes.new }
+    ensures { ReadsInto (times count value) result bytes.old bytes.new into.new }
 {
-    let mut key = Key::first(value(bytes)?);
+    *into = Key::first(value(bytes)?);
     for _ in 1..count {
-        key.push(value(bytes)?);
+        into.push(value(bytes)?);
     }
-    Ok(key)
+    Ok(())
 }
 
-/// A key. It takes no memory.
+/// A key, read into its place, since it is large. It takes no memory.
 #[tactic(auto, unfolding(crate::specs::Forms::key))]
-pub fn key(bytes: &mut Reader<'_>) -> Result<Key, Stop>
-    ensures { Reads key result bytes.old bytes.new }
+pub fn key_into(bytes: &mut Reader<'_>, into: &mut Key) -> Result<(), Stop>
+    ensures { ReadsInto key result bytes.old bytes.new into.new }
 {
     let count = bytes.byte()? as usize;
     if count < 1 || count > 4 {
         return Err(Stop::Form);
     }
-    key_values(bytes, count)
+    key_values(bytes, count, into)
 }
