@@ -1,8 +1,8 @@
--- What a call reads behind a value that tells how, and where it puts it.
-use Rattle.std.proofs.Common.{◌≡◌, ℕ, List, [], ◌∷◌, ◌++◌, Some, Result, Ok, Err, refl}
+-- What a call reads behind a value that tells how.
+use Rattle.std.proofs.Common.{◌≡◌, ℕ, List, Some, Result, Ok, Err}
 use Rattle.packet_code.specs.declared.stop.Stop.{Stop}
 use Rattle.packet_code.specs.declared.stop.Stop.TheVariants as stop
-use Rattle.packet_code.specs.Reading.{Reading, made, behind}
+use Rattle.packet_code.specs.Reading.{Reading, behind}
 use Rattle.packet_code.specs.Readers.{Reads, Adds}
 
 -- a value, and then what it tells
@@ -18,8 +18,3 @@ pub add_behind : {A B : Type 0} (first : Reading A) (second : A → Reading B) (
 add_behind first second old mid new x (Ok y) found more read next = rw read next
 add_behind first second old mid new x (Err stop.Memory) found more read next = tt
 add_behind first second old mid new x (Err stop.Form) found more read next = rw read next
-
--- what was read stands behind those that were found
-pub add_read : {A : Type 0} (reading : Reading A) (old new : List ℕ) (x : A) (found more : List A) → reading old ≡ Some (x, new)
-    → more ≡ found ++ x ∷ [] → made (λ one. found ++ one ∷ []) reading old ≡ Some (more, new)
-add_read reading old new x found more read pushed = rw (read, pushed) refl
