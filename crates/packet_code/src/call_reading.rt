@@ -1,17 +1,17 @@
 //! Parts, calls and transactions, read from bytes.
-ghost use Rattle.std.specs.Prelude.{◌≡◌};
+ghost use Rattle.std.specs.Prelude.{◌≡◌, ◌+◌, ◌<◌, vec_len, vec_capacity, OnOk};
 ghost use Rattle.rep_schema.specs.Groups.{are_same};
 ghost use Rattle.packet_code.specs.Forms.{part, parts, insert, update, delete, call, txn};
-ghost use Rattle.packet_code.specs.Readers.{Reads};
+ghost use Rattle.packet_code.specs.Readers.{Reads, Adds};
 
 use crate::limits::{groups_rise, is_group_number};
 use crate::reader::Reader;
 use crate::repeated::{Piece, limited, times};
 use crate::stop::Stop;
-use crate::value_reading::{key, row, row_values};
+use crate::value_reading::{key_into, row, row_values};
 use rep_calls::{Call, Part, Txn};
 use rep_lists::Items;
-use rep_values::Value;
+use rep_values::{Key, Value};
 use std::alloc::Global;
 
 fn are_same(a: &[Value], b: &[Value]) -> bool
@@ -40,8 +40,9 @@ fn part(alloc: Global, bytes: &mut Reader<'_>) -> Result<Part, Stop>
 impl Piece for Part {
     ghost reading = { part };
 
-    fn read(alloc: Global, bytes: &mut Reader<'_>) -> Result<Part, Stop> {
-        part(alloc, bytes)
+    fn add(alloc: Global, bytes: &mut Reader<'_>, found: &mut Vec<Part>) -> Result<(), Stop> {
+        found.push_reserved(part(alloc, bytes)?);
+        Ok(())
     }
 }
 
@@ -58,41 +59,58 @@ fn parts(alloc: Global, bytes: &mut Reader<'_>) -> Result<Items<Part>, Stop>
     Ok(parts)
 }
 
-fn insert(alloc: Global, bytes: &mut Reader<'_>) -> Result<Call, Stop>
-    ensures { Reads insert result bytes.old bytes.new }
+fn add_insert(alloc: Global, bytes: &mut Reader<'_>, found: &mut Vec<Call>) -> Result<(), Stop>
+    requires { vec_len found.old < vec_capacity found.old }
+    ensures added { Adds insert result bytes.old bytes.new found.old.items found.new.items }
+    ensures number { OnOk result (vec_len found.new ≡ vec_len found.old + 1) }
+    ensures room { OnOk result (vec_capacity found.new ≡ vec_capacity found.old) }
 {
     let table = bytes.u16_number()? as u32;
     let row = row(alloc, bytes)?;
-    Ok(Call::Insert { table, row })
+    found.push_reserved(Call::Insert { table, row });
+    Ok(())
 }
 
-fn update(alloc: Global, bytes: &mut Reader<'_>) -> Result<Call, Stop>
-    ensures { Reads update result bytes.old bytes.new }
+fn add_update(alloc: Global, bytes: &mut Reader<'_>, found: &mut Vec<Call>) -> Result<(), Stop>
+    requires { vec_len found.old < vec_capacity found.old }
+    ensures added { Adds update result bytes.old bytes.new found.old.items found.new.items }
+    ensures number { OnOk result (vec_len found.new ≡ vec_len found.old + 1) }
+    ensures room { OnOk result (vec_capacity found.new ≡ vec_capacity found.old) }
 {
     let table = bytes.u16_number()? as u32;
-    let key = key(bytes)?;
+    // The key is read over this one, since it is large and would be moved with each answer.
+    let mut key = Key::first(Value::Num(0));
+    key_into(bytes, &mut key)?;
     let parts = parts(alloc, bytes)?;
-    Ok(Call::Update { table, key, parts })
+    found.push_reserved(Call::Update { table, key, parts });
+    Ok(())
 }
 
-fn delete(alloc: Global, bytes: &mut Reader<'_>) -> Result<Call, Stop>
-    ensures { Reads delete result bytes.old bytes.new }
+fn add_delete(alloc: Global, bytes: &mut Reader<'_>, found: &mut Vec<Call>) -> Result<(), Stop>
+    requires { vec_len found.old < vec_capacity found.old }
+    ensures added { Adds delete result bytes.old bytes.new found.old.items found.new.items }
+    ensures number { OnOk result (vec_len found.new ≡ vec_len found.old + 1) }
+    ensures room { OnOk result (vec_capacity found.new ≡ vec_capacity found.old) }
 {
     let table = bytes.u16_number()? as u32;
     let row = row(alloc, bytes)?;
-    Ok(Call::Delete { table, row })
+    found.push_reserved(Call::Delete { table, row });
+    Ok(())
 }
 
-/// An insert, an update or a delete.
-#[tactic(auto, unfolding(crate::specs::Forms::call), using(crate::proofs::Behind::read_behind))]
-fn call(alloc: Global, bytes: &mut Reader<'_>) -> Result<Call, Stop>
-    ensures { Reads call result bytes.old bytes.new }
+/// An insert, an update or a delete. A key is large, so a call is put where it stays as soon as it is read.
+#[tactic(auto, unfolding(crate::specs::Forms::call), using(crate::proofs::Behind::add_behind))]
+fn add_call(alloc: Global, bytes: &mut Reader<'_>, found: &mut Vec<Call>) -> Result<(), Stop>
+    requires { vec_len found.old < vec_capacity found.old }
+    ensures added { Adds call result bytes.old bytes.new found.old.items found.new.items }
+    ensures number { OnOk result (vec_len found.new ≡ vec_len found.old + 1) }
+    ensures room { OnOk result (vec_capacity found.new ≡ vec_capacity found.old) }
 {
     let kind = bytes.byte()?;
     match kind {
-        1 => insert(alloc, bytes),
-        2 => update(alloc, bytes),
-        3 => delete(alloc, bytes),
+        1 => add_insert(alloc, bytes, found),
+        2 => add_update(alloc, bytes, found),
+        3 => add_delete(alloc, bytes, found),
         _ => Err(Stop::Form),
     }
 }
@@ -100,8 +118,8 @@ fn call(alloc: Global, bytes: &mut Reader<'_>) -> Result<Call, Stop>
 impl Piece for Call {
     ghost reading = { call };
 
-    fn read(alloc: Global, bytes: &mut Reader<'_>) -> Result<Call, Stop> {
-        call(alloc, bytes)
+    fn add(alloc: Global, bytes: &mut Reader<'_>, found: &mut Vec<Call>) -> Result<(), Stop> {
+        add_call(alloc, bytes, found)
     }
 }
 

@@ -28,12 +28,14 @@ fn push_number(out: &mut Vec<u8>, number: u64) -> Result<(), NoMemory>
     Ok(())
 }
 
-/// The number of a table in two bytes.
-fn push_table(out: &mut Vec<u8>, table: u32) -> Result<(), NoMemory>
+/// The kind of a call, and the number of its table in two bytes.
+fn push_kind(out: &mut Vec<u8>, kind: u8, table: u32) -> Result<(), NoMemory>
     requires { IsPlainTable table }
-    ensures { OnOk result (out.new.items ≡ out.old.items ++ to_be_bytes w16 table) }
+    ensures { OnOk result (out.new.items ≡ out.old.items ++ kind ∷ to_be_bytes w16 table) }
 {
-    out.extend_from_slice(&(table as u16).to_be_bytes())?;
+    let mut bytes = [kind; 3];
+    bytes[1..].copy_from_slice(&(table as u16).to_be_bytes());
+    out.extend_from_slice(&bytes)?;
     Ok(())
 }
 
@@ -72,6 +74,7 @@ fn push_value(out: &mut Vec<u8>, value: &Value) -> Result<(), NoMemory>
     }
 }
 
+#[inline(always)]
 fn push_each_value(out: &mut Vec<u8>, values: &[Value]) -> Result<(), NoMemory>
     ensures { OnOk result (out.new.items ≡ out.old.items ++ flat_map value_bytes values.now) }
 {
@@ -122,19 +125,16 @@ fn push_call(out: &mut Vec<u8>, call: &Call) -> Result<(), NoMemory>
 {
     match call {
         Call::Insert { table, row } => {
-            out.push(1)?;
-            push_table(out, *table)?;
+            push_kind(out, 1, *table)?;
             push_values(out, row.values())
         }
         Call::Update { table, key, parts } => {
-            out.push(2)?;
-            push_table(out, *table)?;
+            push_kind(out, 2, *table)?;
             push_values(out, key.values())?;
             push_parts(out, parts.as_slice())
         }
         Call::Delete { table, row } => {
-            out.push(3)?;
-            push_table(out, *table)?;
+            push_kind(out, 3, *table)?;
             push_values(out, row.values())
         }
     }

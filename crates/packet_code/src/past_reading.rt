@@ -28,8 +28,9 @@ fn seen(bytes: &mut Reader<'_>) -> Result<Past, Stop>
 impl Piece for Past {
     ghost reading = { seen };
 
-    fn read(_alloc: Global, bytes: &mut Reader<'_>) -> Result<Past, Stop> {
-        seen(bytes)
+    fn add(_alloc: Global, bytes: &mut Reader<'_>, found: &mut Vec<Past>) -> Result<(), Stop> {
+        found.push_reserved(seen(bytes)?);
+        Ok(())
     }
 }
 

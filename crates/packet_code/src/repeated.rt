@@ -1,7 +1,7 @@
 //! Parts of a packet that stand several times.
-ghost use Rattle.std.specs.Prelude.{◌≡◌, ℕ, List, Option};
+ghost use Rattle.std.specs.Prelude.{◌≡◌, ℕ, ◌+◌, ◌<◌, List, Option, vec_len, vec_capacity, OnOk};
 ghost use Rattle.packet_code.specs.Reading.{times, limited, up_to};
-ghost use Rattle.packet_code.specs.Readers.{Reads};
+ghost use Rattle.packet_code.specs.Readers.{Reads, Adds};
 
 use crate::reader::Reader;
 use crate::stop::Stop;
@@ -12,9 +12,12 @@ use std::alloc::Global;
 pub trait Piece: Drop {
     ghost reading: { List ℕ → Option (Self × List ℕ) };
 
-    /// Reads one. It may want memory.
-    fn read(alloc: Global, bytes: &mut Reader<'_>) -> Result<Self, Stop>
-        ensures { Reads reading result bytes.old bytes.new };
+    /// Reads one, right into its place behind those that were found. It may want memory.
+    fn add(alloc: Global, bytes: &mut Reader<'_>, found: &mut Vec<Self>) -> Result<(), Stop>
+        requires { vec_len found.old < vec_capacity found.old }
+        ensures added { Adds reading result bytes.old bytes.new found.old.items found.new.items }
+        ensures number { OnOk result (vec_len found.new ≡ vec_len found.old + 1) }
+        ensures room { OnOk result (vec_capacity found.new ≡ vec_capacity found.old) };
 }
 
 /// So many of them. The room for all of them is taken at once, so callers bound the count.
@@ -27,7 +30,7 @@ pub fn times<P: Piece>(
 {
     let mut found = Vec::with_capacity(alloc, count)?;
     for _ in 0..count {
-        found.push_reserved(P::read(alloc, bytes)?);
+        P::add(alloc, bytes, &mut found)?;
     }
     Ok(Items::from_vec(found))
 }

@@ -1,9 +1,9 @@
 //! Names, values, rows and keys, read from bytes.
-ghost use Rattle.std.specs.Prelude.{◌≡◌, ◌≤◌};
+ghost use Rattle.std.specs.Prelude.{◌≡◌, ◌+◌, ◌<◌, ◌≤◌, vec_len, vec_capacity, OnOk};
 ghost use Rattle.rep_schema.specs.Fitting.{is_in_range};
 ghost use Rattle.packet_code.specs.Forms.{site, number_value, text_value, value, values, row, key};
 ghost use Rattle.packet_code.specs.Reading.{times};
-ghost use Rattle.packet_code.specs.Readers.{Reads, ReadsAs};
+ghost use Rattle.packet_code.specs.Readers.{Reads, ReadsInto, Adds};
 
 use crate::reader::Reader;
 use crate::repeated::{Piece, limited};
@@ -60,11 +60,48 @@ fn value(bytes: &mut Reader<'_>) -> Result<Value, Stop>
     }
 }
 
+fn add_number(bytes: &mut Reader<'_>, found: &mut Vec<Value>) -> Result<(), Stop>
+    requires { vec_len found.old < vec_capacity found.old }
+    ensures added { Adds number_value result bytes.old bytes.new found.old.items found.new.items }
+    ensures number { OnOk result (vec_len found.new ≡ vec_len found.old + 1) }
+    ensures room { OnOk result (vec_capacity found.new ≡ vec_capacity found.old) }
+{
+    found.push_reserved(number_value(bytes)?);
+    Ok(())
+}
+
+fn add_text(bytes: &mut Reader<'_>, found: &mut Vec<Value>) -> Result<(), Stop>
+    requires { vec_len found.old < vec_capacity found.old }
+    ensures added { Adds text_value result bytes.old bytes.new found.old.items found.new.items }
+    ensures number { OnOk result (vec_len found.new ≡ vec_len found.old + 1) }
+    ensures room { OnOk result (vec_capacity found.new ≡ vec_capacity found.old) }
+{
+    found.push_reserved(text_value(bytes)?);
+    Ok(())
+}
+
+/// Each kind is put where it stays on its own, so that a number moves no bytes of a text.
+#[inline(always)]
+#[tactic(auto, unfolding(crate::specs::Forms::value), using(crate::proofs::Behind::add_behind))]
+fn add_value(bytes: &mut Reader<'_>, found: &mut Vec<Value>) -> Result<(), Stop>
+    requires { vec_len found.old < vec_capacity found.old }
+    ensures added { Adds value result bytes.old bytes.new found.old.items found.new.items }
+    ensures number { OnOk result (vec_len found.new ≡ vec_len found.old + 1) }
+    ensures room { OnOk result (vec_capacity found.new ≡ vec_capacity found.old) }
+{
+    let kind = bytes.byte()?;
+    match kind {
+        1 => add_number(bytes, found),
+        2 => add_text(bytes, found),
+        _ => Err(Stop::Form),
+    }
+}
+
 impl Piece for Value {
     ghost reading = { value };
 
-    fn read(_alloc: Global, bytes: &mut Reader<'_>) -> Result<Value, Stop> {
-        value(bytes)
+    fn add(_alloc: Global, bytes: &mut Reader<'_>, found: &mut Vec<Value>) -> Result<(), Stop> {
+        add_value(bytes, found)
     }
 }
 
@@ -96,27 +133,27 @@ pub fn row(alloc: Global, bytes: &mut Reader<'_>) -> Result<Row, Stop>
     }
 }
 
-/// A key of so many values.
-fn key_values(bytes: &mut Reader<'_>, count: usize) -> Result<Key, Stop>
+/// A key of so many values, read into its place.
+fn key_values(bytes: &mut Reader<'_>, count: usize, into: &mut Key) -> Result<(), Stop>
     requires some { 1 ≤ count }
     requires most { count ≤ 4 }
-    ensures { Reads (times count value) result bytes.old bytes.new }
+    ensures { ReadsInto (times count value) result bytes.old bytes.new into.new }
 {
-    let mut key = Key::first(value(bytes)?);
+    *into = Key::first(value(bytes)?);
     for _ in 1..count {
-        key.push(value(bytes)?);
+        into.push(value(bytes)?);
     }
-    Ok(key)
+    Ok(())
 }
 
-/// A key. It takes no memory.
+/// A key, read into its place, since it is large. It takes no memory.
 #[tactic(auto, unfolding(crate::specs::Forms::key))]
-pub fn key(bytes: &mut Reader<'_>) -> Result<Key, Stop>
-    ensures { Reads key result bytes.old bytes.new }
+pub fn key_into(bytes: &mut Reader<'_>, into: &mut Key) -> Result<(), Stop>
+    ensures { ReadsInto key result bytes.old bytes.new into.new }
 {
     let count = bytes.byte()? as usize;
     if count < 1 || count > 4 {
         return Err(Stop::Form);
     }
-    key_values(bytes, count)
+    key_values(bytes, count, into)
 }

@@ -17,25 +17,25 @@ returns-in_err-value c =
 pub loop-init : goal.loop-init
 loop-init c =
     let all = times c.args.count value c.args.bytes.now in (
-      found_more value [] c.first-key.result (c.args.count - 1) c.args.count c.args.bytes.now c.value.new.bytes c.in_ok-value.field-0 all (with_found-none value all)
-          (omega (arith, c.requires.some)) c.in_ok-value.ensures c.first-key.ensures,
-      ap length c.first-key.ensures,
+      found_more value [] c.first.result (c.args.count - 1) c.args.count c.args.bytes.now c.value.new.bytes c.in_ok-value.field-0 all (with_found-none value all)
+          (omega (arith, c.requires.some)) c.in_ok-value.ensures c.first.ensures,
+      ap length c.first.ensures,
     )
 
 pub returns-in_err-value-2 : goal.returns-in_err-value-2
 returns-in_err-value-2 c =
     let p = err_from_is_err_and c.from_residual-in_err-value-2.result c.from_residual-in_err-value-2.ensures.1 in
-    rw (p.1, p.2) (found_fails value c.loop.key (c.args.count - (c.loop.counter + 1)) (c.args.count - c.loop.counter) c.loop.bytes c.in_err-value-2.field-0.0
+    rw (p.1, p.2) (found_fails value c.loop.into (c.args.count - (c.loop.counter + 1)) (c.args.count - c.loop.counter) c.loop.bytes c.in_err-value-2.field-0.0
     (times c.args.count value c.args.bytes.now) c.loop.invariant.0 (omega (arith, c.loop-test.true)) c.in_err-value-2.ensures)
 
 pub loop-preserved : goal.loop-preserved
 loop-preserved c = (
-  found_more value c.loop.key c.push.new.self (c.args.count - (c.loop.counter + 1)) (c.args.count - c.loop.counter) c.loop.bytes c.value-in-loop.new.bytes
+  found_more value c.loop.into c.push.new.self (c.args.count - (c.loop.counter + 1)) (c.args.count - c.loop.counter) c.loop.bytes c.value-in-loop.new.bytes
       c.in_ok-value-2.field-0 (times c.args.count value c.args.bytes.now) c.loop.invariant.0 (omega (arith, c.loop-test.true)) c.in_ok-value-2.ensures c.push.ensures,
   rw (c.push.ensures, length-append) (omega (arith, c.loop.invariant.1)),
 )
 
 pub returns : goal.returns
 returns c =
-    found_ends value c.loop.key (c.args.count - c.loop.counter) c.loop.bytes (times c.args.count value c.args.bytes.now) c.loop.invariant.0
+    found_ends value c.loop.into (c.args.count - c.loop.counter) c.loop.bytes (times c.args.count value c.args.bytes.now) c.loop.invariant.0
     (omega (arith, c.loop-test.false))
