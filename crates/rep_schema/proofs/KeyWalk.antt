@@ -48,7 +48,7 @@ module _ (columns : List Column) (row : Cells) (i : ℕ) where
     key_from-other other = key_from-step ∙ rw other
 
     -- a key column adds its value
-    key_from-key : (get_or columns i c).key ≡ true → key_from columns row i ≡ get_or row i v ∷ key_from columns row (i + 1)
+    pub key_from-key : (get_or columns i c).key ≡ true → key_from columns row i ≡ get_or row i v ∷ key_from columns row (i + 1)
     key_from-key is_key = key_from-step ∙ rw is_key
 
     -- the other key ends first
@@ -71,3 +71,13 @@ module _ (columns : List Column) (row : Cells) (i : ℕ) where
     more_of_key cells n key is_key in_cells so_far =
         let sizes = ap length (rw (key_from-key is_key) at so_far) in
         omega (arith, sizes, length-append {A = Value}, length-take-le n cells in_cells)
+
+    -- a value of the key stands behind those that are gathered
+    pub gathered-key_step : (gathered key : Cells) → (get_or columns i c).key ≡ true → v ≡ get_or row i v → gathered ++ key_from columns row i ≡ key → (gathered ++ v ∷ []) ++ key_from columns row (i + 1) ≡ key
+    gathered-key_step gathered key is_key v_is so_far = rw append_assoc (rw (key_from-key is_key, ← v_is) at so_far)
+
+    -- the key has one more value than those that are gathered
+    pub more_than_gathered : (gathered key : Cells) → (get_or columns i c).key ≡ true → gathered ++ key_from columns row i ≡ key → length gathered < length key
+    more_than_gathered gathered key is_key so_far =
+        let sizes = ap length (rw (key_from-key is_key) at so_far) in
+        omega (arith, sizes, length-append {A = Value})
