@@ -116,8 +116,8 @@ position-column columns name place c apart within has_name =
     let named : (get_or columns place c).name ≡ name = (same_bytes-Decides (get_or columns place c).name name).0 has_name in
     let before : (k : ℕ) → k < place → is_column name (get_or columns k c) ≡ false =
     λ k earlier. false_from_ne_true (is_column name (get_or columns k c)) (λ same.
-        apart k place name earlier (omega (arith, long, within))
-        (name_at k (omega (arith, earlier, within)) ∙ (same_bytes-Decides (get_or columns k c).name name).0 same ∙ sym named ∙ sym (name_at place within))) in
+    apart k place name earlier (omega (arith, long, within))
+    (name_at k (omega (arith, earlier, within)) ∙ (same_bytes-Decides (get_or columns k c).name name).0 same ∙ sym named ∙ sym (name_at place within))) in
     let first : position_or_len (is_column name) columns ≡ place =
     position_or_len_is (is_column name) columns place c (omega (arith, within)) before (λ _. has_name) in
     rw (first, lt-ltb place (length columns) within) refl
