@@ -1,4 +1,4 @@
-use Rattle.std.proofs.Common.{◌≡◌, ◌<◌, ◌≤◌, length, min, pos, sym, ◌∙◌, arith}
+use Rattle.std.proofs.Common.{◌<◌, ◌≤◌, length, min, pos, sym, ◌∙◌, arith}
 use Rattle.std.proofs.lemmas.List.{append-nil}
 use Rattle.rep_values.specs.declared.value.Value.TheVariants.{Num}
 use Rattle.rep_schema.proofs.KeyWalk.{key_from-other, key_from-end, gathered-key_step}
