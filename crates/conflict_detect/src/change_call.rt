@@ -3,6 +3,7 @@ ghost use Rattle.std.specs.Prelude.{◌≡◌, ◌<◌, length, map, IfOk};
 ghost use Rattle.std.specs.List.{AllByRecursion};
 ghost use Rattle.rep_schema.specs.Tables.{columns_of, key_of, RowFits, IsKeyed};
 ghost use Rattle.rep_schema.specs.Shape.{HasShape};
+ghost use Rattle.rep_schema.specs.Groups.{values_at};
 ghost use Rattle.rep_schema.specs.Changes.{ChangeFits};
 ghost use Rattle.rep_calls.specs.declared.call.Call.TheVariants.{Update};
 ghost use Rattle.conflict_detect.specs.ChangeCalls.{part_between, parts_between, call_of};
@@ -10,9 +11,28 @@ ghost use Rattle.conflict_detect.specs.ChangeCalls.{part_between, parts_between,
 use crate::detection::differing_groups;
 use rep_calls::{Call, Part, Txn};
 use rep_lists::{Copies, Items, NoMemory};
-use rep_schema::{Change, Schema, columns_of, group_columns, key_of, values_at};
+use rep_schema::{
+    Change, SHADOW, Schema, columns_of, group_columns, groups_of, key_of, named_columns, values_at,
+};
 use rep_values::{Row, Value};
 use std::alloc::Global;
+
+/// What two rows have at the places of a group's columns, old and new.
+fn part_at(
+    alloc: Global,
+    group: u8,
+    places: &[u32],
+    before: &[Value],
+    after: &[Value],
+) -> Result<Part, NoMemory>
+    ensures { IfOk result (λ part. part ≡ record { group = group; old = values_at places.now before.now; new = values_at places.now after.now }) }
+{
+    Ok(Part {
+        group,
+        old: values_at(alloc, places, before)?,
+        new: values_at(alloc, places, after)?,
+    })
+}
 
 /// All values of a group, old and new.
 fn part_between(
@@ -27,12 +47,12 @@ fn part_between(
     requires shape { HasShape schema.now }
     ensures { IfOk result (λ part. part ≡ part_between schema.now table before.now after.now group) }
 {
-    let columns = group_columns(schema, table, group);
-    Ok(Part {
-        group,
-        old: values_at(alloc, columns.as_slice(), before)?,
-        new: values_at(alloc, columns.as_slice(), after)?,
-    })
+    if group == SHADOW {
+        let columns = group_columns(schema, table, group);
+        return part_at(alloc, group, columns.as_slice(), before, after);
+    }
+    let columns = named_columns(groups_of(schema, table), group);
+    part_at(alloc, group, columns, before, after)
 }
 
 /// A part for each group in which two rows of one length differ.
@@ -49,11 +69,11 @@ fn parts_between(
     ensures { IfOk result (λ parts. parts ≡ parts_between schema.now table before.now after.now) }
 {
     let groups = differing_groups(schema, table, before, after);
-    let mut parts = Items::with_capacity(alloc, groups.as_slice().len())?;
+    let mut parts = Vec::with_capacity(alloc, groups.as_slice().len())?;
     for group in groups.as_slice() {
-        parts.push(part_between(alloc, schema, table, before, after, *group)?)?;
+        parts.push_reserved(part_between(alloc, schema, table, before, after, *group)?);
     }
-    Ok(parts)
+    Ok(Items::from_vec(parts))
 }
 
 /// The update of a row that another one with its key takes the place of.
@@ -107,9 +127,9 @@ pub fn txn_of(alloc: Global, schema: &Schema, changes: &[Change]) -> Result<Txn,
     requires fits { AllByRecursion (ChangeFits schema.now) changes.now }
     ensures { IfOk result (λ txn. txn.calls ≡ map (call_of schema.now) changes.now) }
 {
-    let mut calls = Items::with_capacity(alloc, changes.len())?;
+    let mut calls = Vec::with_capacity(alloc, changes.len())?;
     for change in changes {
-        calls.push(call_of(alloc, schema, change)?)?;
+        calls.push_reserved(call_of(alloc, schema, change)?);
     }
-    Txn::of(alloc, calls)
+    Txn::of(alloc, Items::from_vec(calls))
 }

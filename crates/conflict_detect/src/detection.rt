@@ -8,7 +8,7 @@ ghost use Rattle.conflict_detect.specs.Differing.{is_matched, unmatched_groups, 
 
 use crate::GroupSet;
 use rep_calls::{Call, Part};
-use rep_schema::{SHADOW, Schema, group_columns, groups_of, has_values, same_values_at};
+use rep_schema::{SHADOW, Schema, group_columns, groups_of, has_values, same_in_group};
 use rep_values::{Row, Value};
 
 /// What detection finds of the row that an update or a delete names.
@@ -29,7 +29,7 @@ fn differ_in(schema: &Schema, table: u32, group: u8, a: &[Value], b: &[Value]) -
     requires long { length a.now ≡ length b.now }
     ensures { result ≡ differ_in schema.now table a.now b.now group }
 {
-    !same_values_at(group_columns(schema, table, group).as_slice(), a, b)
+    !same_in_group(schema, table, group, a, b)
 }
 
 /// The groups in which two rows of one length differ.

@@ -1,5 +1,6 @@
 -- The lemmas of this crate, from the bottom up.
 mod NamedSets
+mod ManySets
 mod SetWalk
 mod FilledRows
 mod LiteralWalk

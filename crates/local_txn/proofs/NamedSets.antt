@@ -7,6 +7,7 @@ use Rattle.std.specs.Cmp.{unsigned_Decides}
 use Rattle.std.proofs.lemmas.Slice.Eq.{slice_eq-Decides}
 use Rattle.std.proofs.lemmas.Bool.{and_right, both_ways, false_from_ne_true, ltb-true, lt-ltb, cases_order}
 use Rattle.std.proofs.lemmas.List.Folds.{list_all-append, list_any_at}
+use Rattle.std.proofs.lemmas.List.Sums.{position_or_len_is}
 use Rattle.std.proofs.lemmas.List.{take-append-drop, get_or-map, length-map}
 use Rattle.std.proofs.lemmas.Option.{slice_get-map, slice_get-get_or}
 use Rattle.std.proofs.lemmas.List.Quantifiers.{position-Some}
@@ -104,6 +105,22 @@ numbered-none sets (suc n) = (refl, numbered-none sets n)
 pub set_at-cells : (sets : List Set) (cells : List (Option ℕ)) (n place : ℕ) (d : Option ℕ) → place < n → place < length cells → set_at (map (set_of sets) (take n cells)) place ≡ set_of sets (get_or cells place d)
 set_at-cells sets cells n place d within there =
     rw (slice_get-map (set_of sets) (take n cells) place, slice_get-take cells n place d within there) refl
+
+-- a column that has a name, where no other has it, is at the name's place
+pub position-column : (columns : List Column) (name : List ℕ) (place : ℕ) (c : Column) → AreDistinct (map (λ c. c.name) columns) → place < length columns
+    → is_column name (get_or columns place c) ≡ true → position (is_column name) columns ≡ Some place
+position-column columns name place c apart within has_name =
+    let long = length-map columns (λ (o : Column). o.name) in
+    let name_at : (k : ℕ) → k < length columns → get_or (map (λ (o : Column). o.name) columns) k name ≡ (get_or columns k c).name =
+    λ k below. get_or-map (λ (o : Column). o.name) columns k c name below in
+    let named : (get_or columns place c).name ≡ name = (same_bytes-Decides (get_or columns place c).name name).0 has_name in
+    let before : (k : ℕ) → k < place → is_column name (get_or columns k c) ≡ false =
+    λ k earlier. false_from_ne_true (is_column name (get_or columns k c)) (λ same.
+    apart k place name earlier (omega (arith, long, within))
+    (name_at k (omega (arith, earlier, within)) ∙ (same_bytes-Decides (get_or columns k c).name name).0 same ∙ sym named ∙ sym (name_at place within))) in
+    let first : position_or_len (is_column name) columns ≡ place =
+    position_or_len_is (is_column name) columns place c (omega (arith, within)) before (λ _. has_name) in
+    rw (first, lt-ltb place (length columns) within) refl
 
 module _ (columns : List Column) (sets : List Set) (i : ℕ) (s : Set) (here : drop i sets ≡ s ∷ drop (i + 1) sets) where
   -- a set that names no column

@@ -134,7 +134,8 @@ pub(crate) fn row_written(
     }
 }
 
-/// The key of literals.
+/// The key of literals. It is built in place, since a key is large.
+#[inline(always)]
 pub(crate) fn key_of_literals(literals: &[Literal]) -> Key
     requires { IsKeyLen (length literals.now) }
     ensures { result ≡ values_of literals.now }

@@ -1,17 +1,19 @@
 //! What an update sets.
-ghost use Rattle.std.specs.Prelude.{◌≡◌, ◌≤◌, length, map, option_copied, true, pos, IfOk, IfErr};
+ghost use Rattle.std.specs.Prelude.{◌≡◌, ◌<◌, ◌≤◌, length, map, option_copied, true, pos, Some, IfOk, IfErr};
+ghost use Rattle.std.specs.List.{position};
 ghost use Rattle.std.specs.Ordering.{int_cmp};
 ghost use Rattle.rep_values.specs.Order.{value_cmp};
 ghost use Rattle.rep_schema.specs.Limits.{most_columns};
 ghost use Rattle.rep_schema.specs.Shape.{AreDistinct};
+ghost use Rattle.rep_schema.specs.Named.{is_column};
 ghost use Rattle.rep_schema.specs.Kinds.{row_in_range};
-ghost use Rattle.local_txn.specs.Sets.{takes_how, takes_set, value_after, value_by};
+ghost use Rattle.local_txn.specs.Sets.{names_columns, takes_how, takes_set, value_after, value_by};
 ghost use Rattle.local_txn.specs.ByColumn.{set_at, takes_each, fills_some, row_by, where_in_range, row_where_in_range, AreSets, names_refusal};
 
 use rep_calls::{How, Set};
 use rep_schema::{Column, is_of_kind, value_in_range};
-use rep_values::{Refusal, Row, Value, compare_values};
-use schema_names::column_place;
+use rep_values::{Name, Refusal, Row, Value, compare_values};
+use schema_names::{column_place, has_column};
 use std::cmp::Ordering;
 use std::marker::Model;
 
@@ -19,7 +21,7 @@ use std::marker::Model;
 #[derive(Drop)]
 pub(crate) struct SetsByColumn<'a> {
     sets: &'a [Set],
-    cells: [Option<usize>; 32],
+    cells: [Option<u8>; 32],
     len: usize,
 }
 
@@ -35,6 +37,36 @@ impl<'a> Model for SetsByColumn<'a> {
     ghost invariant = { λ s. s.len ≤ 32 };
 }
 
+/// The place of the column of a name, which is looked for at one place first.
+fn place_near(columns: &[Column], name: &Name, near: usize) -> Option<usize>
+    requires { AreDistinct (map (λ c. c.name) columns.now) }
+    ensures { result ≡ position (is_column name.now) columns.now }
+{
+    if near < columns.len() && columns[near].name.is_same(name) {
+        return Some(near);
+    }
+    column_place(columns, name)
+}
+
+/// Whether each set names a column.
+fn names_columns(columns: &[Column], sets: &[Set]) -> bool
+    ensures { result ≡ names_columns columns.now sets.now }
+{
+    sets.iter().all(|set| has_column(columns, &set.column))
+}
+
+/// Why more sets than a table has columns are refused: one names no column, or two name the same one.
+fn many_refusal(columns: &[Column], sets: &[Set]) -> Refusal
+    requires { length columns.now < length sets.now }
+    ensures { names_refusal columns.now sets.now ≡ Some result }
+{
+    if names_columns(columns, sets) {
+        Refusal::RowShape
+    } else {
+        Refusal::UnknownName
+    }
+}
+
 impl<'a> SetsByColumn<'a> {
     /// What these sets set of each column. Else a name is unknown, or a column is named twice.
     pub(crate) fn of(columns: &[Column], sets: &'a [Set]) -> Result<SetsByColumn<'a>, Refusal>
@@ -43,15 +75,22 @@ impl<'a> SetsByColumn<'a> {
         ensures ok { IfOk result (AreSets columns.now sets.now) }
         ensures err { IfErr result (λ why. names_refusal columns.now sets.now ≡ Some why) }
     {
+        // A number has 8 bits, which keeps the cells small.
+        if sets.len() > 32 {
+            return Err(many_refusal(columns, sets));
+        }
         let mut cells = [None; 32];
         let mut twice = false;
+        // Sets are mostly in the order of the columns.
+        let mut near = columns.len().saturating_sub(1);
         for i in (0..sets.len()).rev() {
             let set = &sets[i];
-            let Some(place) = column_place(columns, &set.column) else {
+            let Some(place) = place_near(columns, &set.column, near) else {
                 return Err(Refusal::UnknownName);
             };
+            near = place.saturating_sub(1);
             twice = twice || cells[place].is_some();
-            cells[place] = Some(i);
+            cells[place] = Some(i as u8);
         }
         if twice {
             return Err(Refusal::RowShape);
@@ -71,7 +110,7 @@ impl<'a> SetsByColumn<'a> {
             return None;
         }
         match self.cells[place] {
-            Some(number) => self.sets.get(number),
+            Some(number) => self.sets.get(number as usize),
             None => None,
         }
     }

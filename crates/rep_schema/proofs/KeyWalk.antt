@@ -1,6 +1,6 @@
 -- The key of a row, read column by column.
-use Rattle.std.proofs.Common.{◌≡◌, ℕ, ◌+◌, ◌<◌, ◌≤◌, true, false, cond, List, [], ◌∷◌, ◌++◌, length, get_or, set, take, drop, min, pos, append_assoc, length-append, length-take-le, refl, sym, ap, ◌∙◌, inl, inr, arith, add-one, drop-cons}
-use Rattle.std.proofs.lemmas.List.{drop_all, take_more_set, append-nil}
+use Rattle.std.proofs.Common.{◌≡◌, ℕ, ◌+◌, ◌<◌, ◌≤◌, true, false, cond, List, [], ◌∷◌, ◌++◌, length, get_or, drop, min, pos, append_assoc, refl, ◌∙◌, inl, inr, arith, add-one, drop-cons}
+use Rattle.std.proofs.lemmas.List.{drop_all}
 use Rattle.std.proofs.lemmas.Bool.{cases_lt}
 use Rattle.std.specs.declared.cmp.Ordering.TheVariants.{Less, Equal, Greater}
 use Rattle.std.specs.Ordering.{ordering_then}
@@ -27,10 +27,6 @@ module _ (columns : List Column) (row : Cells) (i : ℕ) where
     | inr ended ↦ rw (drop_all i columns ended)
   ]
 
-  -- all of the key is gathered
-  pub take-key_end : (cells : Cells) (n : ℕ) (key : Cells) → min (length columns) (length row) ≤ i → take n cells ++ key_from columns row i ≡ key → take n cells ≡ key
-  take-key_end cells n key past so_far = sym (append-nil (take n cells)) ∙ (rw (key_from-end past) at so_far)
-
   -- the row's key and the other end together
   pub key_cmp-both_end : (key : Cells) (read : ℕ) → min (length columns) (length row) ≤ i → read ≡ length key → key_cmp (key_from columns row i) (drop read key) ≡ Equal
   key_cmp-both_end key read past ended = rw (key_from-end past, drop_all read key (omega arith))
@@ -48,7 +44,7 @@ module _ (columns : List Column) (row : Cells) (i : ℕ) where
     key_from-other other = key_from-step ∙ rw other
 
     -- a key column adds its value
-    key_from-key : (get_or columns i c).key ≡ true → key_from columns row i ≡ get_or row i v ∷ key_from columns row (i + 1)
+    pub key_from-key : (get_or columns i c).key ≡ true → key_from columns row i ≡ get_or row i v ∷ key_from columns row (i + 1)
     key_from-key is_key = key_from-step ∙ rw is_key
 
     -- the other key ends first
@@ -60,14 +56,6 @@ module _ (columns : List Column) (row : Cells) (i : ℕ) where
         → key_cmp (key_from columns row i) (drop read key) ≡ ordering_then (value_cmp v k) (key_cmp (key_from columns row (i + 1)) (drop (read + 1) key))
     key_cmp-step key read k is_key in_key v_is k_is = rw (key_from-key is_key, add-one read, drop-cons key read k, ← v_is, ← k_is)
 
-    -- one more value is gathered
-    pub take-key_step : (cells : Cells) (n : ℕ) (key : Cells) → (get_or columns i c).key ≡ true → n < length cells → v ≡ get_or row i v → take n cells ++ key_from columns row i ≡ key
-        → take (n + 1) (set cells n v) ++ key_from columns row (i + 1) ≡ key
-    take-key_step cells n key is_key in_cells v_is so_far =
-        rw (take_more_set cells n v in_cells, append_assoc) (rw (key_from-key is_key, ← v_is) at so_far)
-
-    -- where one more comes, the key isn't gathered yet
-    pub more_of_key : (cells : Cells) (n : ℕ) (key : Cells) → (get_or columns i c).key ≡ true → n ≤ length cells → take n cells ++ key_from columns row i ≡ key → n < length key
-    more_of_key cells n key is_key in_cells so_far =
-        let sizes = ap length (rw (key_from-key is_key) at so_far) in
-        omega (arith, sizes, length-append {A = Value}, length-take-le n cells in_cells)
+    -- a value of the key stands behind those that are gathered
+    pub gathered-key_step : (gathered key : Cells) → (get_or columns i c).key ≡ true → v ≡ get_or row i v → gathered ++ key_from columns row i ≡ key → (gathered ++ v ∷ []) ++ key_from columns row (i + 1) ≡ key
+    gathered-key_step gathered key is_key v_is so_far = rw append_assoc (rw (key_from-key is_key, ← v_is) at so_far)

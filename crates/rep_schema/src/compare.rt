@@ -1,5 +1,6 @@
 //! Rows beside keys and beside one another, by the columns of a table.
-ghost use Rattle.std.specs.Prelude.{◌≡◌, ◌<◌, ◌↔◌, length, slice_get, IsTrue};
+ghost use Rattle.std.specs.Prelude.{◌≡◌, ◌+◌, ◌<◌, ◌↔◌, ◌∷◌, length, drop, slice_get, slice_index_or, IsTrue};
+ghost use Rattle.rep_values.specs.declared.value.Value.{Value as One};
 ghost use Rattle.rep_values.specs.Number.{IsKeyLen};
 ghost use Rattle.rep_schema.specs.Tables.{beside, cell_cmp, row_cmp, key_of, columns_of, constraints_of, constraint_columns_of, picked, IsKeyed, RowFits};
 
@@ -59,23 +60,35 @@ pub fn compare_rows(columns: &[Column], a: &[Value], b: &[Value]) -> Ordering
     Ordering::Equal
 }
 
+/// The place of the first value of a row's key, which has one.
+fn first_of_key(columns: &[Column], row: &[Value]) -> usize
+    requires { IsKeyLen (length (key_of columns.now row.now)) }
+    ensures columns { result < length columns.now }
+    ensures row { result < length row.now }
+    ensures key { (value : One) → value ≡ slice_index_or row.now result value
+        → key_of columns.now row.now ≡ value ∷ key_of (drop (result + 1) columns.now) (drop (result + 1) row.now) }
+{
+    for i in 0..columns.len().min(row.len()) {
+        if columns[i].key {
+            return i;
+        }
+    }
+    unreachable!()
+}
+
 /// The key of a row: its values in the key columns, of which there are 1 to 4.
 pub fn key_of(columns: &[Column], row: &[Value]) -> Key
     requires { IsKeyLen (length (key_of columns.now row.now)) }
     ensures { result ≡ key_of columns.now row.now }
 {
-    let mut cells = [Value::Num(0); 4];
-    let mut count = 0;
-    for i in 0..columns.len().min(row.len()) {
+    let first = first_of_key(columns, row);
+    let mut key = Key::first(row[first]);
+    for i in first + 1..columns.len().min(row.len()) {
         if columns[i].key {
-            cells[count] = row[i];
-            count += 1;
+            key.push(row[i]);
         }
     }
-    match Key::of(&cells[..count]) {
-        Some(key) => key,
-        None => unreachable!(),
-    }
+    key
 }
 
 /// Whether a row has this key.

@@ -4,7 +4,7 @@ ghost use Rattle.std.specs.List.{list_any};
 ghost use Rattle.rep_schema.specs.Limits.{most_columns};
 ghost use Rattle.rep_schema.specs.Tables.{columns_of};
 ghost use Rattle.rep_schema.specs.Shape.{HasShape};
-ghost use Rattle.rep_schema.specs.Groups.{groups_of, is_grouped, shadow_from, named_columns, group_columns_of, values_at};
+ghost use Rattle.rep_schema.specs.Groups.{groups_of, is_grouped, shadow_from, named_columns, group_columns_of, values_at, group_values};
 
 use crate::{Column, Group, Schema, columns_of, same_picked};
 use rep_lists::{Items, NoMemory};
@@ -142,7 +142,8 @@ fn shadow_columns(groups: &[Group], columns: &[Column]) -> ShadowColumns
     shadow
 }
 
-fn named_columns(groups: &[Group], group: u8) -> &[u32]
+/// The columns of a named group, by its number, where they stand in the schema; none where no group has the number.
+pub fn named_columns(groups: &[Group], group: u8) -> &[u32]
     ensures { result.now ≡ named_columns (slice_get groups.now group) }
 {
     match groups.get(group as usize) {
@@ -176,13 +177,13 @@ pub fn value_at(row: &[Value], place: u32) -> Option<&Value>
 pub fn values_at(alloc: Global, places: &[u32], row: &[Value]) -> Result<Items<Value>, NoMemory>
     ensures { IfOk result (λ values. values ≡ values_at places.now row.now) }
 {
-    let mut values = Items::with_capacity(alloc, places.len())?;
+    let mut values = Vec::with_capacity(alloc, places.len())?;
     for place in places {
         if let Some(value) = value_at(row, *place) {
-            values.push(*value)?;
+            values.push_reserved(*value);
         }
     }
-    Ok(values)
+    Ok(Items::from_vec(values))
 }
 
 /// Whether a value stands at a place.
@@ -217,4 +218,21 @@ pub fn same_values_at(places: &[u32], a: &[Value], b: &[Value]) -> bool
     ensures { IsTrue result ↔ (values_at places.now a.now ≡ values_at places.now b.now) }
 {
     same_picked(places, a, b)
+}
+
+/// Whether two rows of one length have the same values in a group. A named group is looked at where it stands in the
+/// schema.
+pub fn same_in_group(schema: &Schema, table: u32, group: u8, a: &[Value], b: &[Value]) -> bool
+    requires table { table < length schema.now.tables }
+    requires shape { HasShape schema.now }
+    requires long { length a.now ≡ length b.now }
+    ensures { IsTrue result ↔ (group_values schema.now table group a.now ≡ group_values schema.now table group b.now) }
+{
+    let groups = groups_of(schema, table);
+    if group == SHADOW {
+        let shadow = shadow_columns(groups, columns_of(schema, table));
+        same_values_at(shadow.as_slice(), a, b)
+    } else {
+        same_values_at(named_columns(groups, group), a, b)
+    }
 }

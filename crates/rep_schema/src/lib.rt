@@ -23,7 +23,7 @@ pub use compare::{
 pub use conditions::{fits_kind, is_in_range, is_keyed, is_unique, key_count, row_fits};
 pub use groups::{
     GroupColumns, SHADOW, group_columns, groups_of, has_place, has_values, is_grouped,
-    same_values_at, value_at, values_at,
+    named_columns, same_in_group, same_values_at, value_at, values_at,
 };
 pub use kinds::{is_key_at, is_of_kind, kind_at, row_in_range, value_in_range};
 pub use putting::{copy_of_row, holds_tables, push_change, put_if_changed, put_with_change};

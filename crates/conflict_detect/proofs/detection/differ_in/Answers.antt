@@ -7,5 +7,6 @@ use Rattle.conflict_detect.proofs.detection.differ_in.Goals as goal
 
 pub returns : goal.returns
 returns c =
-    let same = rw (c.as_slice.ensures, c.group_columns.ensures) at c.same_values_at.ensures in
-    ap not (one_answer _ _ same (are_same-Decides (group_values c.args.schema.now c.args.table c.args.group c.args.a.now) (group_values c.args.schema.now c.args.table c.args.group c.args.b.now)))
+    let old = group_values c.args.schema.now c.args.table c.args.group c.args.a.now in
+    let new = group_values c.args.schema.now c.args.table c.args.group c.args.b.now in
+    ap not (one_answer _ _ c.same_in_group.ensures (are_same-Decides old new))

@@ -1,4 +1,3 @@
-use Rattle.std.proofs.Common.{rules}
 use Rattle.conflict_detect.proofs.detection.is_matched.Goals as goal
 
 pub returns : goal.returns

@@ -29,7 +29,7 @@ returns-in_default-clause-err c =
     let next : i + 1 ≡ c.loop-i.i = omega arith in
     let s = c.index-sets-i.result in
     let here : drop i sets ≡ s ∷ drop (i + 1) sets = drop_from_place sets i s (omega arith) c.index-sets-i.is in
-    let unknown = unknown-set c.args.columns.now sets i s here (sym c.column_place.ensures ∙ c.in_default.is) in
+    let unknown = unknown-set c.args.columns.now sets i s here (sym c.place_near.ensures ∙ c.in_default.is) in
     rw unknown refl
 
 pub loop-i-preserved : goal.loop-i-preserved
@@ -41,7 +41,7 @@ loop-i-preserved c =
     let s = c.index-sets-i.result in
     let place = c.in-Some.place in
     let here : drop i sets ≡ s ∷ drop (i + 1) sets = drop_from_place sets i s (omega arith) c.index-sets-i.is in
-    let placed = sym c.column_place.ensures ∙ c.in-Some.is in
+    let placed = sym c.place_near.ensures ∙ c.in-Some.is in
     let of_number : set_of sets (Some i) ≡ Some s = slice_get_read sets (length sets) i s refl (omega arith) c.index-sets-i.is in
     let within : place < length columns = named-within columns sets i s here place placed c.requires.apart in
     let in_cells : place < length c.loop-i.cells = omega (arith, within, c.requires.few, c.loop-i.invariant.size) in
