@@ -1,8 +1,8 @@
 //! Who is told of work that goes on beside other work.
 
-/// Is told when an applier begins to work on a transaction. It changes nothing.
+/// Is told of each transaction that an applier is about to put in. It changes nothing.
 pub trait Watch: Sync {
-    /// An applier, from 0, works on the transaction of a position. It holds no lock meanwhile.
+    /// An applier, from 0, has a position to put in, and is about to wait for its turn. It holds no lock meanwhile.
     fn working(&self, applier: u32, position: u64);
 }
 
