@@ -1,0 +1,67 @@
+//! Transactions of one row each, noted in an index of dependencies.
+
+use anyhow::{Context, Result};
+use dependency_index::{Index, Token, Tokens};
+use rep_lists::{Items, NoMemory};
+use rep_values::{Key, Name, SiteName, Value};
+use std::alloc::Global;
+
+/// The row of a number, in an order that is mixed and comes again after so many numbers, where these are no multiple of
+/// 7919.
+fn tokens(alloc: Global, keys: u64, number: u64) -> Result<Option<Tokens>, NoMemory> {
+    if keys == 0 {
+        return Ok(None);
+    }
+    let id = number.wrapping_mul(7919) % keys;
+    let Ok(id) = i64::try_from(id) else {
+        return Ok(None);
+    };
+    let Some(key) = Key::of(&[Value::Num(id)]) else {
+        return Ok(None);
+    };
+    let mut list = Items::new(alloc);
+    list.push(Token::Key { table: 0, key })?;
+    Ok(Some(Tokens { list }))
+}
+
+/// The dependency number of the next transaction.
+fn note_next(index: &mut Index, to: &SiteName, tokens: &Tokens) -> Result<u64, NoMemory> {
+    if !index.is_indexed(to) {
+        return Ok(0);
+    }
+    index.reserve(tokens)?;
+    if !index.is_indexed(to) {
+        return Ok(0);
+    }
+    match index.count(to).checked_add(1) {
+        Some(position) => Ok(index.note(to, position, tokens)),
+        None => Ok(0),
+    }
+}
+
+/// The last of so many transactions' dependency numbers.
+fn last_number(alloc: Global, keys: u64, notes: u64) -> Result<u64, NoMemory> {
+    let Some(name) = Name::of(b"B") else {
+        return Ok(0);
+    };
+    let to = SiteName(name);
+    let mut index = Index::make(alloc, &[to])?;
+    let mut last = 0;
+    for number in 0..notes {
+        if let Some(tokens) = tokens(alloc, keys, number)? {
+            last = note_next(&mut index, &to, &tokens)?;
+        }
+    }
+    Ok(last)
+}
+
+/// What comes of the rows and the number of transactions that are asked for.
+pub fn told(alloc: Global, asked: &str) -> Result<String> {
+    let (keys, notes) = asked.split_once(' ').context("two numbers")?;
+    let keys = keys.parse::<u64>().context("a number of rows")?;
+    let notes = notes.parse::<u64>().context("a number of transactions")?;
+    match last_number(alloc, keys, notes) {
+        Ok(last) => Ok(format!(in alloc; "rows {keys}, notes {notes}, last dependency {last}")?),
+        Err(NoMemory) => Ok(format!(in alloc; "no memory")?),
+    }
+}

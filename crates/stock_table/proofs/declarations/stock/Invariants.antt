@@ -1,7 +1,0 @@
--- Declarations added one by one.
-use Rattle.rep_schema.specs.Shape.{HasShape}
-use Rattle.stock_table.proofs.declarations.stock.Given as goal
-
--- the schema has its shape
-abbrev pub invariant-loop-line : goal.invariant-loop-line
-invariant-loop-line l = HasShape l.schema
