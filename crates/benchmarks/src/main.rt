@@ -2,26 +2,18 @@
 //!
 //! `packet update|insert COUNT` seals a packet and unseals it again; `notes ROWS COUNT` notes transactions of one row each
 //! in an index of dependencies; `local ROWS COUNT` runs blocks of one update each on a table, and `applied ROWS COUNT`
-//! applies transactions of one update each to it; `sites COMMITS` runs commits at three masters, which push what they queue
-//! to each other.
+//! applies transactions of one update each to it.
 #![tactic(auto)]
 
-mod agreement;
 mod applied;
 mod applied_runs;
-mod draws;
 mod local;
 mod local_runs;
-mod master;
-mod masters;
 mod notes;
 mod packets;
 mod round_trips;
 mod sample;
 mod stock;
-mod storm;
-mod storms;
-mod updates;
 
 use anyhow::{Context, Result};
 use std::alloc::Global;
@@ -36,7 +28,6 @@ fn told(alloc: Global, line: &str) -> Result<String> {
         "notes" => notes::told(alloc, asked),
         "local" => local::told(alloc, asked),
         "applied" => applied::told(alloc, asked),
-        "sites" => storms::told(alloc, asked),
         _ => Ok(format!(in alloc; "nothing is measured under this name")?),
     }
 }

@@ -6,11 +6,13 @@ ghost use Rattle.rep_values.specs.RefusalSteps.{first_refusal};
 ghost use Rattle.unique_resolve.specs.Trying.{IsTestable, HasBefore};
 ghost use Rattle.local_txn.specs.Statements.{taken_step, unique_steps, check_step, row_steps, row_at};
 ghost use Rattle.local_txn.specs.Running.{CanRun, IsKindly};
+ghost use Rattle.local_txn.specs.Literals.{values_of};
+ghost use Rattle.rep_values.specs.Number.{IsKeyLen};
 
 use rep_schema::{
     Constraint, RowStore, Schema, columns_of, constraint_count, failed_check, key_of, row_in_range,
 };
-use rep_values::{Key, Refusal, Row};
+use rep_values::{Key, Literal, Refusal, Row};
 use unique_resolve::{ConstraintPlace, is_violated};
 
 /// The key of a row that is as long as its table has columns.
@@ -28,6 +30,24 @@ pub(crate) fn has_row<R: RowStore>(store: &R, table: u32, key: &Key) -> bool
     ensures { result ≡ is_some (row_at (R.schema store.now) (R.tables store.now) table key.now) }
 {
     store.get(table, key).is_some()
+}
+
+/// The row with the key of literals, which is built where it is used, since a key is large.
+#[inline(always)]
+pub(crate) fn row_of_literals<'a, R: RowStore>(
+    store: &'a R,
+    table: u32,
+    literals: &[Literal],
+) -> Option<&'a Row>
+    requires table { table < length (R.schema store.now).tables }
+    requires key { IsKeyLen (length literals.now) }
+    ensures { option_copied result ≡ row_at (R.schema store.now) (R.tables store.now) table (values_of literals.now) }
+{
+    let mut key = Key::first(literals[0].value());
+    for i in 1..literals.len() {
+        key.push(literals[i].value());
+    }
+    store.get(table, &key)
 }
 
 fn constraint_at(schema: &Schema, at: ConstraintPlace) -> &Constraint
@@ -61,6 +81,7 @@ fn taken_in<R: RowStore>(
 }
 
 /// The first secondary constraint in declared order in which another row has a row's values.
+#[inline(always)]
 fn unique_refusal<R: RowStore>(
     store: &R,
     table: u32,
@@ -85,6 +106,7 @@ fn unique_refusal<R: RowStore>(
 }
 
 /// The first check that a row doesn't meet.
+#[inline(always)]
 fn check_refusal(schema: &Schema, table: u32, row: &Row) -> Option<Refusal>
     requires { table < length schema.now.tables }
     ensures { result ≡ check_step schema.now table row.now }
@@ -97,6 +119,7 @@ fn check_refusal(schema: &Schema, table: u32, row: &Row) -> Option<Refusal>
 
 /// Why a row can't be put, if it can't: a number or stamp out of range, a secondary constraint in which another row has
 /// its values, then a check. The row before is the one with its key, if it is given.
+#[inline(always)]
 pub(crate) fn row_refusal<R: RowStore>(
     store: &R,
     table: u32,

@@ -13,7 +13,7 @@ use crate::convergent::{bar_refusal, own_key_refusal, rule_refusal};
 use crate::filled::{RowMade, inserted, updated};
 use crate::footing::Footing;
 use crate::literals::{key_literals_fit, key_of_literals, row_written, written_fit};
-use crate::rows::{has_row, key_in, row_refusal};
+use crate::rows::{has_row, key_in, row_of_literals, row_refusal};
 use crate::sets::{SetsByColumn, fills_some, set_row, takes_each};
 use crate::stop::Stop;
 use rep_calls::{Set, Statement};
@@ -159,7 +159,7 @@ fn update_row<R: RowStore>(
         (record { schema = R.schema store.new; tables = R.tables store.new; spare = R.spare store.new }) result }
 {
     let found = sets_in_order(store.schema(), table, key, sets)?;
-    let Some(before) = store.get(table, &key_of_literals(key)) else {
+    let Some(before) = row_of_literals(store, table, key) else {
         return Err(Stop::Refused(Refusal::NoRow));
     };
     let made = changed_row(alloc, store.schema(), footing, table, before, &found)?;

@@ -2,6 +2,8 @@
 ghost use Rattle.std.specs.Prelude.{◌≡◌, ℕ, slice_get, option_copied};
 ghost use Rattle.std.specs.declared.cmp.Ordering.{Ordering as Stand};
 ghost use Rattle.std.specs.Option.{option_cmp};
+ghost use Rattle.std.specs.Ordering.{nat_cmp};
+ghost use Rattle.std.specs.Cmp.Lexicographic.{slice_cmp};
 ghost use Rattle.rep_values.specs.Order.{value_cmp};
 ghost use Rattle.rep_schema.specs.Tables.{beside, row_cmp, picked};
 ghost use Rattle.page_tables.specs.Slots.{row_at, row_in};
@@ -10,6 +12,9 @@ ghost use Rattle.page_tables.specs.Index.{picked_cmp};
 use rep_schema::{Column, compare_rows};
 use rep_values::{Row, Value, compare_values};
 use std::cmp::Ordering;
+
+// Texts of at most so many bytes are compared byte by byte.
+const FEW_BYTES: usize = 8;
 
 /// A place in an order of rows, which are named by their slots.
 pub(crate) trait Sought {
@@ -40,7 +45,7 @@ pub(crate) fn row_in(rows: &[Option<Row>], slot: u32) -> &[Value]
     }
 }
 
-// Texts are compared out of line, which keeps a search small.
+// Long texts are compared out of line, which keeps a search small.
 #[inline(never)]
 fn compare_with_text(a: &Value, b: &Value) -> Ordering
     ensures { result ≡ value_cmp a.now b.now }
@@ -48,7 +53,34 @@ fn compare_with_text(a: &Value, b: &Value) -> Ordering
     compare_values(a, b)
 }
 
-/// Where a value stands beside another one.
+/// Where bytes stand beside others. They are few, and are compared one by one.
+#[inline(always)]
+fn compare_bytes(a: &[u8], b: &[u8]) -> Ordering
+    ensures { result ≡ slice_cmp nat_cmp a.now b.now }
+{
+    let mut a_left = a;
+    let mut b_left = b;
+    while let [x, xs @ ..] = a_left {
+        let [y, ys @ ..] = b_left else {
+            return Ordering::Greater;
+        };
+        if x < y {
+            return Ordering::Less;
+        }
+        if x > y {
+            return Ordering::Greater;
+        }
+        a_left = xs;
+        b_left = ys;
+    }
+    if b_left.is_empty() {
+        Ordering::Equal
+    } else {
+        Ordering::Less
+    }
+}
+
+/// Where a value stands beside another one. Texts of a few bytes, as names of sites mostly are, need no call.
 #[inline(always)]
 fn compare_in_place(a: &Value, b: &Value) -> Ordering
     ensures { result ≡ value_cmp a.now b.now }
@@ -57,6 +89,9 @@ fn compare_in_place(a: &Value, b: &Value) -> Ordering
         (Value::Num(x), Value::Num(y)) if x < y => Ordering::Less,
         (Value::Num(x), Value::Num(y)) if x > y => Ordering::Greater,
         (Value::Num(_), Value::Num(_)) => Ordering::Equal,
+        (Value::Words(x), Value::Words(y)) if x.bytes().len() <= FEW_BYTES => {
+            compare_bytes(x.bytes(), y.bytes())
+        }
         (Value::Num(_), Value::Words(_)) | (Value::Words(_), _) => compare_with_text(a, b),
     }
 }
@@ -91,6 +126,35 @@ fn compare_key(columns: &[Column], key: &[Value], row: &[Value]) -> Ordering
     } else {
         Ordering::Less
     }
+}
+
+/// Where a row stands beside another one in the order of keys. It is `compare_rows`, in place.
+#[inline(always)]
+fn compare_by_key(columns: &[Column], a: &[Value], b: &[Value]) -> Ordering
+    ensures { result ≡ row_cmp columns.now a.now b.now }
+{
+    let mut columns_left = columns;
+    let mut a_left = a;
+    let mut b_left = b;
+    while let [column, columns @ ..] = columns_left {
+        let [x, xs @ ..] = a_left else {
+            return compare_rows(columns_left, a_left, b_left);
+        };
+        let [y, ys @ ..] = b_left else {
+            return compare_rows(columns_left, a_left, b_left);
+        };
+        if column.key {
+            match compare_in_place(x, y) {
+                Ordering::Equal => {}
+                Ordering::Less => return Ordering::Less,
+                Ordering::Greater => return Ordering::Greater,
+            }
+        }
+        columns_left = columns;
+        a_left = xs;
+        b_left = ys;
+    }
+    Ordering::Equal
 }
 
 fn compare_cell(a: &[Value], b: &[Value], place: u32) -> Ordering
@@ -146,8 +210,9 @@ pub(crate) struct ByRow<'a> {
 impl<'a> Sought for ByRow<'a> {
     ghost at = { λ s slot. row_cmp s.columns.now (row_in s.rows.now slot) s.row.now };
 
+    #[inline(always)]
     fn beside(&self, slot: u32) -> Ordering {
-        compare_rows(self.columns, row_in(self.rows, slot), self.row)
+        compare_by_key(self.columns, row_in(self.rows, slot), self.row)
     }
 }
 

@@ -21,8 +21,8 @@ returns-in_err-found-clause-err g c =
     rw (p.1, p.2) (update_order (g.R.RowStore.schema c.args.store.now) c.args.footing.now.here (standing_of c.args.footing.now (g.R.RowStore.tables c.args.store.now)) c.args.table c.args.key.now c.args.sets.now
     c.in_err-found.field-0.0 (rw c.schema.ensures.value at c.in_err-found.ensures.err))
 
-pub key_of_literals-requires : goal.key_of_literals-requires
-key_of_literals-requires g c =
+pub row_of_literals-requires-clause-key : goal.row_of_literals-requires-clause-key
+row_of_literals-requires-clause-key g c κs within =
     let schema = g.R.RowStore.schema c.args.store.now in
     let order : AreInOrder schema c.args.table c.args.key.now c.args.sets.now c.in_ok-found.found = rw c.schema.ensures.value at c.in_ok-found.ensures.ok in
     IsKeyLen-key schema c.args.footing.now (g.R.RowStore.tables c.args.store.now) c.args.table c.requires.able c.args.key.now c.args.sets.now c.in_ok-found.found order
@@ -32,7 +32,7 @@ changed_row-requires-clause-fits g c =
     let schema = g.R.RowStore.schema c.args.store.now in
     let tables = g.R.RowStore.tables c.args.store.now in
     let order : AreInOrder schema c.args.table c.args.key.now c.args.sets.now c.in_ok-found.found = rw c.schema.ensures.value at c.in_ok-found.ensures.ok in
-    let there : row_at schema tables c.args.table (values_of c.args.key.now) ≡ Some c.in-Some.before.now = sym (rw c.key_of_literals.ensures at c.in-Some.ensures) in
+    let there : row_at schema tables c.args.table (values_of c.args.key.now) ≡ Some c.in-Some.before.now = sym c.in-Some.ensures in
     rw c.schema-2.ensures.value (before_fits schema c.args.footing.now tables c.args.table c.requires.able c.args.key.now c.args.sets.now c.in_ok-found.found order c.in-Some.before.now there)
 
 pub returns-in_err-made-clause-err : goal.returns-in_err-made-clause-err
@@ -40,7 +40,7 @@ returns-in_err-made-clause-err g c =
     let schema = g.R.RowStore.schema c.args.store.now in
     let tables = g.R.RowStore.tables c.args.store.now in
     let order : AreInOrder schema c.args.table c.args.key.now c.args.sets.now c.in_ok-found.found = rw c.schema.ensures.value at c.in_ok-found.ensures.ok in
-    let there : row_at schema tables c.args.table (values_of c.args.key.now) ≡ Some c.in-Some.before.now = sym (rw c.key_of_literals.ensures at c.in-Some.ensures) in
+    let there : row_at schema tables c.args.table (values_of c.args.key.now) ≡ Some c.in-Some.before.now = sym c.in-Some.ensures in
     let p = err_from_is_err_and c.from_residual-in_err-made.result c.from_residual-in_err-made.ensures.1 in
     rw (p.1, p.2) (update_refused schema c.args.footing.now tables c.args.table c.requires.able c.args.key.now c.args.sets.now c.in_ok-found.found order c.in-Some.before.now there
     c.in_err-made.field-0.0 (rw c.schema-2.ensures.value at c.in_err-made.ensures.err))
@@ -50,7 +50,7 @@ row_refusal-requires-clause-kindly g c κs within =
     let schema = g.R.RowStore.schema c.args.store.now in
     let tables = g.R.RowStore.tables c.args.store.now in
     let order : AreInOrder schema c.args.table c.args.key.now c.args.sets.now c.in_ok-found.found = rw c.schema.ensures.value at c.in_ok-found.ensures.ok in
-    let there : row_at schema tables c.args.table (values_of c.args.key.now) ≡ Some c.in-Some.before.now = sym (rw c.key_of_literals.ensures at c.in-Some.ensures) in
+    let there : row_at schema tables c.args.table (values_of c.args.key.now) ≡ Some c.in-Some.before.now = sym c.in-Some.ensures in
     let change_to : ChangesTo schema c.args.footing.now c.args.table c.in-Some.before.now (row_by c.in_ok-found.found c.in-Some.before.now) c.in_ok-made.made = rw c.schema-2.ensures.value at c.in_ok-made.ensures.ok in
     IsKindly-made schema c.args.footing.now tables c.args.table c.requires.able c.args.key.now c.args.sets.now c.in_ok-found.found order c.in-Some.before.now there c.in_ok-made.made change_to
 
@@ -64,7 +64,7 @@ returns-in-Some-row_refusal-clause-err g c =
     let before = c.in-Some.before.now in
     let made = c.in_ok-made.made in
     let order : AreInOrder schema c.args.table c.args.key.now c.args.sets.now c.in_ok-found.found = rw c.schema.ensures.value at c.in_ok-found.ensures.ok in
-    let there : row_at schema tables c.args.table (values_of c.args.key.now) ≡ Some c.in-Some.before.now = sym (rw c.key_of_literals.ensures at c.in-Some.ensures) in
+    let there : row_at schema tables c.args.table (values_of c.args.key.now) ≡ Some c.in-Some.before.now = sym c.in-Some.ensures in
     let change_to : ChangesTo schema c.args.footing.now c.args.table c.in-Some.before.now (row_by c.in_ok-found.found c.in-Some.before.now) c.in_ok-made.made = rw c.schema-2.ensures.value at c.in_ok-made.ensures.ok in
     update_row_refused schema footing tables c.args.table c.requires.able c.args.key.now c.args.sets.now found order before there made change_to c.in-Some-row_refusal.refusal (sym c.row_refusal.ensures ∙ c.in-Some-row_refusal.is)
 
@@ -78,7 +78,7 @@ returns-then-same_values-clause-ok g c =
     let before = c.in-Some.before.now in
     let made = c.in_ok-made.made in
     let order : AreInOrder schema c.args.table c.args.key.now c.args.sets.now c.in_ok-found.found = rw c.schema.ensures.value at c.in_ok-found.ensures.ok in
-    let there : row_at schema tables c.args.table (values_of c.args.key.now) ≡ Some c.in-Some.before.now = sym (rw c.key_of_literals.ensures at c.in-Some.ensures) in
+    let there : row_at schema tables c.args.table (values_of c.args.key.now) ≡ Some c.in-Some.before.now = sym c.in-Some.ensures in
     let change_to : ChangesTo schema c.args.footing.now c.args.table c.in-Some.before.now (row_by c.in_ok-found.found c.in-Some.before.now) c.in_ok-made.made = rw c.schema-2.ensures.value at c.in_ok-made.ensures.ok in
     let none : first_refusal (row_steps schema tables c.args.table made.row) ≡ None = sym c.row_refusal.ensures ∙ c.in_default-row_refusal.is in
     let same = rw (c.values.ensures.value, c.values-2.ensures.value) at c.same_values.ensures in
@@ -96,7 +96,7 @@ put_with_change-requires-clause-fits g c κs within =
     let before = c.in-Some.before.now in
     let made = c.in_ok-made.made in
     let order : AreInOrder schema c.args.table c.args.key.now c.args.sets.now c.in_ok-found.found = rw c.schema.ensures.value at c.in_ok-found.ensures.ok in
-    let there : row_at schema tables c.args.table (values_of c.args.key.now) ≡ Some c.in-Some.before.now = sym (rw c.key_of_literals.ensures at c.in-Some.ensures) in
+    let there : row_at schema tables c.args.table (values_of c.args.key.now) ≡ Some c.in-Some.before.now = sym c.in-Some.ensures in
     let change_to : ChangesTo schema c.args.footing.now c.args.table c.in-Some.before.now (row_by c.in_ok-found.found c.in-Some.before.now) c.in_ok-made.made = rw c.schema-2.ensures.value at c.in_ok-made.ensures.ok in
     let none : first_refusal (row_steps schema tables c.args.table made.row) ≡ None = sym c.row_refusal.ensures ∙ c.in_default-row_refusal.is in
     RowFits-made schema footing tables c.args.table c.requires.able c.args.key.now c.args.sets.now found order before there made change_to none
@@ -111,7 +111,7 @@ put_with_change-requires-clause-unique g c κs within =
     let before = c.in-Some.before.now in
     let made = c.in_ok-made.made in
     let order : AreInOrder schema c.args.table c.args.key.now c.args.sets.now c.in_ok-found.found = rw c.schema.ensures.value at c.in_ok-found.ensures.ok in
-    let there : row_at schema tables c.args.table (values_of c.args.key.now) ≡ Some c.in-Some.before.now = sym (rw c.key_of_literals.ensures at c.in-Some.ensures) in
+    let there : row_at schema tables c.args.table (values_of c.args.key.now) ≡ Some c.in-Some.before.now = sym c.in-Some.ensures in
     let change_to : ChangesTo schema c.args.footing.now c.args.table c.in-Some.before.now (row_by c.in_ok-found.found c.in-Some.before.now) c.in_ok-made.made = rw c.schema-2.ensures.value at c.in_ok-made.ensures.ok in
     let none : first_refusal (row_steps schema tables c.args.table made.row) ≡ None = sym c.row_refusal.ensures ∙ c.in_default-row_refusal.is in
     IsUniqueRow-made schema footing tables c.args.table c.requires.able c.args.key.now c.args.sets.now found order before there made change_to none
@@ -126,7 +126,7 @@ returns-clause-ok g c =
     let before = c.in-Some.before.now in
     let made = c.in_ok-made.made in
     let order : AreInOrder schema c.args.table c.args.key.now c.args.sets.now c.in_ok-found.found = rw c.schema.ensures.value at c.in_ok-found.ensures.ok in
-    let there : row_at schema tables c.args.table (values_of c.args.key.now) ≡ Some c.in-Some.before.now = sym (rw c.key_of_literals.ensures at c.in-Some.ensures) in
+    let there : row_at schema tables c.args.table (values_of c.args.key.now) ≡ Some c.in-Some.before.now = sym c.in-Some.ensures in
     let change_to : ChangesTo schema c.args.footing.now c.args.table c.in-Some.before.now (row_by c.in_ok-found.found c.in-Some.before.now) c.in_ok-made.made = rw c.schema-2.ensures.value at c.in_ok-made.ensures.ok in
     let none : first_refusal (row_steps schema tables c.args.table made.row) ≡ None = sym c.row_refusal.ensures ∙ c.in_default-row_refusal.is in
     let same = rw (c.values.ensures.value, c.values-2.ensures.value) at c.same_values.ensures in
@@ -146,6 +146,6 @@ row_refusal-requires-clause-before g c κs within =
     let before = c.in-Some.before.now in
     let made = c.in_ok-made.made in
     let order : AreInOrder schema c.args.table c.args.key.now c.args.sets.now c.in_ok-found.found = rw c.schema.ensures.value at c.in_ok-found.ensures.ok in
-    let there : row_at schema tables c.args.table (values_of c.args.key.now) ≡ Some c.in-Some.before.now = sym (rw c.key_of_literals.ensures at c.in-Some.ensures) in
+    let there : row_at schema tables c.args.table (values_of c.args.key.now) ≡ Some c.in-Some.before.now = sym c.in-Some.ensures in
     let change_to : ChangesTo schema c.args.footing.now c.args.table c.in-Some.before.now (row_by c.in_ok-found.found c.in-Some.before.now) c.in_ok-made.made = rw c.schema-2.ensures.value at c.in_ok-made.ensures.ok in
     row_like-made schema footing tables c.args.table c.requires.able c.args.key.now c.args.sets.now found order before there made change_to c.requires.apart

@@ -1,0 +1,10 @@
+-- Gathering the values of literals.
+use Rattle.std.proofs.Common.{◌≡◌, take}
+use Rattle.local_txn.specs.Literals.{values_of}
+use Rattle.local_txn.proofs.rows.row_of_literals.Given as goal
+
+-- the values so far are gathered
+abbrev pub invariant-loop-i : goal.invariant-loop-i
+invariant-loop-i g l = record {
+  so_far : l.key ≡ values_of (take l.i l.literals);
+}
