@@ -30,6 +30,7 @@ fn begins_behind<S: Sought>(page: &Page, sought: &S) -> bool
 
 /// The page in which what is sought stands or would stand: the last one that doesn't begin behind it, or else the
 /// first one.
+#[inline(always)]
 fn page_for<S: Sought>(pages: &[Page], sought: &S) -> usize
     requires some { 0 < length pages.now }
     requires filled { AllByRecursion IsPage pages.now }
@@ -50,6 +51,7 @@ fn page_for<S: Sought>(pages: &[Page], sought: &S) -> usize
 }
 
 /// The place of the slot that is sought, or else the place where it would stand.
+#[inline(always)]
 fn search<S: Sought>(slots: &[u32], sought: &S) -> Result<usize, usize>
     requires { IsParted (S.at sought.now) slots.now }
     ensures found { IfOk result (IsThere (S.at sought.now) slots.now) }

@@ -132,6 +132,7 @@ fn unlist_one(index: &mut UniqueIndex, rows: &[Option<Row>], slot: u32, after: O
 }
 
 /// Puts a slot in each index, but for those in which the row that it had before has the same values.
+#[inline(always)]
 pub(crate) fn list(
     indexes: &mut Vec<UniqueIndex>,
     rows: &[Option<Row>],
@@ -147,6 +148,7 @@ pub(crate) fn list(
 }
 
 /// Takes a slot out of each index, but for those in which the row that it gets has the same values.
+#[inline(always)]
 pub(crate) fn unlist(
     indexes: &mut Vec<UniqueIndex>,
     rows: &[Option<Row>],
