@@ -2,3 +2,4 @@
 pub mod HaltLemmas
 pub mod FrontLemmas
 pub mod ToldLemmas
+pub mod PromptLemmas

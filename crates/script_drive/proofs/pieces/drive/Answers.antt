@@ -19,7 +19,7 @@ read_nothing a b c read n piece none before given =
 
 pub returns-in_default-read-clause-told : goal.returns-in_default-read-clause-told
 returns-in_default-read-clause-told g c =
-    let left = g.S.Source.left in
+    let left = g.R.Reader.left in
     let taken = g.K.Sink.taken in
     let so_far = c.loop.invariant.so_far in
     tells_read (line_step g.X.LineRunner.step) (g.X.LineRunner.state c.args.runner) (left c.args.source.now) (left c.read.new.self) (taken c.args.sink.now) (taken c.loop.sink)
@@ -29,7 +29,7 @@ pub returns-in-Err-clause-told : goal.returns-in-Err-clause-told
 returns-in-Err-clause-told g c =
     let step = line_step g.X.LineRunner.step in
     let start = g.X.LineRunner.state c.args.runner in
-    let left = g.S.Source.left in
+    let left = g.R.Reader.left in
     let taken = g.K.Sink.taken in
     let so_far = c.loop.invariant.so_far in
     let bytes = c.in-Ok-read.ensures.bytes in
@@ -42,7 +42,7 @@ returns-in-Err-clause-told g c =
 
 pub returns-then-count-eq0-clause-told : goal.returns-then-count-eq0-clause-told
 returns-then-count-eq0-clause-told g c =
-    let left = g.S.Source.left in
+    let left = g.R.Reader.left in
     let taken = g.K.Sink.taken in
     let so_far = c.loop.invariant.so_far in
     let bytes = c.in-Ok-read.ensures.bytes in
@@ -57,7 +57,7 @@ pub returns-in-Err-feed-clause-told : goal.returns-in-Err-feed-clause-told
 returns-in-Err-feed-clause-told g c =
     let step = line_step g.X.LineRunner.step in
     let start = g.X.LineRunner.state c.args.runner in
-    let left = g.S.Source.left in
+    let left = g.R.Reader.left in
     let taken = g.K.Sink.taken in
     let so_far = c.loop.invariant.so_far in
     let given = c.in-Ok-read.ensures.bytes.given in
@@ -72,7 +72,7 @@ returns-in-Err-feed-clause-told g c =
 pub loop-preserved : goal.loop-preserved
 loop-preserved g c =
     let step = line_step g.X.LineRunner.step in
-    let left = g.S.Source.left in
+    let left = g.R.Reader.left in
     let taken = g.K.Sink.taken in
     let so_far = c.loop.invariant.so_far in
     let bytes = c.in-Ok-read.ensures.bytes in

@@ -1,0 +1,2 @@
+-- The definitions of this program.
+pub mod Noted
