@@ -1,17 +1,15 @@
 //! What a declaration changes in the tables that are stored.
 ghost use Rattle.std.specs.Prelude.{◌≡◌, ◌<◌, [], vec_len, vec_capacity, IfOk, IfSome};
-ghost use Rattle.std.specs.List.{list_any};
-ghost use Rattle.rep_values.specs.Name.{same_bytes};
-ghost use Rattle.rep_schema.specs.Named.{table_place, places_named};
+ghost use Rattle.rep_schema.specs.Named.{table_place};
 ghost use Rattle.rep_schema.specs.Tables.{rows_of};
 ghost use Rattle.rep_declare.specs.Shaping.{ShapesNoRows};
 ghost use Rattle.page_tables.specs.Stored.{rows_in, AreIndexed};
 ghost use Rattle.page_tables.specs.Changes.{changed, AreStoredWith, AreStoredWithUnique};
 
 use crate::paged_rows::PagedRows;
-use rep_declare::Declare;
-use rep_lists::{Items, NoMemory};
-use rep_schema::{Column, Schema};
+use rep_declare::{Declare, places_named};
+use rep_lists::NoMemory;
+use rep_schema::Schema;
 use rep_values::{Name, TableName};
 use schema_names::table_place;
 use std::alloc::Global;
@@ -24,29 +22,6 @@ pub(crate) enum Change {
     Table(PagedRows),
     /// One more index in the table at a place, which has no rows.
     Index(usize, PagedRows),
-}
-
-fn is_among(names: &[Name], name: &Name) -> bool
-    ensures { result ≡ list_any (same_bytes name.now) names.now }
-{
-    names.iter().any(|other| name.is_same(other))
-}
-
-/// The places of the columns that these names name, in the table's order.
-fn places_named(alloc: Global, columns: &[Column], names: &[Name]) -> Result<Items<u32>, NoMemory>
-    ensures { IfOk result (λ places. places ≡ places_named columns.now names.now) }
-{
-    // A place is named by 32 bits.
-    if columns.len() > 4_294_967_295 {
-        return Err(NoMemory);
-    }
-    let mut places = Items::with_capacity(alloc, names.len())?;
-    for i in 0..columns.len() {
-        if is_among(names, &columns[i].name) {
-            places.push(i as u32)?;
-        }
-    }
-    Ok(places)
 }
 
 /// The change that a constraint of these columns makes, of whatever name.

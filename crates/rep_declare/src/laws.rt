@@ -1,5 +1,5 @@
-//! Laws over the definitions of the columns that a line names.
-ghost use Rattle.rep_declare.specs.Laws.{PlacesAreThoseOfNamedColumns, LinesPassThatNameFreeColumns};
+//! Laws over the definitions of the columns that a line names, and of what a declaration leaves of the tables.
+ghost use Rattle.rep_declare.specs.Laws.{PlacesAreThoseOfNamedColumns, LinesPassThatNameFreeColumns, DeclaredTablesAreTables};
 
 /// The places of named columns rise, and are those at which a column with one of the names stands.
 pub fn places_are_those_of_named_columns()
@@ -9,4 +9,9 @@ pub fn places_are_those_of_named_columns()
 /// A line isn't refused for its columns exactly where each is there and not taken, and none is named twice.
 pub fn lines_pass_that_name_free_columns()
     ensures { LinesPassThatNameFreeColumns }
+{}
+
+/// The tables are tables of the schema with a declaration too, where the table that it shapes has no rows.
+pub fn declared_tables_are_tables()
+    ensures { DeclaredTablesAreTables }
 {}

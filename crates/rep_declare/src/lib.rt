@@ -16,6 +16,10 @@ mod table_changes;
 
 pub use additions::add_declaration;
 pub use declaration::{Declare, MethodWords, UniqueWords};
-pub use laws::{lines_pass_that_name_free_columns, places_are_those_of_named_columns};
+pub use laws::{
+    declared_tables_are_tables, lines_pass_that_name_free_columns,
+    places_are_those_of_named_columns,
+};
+pub use places::places_named;
 pub use refusals::refusal_of;
 pub use shaping::table_shaped;

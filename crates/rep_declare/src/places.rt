@@ -46,7 +46,8 @@ fn priority_number(groups: &[PriorityGroup], name: &Name) -> Result<u32, NoMemor
     Ok(number)
 }
 
-fn is_among(names: &[Name], name: &Name) -> bool
+/// Whether a name is one of these.
+pub(crate) fn is_among(names: &[Name], name: &Name) -> bool
     ensures { result ≡ list_any (same_bytes name.now) names.now }
 {
     names.iter().any(|other| name.is_same(other))

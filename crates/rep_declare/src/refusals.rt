@@ -12,6 +12,7 @@ ghost use Rattle.rep_schema.specs.Groups.{is_grouped};
 ghost use Rattle.rep_schema.specs.Named.{column_place, is_column, is_constrained};
 
 use crate::check_refusals::check_refusal;
+use crate::places::is_among;
 use crate::{Declare, MethodWords, UniqueWords};
 use rep_schema::{
     Column, PriorityLevel, Schema, SiteEntry, TableEntry, is_in_range, is_key_name, is_shadow_name,
@@ -125,12 +126,6 @@ fn has_level(levels: &[PriorityLevel], value: &Value) -> bool
     levels.iter().any(|level| same_value(value, &level.value))
 }
 
-fn stands_before(before: &[Name], name: &Name) -> bool
-    ensures { result ≡ list_any (same_bytes name.now) before.now }
-{
-    before.iter().any(|earlier| name.is_same(earlier))
-}
-
 /// A column that a line names behind others: it has to be the table's, and must not be taken or stand before.
 fn column_refusal<X: OnColumns>(
     columns: &[Column],
@@ -147,7 +142,7 @@ fn column_refusal<X: OnColumns>(
     if is_taken(others, place) {
         return Some(Refusal::NameTaken);
     }
-    if stands_before(before, name) {
+    if is_among(before, name) {
         return Some(Refusal::NameTaken);
     }
     None

@@ -12,5 +12,5 @@ pub use copies::Copies;
 pub use items::Items;
 pub use laws::rising_list_laws;
 pub use memory::NoMemory;
-pub use roomy::RoomyList;
+pub use roomy::{RoomyList, insert_in_room};
 pub use shared::Shared;

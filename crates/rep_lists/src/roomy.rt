@@ -1,5 +1,5 @@
 //! A list that takes its room before it grows.
-ghost use Rattle.std.specs.Prelude.{◌≡◌, ◌+◌, ◌<◌, ◌≤◌, ◌↔◌, [], ◌∷◌, ◌++◌, length, slice_index_or, slice_set, insert, remove, option_to_list, IsTrue, IsOk, IfOk, OnOk};
+ghost use Rattle.std.specs.Prelude.{◌≡◌, ◌+◌, ◌<◌, ◌≤◌, ◌↔◌, [], ◌∷◌, ◌++◌, length, vec_len, vec_capacity, slice_index_or, slice_set, insert, remove, option_to_list, IsTrue, IsOk, IfOk, OnOk};
 ghost use Rattle.std.specs.Slice.Iter.{iter_rest};
 
 use crate::NoMemory;
@@ -135,6 +135,17 @@ impl<T: Drop> RoomyList<T> {
         ensures items { self.new.items ≡ insert self.old.items place value }
         ensures spare { self.new.spare + 1 ≡ self.old.spare }
     {
-        let _ = self.kept.insert(place, value);
+        insert_in_room(&mut self.kept, place, value);
     }
+}
+
+/// Adds a value at a place of a vector that has room for it, in front of those from there on. It takes no memory.
+pub fn insert_in_room<T: Drop>(values: &mut Vec<T>, place: usize, value: T)
+    requires place { place ≤ vec_len values.old }
+    requires room { vec_len values.old + 1 ≤ vec_capacity values.old }
+    ensures items { values.new.items ≡ insert values.old.items place value }
+    ensures capacity { vec_capacity values.new ≡ vec_capacity values.old }
+    ensures number { vec_len values.new ≡ vec_len values.old + 1 }
+{
+    let _ = values.insert(place, value);
 }

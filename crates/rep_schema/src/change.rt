@@ -1,11 +1,11 @@
 //! Changes of rows, and taking them back.
-ghost use Rattle.std.specs.Prelude.{◌≡◌, ◌≢◌, ◌↔◌, ℕ, ◌+◌, ◌<◌, ◌≤◌, List, [], ◌∷◌, length, slice_index, IsTrue};
-ghost use Rattle.rep_schema.specs.Tables.{Rows, key_of, RowFits, IsKeyed, AreTables};
-ghost use Rattle.rep_schema.specs.Changes.{ChangeFits, HaveLed, LeadsTo, unmade, room_for};
+ghost use Rattle.std.specs.Prelude.{◌≡◌, ℕ, ◌+◌, ◌<◌, ◌≤◌, List, [], ◌∷◌, length, slice_index};
+ghost use Rattle.rep_schema.specs.Tables.{Rows, AreTables};
+ghost use Rattle.rep_schema.specs.Changes.{HaveLed, LeadsTo, unmade, room_for};
 
-use crate::{Column, RowStore, Schema, columns_of, has_key, is_keyed, key_of, row_fits};
+use crate::{RowStore, columns_of, key_of};
 use rep_lists::Items;
-use rep_values::{Row, same_values};
+use rep_values::Row;
 
 /// A row that was added, replaced or taken, as it was before and as it is after. None stands for no row.
 #[derive(Drop)]
@@ -19,44 +19,6 @@ pub struct Change {
 #[derive(Drop)]
 pub struct Changes {
     pub rows: Items<Change>,
-}
-
-/// Whether two rows fit, differ, and have one key.
-fn replaces(columns: &[Column], before: &Row, after: &Row) -> bool
-    requires { IsKeyed columns.now }
-    ensures { IsTrue result
-        ↔ (RowFits columns.now before.now × RowFits columns.now after.now × (before.now ≢ after.now) × (key_of columns.now before.now ≡ key_of columns.now after.now)) }
-{
-    if !row_fits(columns, before.values()) {
-        return false;
-    }
-    if !row_fits(columns, after.values()) {
-        return false;
-    }
-    if same_values(before.values(), after.values()) {
-        return false;
-    }
-    let key = key_of(columns, before.values());
-    has_key(columns, key.values(), after.values())
-}
-
-/// Whether a change is one of a row of the schema: what is there fits and differs, and has one key where both are
-/// there. The table has 1 to 4 key columns.
-pub fn change_fits(schema: &Schema, change: &Change) -> bool
-    ensures { IsTrue result ↔ ChangeFits schema.now change.now }
-{
-    if change.table as usize >= schema.tables.len() {
-        return false;
-    }
-    let columns = columns_of(schema, change.table);
-    if !is_keyed(columns) {
-        return false;
-    }
-    match (&change.before, &change.after) {
-        (Some(before), Some(after)) => replaces(columns, before, after),
-        (Some(row), None) | (None, Some(row)) => row_fits(columns, row.values()),
-        (None, None) => false,
-    }
 }
 
 /// Takes the last change back.

@@ -91,13 +91,6 @@ pub fn key_of(columns: &[Column], row: &[Value]) -> Key
     key
 }
 
-/// Whether a row has this key.
-pub fn has_key(columns: &[Column], key: &[Value], row: &[Value]) -> bool
-    ensures { IsTrue result ↔ (key_of columns.now row.now ≡ key.now) }
-{
-    compare_row(columns, key, row).is_eq()
-}
-
 /// Whether two rows have one key.
 pub fn have_one_key(columns: &[Column], a: &[Value], b: &[Value]) -> bool
     ensures { IsTrue result ↔ (key_of columns.now a.now ≡ key_of columns.now b.now) }

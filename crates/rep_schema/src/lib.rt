@@ -14,11 +14,11 @@ mod schema;
 mod store;
 mod table_set;
 
-pub use change::{Change, Changes, change_fits, undo};
+pub use change::{Change, Changes, undo};
 pub use check::{Check, Rel, checks_of, failed_check};
 pub use compare::{
     columns_of, compare_row, compare_rows, constraint_columns, constraint_count, constraints_of,
-    has_key, have_one_key, key_in, key_of, same_picked,
+    have_one_key, key_in, key_of, same_picked,
 };
 pub use conditions::{fits_kind, is_in_range, is_keyed, is_unique, key_count, row_fits};
 pub use groups::{

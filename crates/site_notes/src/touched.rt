@@ -1,10 +1,10 @@
 //! The touched keys of a snapshot.
-ghost use Rattle.std.specs.Prelude.{◌≡◌, ◌↔◌, ◌+◌, ◌<◌, ◌≤◌, [], drop, insert, length, vec_len, vec_capacity, IsTrue, IsOk, IfOk, IfErr, OnOk};
+ghost use Rattle.std.specs.Prelude.{◌≡◌, ◌↔◌, ◌+◌, ◌<◌, ◌≤◌, [], drop, length, vec_len, vec_capacity, IsTrue, IsOk, IfOk, IfErr, OnOk};
 ghost use Rattle.rep_lists.specs.Rising.{IsRising, IsThere, IsGap, put_at};
 ghost use Rattle.rep_values.specs.Order.{key_cmp};
 ghost use Rattle.site_notes.specs.Noted.{IsBelowNext};
 
-use rep_lists::{Items, NoMemory};
+use rep_lists::{Items, NoMemory, insert_in_room};
 use rep_values::{Key, compare_keys};
 use std::cmp::Ordering;
 use std::marker::Model;
@@ -97,17 +97,6 @@ fn place_of(keys: &[Key], rising: bool, key: &Key) -> Result<usize, usize>
     } else {
         scan(keys, key)
     }
-}
-
-/// Adds a key at a place. There is room for it, so this never fails.
-fn insert_in_room(keys: &mut Vec<Key>, place: usize, key: Key)
-    requires place { place ≤ vec_len keys.old }
-    requires room { vec_len keys.old + 1 ≤ vec_capacity keys.old }
-    ensures items { keys.new.items ≡ insert keys.old.items place key }
-    ensures capacity { vec_capacity keys.new ≡ vec_capacity keys.old }
-    ensures number { vec_len keys.new ≡ vec_len keys.old + 1 }
-{
-    let _ = keys.insert(place, key);
 }
 
 /// Puts a key among the others, where it doesn't stand there yet.

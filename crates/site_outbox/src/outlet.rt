@@ -1,10 +1,8 @@
 //! A destination of an outbox.
-ghost use Rattle.std.specs.Prelude.{◌≡◌, ◌≢◌, ◌+◌, ◌≤◌, ◌&&◌, length, map, is_some};
+ghost use Rattle.std.specs.Prelude.{◌≡◌, ◌≢◌, ◌+◌, ◌≤◌, length, map, is_some};
 ghost use Rattle.rep_values.specs.declared.name.SiteName.{SiteName};
-ghost use Rattle.rep_schema.specs.Shape.{is_master};
 ghost use Rattle.dependency_index.specs.Dependencies.{room_for};
 ghost use Rattle.deferred_queue.specs.Streams.{is_same_site, acked_by};
-ghost use Rattle.site_state.specs.Making.{is_late_master};
 ghost use Rattle.site_state.specs.Packets.{count_opened};
 ghost use Rattle.site_state.specs.Purges.{acknowledged_by};
 ghost use Rattle.site_outbox.specs.Outlets.{new_outlet};
@@ -12,31 +10,15 @@ ghost use Rattle.site_outbox.specs.Noting.{TokenStreams, AreNoted, Waits, placed
 
 use deferred_queue::{Destination, Queue};
 use dependency_index::{Index, Tokens};
-use rep_schema::{Schema, SiteEntry};
+use rep_schema::Schema;
 use rep_values::SiteName;
+use schema_sites::is_late_master;
 
 /// A destination, and the queue count at which it was opened, none as long as it isn't open.
 #[derive(Clone, Copy)]
 pub(crate) struct Outlet {
     site: SiteName,
     opened: Option<u64>,
-}
-
-/// Whether a site isn't there from the start, and is a master site.
-fn is_late(entry: &SiteEntry) -> bool
-    ensures { result ≡ (is_master entry.now && entry.now.late) }
-{
-    entry.master.is_none() && entry.late
-}
-
-/// Whether a site is a late master of the schema.
-fn is_late_master(schema: &Schema, site: &SiteName) -> bool
-    ensures { result ≡ is_late_master schema.now site.now }
-{
-    schema
-        .sites
-        .iter()
-        .any(|entry| entry.name.0.is_same(&site.0) && is_late(entry))
 }
 
 impl Outlet {

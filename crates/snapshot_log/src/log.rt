@@ -1,5 +1,5 @@
 //! The log of one table.
-ghost use Rattle.std.specs.Prelude.{◌≡◌, ◌+◌, ◌≤◌, ◌↔◌, [], length, slice_get, insert, option_copied, vec_len, vec_capacity, IsTrue, IsOk, IfOk, IfErr, OnOk};
+ghost use Rattle.std.specs.Prelude.{◌≡◌, ◌+◌, ◌≤◌, ◌↔◌, [], length, slice_get, option_copied, vec_len, vec_capacity, IsTrue, IsOk, IfOk, IfErr, OnOk};
 ghost use Rattle.rep_lists.specs.Rising.{IsRising, IsThere, IsGap, put_at};
 ghost use Rattle.rep_values.specs.Order.{key_cmp};
 ghost use Rattle.site_state.specs.Making.{new_log};
@@ -8,7 +8,7 @@ ghost use Rattle.site_state.specs.Purges.{log_purged};
 ghost use Rattle.snapshot_log.specs.Logs.{by_key, key_noted, moment_in, count_up_to};
 
 use crate::LogEntry;
-use rep_lists::{Items, NoMemory};
+use rep_lists::{Items, NoMemory, insert_in_room};
 use rep_values::{Key, compare_keys};
 use std::alloc::Global;
 use std::cmp::Ordering;
@@ -49,17 +49,6 @@ fn search(entries: &[LogEntry], key: &Key) -> Result<usize, usize>
             ensures { result ≡ beside_key key.entry.now entry.now }
         { compare_keys(entry.key(), key) },
     )
-}
-
-/// Adds a key at a place. There is room for it, so this never fails.
-fn insert_in_room(entries: &mut Vec<LogEntry>, place: usize, entry: LogEntry)
-    requires place { place ≤ vec_len entries.old }
-    requires room { vec_len entries.old + 1 ≤ vec_capacity entries.old }
-    ensures items { entries.new.items ≡ insert entries.old.items place entry }
-    ensures capacity { vec_capacity entries.new ≡ vec_capacity entries.old }
-    ensures number { vec_len entries.new ≡ vec_len entries.old + 1 }
-{
-    let _ = entries.insert(place, entry);
 }
 
 /// Keeps a key with a moment, which takes the place of an earlier one.

@@ -1,6 +1,6 @@
 -- What an append leaves of a row: its shape, its key, and its values in the columns of other constraints.
 use Rattle.std.proofs.Common.{◌≡◌, ◌≢◌, ℕ, zero, suc, ◌+◌, Bool, true, false, cond, List, [], ◌∷◌, ◌++◌, length, get_or, set, Some, None, refl, sym, ap, ◌∙◌, subst, inl, inr, arith}
-use Rattle.std.specs.Prelude.{Option, IfSome, not, ◌&&◌, ◌==◌, nat_le, slice_get}
+use Rattle.std.specs.Prelude.{Option, IfSome, is_some_and, not, ◌&&◌, ◌==◌, nat_le, slice_get}
 use Rattle.std.specs.List.{Contains, list_any, cons_option}
 use Rattle.std.proofs.lemmas.Bool.{eqb-true}
 use Rattle.std.proofs.lemmas.Bool.Decides.{eqb_tells}
@@ -11,10 +11,11 @@ use Rattle.rep_schema.specs.declared.schema.Column.{Column}
 use Rattle.rep_schema.specs.declared.schema.Kind.{Kind}
 use Rattle.rep_schema.specs.declared.schema.Kind.TheVariants as kind
 use Rattle.rep_schema.specs.Tables.{Cells, key_of, FitsKind, RowFits}
+use Rattle.rep_schema.specs.Kinds.{is_key_at}
 use Rattle.rep_schema.specs.Groups.{values_at}
 use Rattle.rep_schema.specs.Shape.{ShareNone}
 use Rattle.rep_schema.proofs.PartFit.{key_of-with_values}
-use Rattle.unique_resolve.specs.Appending.{is_key, may_change, most_bytes, text_appended, appended}
+use Rattle.unique_resolve.specs.Appending.{may_change, most_bytes, text_appended, appended}
 use Rattle.unique_resolve.specs.Laws.{IsLengthened}
 
 -- a column of a kind that holds one text holds every text
@@ -68,7 +69,7 @@ pub record IsAppend (columns : List Column) (places : List ℕ) (column : ℕ) (
   pub there : slice_get row column ≡ Some (Words old)
   pub is : after ≡ set row column (Words new)
   pub listed : Contains places column
-  pub plain : is_key (slice_get columns column) ≡ false
+  pub plain : is_key_at columns column ≡ false
   pub may : may_change columns places column ≡ true
   pub bytes : List ℕ
   pub suffix : new ≡ old ++ bytes
@@ -86,7 +87,7 @@ module _ (columns : List Column) (places : List ℕ) (column : ℕ) (row : Cells
       short : (old : List ℕ) → slice_get row column ≡ Some (Words old) → may_change columns places column ≡ true → (b : Bool)
           → cond b (Some (set row column (Words (old ++ bytes)))) None ≡ Some after → IsAppend columns places column row after
       short old there may true e =
-          let both = both_allow (list_any (λ place. place == column) places) (is_key (slice_get columns column)) may in
+          let both = both_allow (list_any (λ place. place == column) places) (is_key_at columns column) may in
           record { old = old; new = old ++ bytes; there = there; is = cc; listed = Contains-listed places column both.0; plain = both.1; may = may; bytes = bytes; suffix = refl }
       short old there may false e = cc
 
@@ -108,7 +109,7 @@ module _ (columns : List Column) (places : List ℕ) (column : ℕ) (row : Cells
     pub key_of-append : key_of columns after ≡ key_of columns row
     key_of-append = rw append.is (key_of-with_values columns (column ∷ []) (Words append.new ∷ []) row (no_key (slice_get columns column) append.plain, tt))
       where
-        no_key : (c : Option Column) → is_key c ≡ false → IfSome c (λ c. c.key ≡ false)
+        no_key : (c : Option Column) → is_some_and (λ (x : Column). x.key) c ≡ false → IfSome c (λ c. c.key ≡ false)
         no_key None plain = tt
         no_key (Some c) plain = plain
 

@@ -1,18 +1,15 @@
 -- Texts that get bytes put behind them.
-use Rattle.std.specs.Prelude.{ℕ, ◌+◌, ◌==◌, Bool, false, not, cond, ◌&&◌, nat_le, List, length, ◌++◌, Option, Some, None, slice_get, slice_set}
+use Rattle.std.specs.Prelude.{ℕ, ◌+◌, ◌==◌, Bool, not, cond, ◌&&◌, nat_le, List, length, ◌++◌, Option, Some, None, slice_get, slice_set}
 use Rattle.std.specs.List.{list_any}
 use Rattle.rep_values.specs.declared.value.Value.{Value}
 use Rattle.rep_values.specs.declared.value.Value.TheVariants.{Num, Words}
 use Rattle.rep_schema.specs.declared.schema.Column.{Column}
 use Rattle.rep_schema.specs.Tables.{Cells}
-
-abbrev pub is_key : Option Column → Bool
-is_key None = false
-is_key (Some column) = column.key
+use Rattle.rep_schema.specs.Kinds.{is_key_at}
 
 -- a column of a constraint that is no key column
 abbrev pub may_change : List Column → List ℕ → ℕ → Bool
-may_change columns places column = list_any (λ place. place == column) places && not (is_key (slice_get columns column))
+may_change columns places column = list_any (λ place. place == column) places && not (is_key_at columns column)
 
 -- a text has at most 64 bytes
 abbrev pub most_bytes : ℕ

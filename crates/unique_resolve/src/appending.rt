@@ -3,9 +3,9 @@ ghost use Rattle.std.specs.Prelude.{◌≡◌, ℕ, ◌+◌, ◌≤◌, ◌==◌
 ghost use Rattle.std.specs.List.{list_any, list_all};
 ghost use Rattle.rep_values.specs.Text.{is_text_byte};
 ghost use Rattle.rep_schema.specs.Tables.{Cells};
-ghost use Rattle.unique_resolve.specs.Appending.{is_key, may_change, most_bytes, text_appended, appended};
+ghost use Rattle.unique_resolve.specs.Appending.{may_change, most_bytes, text_appended, appended};
 
-use rep_schema::{Column, has_place};
+use rep_schema::{Column, has_place, is_key_at};
 use rep_values::{Text, Value};
 
 /// How many bytes a text has room for.
@@ -58,20 +58,11 @@ fn value_with(value: Option<&Value>, bytes: &[u8]) -> Option<Value>
     }
 }
 
-fn is_key(columns: &[Column], column: u32) -> bool
-    ensures { result ≡ is_key (slice_get columns.now column) }
-{
-    match columns.get(column as usize) {
-        Some(column) => column.key,
-        None => false,
-    }
-}
-
 /// Whether a column of a constraint is no key column.
 fn may_change(columns: &[Column], places: &[u32], column: u32) -> bool
     ensures { result ≡ may_change columns.now places.now column }
 {
-    has_place(places, column as usize) && !is_key(columns, column)
+    has_place(places, column as usize) && !is_key_at(columns, column)
 }
 
 /// What an append puts in the place of a row's value; None where it gives no row.
