@@ -1,16 +1,24 @@
-//! Packets and their bytes as cases: each line is one, and its outcome is printed.
+//! Packets, their bytes and what becomes of them between two sites as cases: each line is one, and its outcome is printed.
 //!
 //! `call CALL` puts a call behind those that are kept, and `again N` the last one so many times more. `carry FROM TO
 //! NUMBER POSITION DEP [past ORIGIN NUMBER ..]` is the packet of the calls that are kept, which are then forgotten, and
 //! `mark FROM TO MARK` a mark: its bytes are printed. `bytes PIECE..` are bytes, a piece being hexadecimal digits or
 //! `DIGITS*COUNT`: the packet that they are is printed. `near PIECE..` counts the packets among all bytes that differ
 //! from these at one place, end early or have one byte more. Where a packet doesn't have its bytes again, or those of
-//! version 2 that tell the same, `and others` is printed. An empty line and one that begins with `#` is printed as it is.
+//! version 2 that tell the same, `and others` is printed.
+//!
+//! `plan WORD..` does one word after another on a new net: `pass`, `lose`, `twice` and `late` are fates for the packets to
+//! come, and `clear` lets go of those that are left. `send` sends the next mark from A to B, from 1. `release` puts the held
+//! ones on the way. `deliver` shows the mark that comes, or that none does. `down` and `up` set the word of the direction, and
+//! `link` shows it.
+//!
+//! An empty line and one that begins with `#` is printed as it is.
 #![tactic(auto)]
 
 mod near;
 mod packed;
 mod pieces;
+mod plan;
 mod shown;
 mod unpacked;
 mod written;
@@ -70,6 +78,7 @@ fn outcome(alloc: Global, calls: &mut Vec<Call>, line: &str) -> Result<Option<St
     match kind {
         "bytes" => Ok(Some(unpacked(alloc, rest)?)),
         "near" => Ok(Some(near(alloc, rest)?)),
+        "plan" => Ok(Some(plan::shown(alloc, rest)?)),
         _ => outcome_of_words(alloc, calls, kind, rest),
     }
 }

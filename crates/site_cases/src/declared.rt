@@ -44,7 +44,7 @@ fn add_declaration(
     }
     match why {
         None => Ok(None),
-        Some(refusal) => Ok(Some(refused(alloc, &refusal)?)),
+        Some(refusal) => Ok(Some(refused(alloc, 0, &refusal)?)),
     }
 }
 

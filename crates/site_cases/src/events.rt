@@ -1,6 +1,6 @@
 //! The calls of a site that an origin or a position names, and those of a site alone.
 
-use crate::told::{push_error, push_seen, refused, refused_statement};
+use crate::told::{push_error, push_seen, refused};
 use crate::works::{WorkAnswer, apply_by_work, settle_newest};
 use case_lines::{CaseStop, Words, push_name};
 use rep_calls::Statement;
@@ -22,7 +22,7 @@ pub fn commit(
     }
     let number = match site.commit(alloc, statements) {
         Ok(number) => number,
-        Err(stop) => return refused_statement(alloc, stop.statement, &stop.refusal),
+        Err(stop) => return refused(alloc, stop.statement, &stop.refusal),
     };
     let mut out = String::new(alloc);
     out.push_str("commit")?;
@@ -193,7 +193,7 @@ fn execute(
     }
     match site.execute_error(alloc, origin, position) {
         Ok(()) => Ok(format!(in alloc; "executed")?),
-        Err(refusal) => refused(alloc, &refusal),
+        Err(refusal) => refused(alloc, 0, &refusal),
     }
 }
 
@@ -208,7 +208,7 @@ fn drop_error(
     }
     match site.delete_error(origin, position) {
         Ok(()) => Ok(format!(in alloc; "dropped")?),
-        Err(refusal) => refused(alloc, &refusal),
+        Err(refusal) => refused(alloc, 0, &refusal),
     }
 }
 

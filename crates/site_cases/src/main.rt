@@ -1,9 +1,9 @@
 //! Calls of sites as cases: each line is one, and what the call answers is printed.
 //!
 //! `new` forgets all. A declaration has the form that scripts have, `row TABLE VALUE..` is a base row of each site, and
-//! `resume` opens the sites; a refusal is printed behind `!`. A snapshot site holds all tables, too.
+//! `resume` opens the sites; a refusal is printed behind `! 0`. A snapshot site holds all tables, too.
 //!
-//! `txn SITE`, the statements and `commit` are a block; where one is refused, its number stands behind the `!`. `packet
+//! `txn SITE`, the statements and `commit` are a block; where one is refused, its number stands in the place of the 0. `packet
 //! FROM TO POSITION` keeps the packet of a position, and `send FROM TO POSITION` delivers it at once. `acknowledge FROM
 //! TO` delivers the mark that a site has for another at once. `call CALL` keeps a call, `carry FROM TO NUMBER POSITION
 //! DEP [past ORIGIN NUMBER ..]` keeps the packet of the calls that are kept, and `mark FROM TO MARK` one of a mark.

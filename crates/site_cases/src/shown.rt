@@ -2,6 +2,7 @@
 ghost use Rattle.std.specs.Prelude.{◌≤◌, length, IsTrue};
 
 use crate::member::Member;
+use crate::told::text_of;
 use case_lines::{CaseStop, push_name};
 use rep_lists::NoMemory;
 use rep_schema::{RowStore, Schema};
@@ -10,7 +11,6 @@ use row_tables::ListTables;
 use site_core::Site;
 use site_report::{add_errors, add_journal, add_marks, add_queue};
 use std::alloc::Global;
-use std::str;
 
 /// Whether a schema has at most 32 tables, as every declared one.
 fn has_few_tables(schema: &Schema) -> bool
@@ -38,18 +38,6 @@ fn numbers(alloc: Global, member: &Member) -> Result<String, NoMemory> {
         " moment {moment} clock {} last {}",
         stamps.clock, stamps.last
     )?)?;
-    Ok(out)
-}
-
-/// The lines without the last one's end.
-fn text_of(alloc: Global, lines: &Lines) -> Result<String, NoMemory> {
-    let mut out = String::new(alloc);
-    for line in str::from_utf8(lines.bytes()).unwrap_or("?").lines() {
-        if !out.is_empty() {
-            out.push('\n')?;
-        }
-        out.push_str(line)?;
-    }
     Ok(out)
 }
 

@@ -4,7 +4,9 @@ use case_lines::{CaseStop, push_name};
 use rep_calls::Past;
 use rep_lists::NoMemory;
 use rep_values::{ApplyError, Refusal};
+use report_text::{Lines, MOST_LINE, refused_line};
 use std::alloc::Global;
+use std::str;
 
 /// Why a call fails.
 pub fn push_error(out: &mut String, error: &ApplyError) -> Result<(), NoMemory> {
@@ -28,74 +30,27 @@ pub fn push_error(out: &mut String, error: &ApplyError) -> Result<(), NoMemory> 
     Ok(())
 }
 
-fn word_of(refusal: &Refusal) -> &'static str {
-    match refusal {
-        Refusal::UnknownName => " UnknownName",
-        Refusal::NameTaken => " NameTaken",
-        Refusal::WrongPhase => " WrongPhase",
-        Refusal::RowShape => " RowShape",
-        Refusal::KeyTaken => " KeyTaken",
-        Refusal::NoRow => " NoRow",
-        Refusal::UniqueTaken(_) => " UniqueTaken",
-        Refusal::ValueRange => " ValueRange",
-        Refusal::KeyNotOwn => " KeyNotOwn",
-        Refusal::RuleBroken(_) => " RuleBroken",
-        Refusal::Barred => " Barred",
-        Refusal::FilledBySite => " FilledBySite",
-        Refusal::LinkDown => " LinkDown",
-        Refusal::NoSuchError => " NoSuchError",
-        Refusal::StillFails(_) => " StillFails",
-        Refusal::QueueNotEmpty(_) => " QueueNotEmpty",
-        Refusal::LogTooYoung(_, _) => " LogTooYoung",
-        Refusal::Suspended => " Suspended",
-        Refusal::LimitReached(_) => " LimitReached",
-        Refusal::SchemaRule(_) => " SchemaRule",
-        Refusal::CheckFailed(_) => " CheckFailed",
-        Refusal::NotQuiet(_, _) => " NotQuiet",
-        Refusal::Memory => " Memory",
-    }
-}
-
-fn push_refusal(out: &mut String, alloc: Global, refusal: &Refusal) -> Result<(), NoMemory> {
-    out.push_str(word_of(refusal))?;
-    if let Refusal::UniqueTaken(name)
-    | Refusal::CheckFailed(name)
-    | Refusal::RuleBroken(name) = refusal
-    {
-        push_name(out, name)?;
-    }
-    if let Refusal::StillFails(error) = refusal {
-        push_error(out, error)?;
-    }
-    if let Refusal::SchemaRule(rule) = refusal {
-        out.push_str(&format!(in alloc; " {rule}")?)?;
-    }
-    Ok(())
-}
-
-/// The line of what is refused.
-pub fn refused(alloc: Global, refusal: &Refusal) -> Result<String, CaseStop> {
-    if let Refusal::Memory = refusal {
-        return Err(CaseStop::Memory);
-    }
+/// The lines of a report without the last one's end.
+pub fn text_of(alloc: Global, lines: &Lines) -> Result<String, NoMemory> {
     let mut out = String::new(alloc);
-    out.push('!')?;
-    push_refusal(&mut out, alloc, refusal)?;
+    for line in str::from_utf8(lines.bytes()).unwrap_or("?").lines() {
+        if !out.is_empty() {
+            out.push('\n')?;
+        }
+        out.push_str(line)?;
+    }
     Ok(out)
 }
 
-/// The line of a block whose statement of this number is refused.
-pub fn refused_statement(
-    alloc: Global,
-    statement: u32,
-    refusal: &Refusal,
-) -> Result<String, CaseStop> {
+/// The line of what is refused, as reports have it: behind the number of the statement in its block, or 0.
+pub fn refused(alloc: Global, statement: u32, refusal: &Refusal) -> Result<String, CaseStop> {
     if let Refusal::Memory = refusal {
         return Err(CaseStop::Memory);
     }
-    let mut out = format!(in alloc; "! {statement}")?;
-    push_refusal(&mut out, alloc, refusal)?;
-    Ok(out)
+    let mut lines = Lines::make(alloc);
+    lines.reserve(MOST_LINE)?;
+    refused_line(&mut lines, statement, refusal);
+    Ok(text_of(alloc, &lines)?)
 }
 
 /// Each master that was seen, and its number.

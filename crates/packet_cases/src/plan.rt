@@ -1,37 +1,12 @@
 //! A plan on a net of one direction.
 ghost use Rattle.net_plan.specs.Directions.{HasDirection};
 
+use case_lines::CaseStop;
 use net_plan::{Fate, Net};
 use packet_code::{Packet, Sealed};
 use rep_lists::NoMemory;
 use rep_values::{Name, SiteName};
-use std::alloc::{AllocError, AllocFailed, Global};
-
-/// Why a plan isn't done.
-#[derive(Clone, Copy, Debug, PartialEq, Eq)]
-pub enum PlanStop {
-    /// A word is unknown.
-    NoPlan,
-    Memory,
-}
-
-impl From<NoMemory> for PlanStop {
-    fn from(_: NoMemory) -> PlanStop {
-        PlanStop::Memory
-    }
-}
-
-impl From<AllocError> for PlanStop {
-    fn from(_: AllocError) -> PlanStop {
-        PlanStop::Memory
-    }
-}
-
-impl<T: Drop> From<AllocFailed<T>> for PlanStop {
-    fn from(_: AllocFailed<T>) -> PlanStop {
-        PlanStop::Memory
-    }
-}
+use std::alloc::Global;
 
 /// Where the packets go.
 #[derive(Clone, Copy)]
@@ -52,7 +27,7 @@ fn fate_of(word: &str) -> Option<Fate> {
 }
 
 /// Shows the mark of a packet that comes, or that none does.
-fn push_mark(way: &Way, out: &mut String, packet: Option<Sealed>) -> Result<(), PlanStop> {
+fn push_mark(way: &Way, out: &mut String, packet: Option<Sealed>) -> Result<(), CaseStop> {
     let Some(sealed) = packet else {
         out.push_str(" none")?;
         return Ok(());
@@ -124,7 +99,7 @@ fn step(
     out: &mut String,
     sent: &mut u64,
     word: &str,
-) -> Result<(), PlanStop>
+) -> Result<(), CaseStop>
     requires { HasDirection net.old way.now.from way.now.to }
     ensures { HasDirection net.new way.now.from way.now.to }
 {
@@ -146,15 +121,15 @@ fn step(
         "down" => set_link(net, way, false),
         "up" => set_link(net, way, true),
         "link" => out.push_str(link(net, way))?,
-        _ => return Err(PlanStop::NoPlan),
+        _ => return Err(CaseStop::NoCase),
     }
     Ok(())
 }
 
 /// What a plan shows.
-pub fn shown(alloc: Global, plan: &str) -> Result<String, PlanStop> {
+pub fn shown(alloc: Global, plan: &str) -> Result<String, CaseStop> {
     let (Some(from), Some(to)) = (Name::of(b"A"), Name::of(b"B")) else {
-        return Err(PlanStop::NoPlan);
+        return Err(CaseStop::NoCase);
     };
     let way = Way {
         alloc,
