@@ -1,6 +1,6 @@
 //! The lines that a case prints.
 
-use crate::runs::{Ended, Faults, run, with_line_ends, with_strokes};
+use crate::runs::{Ended, Faults, noted_run, run, with_line_ends, with_strokes};
 use script_drive::Status;
 use std::alloc::{AllocError, Global};
 
@@ -105,11 +105,23 @@ fn equal_bytes(alloc: Global, count: u64, byte: u8) -> Result<Vec<String>, Alloc
     Ok(vec![in alloc; told]?)
 }
 
+/// What was left to read and what had been written, at each read.
+fn asked_reads(alloc: Global, most: u64, script: &[u8]) -> Result<Vec<String>, AllocError> {
+    let reader = noted_run(alloc, script, most)?;
+    let mut told = Vec::new(alloc);
+    for note in &reader.notes {
+        let left = with_strokes(alloc, &note.left)?;
+        let written = with_strokes(alloc, &note.written)?;
+        told.push(format!(in alloc; "left [{left}] written [{written}]")?)?;
+    }
+    Ok(told)
+}
+
 fn no_case(alloc: Global) -> Result<Vec<String>, AllocError> {
     Ok(vec![in alloc; format!(in alloc; "no case")?]?)
 }
 
-/// What a case prints: `run`, `reads`, `writes` or `cuts`, the most bytes that a call moves, and a script; or `bytes`,
+/// What a case prints: `run`, `asked`, `reads`, `writes` or `cuts`, the most bytes that a call moves, and a script; or `bytes`,
 /// their number, and the byte.
 pub fn outcomes(alloc: Global, line: &str) -> Result<Vec<String>, AllocError> {
     let (verb, rest) = line.split_once(' ').unwrap_or((line, ""));
@@ -120,6 +132,7 @@ pub fn outcomes(alloc: Global, line: &str) -> Result<Vec<String>, AllocError> {
     let script = with_line_ends(alloc, text)?;
     match verb {
         "run" => whole_run(alloc, most, &script),
+        "asked" => asked_reads(alloc, most, &script),
         "reads" => faulty_reads(alloc, most, &script),
         "writes" => faulty_writes(alloc, most, &script),
         "cuts" => cut_scripts(alloc, most, &script),

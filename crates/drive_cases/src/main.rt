@@ -2,6 +2,7 @@
 #![tactic(auto)]
 
 mod cases;
+mod noting;
 mod repeat;
 mod runs;
 

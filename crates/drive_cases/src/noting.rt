@@ -65,7 +65,12 @@ impl Reader<Script, BytesSink> for Noting {
 
     ghost reads = { λ n. reads_of n.whole n.notes.items };
 
-    fn read(&mut self, source: &mut Script, sink: &BytesSink, into: &mut [u8]) -> Result<usize, Failed> {
+    fn read(
+        &mut self,
+        source: &mut Script,
+        sink: &BytesSink,
+        into: &mut [u8],
+    ) -> Result<usize, Failed> {
         if self.note(source.left(), sink.taken()).is_err() {
             self.whole = false;
         }

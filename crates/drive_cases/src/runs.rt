@@ -1,8 +1,9 @@
 //! Runs of a script, with the reads and writes that fail.
 
+use crate::noting::{Noting, Script};
 use crate::repeat::Repeat;
-use rep_io::{FailingSink, FailingSource};
-use script_drive::{Status, drive};
+use rep_io::{BytesSink, FailingSink, FailingSource};
+use script_drive::{Status, Straight, drive};
 use std::alloc::{AllocError, Global};
 
 /// How the calls of a run's source and sink are: how many bytes each moves at most, and which read and which write
@@ -46,7 +47,31 @@ pub fn run(alloc: Global, script: &[u8], faults: Faults) -> Result<Ended, AllocE
     let write = vec![in alloc; faults.write]?;
     let mut source = FailingSource::make(script.to_vec(alloc)?, read, most);
     let mut sink = FailingSink::make(alloc, write, most);
-    let status = drive(alloc, Repeat { mark: b'!' }, &mut source, &mut sink);
+    let mut reader = Straight;
+    let runner = Repeat { mark: b'!' };
+    let status = drive(alloc, runner, &mut reader, &mut source, &mut sink);
     let report = sink.taken().to_vec(alloc)?;
     Ok(Ended { status, report })
+}
+
+/// Runs a script of which a read gives so many bytes at most, and gives what its reader noted.
+pub fn noted_run(alloc: Global, script: &[u8], most: u64) -> Result<Noting, AllocError> {
+    let mut reader = Noting {
+        alloc,
+        notes: Vec::new(alloc),
+        whole: true,
+    };
+    let mut source = Script {
+        bytes: script.to_vec(alloc)?,
+        at: 0,
+        most: most as usize,
+    };
+    let mut sink = BytesSink::make(alloc);
+    let runner = Repeat { mark: b'!' };
+    drive(alloc, runner, &mut reader, &mut source, &mut sink);
+    if reader.whole {
+        Ok(reader)
+    } else {
+        Err(AllocError)
+    }
 }

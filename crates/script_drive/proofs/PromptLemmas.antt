@@ -34,6 +34,8 @@ module _ {W : Type 0} (step : W → ℕ → List ℕ → Stepped W) (start : W) 
       let asked : Asked = record { left = l'; written = k' } in
       let rest = left_is_told l l' script read e took in
       let written = taken_is_told k k' earlier ran.0 f ran.1 ∙ ap (λ (o : List ℕ). Some (earlier ++ o)) ran.2.prints in
-      let prompt : IsPrompt step start script earlier asked = (read, rest.0, rest.1, rest.2, written) in
-      (before.0 ++ asked ∷ [], next (reads ++ before.0) before.1 ∙ ap Some (append_assoc reads before.0 (asked ∷ [])),
-      All-push (IsPrompt step start script earlier) before.0 asked before.2 prompt)
+      let prompt : IsPrompt step start script earlier asked = (read, rest.0, rest.1, rest.2, written) in (
+        before.0 ++ asked ∷ [],
+        next (reads ++ before.0) before.1 ∙ ap Some (append_assoc reads before.0 (asked ∷ [])),
+        All-push (IsPrompt step start script earlier) before.0 asked before.2 prompt,
+      )

@@ -16,7 +16,7 @@ use page_tables::PageTables;
 use rep_io::{Sink, Source, Watch};
 use rep_lists::NoMemory;
 use rep_values::SiteName;
-use script_drive::{Status, drive};
+use script_drive::{Status, Straight, drive};
 use site_core::Site;
 use site_rounds::{By, Passing, Serial};
 use site_state::PassCount;
@@ -43,7 +43,7 @@ fn run_by<P: Passing + Drop, S: Source, K: Sink>(
     let Ok(runner) = Runner::make(alloc, passing) else {
         return Status::Memory;
     };
-    drive(alloc, runner, source, sink)
+    drive(alloc, runner, &mut Straight, source, sink)
 }
 
 /// Runs a script from the source and writes its report to the sink. It takes no lock, and always returns.
