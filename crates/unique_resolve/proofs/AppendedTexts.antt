@@ -1,7 +1,8 @@
 -- What an append leaves of a row: its shape, its key, and its values in the columns of other constraints.
 use Rattle.std.proofs.Common.{◌≡◌, ◌≢◌, ℕ, zero, suc, ◌+◌, Bool, true, false, cond, List, [], ◌∷◌, ◌++◌, length, get_or, set, Some, None, refl, sym, ap, ◌∙◌, subst, inl, inr, arith}
-use Rattle.std.specs.Prelude.{Option, IfSome, is_some_and, not, ◌&&◌, ◌==◌, nat_le, slice_get}
+use Rattle.std.specs.Prelude.{Option, IfSome, not, ◌&&◌, ◌==◌, nat_le, slice_get}
 use Rattle.std.specs.List.{Contains, list_any, cons_option}
+use Rattle.std.specs.Ordering.{is_some_and}
 use Rattle.std.proofs.lemmas.Bool.{eqb-true}
 use Rattle.std.proofs.lemmas.Bool.Decides.{eqb_tells}
 use Rattle.std.proofs.lemmas.List.Folds.{Any-from_list_any}
