@@ -1,6 +1,6 @@
 -- What an append leaves of a row: its shape, its key, and its values in the columns of other constraints.
 use Rattle.std.proofs.Common.{◌≡◌, ◌≢◌, ℕ, zero, suc, ◌+◌, Bool, true, false, cond, List, [], ◌∷◌, ◌++◌, length, get_or, set, Some, None, refl, sym, ap, ◌∙◌, subst, inl, inr, arith}
-use Rattle.std.specs.Prelude.{Option, IfSome, is_some_and, not, ◌&&◌, ◌==◌, nat_le, slice_get}
+use Rattle.std.specs.Prelude.{Option, IfSome, not, ◌&&◌, ◌==◌, nat_le, slice_get}
 use Rattle.std.specs.List.{Contains, list_any, cons_option}
 use Rattle.std.proofs.lemmas.Bool.{eqb-true}
 use Rattle.std.proofs.lemmas.Bool.Decides.{eqb_tells}
@@ -11,7 +11,7 @@ use Rattle.rep_schema.specs.declared.schema.Column.{Column}
 use Rattle.rep_schema.specs.declared.schema.Kind.{Kind}
 use Rattle.rep_schema.specs.declared.schema.Kind.TheVariants as kind
 use Rattle.rep_schema.specs.Tables.{Cells, key_of, FitsKind, RowFits}
-use Rattle.rep_schema.specs.Kinds.{is_key_at}
+use Rattle.rep_schema.specs.Kinds.{is_some_and, is_key_at}
 use Rattle.rep_schema.specs.Groups.{values_at}
 use Rattle.rep_schema.specs.Shape.{ShareNone}
 use Rattle.rep_schema.proofs.PartFit.{key_of-with_values}
