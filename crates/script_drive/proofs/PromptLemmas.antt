@@ -3,8 +3,7 @@ use Rattle.std.proofs.Common.{◌≡◌, ℕ, List, [], ◌∷◌, ◌++◌, Non
 use Rattle.std.proofs.lemmas.List.Elements.{All-nil, All-push}
 use Rattle.std.specs.declared.option.Option.{Option}
 use Rattle.std.specs.Io.KnownBytes.{Consumes, Appends}
-use Rattle.rep_lines.specs.Lines.{whole_lines}
-use Rattle.rep_lines.specs.Runs.{Stepped, printed}
+use Rattle.rep_lines.specs.Runs.{Stepped}
 use Rattle.rep_lines.specs.Fed.{Standing, beginning, FedInto}
 use Rattle.script_drive.specs.Prompt.{Asked, AsksNext, IsPrompt, ReadsPromptly}
 
