@@ -105,14 +105,13 @@ fn equal_bytes(alloc: Global, count: u64, byte: u8) -> Result<Vec<String>, Alloc
     Ok(vec![in alloc; told]?)
 }
 
-/// What was left to read and what had been written, at each read.
+/// What had been written at each read.
 fn asked_reads(alloc: Global, most: u64, script: &[u8]) -> Result<Vec<String>, AllocError> {
     let reader = noted_run(alloc, script, most)?;
     let mut told = Vec::new(alloc);
     for note in &reader.notes {
-        let left = with_strokes(alloc, &note.left)?;
-        let written = with_strokes(alloc, &note.written)?;
-        told.push(format!(in alloc; "left [{left}] written [{written}]")?)?;
+        let written = with_strokes(alloc, note)?;
+        told.push(format!(in alloc; "read behind [{written}]")?)?;
     }
     Ok(told)
 }

@@ -1,6 +1,6 @@
 //! Runs of a script, with the reads and writes that fail.
 
-use crate::noting::{Noting, Script};
+use crate::noting::Noting;
 use crate::repeat::Repeat;
 use rep_io::{BytesSink, FailingSink, FailingSource};
 use script_drive::{Status, Straight, drive};
@@ -61,11 +61,7 @@ pub fn noted_run(alloc: Global, script: &[u8], most: u64) -> Result<Noting, Allo
         notes: Vec::new(alloc),
         whole: true,
     };
-    let mut source = Script {
-        bytes: script.to_vec(alloc)?,
-        at: 0,
-        most: most as usize,
-    };
+    let mut source = FailingSource::make(script.to_vec(alloc)?, Vec::new(alloc), most.max(1));
     let mut sink = BytesSink::make(alloc);
     let runner = Repeat { mark: b'!' };
     drive(alloc, runner, &mut reader, &mut source, &mut sink);

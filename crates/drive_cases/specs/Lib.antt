@@ -1,2 +1,0 @@
--- The definitions of this program.
-pub mod Noted
