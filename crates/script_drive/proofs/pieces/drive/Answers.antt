@@ -133,7 +133,7 @@ loop-preserved g c =
         omega arith,
       );
       prompt = prompt_next step (g.X.LineRunner.state c.args.runner) (asked c.args.reader.now) (asked c.loop.reader) (asked c.read.new.self) (left c.args.source.now) (left c.loop.source)
-      (g.K.Sink.taken c.args.sink.now) (g.K.Sink.taken c.loop.sink) so_far.0 c.loop.run c.loop.invariant.prompt so_far.1 so_far.2 c.in-Ok-read.ensures.asked;
+          (g.K.Sink.taken c.args.sink.now) (g.K.Sink.taken c.loop.sink) so_far.0 c.loop.run c.loop.invariant.prompt so_far.1 so_far.2 c.in-Ok-read.ensures.asked;
       within = fed.within (omega arith);
       reads = omega arith;
       writes = omega arith;
