@@ -99,7 +99,7 @@ fn rel_of(symbol: Symbol) -> Option<Rel> {
 /// `=`, `!=`, `<`, `<=`, `>` or `>=`.
 fn read_rel(words: &mut Words) -> Result<Rel, CaseStop> {
     match words.token()? {
-        Token::Symbol(symbol) => rel_of(symbol).ok_or(CaseStop::NoCase),
+        Token::Symbol(symbol) => rel_of(*symbol).ok_or(CaseStop::NoCase),
         Token::Word(_) | Token::Number { .. } | Token::Words(_) => Err(CaseStop::NoCase),
     }
 }

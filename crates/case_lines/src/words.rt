@@ -33,16 +33,16 @@ impl<'a> Words<'a> {
     }
 
     /// The next token, which stays.
-    pub fn peek(&self) -> Option<Token> {
-        self.left.first().copied()
+    pub fn peek(&self) -> Option<&'a Token> {
+        self.left.first()
     }
 
     /// The next token. This and each reading below is `NoCase` where nothing is left, or something else comes next.
-    pub fn token(&mut self) -> Result<Token, CaseStop> {
+    pub fn token(&mut self) -> Result<&'a Token, CaseStop> {
         match self.left.split_first() {
             Some((first, rest)) => {
                 self.left = rest;
-                Ok(*first)
+                Ok(first)
             }
             None => Err(CaseStop::NoCase),
         }
@@ -51,7 +51,7 @@ impl<'a> Words<'a> {
     /// A word, which may have `-` in it.
     pub fn word(&mut self) -> Result<Text, CaseStop> {
         match self.token()? {
-            Token::Word(text) => Ok(text),
+            Token::Word(text) => Ok(*text),
             Token::Number { .. } | Token::Words(_) | Token::Symbol(_) => Err(CaseStop::NoCase),
         }
     }
@@ -75,7 +75,7 @@ impl<'a> Words<'a> {
     /// A number without a sign.
     pub fn whole(&mut self) -> Result<u64, CaseStop> {
         match self.token()? {
-            Token::Number { minus: false, size } => Ok(size),
+            Token::Number { minus: false, size } => Ok(*size),
             Token::Number { minus: true, .. }
             | Token::Word(_)
             | Token::Words(_)
@@ -94,11 +94,11 @@ impl<'a> Words<'a> {
     /// A number or a text.
     pub fn literal(&mut self) -> Result<Literal, CaseStop> {
         match self.token()? {
-            Token::Number { minus, size } => match i64::try_from(size) {
-                Ok(number) => Ok(Literal::Num(if minus { -number } else { number })),
+            Token::Number { minus, size } => match i64::try_from(*size) {
+                Ok(number) => Ok(Literal::Num(if *minus { -number } else { number })),
                 Err(_) => Err(CaseStop::NoCase),
             },
-            Token::Words(text) => Ok(Literal::Words(text)),
+            Token::Words(text) => Ok(Literal::Words(*text)),
             Token::Word(_) | Token::Symbol(_) => Err(CaseStop::NoCase),
         }
     }
@@ -112,7 +112,7 @@ impl<'a> Words<'a> {
     /// This symbol.
     pub fn symbol(&mut self, wanted: Symbol) -> Result<(), CaseStop> {
         match self.token()? {
-            Token::Symbol(found) if found == wanted => Ok(()),
+            Token::Symbol(found) if *found == wanted => Ok(()),
             Token::Symbol(_) | Token::Word(_) | Token::Number { .. } | Token::Words(_) => Err(
                 CaseStop::NoCase,
             ),

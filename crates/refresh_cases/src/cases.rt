@@ -51,7 +51,7 @@ fn op_of(symbol: Symbol) -> Option<Op> {
 
 fn read_op(words: &mut Words) -> Result<Op, CaseStop> {
     match words.token()? {
-        Token::Symbol(symbol) => op_of(symbol).ok_or(CaseStop::NoCase),
+        Token::Symbol(symbol) => op_of(*symbol).ok_or(CaseStop::NoCase),
         Token::Word(_) | Token::Number { .. } | Token::Words(_) => Err(CaseStop::NoCase),
     }
 }

@@ -1,8 +1,20 @@
 //! The scripts of the input, and what each prints.
 
+use crate::crews::run_held;
 use crate::cuts::cut_line;
-use crate::runs::run;
+use crate::runs::{Ended, run};
 use std::alloc::{AllocError, Global};
+use std::sync::Wait;
+use std::thread::Threads;
+
+/// How a script is run.
+enum Way {
+    Alone,
+    /// Cut behind each byte as well.
+    Cut,
+    /// By so many appliers, none of which is held for more than so many turns.
+    Crew { appliers: u32, turns: u64 },
+}
 
 /// A script of the input.
 #[derive(Drop)]
@@ -59,15 +71,49 @@ pub fn take_line(alloc: Global, cases: &mut Vec<Case>, line: &str) -> Result<(),
     }
 }
 
-/// What a case prints: its name, the report of its script, the status, and what is to be said of its cuts.
-pub fn outcome(alloc: Global, case: &Case) -> Result<String, AllocError> {
-    let whole = run(alloc, &case.script)?;
-    let title = case.title.as_str();
-    let report = String::from_utf8_lossy(alloc, &whole.report)?;
-    let status = whole.status;
+/// The appliers and the turns of `== crew APPLIERS TURNS`.
+fn crew_of(title: &str) -> Option<Way> {
+    let (appliers, turns) = title.strip_prefix("== crew ")?.split_once(' ')?;
+    let appliers = appliers.parse::<u32>().ok()?;
+    let turns = turns.parse::<u64>().ok()?;
+    Some(Way::Crew { appliers, turns })
+}
+
+fn way_of(title: &str) -> Way {
     if title.starts_with("== cut ") {
-        let cuts = cut_line(alloc, &case.script, &whole.report)?;
-        return format!(in alloc; "{title}\n{report}-- status {status}\n{cuts}\n");
+        return Way::Cut;
     }
+    crew_of(title).unwrap_or(Way::Alone)
+}
+
+/// The name of a case, the report of its script and the status.
+fn told(alloc: Global, title: &str, ended: &Ended) -> Result<String, AllocError> {
+    let report = String::from_utf8_lossy(alloc, &ended.report)?;
+    let status = ended.status;
     format!(in alloc; "{title}\n{report}-- status {status}\n")
+}
+
+/// What a case prints: its name, the report of its script, the status, and what is to be said of its cuts or its crew.
+pub fn outcome<R: Threads + Wait + Sync>(
+    rt: &R,
+    alloc: Global,
+    case: &Case,
+) -> Result<String, AllocError> {
+    let title = case.title.as_str();
+    match way_of(title) {
+        Way::Alone => told(alloc, title, &run(alloc, &case.script)?),
+        Way::Cut => {
+            let whole = run(alloc, &case.script)?;
+            let front = told(alloc, title, &whole)?;
+            let cuts = cut_line(alloc, &case.script, &whole.report)?;
+            format!(in alloc; "{front}{cuts}\n")
+        }
+        Way::Crew { appliers, turns } => {
+            let Some((ended, how)) = run_held(rt, alloc, appliers, turns, &case.script)? else {
+                return format!(in alloc; "{title}\n-- no crew\n");
+            };
+            let front = told(alloc, title, &ended)?;
+            format!(in alloc; "{front}-- {how}\n")
+        }
+    }
 }

@@ -8,10 +8,8 @@ ghost use Rattle.rep_calls.specs.declared.call.Txn.{Txn as TxnValue};
 ghost use Rattle.rep_calls.specs.declared.past.Past.{Past as PastValue};
 ghost use Rattle.conflict_detect.specs.Fits.{TxnFits};
 ghost use Rattle.unique_resolve.specs.Numbers.{AreCounters};
-ghost use Rattle.txn_effects.specs.Transactions.{txn_effect, tables_by, numbers_by};
+ghost use Rattle.txn_effects.specs.Transactions.{txn_effect};
 ghost use Rattle.txn_apply.specs.Stops.{StopsAs};
-ghost use Rattle.site_state.specs.declared.entry.Entry.TheVariants as entry;
-ghost use Rattle.site_state.specs.declared.answers.Applied.TheVariants as applied;
 ghost use Rattle.site_state.specs.Contents.{txn_of, changes_by};
 ghost use Rattle.site_state.specs.Streams.{with_one};
 ghost use Rattle.site_state.specs.Packets.{past_in};
@@ -21,16 +19,17 @@ ghost use Rattle.site_outbox.specs.Outgoing.{Keeps};
 ghost use Rattle.txn_work.specs.Endings.{effect_of};
 ghost use Rattle.site_core.specs.Applying.{goes_on, onward_of, entry_by, error_by};
 ghost use Rattle.site_core.specs.Noting.{IsNoted};
+ghost use Rattle.site_core.specs.Settled.{settled_by, AreAsBefore, AreChanged};
 
+use crate::settled::{Settled, Step, step_of};
 use conflict_detect::txn_of;
-use error_queue::ErrorEntry;
 use rep_calls::{Past, Txn};
 use rep_lists::{Items, NoMemory};
 use rep_schema::{Change, Changes, RowStore, Schema, holds_tables};
-use rep_values::{ApplyError, SiteName};
+use rep_values::SiteName;
 use site_notes::Notes;
 use site_outbox::Outbox;
-use site_state::{Applied, Arrival, Entry};
+use site_state::Arrival;
 use std::alloc::Global;
 use txn_apply::{ApplyStop, apply_txn, take_back};
 use txn_work::{Ending, make_changes, make_room};
@@ -41,64 +40,6 @@ use unique_resolve::Counters;
 pub(crate) struct Done {
     pub(crate) changes: Changes,
     pub(crate) onward: u64,
-}
-
-/// What a position adds to a site: its entry, its answer, and its error where it has one.
-#[derive(Drop)]
-pub(crate) struct Step {
-    pub(crate) entry: Entry,
-    pub(crate) answer: Applied,
-    pub(crate) error: Option<ErrorEntry>,
-}
-
-/// What an arrival adds that is done.
-fn done_step(origin: &SiteName, arrival: &Arrival, onward: u64, txn: Txn) -> Step
-    ensures entry { result.entry ≡ entry.Done origin.now arrival.now.position onward txn }
-    ensures answer { result.answer ≡ applied.Done }
-    ensures error { result.error ≡ None }
-{
-    Step {
-        entry: Entry::Done {
-            origin: *origin,
-            position: arrival.position,
-            onward,
-            txn,
-        },
-        answer: Applied::Done,
-        error: None,
-    }
-}
-
-/// What an arrival adds that fails.
-fn failed_step(
-    origin: &SiteName,
-    arrival: &Arrival,
-    call: u32,
-    error: &ApplyError,
-    txn: Txn,
-    kept: Txn,
-) -> Step
-    ensures entry { result.entry ≡ entry.Error origin.now arrival.now.position call error.now txn }
-    ensures answer { result.answer ≡ applied.Error error.now }
-    ensures error { result.error ≡ Some (record { origin = origin.now; position = arrival.now.position; call = call; error = error.now; txn = kept }) }
-{
-    Step {
-        entry: Entry::Error {
-            origin: *origin,
-            position: arrival.position,
-            call,
-            error: *error,
-            txn,
-        },
-        answer: Applied::Error(*error),
-        error: Some(ErrorEntry {
-            origin: *origin,
-            position: arrival.position,
-            call,
-            error: *error,
-            txn: kept,
-        }),
-    }
 }
 
 /// Queues changed rows onward, where there are some and where there is a past to send with them, and answers their number,
@@ -215,6 +156,99 @@ fn install_onward<R: RowStore>(
     Ok(onward)
 }
 
+/// Applies a transaction from an origin, notes its changed rows at a moment, and queues them onward where there is a past to
+/// send with them. A call changes one row at most, and there is room to note as many.
+fn apply_noting<R: RowStore>(
+    alloc: Global,
+    store: &mut R,
+    counters: &mut Counters,
+    outbox: &mut Outbox,
+    notes: &mut Notes,
+    moment: u64,
+    past: Option<Items<Past>>,
+    origin: &SiteName,
+    txn: &Txn,
+) -> Result<Settled, NoMemory>
+    requires keyed { IsKeyed (R.schema store.old) }
+    requires counters { AreCounters (R.schema store.old) counters.old }
+    requires fits { TxnFits (R.schema store.old) txn.now }
+    requires few { length txn.now.calls ≤ 1000 }
+    requires room { length txn.now.calls ≤ notes.old.room }
+    ensures settled { IfOk result (λ settled. settled ≡ settled_by past (length outbox.old.deferred) (txn_effect (R.schema store.old) origin.now txn.now (R.tables store.old) counters.old)) }
+    ensures changed { OnOk result (AreChanged (R.schema store.old) moment past (txn_effect (R.schema store.old) origin.now txn.now (R.tables store.old) counters.old)
+        (record { tables = R.tables store.old; numbers = counters.old; out = outbox.old; notes = notes.old })
+        (record { tables = R.tables store.new; numbers = counters.new; out = outbox.new; notes = notes.new })) }
+    ensures few { OnOk result (length (changes_by (txn_effect (R.schema store.old) origin.now txn.now (R.tables store.old) counters.old)) ≤ length txn.now.calls) }
+    ensures kept { OnErr result (AreAsBefore (R.schema store.old)
+        (record { tables = R.tables store.old; numbers = counters.old; out = outbox.old; notes = notes.old })
+        (record { tables = R.tables store.new; numbers = counters.new; out = outbox.new; notes = notes.new })) }
+    ensures destinations { outbox.new.destinations ≡ outbox.old.destinations }
+    ensures purged { outbox.new.purged ≡ outbox.old.purged }
+    ensures schema { R.schema store.new ≡ R.schema store.old }
+{
+    match apply_onward(alloc, store, counters, outbox, past, origin, txn) {
+        Ok(done) => {
+            notes.note(store.schema(), done.changes.rows.as_slice(), moment);
+            Ok(Settled::Done {
+                onward: done.onward,
+            })
+        }
+        Err(ApplyStop::Failed { call, error }) => Ok(Settled::Failed { call, error }),
+        Err(ApplyStop::Memory) => Err(NoMemory),
+    }
+}
+
+/// The same for a transaction that ends as it was evaluated before, where it was.
+fn settle<R: RowStore>(
+    alloc: Global,
+    store: &mut R,
+    counters: &mut Counters,
+    outbox: &mut Outbox,
+    notes: &mut Notes,
+    moment: u64,
+    past: Option<Items<Past>>,
+    origin: &SiteName,
+    txn: &Txn,
+    ending: Option<Ending>,
+) -> Result<Settled, NoMemory>
+    requires keyed { IsKeyed (R.schema store.old) }
+    requires counters { AreCounters (R.schema store.old) counters.old }
+    requires fits { TxnFits (R.schema store.old) txn.now }
+    requires few { length txn.now.calls ≤ 1000 }
+    requires room { length txn.now.calls ≤ notes.old.room }
+    requires ending { IfSome ending (λ e. txn_effect (R.schema store.old) origin.now txn.now (R.tables store.old) counters.old ≡ effect_of e counters.old) }
+    ensures settled { IfOk result (λ settled. settled ≡ settled_by past (length outbox.old.deferred) (txn_effect (R.schema store.old) origin.now txn.now (R.tables store.old) counters.old)) }
+    ensures changed { OnOk result (AreChanged (R.schema store.old) moment past (txn_effect (R.schema store.old) origin.now txn.now (R.tables store.old) counters.old)
+        (record { tables = R.tables store.old; numbers = counters.old; out = outbox.old; notes = notes.old })
+        (record { tables = R.tables store.new; numbers = counters.new; out = outbox.new; notes = notes.new })) }
+    ensures few { OnOk result (length (changes_by (txn_effect (R.schema store.old) origin.now txn.now (R.tables store.old) counters.old)) ≤ length txn.now.calls) }
+    ensures kept { OnErr result (AreAsBefore (R.schema store.old)
+        (record { tables = R.tables store.old; numbers = counters.old; out = outbox.old; notes = notes.old })
+        (record { tables = R.tables store.new; numbers = counters.new; out = outbox.new; notes = notes.new })) }
+    ensures destinations { outbox.new.destinations ≡ outbox.old.destinations }
+    ensures purged { outbox.new.purged ≡ outbox.old.purged }
+    ensures schema { R.schema store.new ≡ R.schema store.old }
+{
+    holds_tables(store);
+    match ending {
+        Some(Ending::Changed(changes)) => {
+            let onward = install_onward(alloc, store, outbox, notes, moment, past, changes)?;
+            Ok(Settled::Done { onward })
+        }
+        Some(Ending::Failed { call, error }) => Ok(Settled::Failed { call, error }),
+        None => apply_noting(
+            alloc, store, counters, outbox, notes, moment, past, origin, txn,
+        ),
+    }
+}
+
+/// Two copies of a transaction that arrived.
+fn two_copies(txn: &Txn) -> Result<(Txn, Txn), NoMemory>
+    ensures { IfOk result (λ copies. (copies.0 ≡ txn.now) × (copies.1 ≡ txn.now)) }
+{
+    Ok((txn.share()?, txn.share()?))
+}
+
 /// Applies what arrived, which ends as it was evaluated before where it was, notes its changed rows at a moment, and says
 /// what it adds to the site.
 pub(crate) fn apply_arrival<R: RowStore>(
@@ -238,46 +272,31 @@ pub(crate) fn apply_arrival<R: RowStore>(
         (txn_effect (R.schema store.old) origin.now arrival.now.txn (R.tables store.old) counters.old)) }
     ensures answer { IfOk result (λ step. step.answer ≡ apply_answer_by (txn_effect (R.schema store.old) origin.now arrival.now.txn (R.tables store.old) counters.old)) }
     ensures error { IfOk result (λ step. step.error ≡ error_by origin.now arrival.now (txn_effect (R.schema store.old) origin.now arrival.now.txn (R.tables store.old) counters.old)) }
-    ensures tables { OnOk result (R.tables store.new ≡ tables_by (R.schema store.old) (txn_effect (R.schema store.old) origin.now arrival.now.txn (R.tables store.old) counters.old) (R.tables store.old)) }
-    ensures numbers { OnOk result (counters.new ≡ numbers_by (txn_effect (R.schema store.old) origin.now arrival.now.txn (R.tables store.old) counters.old) counters.old) }
-    ensures noted { OnOk result (IsNoted (R.schema store.old) moment (changes_by (txn_effect (R.schema store.old) origin.now arrival.now.txn (R.tables store.old) counters.old)) notes.old notes.new) }
-    ensures queue { OnOk result ((pasts : List (List PastValue)) (txns : List TxnValue) → Keeps (R.schema store.old) pasts txns outbox.old
-        → Keeps (R.schema store.old) (with_one (goes_on past (changes_by (txn_effect (R.schema store.old) origin.now arrival.now.txn (R.tables store.old) counters.old))) (past_in past) pasts)
-        (with_one (goes_on past (changes_by (txn_effect (R.schema store.old) origin.now arrival.now.txn (R.tables store.old) counters.old)))
-        (txn_of (R.schema store.old) (changes_by (txn_effect (R.schema store.old) origin.now arrival.now.txn (R.tables store.old) counters.old))) txns) outbox.new) }
+    ensures changed { OnOk result (AreChanged (R.schema store.old) moment past (txn_effect (R.schema store.old) origin.now arrival.now.txn (R.tables store.old) counters.old)
+        (record { tables = R.tables store.old; numbers = counters.old; out = outbox.old; notes = notes.old })
+        (record { tables = R.tables store.new; numbers = counters.new; out = outbox.new; notes = notes.new })) }
     ensures few { OnOk result (length (changes_by (txn_effect (R.schema store.old) origin.now arrival.now.txn (R.tables store.old) counters.old)) ≤ length arrival.now.txn.calls) }
-    ensures kept { OnErr result (R.tables store.new ≡ R.tables store.old) }
-    ensures logs_kept { OnErr result (notes.new.logs ≡ notes.old.logs) }
-    ensures snapshots_kept { OnErr result (notes.new.snapshots ≡ notes.old.snapshots) }
-    ensures counters_kept { OnErr result (counters.new ≡ counters.old) }
-    ensures queue_kept { OnErr result ((pasts : List (List PastValue)) (txns : List TxnValue) → Keeps (R.schema store.old) pasts txns outbox.old → Keeps (R.schema store.old) pasts txns outbox.new) }
+    ensures kept { OnErr result (AreAsBefore (R.schema store.old)
+        (record { tables = R.tables store.old; numbers = counters.old; out = outbox.old; notes = notes.old })
+        (record { tables = R.tables store.new; numbers = counters.new; out = outbox.new; notes = notes.new })) }
     ensures destinations { outbox.new.destinations ≡ outbox.old.destinations }
     ensures purged { outbox.new.purged ≡ outbox.old.purged }
     ensures schema { R.schema store.new ≡ R.schema store.old }
 {
-    holds_tables(store);
-    // A call changes one row at most.
     notes.reserve(arrival.txn.calls.len() as u64)?;
     // One for the journal, and one for the error queue.
-    let txn = arrival.txn.share()?;
-    let failed = arrival.txn.share()?;
-    match ending {
-        Some(Ending::Changed(changes)) => {
-            let onward = install_onward(alloc, store, outbox, notes, moment, past, changes)?;
-            Ok(done_step(origin, arrival, onward, txn))
-        }
-        Some(Ending::Failed { call, error }) => {
-            Ok(failed_step(origin, arrival, call, &error, txn, failed))
-        }
-        None => match apply_onward(alloc, store, counters, outbox, past, origin, &arrival.txn) {
-            Ok(done) => {
-                notes.note(store.schema(), done.changes.rows.as_slice(), moment);
-                Ok(done_step(origin, arrival, done.onward, txn))
-            }
-            Err(ApplyStop::Failed { call, error }) => {
-                Ok(failed_step(origin, arrival, call, &error, txn, failed))
-            }
-            Err(ApplyStop::Memory) => Err(NoMemory),
-        },
-    }
+    let (txn, kept) = two_copies(&arrival.txn)?;
+    let settled = settle(
+        alloc,
+        store,
+        counters,
+        outbox,
+        notes,
+        moment,
+        past,
+        origin,
+        &arrival.txn,
+        ending,
+    )?;
+    Ok(step_of(origin, arrival.position, &settled, txn, kept))
 }

@@ -3,16 +3,18 @@ ghost use Rattle.std.specs.Prelude.{◌≡◌, ℕ, map, slice_get, false, optio
 ghost use Rattle.std.specs.List.{position, AllByRecursion};
 ghost use Rattle.deferred_queue.specs.Streams.{is_same_site};
 ghost use Rattle.origin_marks.specs.Marks.{finished};
+ghost use Rattle.error_queue.specs.ErrorLists.{no_errors};
 ghost use Rattle.site_state.specs.Making.{new_sender};
 ghost use Rattle.site_core.specs.Keeping.{senders_in, inbox_of};
 
+use error_queue::Errors;
 use rep_lists::NoMemory;
 use rep_values::SiteName;
 use sender_inbox::Inbox;
 use std::alloc::Global;
 
 /// An inbox for each of these senders, in which nothing arrived.
-pub(crate) fn new_inboxes(alloc: Global, senders: &[SiteName]) -> Result<Vec<Inbox>, NoMemory>
+fn new_inboxes(alloc: Global, senders: &[SiteName]) -> Result<Vec<Inbox>, NoMemory>
     ensures senders { IfOk result (λ inboxes. senders_in inboxes.items ≡ map new_sender senders.now) }
     ensures unfinished { IfOk result (λ inboxes. AllByRecursion (λ i. (p : ℕ) → finished i.marked p ≡ false) inboxes.items) }
 {
@@ -21,6 +23,20 @@ pub(crate) fn new_inboxes(alloc: Global, senders: &[SiteName]) -> Result<Vec<Inb
         inboxes.push(Inbox::make(alloc, sender))?;
     }
     Ok(inboxes)
+}
+
+/// What a site has of these senders when nothing has happened: an inbox for each, and no error.
+pub(crate) fn from_senders(
+    alloc: Global,
+    senders: &[SiteName],
+) -> Result<(Vec<Inbox>, Errors), NoMemory>
+    ensures senders { IfOk result (λ made. senders_in made.0.items ≡ map new_sender senders.now) }
+    ensures unfinished { IfOk result (λ made. AllByRecursion (λ i. (p : ℕ) → finished i.marked p ≡ false) made.0.items) }
+    ensures errors { IfOk result (λ made. made.1.lists ≡ map no_errors senders.now) }
+{
+    let inboxes = new_inboxes(alloc, senders)?;
+    let errors = Errors::make(alloc, senders)?;
+    Ok((inboxes, errors))
 }
 
 /// The inbox of a sender; None exactly where the site is no sender.

@@ -1,10 +1,11 @@
-//! The room that a site takes before it changes: in its journal, beside its error queue, and at its notes.
+//! The room that a site takes before it changes: in its journal, in its error queue, in its inboxes, and at its notes.
 ghost use Rattle.std.specs.Prelude.{◌≡◌, ◌+◌, ◌≤◌, length, None, IfSome, OnOk};
 ghost use Rattle.error_queue.specs.ErrorLists.{IsOrigin, error_in, in_order};
 ghost use Rattle.site_core.specs.Applying.{with_error};
 
 use error_queue::{ErrorEntry, Errors};
 use rep_lists::{NoMemory, RoomyList};
+use sender_inbox::Inbox;
 use site_notes::Notes;
 use site_state::Entry;
 
@@ -22,6 +23,28 @@ pub(crate) fn reserve_beside(
         return Err(NoMemory);
     };
     journal.reserve(room)?;
+    Ok(())
+}
+
+/// Takes the room that a position of a sender needs: in the journal for its entry, and for one that drops its error, beside
+/// those that drop the errors that stand; in the error queue for its error; and in the sender's inbox.
+pub(crate) fn reserve_position(
+    journal: &mut RoomyList<Entry>,
+    errors: &mut Errors,
+    inbox: &mut Inbox,
+) -> Result<(), NoMemory>
+    ensures journal { OnOk result (length (in_order errors.old.lists) + 2 ≤ journal.new.spare) }
+    ensures errors { OnOk result (1 ≤ errors.new.spare) }
+    ensures inbox { OnOk result (1 ≤ inbox.new.marked.room) }
+    ensures items { journal.new.items ≡ journal.old.items }
+    ensures spare { journal.old.spare ≤ journal.new.spare }
+    ensures lists { errors.new.lists ≡ errors.old.lists }
+    ensures sender { inbox.new.sender ≡ inbox.old.sender }
+    ensures finished { inbox.new.marked.edges ≡ inbox.old.marked.edges }
+{
+    reserve_beside(journal, errors, 2)?;
+    errors.reserve()?;
+    inbox.reserve()?;
     Ok(())
 }
 

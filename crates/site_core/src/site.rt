@@ -1,5 +1,5 @@
 //! One site over a store of rows.
-ghost use Rattle.std.specs.Prelude.{◌≡◌, ℕ, ◌+◌, ◌<◌, ◌^◌, true, length, reverse, slice_get, option_copied, IfOk};
+ghost use Rattle.std.specs.Prelude.{◌≡◌, ℕ, ◌+◌, ◌<◌, ◌^◌, true, length, map, reverse, slice_get, option_copied, IfOk};
 ghost use Rattle.rep_schema.specs.Sites.{senders_of, destinations_of, has_table};
 ghost use Rattle.error_queue.specs.ErrorLists.{in_order};
 ghost use Rattle.site_state.specs.State.{is_master_site};
@@ -7,7 +7,7 @@ ghost use Rattle.site_state.specs.Contents.{tables_of};
 ghost use Rattle.site_state.specs.Commits.{site_clock};
 ghost use Rattle.site_state.specs.Deferrals.{deferred_of, marks_of};
 ghost use Rattle.site_state.specs.Errors.{errors_of};
-ghost use Rattle.site_state.specs.Making.{new_site};
+ghost use Rattle.site_state.specs.Making.{new_log, new_site, tables_in};
 ghost use Rattle.site_state.specs.Steps.{begun};
 ghost use Rattle.site_state.specs.Fits.{IsKeyed, AreWithin, AreApart, SiteFits};
 
@@ -22,7 +22,7 @@ mod send;
 mod settle;
 mod work;
 
-use crate::inboxes::new_inboxes;
+use crate::inboxes::from_senders;
 use deferred_queue::Queue;
 use error_queue::Errors;
 use local_txn::{Here, Stamps};
@@ -77,6 +77,20 @@ fn entry_at(journal: &[Entry], place: u64) -> Option<&Entry>
     journal.get(place as usize)
 }
 
+/// A log of each table of a set, and these snapshots as they are.
+fn new_notes(
+    alloc: Global,
+    logged: &TableSet,
+    snapshots: Items<Snapshot>,
+) -> Result<Notes, NoMemory>
+    requires { (table : ℕ) → has_table logged.now table ≡ true → table < 32 }
+    ensures logs { IfOk result (λ notes. notes.logs ≡ map new_log (tables_in logged.now)) }
+    ensures snapshots { IfOk result (λ notes. notes.snapshots ≡ snapshots) }
+{
+    let logs = tables_of(alloc, logged, 32)?;
+    Notes::make(alloc, logs.as_slice(), snapshots)
+}
+
 impl<R: RowStore> Site<R> {
     /// A site of the store's schema whose rows are the store's, and at which nothing happened yet. Senders and destinations
     /// are those that the schema gives the site, in declared order. It logs the changed rows of some tables, and has these
@@ -101,11 +115,9 @@ impl<R: RowStore> Site<R> {
     {
         let base = all_rows(alloc, &store)?;
         let counters = Counters::make(alloc, store.schema())?;
-        let inboxes = new_inboxes(alloc, senders)?;
+        let (inboxes, errors) = from_senders(alloc, senders)?;
         let outbox = Outbox::make(alloc, store.schema(), destinations)?;
-        let errors = Errors::make(alloc, senders)?;
-        let logs = tables_of(alloc, logged, 32)?;
-        let notes = Notes::make(alloc, logs.as_slice(), snapshots)?;
+        let notes = new_notes(alloc, logged, snapshots)?;
         Ok(Site {
             store,
             counters,

@@ -13,9 +13,10 @@ ghost use Rattle.site_core.specs.Applying.{onward_past, done_by, errors_by};
 ghost use Rattle.site_core.specs.Working.{EndsHere};
 
 use super::Site;
-use crate::applying::{Step, apply_arrival};
+use crate::applying::apply_arrival;
 use crate::inboxes::{inbox_from, place_from};
-use crate::journal::{add_error, reserve_beside};
+use crate::journal::{add_error, reserve_position};
+use crate::settled::Step;
 use rep_calls::Past;
 use rep_lists::{Items, NoMemory};
 use rep_schema::RowStore;
@@ -91,12 +92,9 @@ impl<R: RowStore> Site<R> {
         let Some(place) = place_from(&self.inboxes, origin) else {
             unreachable!()
         };
-        // The room comes first, so that what follows the transaction can't fail: for its entry, and for one that drops its
-        // error.
-        reserve_beside(&mut self.journal, &self.errors, 2)?;
-        self.errors.reserve()?;
         let inbox = &mut self.inboxes[place];
-        inbox.reserve()?;
+        // The room comes first, so that what follows the transaction can't fail.
+        reserve_position(&mut self.journal, &mut self.errors, inbox)?;
         let Some(arrival) = inbox.find(position) else {
             unreachable!()
         };

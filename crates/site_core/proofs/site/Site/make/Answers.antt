@@ -12,4 +12,4 @@ invariant_of-result g c =
     rw c.new.ensures
     (new_holds _ _ _ _ _ _ c.in_ok-notes.notes _ _ _ _ c.requires.keyed c.schema-2.ensures.sound c.in_ok-base.ensures c.requires.master (rw c.requires.senders at c.in_ok-inboxes.ensures.senders) c.in_ok-inboxes.ensures.unfinished
     (rw (c.schema-2.ensures.value, c.requires.destinations) at c.in_ok-outbox.ensures.destinations) (rw c.schema-2.ensures.value at c.in_ok-outbox.ensures.keeps) (rw c.schema.ensures.value at c.in_ok-counters.ensures)
-    (rw c.requires.senders at c.in_ok-errors.ensures) c.in_ok-notes.ensures.snapshots c.requires.within c.requires.apart)
+    (rw c.requires.senders at c.in_ok-inboxes.ensures.errors) c.in_ok-notes.ensures.snapshots c.requires.within c.requires.apart)

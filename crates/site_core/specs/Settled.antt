@@ -1,0 +1,65 @@
+-- What becomes of a transaction that another site sent, and of what a site keeps.
+use Rattle.std.specs.Prelude.{◌≡◌, ℕ, List, Option, Some, None, Result, Ok, Err}
+use Rattle.rep_values.specs.declared.name.SiteName.{SiteName}
+use Rattle.rep_schema.specs.declared.schema.Schema.{Schema}
+use Rattle.rep_schema.specs.Tables.{Rows}
+use Rattle.rep_calls.specs.declared.call.Txn.{Txn}
+use Rattle.rep_calls.specs.declared.past.Past.{Past}
+use Rattle.unique_resolve.specs.Numbers.{Numbers}
+use Rattle.txn_effects.specs.Calls.{Effect}
+use Rattle.txn_effects.specs.Transactions.{Failure, tables_by, numbers_by}
+use Rattle.error_queue.specs.declared.entry.ErrorEntry.{ErrorEntry}
+use Rattle.site_state.specs.declared.entry.Entry.{Entry}
+use Rattle.site_state.specs.declared.entry.Entry.TheVariants as entry
+use Rattle.site_state.specs.declared.answers.Applied.{Applied}
+use Rattle.site_state.specs.declared.answers.Applied.TheVariants as applied
+use Rattle.site_state.specs.Contents.{txn_of, changes_by}
+use Rattle.site_state.specs.Streams.{with_one}
+use Rattle.site_state.specs.Packets.{past_in}
+use Rattle.site_notes.specs.Noted.{NotesState}
+use Rattle.site_outbox.specs.Outgoing.{Outgoing, Keeps}
+use Rattle.site_core.specs.declared.settled.Settled.{Settled}
+use Rattle.site_core.specs.declared.settled.Settled.TheVariants.{Done, Failed}
+use Rattle.site_core.specs.Applying.{goes_on, onward_of}
+use Rattle.site_core.specs.Noting.{IsNoted}
+
+-- what becomes of it by what it does, behind so many queued transactions
+abbrev pub settled_by : Option (List Past) → ℕ → Result Effect Failure → Settled
+settled_by past count (Ok effect) = Done (onward_of past effect.changes count)
+settled_by past count (Err failure) = Failed failure.call failure.error
+
+-- the entry of its position, the answer, and the error that stands then
+abbrev pub entry_of : SiteName → ℕ → Txn → Settled → Entry
+entry_of origin position txn (Done onward) = entry.Done origin position onward txn
+entry_of origin position txn (Failed call error) = entry.Error origin position call error txn
+
+abbrev pub answer_of : Settled → Applied
+answer_of (Done onward) = applied.Done
+answer_of (Failed call error) = applied.Error error
+
+abbrev pub error_of : SiteName → ℕ → Txn → Settled → Option ErrorEntry
+error_of origin position txn (Done onward) = None
+error_of origin position txn (Failed call error) = Some (record { origin = origin; position = position; call = call; error = error; txn = txn })
+
+-- what of a site a transaction from elsewhere changes
+pub record Parts : Type 0 where
+  pub tables : List Rows
+  pub numbers : Numbers
+  pub out : Outgoing
+  pub notes : NotesState
+
+-- nothing changed but how much room there is
+pub record AreAsBefore (schema : Schema) (before after : Parts) : Type 0 where
+  pub tables : after.tables ≡ before.tables
+  pub numbers : after.numbers ≡ before.numbers
+  pub logs : after.notes.logs ≡ before.notes.logs
+  pub snapshots : after.notes.snapshots ≡ before.notes.snapshots
+  pub queue : (pasts : List (List Past)) (txns : List Txn) → Keeps schema pasts txns before.out → Keeps schema pasts txns after.out
+
+-- what the transaction does is done: its changed rows are noted at a moment, and are queued onward where they go onward
+pub record AreChanged (schema : Schema) (moment : ℕ) (past : Option (List Past)) (effect : Result Effect Failure) (before after : Parts) : Type 0 where
+  pub tables : after.tables ≡ tables_by schema effect before.tables
+  pub numbers : after.numbers ≡ numbers_by effect before.numbers
+  pub noted : IsNoted schema moment (changes_by effect) before.notes after.notes
+  pub queue : (pasts : List (List Past)) (txns : List Txn) → Keeps schema pasts txns before.out
+      → Keeps schema (with_one (goes_on past (changes_by effect)) (past_in past) pasts) (with_one (goes_on past (changes_by effect)) (txn_of schema (changes_by effect)) txns) after.out
