@@ -62,4 +62,5 @@ pub record AreChanged (schema : Schema) (moment : ℕ) (past : Option (List Past
   pub numbers : after.numbers ≡ numbers_by effect before.numbers
   pub noted : IsNoted schema moment (changes_by effect) before.notes after.notes
   pub queue : (pasts : List (List Past)) (txns : List Txn) → Keeps schema pasts txns before.out
-      → Keeps schema (with_one (goes_on past (changes_by effect)) (past_in past) pasts) (with_one (goes_on past (changes_by effect)) (txn_of schema (changes_by effect)) txns) after.out
+      → Keeps schema (with_one (goes_on past (changes_by effect)) (past_in past) pasts)
+      (with_one (goes_on past (changes_by effect)) (txn_of schema (changes_by effect)) txns) after.out

@@ -1,4 +1,4 @@
-use Rattle.std.proofs.Common.{refl, sym, ap, ◌∙◌}
+use Rattle.std.proofs.Common.{refl, sym, ◌∙◌}
 use Rattle.site_core.proofs.Reading.{nothing_arrived, arrived_is}
 use Rattle.site_core.proofs.site.Site.arrival.Goals as goal
 
