@@ -8,6 +8,7 @@ use std::sync::Wait;
 use std::thread::Threads;
 
 /// How a script is run.
+#[derive(Drop)]
 enum Way {
     Alone,
     /// Cut behind each byte as well.
