@@ -15,18 +15,12 @@ use std::alloc::{AllocError, Global};
 fn command<'a>(alloc: Global) -> Result<Command<'a>, AllocError>
     ensures { IfOk result (λ command. app_of command ≡ command_app) }
 {
-    let form = Arg::new(alloc, "form").action(ArgAction::Set);
-    let seed = Arg::new(alloc, "seed").action(ArgAction::Set);
-    let count = Arg::new(alloc, "count").action(ArgAction::Set);
-    let appliers = Arg::new(alloc, "appliers")
-        .long("appliers")
-        .action(ArgAction::Set);
-    Command::new(alloc, "pirkausu")
-        .no_binary_name(true)
-        .arg(form)?
-        .arg(seed)?
-        .arg(count)?
-        .arg(appliers)
+    let command = Command::new(alloc, "pirkausu").no_binary_name(true);
+    let command = command.arg(Arg::new(alloc, "form").action(ArgAction::Set))?;
+    let command = command.arg(Arg::new(alloc, "seed").action(ArgAction::Set))?;
+    let command = command.arg(Arg::new(alloc, "count").action(ArgAction::Set))?;
+    let appliers = Arg::new(alloc, "appliers").long("appliers");
+    command.arg(appliers.action(ArgAction::Set))
 }
 
 /// What the values that `clap` found ask for.

@@ -1,5 +1,5 @@
 //! The forms in which words ask for something, tested before `clap` reads them.
-ghost use Rattle.std.specs.Prelude.{◌≡◌, is_some};
+ghost use Rattle.std.specs.Prelude.{◌≡◌, ◌∷◌, [], is_some};
 ghost use Rattle.program_words.specs.Words.{asked_by, is_option};
 ghost use Rattle.program_words.specs.Forms.{are_appliers, has_appliers, is_appliers, is_count, are_seed_and_count, is_run, is_seed, is_storm, texts};
 
@@ -66,6 +66,24 @@ fn is_run(words: &[&str]) -> bool
     }
 }
 
+/// Whether an option that is joined to its value, a seed and a count stand in a form.
+fn is_joined_storm(first: &str, second: &str, third: &str) -> bool
+    ensures { result ≡ is_storm (first.now ∷ second.now ∷ third.now ∷ []) }
+{
+    (has_appliers(first) && are_seed_and_count(second, third))
+        || (has_appliers(second) && are_seed_and_count(first, third))
+        || (has_appliers(third) && are_seed_and_count(first, second))
+}
+
+/// Whether an option, its value, a seed and a count stand in a form.
+fn is_parted_storm(first: &str, second: &str, third: &str, fourth: &str) -> bool
+    ensures { result ≡ is_storm (first.now ∷ second.now ∷ third.now ∷ fourth.now ∷ []) }
+{
+    (are_appliers(first, second) && are_seed_and_count(third, fourth))
+        || (are_appliers(second, third) && are_seed_and_count(first, fourth))
+        || (are_appliers(third, fourth) && are_seed_and_count(first, second))
+}
+
 /// Whether the words may stand behind `storm`.
 fn is_storm(words: &[&str]) -> bool
     ensures { result ≡ is_storm (texts words.now) }
@@ -73,16 +91,8 @@ fn is_storm(words: &[&str]) -> bool
     match words {
         [] | [_] => false,
         [seed, count] => are_seed_and_count(seed, count),
-        [first, second, third] => {
-            (has_appliers(first) && are_seed_and_count(second, third))
-                || (has_appliers(second) && are_seed_and_count(first, third))
-                || (has_appliers(third) && are_seed_and_count(first, second))
-        }
-        [first, second, third, fourth] => {
-            (are_appliers(first, second) && are_seed_and_count(third, fourth))
-                || (are_appliers(second, third) && are_seed_and_count(first, fourth))
-                || (are_appliers(third, fourth) && are_seed_and_count(first, second))
-        }
+        [first, second, third] => is_joined_storm(first, second, third),
+        [first, second, third, fourth] => is_parted_storm(first, second, third, fourth),
         _ => false,
     }
 }

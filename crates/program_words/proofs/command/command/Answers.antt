@@ -7,12 +7,12 @@ use Rattle.program_words.proofs.command.command.Goals as goal
 
 pub returns : goal.returns
 returns c =
-    let form : rule_of c.action-form.result ≡ form_rule = search rules in
-    let seed : rule_of c.action-seed.result ≡ seed_rule = search rules in
-    let count : rule_of c.action-count.result ≡ count_rule = search rules in
-    let appliers : rule_of c.action-appliers.result ≡ appliers_rule = search rules in
-    let empty : app_of c.no_binary_name.result ≡ nameless = ap app_of_fields c.no_binary_name.ensures ∙ ap (on_top (λ shape. record shape { no_binary_name = true })) c.new-5.ensures.app in
-    let one = c.in_ok-arg.ensures.shape (search rules) ∙ ap₂ with_rule empty form in
-    let two = c.in_ok-arg-2.ensures.shape (search rules) ∙ ap₂ with_rule one seed in
-    let three = c.in_ok-arg-3.ensures.shape (search rules) ∙ ap₂ with_rule two count in
+    let form : rule_of c.action.result ≡ form_rule = search rules in
+    let seed : rule_of c.action-2.result ≡ seed_rule = search rules in
+    let count : rule_of c.action-3.result ≡ count_rule = search rules in
+    let appliers : rule_of c.action-4.result ≡ appliers_rule = search rules in
+    let empty : app_of c.no_binary_name-command.result ≡ nameless = ap app_of_fields c.no_binary_name-command.ensures ∙ ap (on_top (λ shape. record shape { no_binary_name = true })) c.new.ensures.app in
+    let one = c.in_ok-command.ensures.shape (search rules) ∙ ap₂ with_rule empty form in
+    let two = c.in_ok-command-2.ensures.shape (search rules) ∙ ap₂ with_rule one seed in
+    let three = c.in_ok-command-3.ensures.shape (search rules) ∙ ap₂ with_rule two count in
     IfOk-weaker c.arg-4.result _ _ (λ command added. added.shape (search rules) ∙ ap₂ with_rule three appliers) c.arg-4.ensures
