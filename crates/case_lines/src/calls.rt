@@ -3,6 +3,7 @@
 use crate::{CaseStop, Words};
 use rep_calls::{Call, Part};
 use rep_lists::Items;
+use rep_values::Row;
 use script_lex::Symbol;
 use std::alloc::Global;
 
@@ -38,23 +39,37 @@ fn read_update(alloc: Global, words: &mut Words) -> Result<Call, CaseStop> {
     Ok(Call::Update { table, key, parts })
 }
 
+/// `TABLE : ROW`
+fn read_row(alloc: Global, words: &mut Words) -> Result<(u32, Row), CaseStop> {
+    let table = read_place(words)?;
+    words.symbol(Symbol::Colon)?;
+    Ok((table, words.row(alloc)?))
+}
+
+fn read_insert(alloc: Global, words: &mut Words) -> Result<Call, CaseStop> {
+    let (table, row) = read_row(alloc, words)?;
+    Ok(Call::Insert { table, row })
+}
+
+fn read_delete(alloc: Global, words: &mut Words) -> Result<Call, CaseStop> {
+    let (table, row) = read_row(alloc, words)?;
+    Ok(Call::Delete { table, row })
+}
+
+fn read_of_kind(alloc: Global, kind: &[u8], words: &mut Words) -> Result<Call, CaseStop> {
+    match kind {
+        b"update" => read_update(alloc, words),
+        b"insert" => read_insert(alloc, words),
+        b"delete" => read_delete(alloc, words),
+        _ => Err(CaseStop::NoCase),
+    }
+}
+
 /// `insert TABLE : ROW`, `delete TABLE : ROW` or `update TABLE : KEY [, GROUP : OLD > NEW]..`, up to the end of the line.
 /// Tables and groups are given by their numbers.
 pub fn read_call(alloc: Global, words: &mut Words) -> Result<Call, CaseStop> {
     let kind = words.word()?;
-    let call = match kind.bytes() {
-        b"update" => read_update(alloc, words)?,
-        b"insert" | b"delete" => {
-            let table = read_place(words)?;
-            words.symbol(Symbol::Colon)?;
-            let row = words.row(alloc)?;
-            match kind.bytes() {
-                b"insert" => Call::Insert { table, row },
-                _ => Call::Delete { table, row },
-            }
-        }
-        _ => return Err(CaseStop::NoCase),
-    };
+    let call = read_of_kind(alloc, kind, words)?;
     words.end()?;
     Ok(call)
 }

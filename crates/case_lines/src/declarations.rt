@@ -7,12 +7,12 @@ use crate::{CaseStop, Words};
 use rep_declare::{Declare, MethodWords, UniqueWords, add_declaration};
 use rep_lists::Items;
 use rep_schema::{Column, Kind, Rel, Schema};
-use rep_values::{Name, Refusal};
+use rep_values::{Literal, Name, Refusal};
 use script_lex::{Symbol, Token};
 use std::alloc::Global;
 
 fn read_kind(words: &mut Words) -> Result<Kind, CaseStop> {
-    match words.word()?.bytes() {
+    match words.word()? {
         b"NUMBER" => Ok(Kind::Number),
         b"TEXT" => Ok(Kind::Words),
         b"DATE" => Ok(Kind::Date),
@@ -28,7 +28,7 @@ fn read_column(words: &mut Words) -> Result<Column, CaseStop> {
     words.symbol(Symbol::Colon)?;
     let kind = read_kind(words)?;
     let key = words.passes(Symbol::Colon);
-    if key && words.word()?.bytes() != b"key".as_slice() {
+    if key && words.word()? != b"key".as_slice() {
         return Err(CaseStop::NoCase);
     }
     Ok(Column { name, kind, key })
@@ -56,27 +56,38 @@ fn read_names(alloc: Global, words: &mut Words) -> Result<Items<Name>, CaseStop>
     Ok(names)
 }
 
-fn read_method(words: &mut Words) -> Result<MethodWords, CaseStop> {
-    match words.word()?.bytes() {
-        b"latest" => Ok(MethodWords::Latest(words.name()?)),
-        b"earliest" => Ok(MethodWords::Earliest(words.name()?)),
-        b"overwrite" => Ok(MethodWords::Overwrite),
-        b"discard" => Ok(MethodWords::Discard),
-        b"additive" => Ok(MethodWords::Additive),
-        b"average" => Ok(MethodWords::Average),
-        b"maximum" => Ok(MethodWords::Maximum(words.name()?)),
-        b"minimum" => Ok(MethodWords::Minimum(words.name()?)),
-        b"priority" => Ok(MethodWords::Priority {
-            column: words.name()?,
-            group: words.name()?,
-        }),
-        b"site-priority" => Ok(MethodWords::SitePriority(words.name()?)),
+/// A method that a column tells.
+fn method_by(kind: &[u8], column: Name) -> Result<MethodWords, CaseStop> {
+    match kind {
+        b"latest" => Ok(MethodWords::Latest(column)),
+        b"earliest" => Ok(MethodWords::Earliest(column)),
+        b"maximum" => Ok(MethodWords::Maximum(column)),
+        b"minimum" => Ok(MethodWords::Minimum(column)),
+        b"site-priority" => Ok(MethodWords::SitePriority(column)),
         _ => Err(CaseStop::NoCase),
     }
 }
 
+fn read_priority(words: &mut Words) -> Result<MethodWords, CaseStop> {
+    Ok(MethodWords::Priority {
+        column: words.name()?,
+        group: words.name()?,
+    })
+}
+
+fn read_method(words: &mut Words) -> Result<MethodWords, CaseStop> {
+    match words.word()? {
+        b"overwrite" => Ok(MethodWords::Overwrite),
+        b"discard" => Ok(MethodWords::Discard),
+        b"additive" => Ok(MethodWords::Additive),
+        b"average" => Ok(MethodWords::Average),
+        b"priority" => read_priority(words),
+        kind => method_by(kind, words.name()?),
+    }
+}
+
 fn read_unique_method(words: &mut Words) -> Result<UniqueWords, CaseStop> {
-    match words.word()?.bytes() {
+    match words.word()? {
         b"append-site" => Ok(UniqueWords::AppendSite(words.name()?)),
         b"append-sequence" => Ok(UniqueWords::AppendSequence(words.name()?)),
         b"discard" => Ok(UniqueWords::Discard),
@@ -197,15 +208,23 @@ fn read_constraint_method(words: &mut Words) -> Result<Declare, CaseStop>
     })
 }
 
+/// `COLUMN REL VALUE`
+fn read_test(words: &mut Words) -> Result<(Name, Rel, Literal), CaseStop> {
+    Ok((words.name()?, read_rel(words)?, words.literal()?))
+}
+
 fn read_check(words: &mut Words) -> Result<Declare, CaseStop>
     ensures { IfOk result ColumnNamed }
 {
+    let table = words.table()?;
+    let check = words.name()?;
+    let (column, rel, value) = read_test(words)?;
     Ok(Declare::Check {
-        table: words.table()?,
-        check: words.name()?,
-        column: words.name()?,
-        rel: read_rel(words)?,
-        value: words.literal()?,
+        table,
+        check,
+        column,
+        rel,
+        value,
     })
 }
 
@@ -217,25 +236,32 @@ fn read_convergent(words: &mut Words) -> Result<Declare, CaseStop>
     })
 }
 
+fn read_of_kind(alloc: Global, kind: &[u8], words: &mut Words) -> Result<Declare, CaseStop>
+    ensures { IfOk result ColumnNamed }
+{
+    match kind {
+        b"site" => read_site(words),
+        b"latesite" => read_late_site(words),
+        b"snapsite" => read_snapshot_site(words),
+        b"table" => read_table(alloc, words),
+        b"group" => read_group(alloc, words),
+        b"method" => read_group_method(words),
+        b"priority" => read_level(words),
+        b"site-level" => read_site_level(words),
+        b"unique" => read_unique(alloc, words),
+        b"unique-method" => read_constraint_method(words),
+        b"check" => read_check(words),
+        b"convergent" => read_convergent(words),
+        _ => Err(CaseStop::NoCase),
+    }
+}
+
 /// A declaration by its first word, up to the end of the line.
 pub fn read_declaration(alloc: Global, words: &mut Words) -> Result<Declare, CaseStop>
     ensures { IfOk result ColumnNamed }
 {
-    let declaration = match words.word()?.bytes() {
-        b"site" => read_site(words)?,
-        b"latesite" => read_late_site(words)?,
-        b"snapsite" => read_snapshot_site(words)?,
-        b"table" => read_table(alloc, words)?,
-        b"group" => read_group(alloc, words)?,
-        b"method" => read_group_method(words)?,
-        b"priority" => read_level(words)?,
-        b"site-level" => read_site_level(words)?,
-        b"unique" => read_unique(alloc, words)?,
-        b"unique-method" => read_constraint_method(words)?,
-        b"check" => read_check(words)?,
-        b"convergent" => read_convergent(words)?,
-        _ => return Err(CaseStop::NoCase),
-    };
+    let kind = words.word()?;
+    let declaration = read_of_kind(alloc, kind, words)?;
     words.end()?;
     Ok(declaration)
 }

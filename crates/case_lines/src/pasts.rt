@@ -24,7 +24,7 @@ pub fn read_past(alloc: Global, words: &mut Words) -> Result<Items<Past>, CaseSt
     if words.is_done() {
         return Ok(Items::new(alloc));
     }
-    match words.word()?.bytes() {
+    match words.word()? {
         b"past" => read_masters(alloc, words),
         _ => Err(CaseStop::NoCase),
     }

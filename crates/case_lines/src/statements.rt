@@ -47,20 +47,33 @@ fn read_update(alloc: Global, words: &mut Words) -> Result<Statement, CaseStop> 
     Ok(Statement::Update { table, key, sets })
 }
 
+fn read_insert(alloc: Global, words: &mut Words) -> Result<Statement, CaseStop> {
+    Ok(Statement::Insert {
+        table: words.table()?,
+        values: words.literals(alloc)?,
+    })
+}
+
+fn read_delete(alloc: Global, words: &mut Words) -> Result<Statement, CaseStop> {
+    Ok(Statement::Delete {
+        table: words.table()?,
+        key: words.literals(alloc)?,
+    })
+}
+
+fn read_of_kind(alloc: Global, kind: &[u8], words: &mut Words) -> Result<Statement, CaseStop> {
+    match kind {
+        b"insert" => read_insert(alloc, words),
+        b"update" => read_update(alloc, words),
+        b"delete" => read_delete(alloc, words),
+        _ => Err(CaseStop::NoCase),
+    }
+}
+
 /// `insert NAME VALUE+`, `update NAME VALUE+ : SET [, SET]..` or `delete NAME VALUE+`, up to the end of the line.
 pub fn read_statement(alloc: Global, words: &mut Words) -> Result<Statement, CaseStop> {
-    let statement = match words.word()?.bytes() {
-        b"insert" => Statement::Insert {
-            table: words.table()?,
-            values: words.literals(alloc)?,
-        },
-        b"update" => read_update(alloc, words)?,
-        b"delete" => Statement::Delete {
-            table: words.table()?,
-            key: words.literals(alloc)?,
-        },
-        _ => return Err(CaseStop::NoCase),
-    };
+    let kind = words.word()?;
+    let statement = read_of_kind(alloc, kind, words)?;
     words.end()?;
     Ok(statement)
 }

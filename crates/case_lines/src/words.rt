@@ -2,7 +2,7 @@
 
 use crate::CaseStop;
 use rep_lists::{Items, NoMemory};
-use rep_values::{Key, Literal, Name, Row, SiteName, TableName, Text, Value};
+use rep_values::{Key, Literal, Name, Row, SiteName, TableName, Value};
 use script_lex::{Symbol, Token};
 use std::alloc::Global;
 
@@ -48,10 +48,10 @@ impl<'a> Words<'a> {
         }
     }
 
-    /// A word, which may have `-` in it.
-    pub fn word(&mut self) -> Result<Text, CaseStop> {
+    /// The bytes of a word, which may have `-` in it.
+    pub fn word(&mut self) -> Result<&'a [u8], CaseStop> {
         match self.token()? {
-            Token::Word(text) => Ok(*text),
+            Token::Word(text) => Ok(text.bytes()),
             Token::Number { .. } | Token::Words(_) | Token::Symbol(_) => Err(CaseStop::NoCase),
         }
     }
@@ -59,7 +59,7 @@ impl<'a> Words<'a> {
     /// A word that is a name.
     pub fn name(&mut self) -> Result<Name, CaseStop> {
         let word = self.word()?;
-        Name::of(word.bytes()).ok_or(CaseStop::NoCase)
+        Name::of(word).ok_or(CaseStop::NoCase)
     }
 
     /// The name of a site.

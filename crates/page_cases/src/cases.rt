@@ -114,7 +114,7 @@ impl Cases {
         let tokens = lex(alloc, line.as_bytes())?;
         let mut words = Words::of(tokens.as_slice());
         let kind = words.word()?;
-        match kind.bytes() {
+        match kind {
             b"declare" => declared(alloc, &mut self.schema, &mut words),
             b"make" => {
                 self.both = Some(both_of(alloc, &self.schema)?);

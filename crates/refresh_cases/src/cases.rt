@@ -257,7 +257,7 @@ impl Cases {
         let tokens = lex(alloc, line.as_bytes())?;
         let mut words = Words::of(tokens.as_slice());
         let kind = words.word()?;
-        match kind.bytes() {
+        match kind {
             b"new" => {
                 self.schema = Schema::empty(alloc);
                 self.sides = None;

@@ -59,7 +59,7 @@ pub fn change(
     ensures { store.new.schema ≡ store.old.schema }
 {
     let kind = words.word()?;
-    match kind.bytes() {
+    match kind {
         b"put" => {
             let row = words.row(alloc)?;
             words.end()?;

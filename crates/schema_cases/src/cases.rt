@@ -129,7 +129,7 @@ impl Cases {
         let tokens = lex(alloc, line.as_bytes())?;
         let mut words = Words::of(tokens.as_slice());
         let kind = words.word()?;
-        match kind.bytes() {
+        match kind {
             b"empty" => {
                 self.schema = Schema::empty(alloc);
                 self.store = None;

@@ -115,7 +115,7 @@ impl Cases {
     fn run(&mut self, alloc: Global, words: &mut Words) -> Result<Option<String>, CaseStop> {
         let name = words.site()?;
         let is_master = words.is_done();
-        if !is_master && words.word()?.bytes() != b"snapshot".as_slice() {
+        if !is_master && words.word()? != b"snapshot".as_slice() {
             return Err(CaseStop::NoCase);
         }
         words.end()?;

@@ -206,7 +206,7 @@ impl Cases {
         let name = words.site()?;
         words.end()?;
         let place = place_of(&self.members, &name)?;
-        Ok(Some(shown(alloc, word.bytes(), &self.members[place])?))
+        Ok(Some(shown(alloc, word, &self.members[place])?))
     }
 
     /// What a call of this kind answers at the site that comes next.
@@ -232,7 +232,7 @@ impl Cases {
     /// What a line of this kind does that is no declaration or statement.
     fn event(&mut self, alloc: Global, words: &mut Words) -> Result<Option<String>, CaseStop> {
         let kind = words.word()?;
-        match kind.bytes() {
+        match kind {
             b"new" => self.forget(alloc, words),
             b"row" => self.declared.add_row(alloc, words),
             b"resume" => self.resume(alloc, words),
@@ -246,7 +246,7 @@ impl Cases {
             b"mark" => self.mark(alloc, words),
             b"deliver" => self.deliver(alloc, words),
             b"show" => self.show(alloc, words),
-            _ => self.at_site(alloc, kind.bytes(), words),
+            _ => self.at_site(alloc, kind, words),
         }
     }
 
@@ -256,7 +256,7 @@ impl Cases {
         let mut ahead = Words::of(tokens.as_slice());
         let kind = ahead.word()?;
         let mut words = Words::of(tokens.as_slice());
-        match kind.bytes() {
+        match kind {
             b"site"
             | b"latesite"
             | b"snapsite"

@@ -61,7 +61,7 @@ impl Told {
         let mut ahead = Words::of(tokens.as_slice());
         let kind = ahead.word()?;
         let mut words = Words::of(tokens.as_slice());
-        match kind.bytes() {
+        match kind {
             b"insert" | b"update" | b"delete" => {
                 self.blocks.push(read_statement(alloc, &mut words)?)?;
                 Ok(())

@@ -32,7 +32,7 @@ fn read_table(words: &mut Words) -> Result<u32, CaseStop> {
 }
 
 fn read_token(alloc: Global, words: &mut Words) -> Result<Token, CaseStop> {
-    match words.word()?.bytes() {
+    match words.word()? {
         b"row" => {
             let table = read_table(words)?;
             let key = words.key(alloc)?;

@@ -35,18 +35,18 @@ fn outcome(alloc: Global, state: &mut State, line: &str) -> Result<Option<String
     let tokens = lex(alloc, line.as_bytes())?;
     let mut words = Words::of(tokens.as_slice());
     let kind = words.word()?;
-    match kind.bytes() {
+    match kind {
         b"marks" | b"finish" | b"finished" | b"ready" | b"orders" => {
-            marks::outcome(alloc, &mut state.finished, kind.bytes(), &mut words)
+            marks::outcome(alloc, &mut state.finished, kind, &mut words)
         }
         b"queue" | b"push" | b"entry" | b"place" | b"order" | b"acknowledge" | b"purge" => {
-            queues::outcome(alloc, &mut state.queue, kind.bytes(), &mut words)
+            queues::outcome(alloc, &mut state.queue, kind, &mut words)
         }
         b"index" | b"note" | b"compare" => {
-            indexes::outcome(alloc, &mut state.index, kind.bytes(), &mut words)
+            indexes::outcome(alloc, &mut state.index, kind, &mut words)
         }
         b"schema" | b"declare" | b"call" | b"tokens" | b"lines" => {
-            tokens::outcome(alloc, &mut state.declared, kind.bytes(), &mut words)
+            tokens::outcome(alloc, &mut state.declared, kind, &mut words)
         }
         _ => Err(CaseStop::NoCase),
     }

@@ -72,7 +72,7 @@ fn orders(alloc: Global) -> Result<String, NoMemory> {
 pub fn read_position(words: &mut Words) -> Result<u64, CaseStop> {
     match words.peek() {
         Some(Token::Word(_)) => {
-            if words.word()?.bytes() != b"last".as_slice() {
+            if words.word()? != b"last".as_slice() {
                 return Err(CaseStop::NoCase);
             }
             let below = words.whole()?;

@@ -34,7 +34,7 @@ fn change_items(
     items: &mut Items<Value>,
     words: &mut Words,
 ) -> Result<(), CaseStop> {
-    match words.word()?.bytes() {
+    match words.word()? {
         b"push" => {
             items.push(words.value()?)?;
             Ok(())
@@ -83,7 +83,7 @@ fn change_roomy(
     list: &mut RoomyList<Value>,
     words: &mut Words,
 ) -> Result<(), CaseStop> {
-    match words.word()?.bytes() {
+    match words.word()? {
         b"push" => {
             list.reserve(1)?;
             list.push(words.value()?);

@@ -24,7 +24,7 @@ use values::{
 
 /// A kind of case by its first word.
 fn run_case(out: &mut String, alloc: Global, words: &mut Words) -> Result<(), CaseStop> {
-    match words.word()?.bytes() {
+    match words.word()? {
         b"cell" => cell_case(out, alloc, words),
         b"text" => text_case(out, alloc, words),
         b"name" => name_case(out, alloc, words),
