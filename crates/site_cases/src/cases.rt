@@ -4,13 +4,14 @@ ghost use Rattle.std.specs.Prelude.{◌<◌, length, IfOk};
 use crate::declared::Declared;
 use crate::events::{begin, commit, from_origin, purge, seen, set_clock, settle};
 use crate::member::Member;
-use crate::packets::{carried, delivered, mark_of, told};
+use crate::packets::{carried, delivered, kept, last_number, mark_of, route};
 use crate::shown::shown;
+use crate::told::{Told, told};
 use case_lines::{CaseStop, Words, read_call, read_statement};
 use packet_code::Sealed;
 use rep_calls::{Call, Statement};
 use rep_values::SiteName;
-use script_lex::lex;
+use script_lex::{Token, lex};
 use std::alloc::Global;
 use std::mem;
 
@@ -36,6 +37,11 @@ fn place_of(members: &[Member], name: &SiteName) -> Result<usize, CaseStop>
     }
 }
 
+/// The packet that is kept under a number, counted from 1.
+fn packet_of(packets: &[Sealed], number: u64) -> Option<&Sealed> {
+    packets.get(number.checked_sub(1)? as usize)
+}
+
 impl Cases {
     /// Nothing is declared, and nothing is kept.
     pub fn new(alloc: Global) -> Cases {
@@ -50,32 +56,58 @@ impl Cases {
     }
 
     /// Nothing is declared, and nothing is kept.
-    fn forget(&mut self, alloc: Global, words: &mut Words) -> Result<Option<String>, CaseStop> {
+    fn forget(&mut self, alloc: Global, words: &mut Words) -> Told {
         words.end()?;
         *self = Cases::new(alloc);
         Ok(None)
     }
 
-    /// Opens each declared site.
-    fn resume(&mut self, alloc: Global, words: &mut Words) -> Result<Option<String>, CaseStop> {
-        words.end()?;
+    /// Opens a declared site, or answers the rule that the schema breaks.
+    fn open(
+        &self,
+        alloc: Global,
+        members: &mut Vec<Member>,
+        name: SiteName,
+    ) -> Result<Option<u8>, CaseStop> {
+        match self.declared.open(alloc, name)? {
+            Ok(member) => {
+                members.push(member)?;
+                Ok(None)
+            }
+            Err(rule) => Ok(Some(rule)),
+        }
+    }
+
+    /// The sites of these names, or the rule that the schema breaks.
+    fn opened(
+        &self,
+        alloc: Global,
+        names: &[SiteName],
+    ) -> Result<Result<Vec<Member>, u8>, CaseStop> {
         let mut members = Vec::new(alloc);
-        for name in self.declared.sites(alloc)?.as_slice() {
-            match self.declared.open(alloc, *name)? {
-                Ok(member) => members.push(member)?,
-                Err(rule) => return Ok(Some(format!(in alloc; "! SchemaRule {rule}")?)),
+        for name in names {
+            if let Some(rule) = self.open(alloc, &mut members, *name)? {
+                return Ok(Err(rule));
             }
         }
-        self.members = members;
-        Ok(None)
+        Ok(Ok(members))
+    }
+
+    /// Opens each declared site.
+    fn resume(&mut self, alloc: Global, words: &mut Words) -> Told {
+        words.end()?;
+        let names = self.declared.sites(alloc)?;
+        match self.opened(alloc, names.as_slice())? {
+            Ok(members) => {
+                self.members = members;
+                Ok(None)
+            }
+            Err(rule) => Ok(Some(format!(in alloc; "! SchemaRule {rule}")?)),
+        }
     }
 
     /// Begins a block at a site.
-    fn begin_block(
-        &mut self,
-        alloc: Global,
-        words: &mut Words,
-    ) -> Result<Option<String>, CaseStop> {
+    fn begin_block(&mut self, alloc: Global, words: &mut Words) -> Told {
         let name = words.site()?;
         words.end()?;
         self.block = Some(name);
@@ -83,84 +115,76 @@ impl Cases {
         Ok(None)
     }
 
-    fn statement(&mut self, alloc: Global, words: &mut Words) -> Result<Option<String>, CaseStop> {
+    fn statement(&mut self, alloc: Global, words: &mut Words) -> Told {
         self.statements.push(read_statement(alloc, words)?)?;
         Ok(None)
     }
 
     /// Commits the block.
-    fn commit(&mut self, alloc: Global, words: &mut Words) -> Result<Option<String>, CaseStop> {
+    fn commit(&mut self, alloc: Global, words: &mut Words) -> Told {
         words.end()?;
-        let Some(name) = self.block else {
+        let Some(name) = &self.block else {
             return Err(CaseStop::NoCase);
         };
+        let place = place_of(&self.members, name)?;
         let statements = mem::replace(&mut self.statements, Vec::new(alloc));
-        let place = place_of(&self.members, &name)?;
-        let site = &mut self.members[place].site;
-        Ok(Some(commit(alloc, site, &name, &statements)?))
+        commit(alloc, &mut self.members[place].site, name, &statements)
     }
 
-    fn call(&mut self, alloc: Global, words: &mut Words) -> Result<Option<String>, CaseStop> {
+    fn call(&mut self, alloc: Global, words: &mut Words) -> Told {
         self.calls.push(read_call(alloc, words)?)?;
         Ok(None)
     }
 
     /// Keeps a packet under the next number, and tells what it carries.
-    fn keep(&mut self, alloc: Global, sealed: Sealed) -> Result<Option<String>, CaseStop> {
-        let text = told(alloc, &sealed)?;
+    fn keep(&mut self, alloc: Global, sealed: Sealed) -> Told {
         self.packets.push(sealed)?;
-        let number = self.packets.len();
-        Ok(Some(format!(in alloc; "packet {number} {text}")?))
+        match self.packets.last() {
+            Some(sealed) => kept(alloc, self.packets.len(), sealed),
+            None => Err(CaseStop::NoCase),
+        }
     }
 
     /// The packet of a position of the stream from a site to another.
     fn sealed(
         &self,
         alloc: Global,
-        words: &mut Words,
-    ) -> Result<(SiteName, Option<Sealed>), CaseStop> {
-        let (from, to) = (words.site()?, words.site()?);
-        let position = words.whole()?;
-        words.end()?;
-        let place = place_of(&self.members, &from)?;
-        let sealed = self.members[place].site.packet(alloc, &to, position)?;
-        Ok((to, sealed))
+        from: &SiteName,
+        to: &SiteName,
+        position: u64,
+    ) -> Result<Option<Sealed>, CaseStop> {
+        let place = place_of(&self.members, from)?;
+        Ok(self.members[place].site.packet(alloc, to, position)?)
     }
 
     /// Keeps the packet of a position.
-    fn packet(&mut self, alloc: Global, words: &mut Words) -> Result<Option<String>, CaseStop> {
-        match self.sealed(alloc, words)? {
-            (_, Some(sealed)) => self.keep(alloc, sealed),
-            (_, None) => Ok(Some(format!(in alloc; "none")?)),
+    fn packet(&mut self, alloc: Global, words: &mut Words) -> Told {
+        let (from, to) = route(words)?;
+        let position = last_number(words)?;
+        match self.sealed(alloc, &from, &to, position)? {
+            Some(sealed) => self.keep(alloc, sealed),
+            None => told(alloc, "none"),
         }
     }
 
-    fn deliver_to(
-        &mut self,
-        alloc: Global,
-        to: &SiteName,
-        sealed: &Sealed,
-    ) -> Result<Option<String>, CaseStop> {
+    fn deliver_to(&mut self, alloc: Global, to: &SiteName, sealed: &Sealed) -> Told {
         let place = place_of(&self.members, to)?;
-        let site = &mut self.members[place].site;
-        Ok(Some(delivered(alloc, site, sealed)?))
+        delivered(alloc, &mut self.members[place].site, sealed)
     }
 
     /// Delivers the packet of a position at once.
-    fn send(&mut self, alloc: Global, words: &mut Words) -> Result<Option<String>, CaseStop> {
-        match self.sealed(alloc, words)? {
-            (to, Some(sealed)) => self.deliver_to(alloc, &to, &sealed),
-            (_, None) => Ok(Some(format!(in alloc; "none")?)),
+    fn send(&mut self, alloc: Global, words: &mut Words) -> Told {
+        let (from, to) = route(words)?;
+        let position = last_number(words)?;
+        match self.sealed(alloc, &from, &to, position)? {
+            Some(sealed) => self.deliver_to(alloc, &to, &sealed),
+            None => told(alloc, "none"),
         }
     }
 
     /// Tells a site at once how far the first site came with its stream.
-    fn acknowledge(
-        &mut self,
-        alloc: Global,
-        words: &mut Words,
-    ) -> Result<Option<String>, CaseStop> {
-        let (from, to) = (words.site()?, words.site()?);
+    fn acknowledge(&mut self, alloc: Global, words: &mut Words) -> Told {
+        let (from, to) = route(words)?;
         words.end()?;
         let place = place_of(&self.members, &from)?;
         let sealed = mark_of(alloc, &self.members[place].site, &from, &to)?;
@@ -168,54 +192,47 @@ impl Cases {
     }
 
     /// Keeps a mark.
-    fn mark(&mut self, alloc: Global, words: &mut Words) -> Result<Option<String>, CaseStop> {
-        let (from, to) = (words.site()?, words.site()?);
-        let mark = words.whole()?;
-        words.end()?;
+    fn mark(&mut self, alloc: Global, words: &mut Words) -> Told {
+        let (from, to) = route(words)?;
+        let mark = last_number(words)?;
         let sealed = Sealed::seal_mark(alloc, &from, &to, mark)?;
         self.keep(alloc, sealed)
     }
 
     /// Keeps the packet of the calls that are kept, which are then forgotten.
-    fn carry(&mut self, alloc: Global, words: &mut Words) -> Result<Option<String>, CaseStop> {
+    fn carry(&mut self, alloc: Global, words: &mut Words) -> Told {
         let calls = mem::replace(&mut self.calls, Vec::new(alloc));
         match carried(alloc, words, calls)? {
             Some(sealed) => self.keep(alloc, sealed),
-            None => Ok(Some(format!(in alloc; "no packet")?)),
+            None => told(alloc, "no packet"),
+        }
+    }
+
+    fn deliver_kept(&mut self, alloc: Global, to: &SiteName, number: u64) -> Told {
+        let place = place_of(&self.members, to)?;
+        match packet_of(&self.packets, number) {
+            Some(sealed) => delivered(alloc, &mut self.members[place].site, sealed),
+            None => Err(CaseStop::NoCase),
         }
     }
 
     /// Delivers a packet that is kept, once more where it was before.
-    fn deliver(&mut self, alloc: Global, words: &mut Words) -> Result<Option<String>, CaseStop> {
+    fn deliver(&mut self, alloc: Global, words: &mut Words) -> Told {
         let to = words.site()?;
-        let number = words.whole()?;
-        words.end()?;
-        let place = place_of(&self.members, &to)?;
-        let Some(before) = number.checked_sub(1) else {
-            return Err(CaseStop::NoCase);
-        };
-        let Some(sealed) = self.packets.as_slice().get(before as usize) else {
-            return Err(CaseStop::NoCase);
-        };
-        let site = &mut self.members[place].site;
-        Ok(Some(delivered(alloc, site, sealed)?))
+        let number = last_number(words)?;
+        self.deliver_kept(alloc, &to, number)
     }
 
-    fn show(&self, alloc: Global, words: &mut Words) -> Result<Option<String>, CaseStop> {
+    fn show(&self, alloc: Global, words: &mut Words) -> Told {
         let word = words.word()?;
         let name = words.site()?;
         words.end()?;
         let place = place_of(&self.members, &name)?;
-        Ok(Some(shown(alloc, word, &self.members[place])?))
+        shown(alloc, word, &self.members[place])
     }
 
     /// What a call of this kind answers at the site that comes next.
-    fn at_site(
-        &mut self,
-        alloc: Global,
-        kind: &[u8],
-        words: &mut Words,
-    ) -> Result<Option<String>, CaseStop> {
+    fn at_site(&mut self, alloc: Global, kind: &[u8], words: &mut Words) -> Told {
         let name = words.site()?;
         let place = place_of(&self.members, &name)?;
         let site = &mut self.members[place].site;
@@ -229,15 +246,9 @@ impl Cases {
         }
     }
 
-    /// What a line of this kind does that is no declaration or statement.
-    fn event(&mut self, alloc: Global, words: &mut Words) -> Result<Option<String>, CaseStop> {
-        let kind = words.word()?;
+    /// What a line of this kind does with packets, or at a site.
+    fn exchange(&mut self, alloc: Global, kind: &[u8], words: &mut Words) -> Told {
         match kind {
-            b"new" => self.forget(alloc, words),
-            b"row" => self.declared.add_row(alloc, words),
-            b"resume" => self.resume(alloc, words),
-            b"txn" => self.begin_block(alloc, words),
-            b"commit" => self.commit(alloc, words),
             b"packet" => self.packet(alloc, words),
             b"send" => self.send(alloc, words),
             b"acknowledge" => self.acknowledge(alloc, words),
@@ -245,17 +256,27 @@ impl Cases {
             b"carry" => self.carry(alloc, words),
             b"mark" => self.mark(alloc, words),
             b"deliver" => self.deliver(alloc, words),
-            b"show" => self.show(alloc, words),
             _ => self.at_site(alloc, kind, words),
         }
     }
 
-    /// What a line does; None where it tells nothing.
-    pub fn outcome(&mut self, alloc: Global, line: &str) -> Result<Option<String>, CaseStop> {
-        let tokens = lex(alloc, line.as_bytes())?;
-        let mut ahead = Words::of(tokens.as_slice());
-        let kind = ahead.word()?;
-        let mut words = Words::of(tokens.as_slice());
+    /// What a line of this kind does that is no declaration or statement.
+    fn event(&mut self, alloc: Global, kind: &[u8], words: &mut Words) -> Told {
+        match kind {
+            b"new" => self.forget(alloc, words),
+            b"row" => self.declared.add_row(alloc, words),
+            b"resume" => self.resume(alloc, words),
+            b"txn" => self.begin_block(alloc, words),
+            b"commit" => self.commit(alloc, words),
+            b"show" => self.show(alloc, words),
+            _ => self.exchange(alloc, kind, words),
+        }
+    }
+
+    /// What a line of these words does.
+    fn answer(&mut self, alloc: Global, tokens: &[Token]) -> Told {
+        let mut words = Words::of(tokens);
+        let kind = words.word()?;
         match kind {
             b"site"
             | b"latesite"
@@ -268,9 +289,15 @@ impl Cases {
             | b"unique"
             | b"unique-method"
             | b"check"
-            | b"convergent" => { self.declared.declare(alloc, &mut words) }
-            b"insert" | b"update" | b"delete" => self.statement(alloc, &mut words),
-            _ => self.event(alloc, &mut words),
+            | b"convergent" => self.declared.declare(alloc, &mut Words::of(tokens)),
+            b"insert" | b"update" | b"delete" => self.statement(alloc, &mut Words::of(tokens)),
+            _ => self.event(alloc, kind, &mut words),
         }
+    }
+
+    /// What a line does; None where it tells nothing.
+    pub fn outcome(&mut self, alloc: Global, line: &str) -> Told {
+        let tokens = lex(alloc, line.as_bytes())?;
+        self.answer(alloc, tokens.as_slice())
     }
 }

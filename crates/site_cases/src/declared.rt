@@ -2,7 +2,7 @@
 ghost use Rattle.rep_schema.specs.Shape.{HasShape};
 
 use crate::member::{BaseRow, Member};
-use crate::told::refused;
+use crate::told::{Told, refused};
 use case_lines::{CaseStop, Words, declare};
 use rep_lists::NoMemory;
 use rep_schema::Schema;
@@ -29,11 +29,7 @@ impl Model for Declared {
 }
 
 /// The declaration that a line is, or why it is refused.
-fn add_declaration(
-    alloc: Global,
-    schema: &mut Schema,
-    words: &mut Words,
-) -> Result<Option<String>, CaseStop>
+fn add_declaration(alloc: Global, schema: &mut Schema, words: &mut Words) -> Told
     requires { HasShape schema.old }
     ensures { HasShape schema.new }
 {
@@ -44,7 +40,7 @@ fn add_declaration(
     }
     match why {
         None => Ok(None),
-        Some(refusal) => Ok(Some(refused(alloc, 0, &refusal)?)),
+        Some(refusal) => refused(alloc, 0, &refusal),
     }
 }
 
@@ -58,20 +54,12 @@ impl Declared {
     }
 
     /// Adds the declaration that a line is, or tells why it is refused.
-    pub fn declare(
-        &mut self,
-        alloc: Global,
-        words: &mut Words,
-    ) -> Result<Option<String>, CaseStop> {
+    pub fn declare(&mut self, alloc: Global, words: &mut Words) -> Told {
         add_declaration(alloc, &mut self.schema, words)
     }
 
     /// Keeps a base row, which is read and tested when a site is opened.
-    pub fn add_row(
-        &mut self,
-        alloc: Global,
-        words: &mut Words,
-    ) -> Result<Option<String>, CaseStop> {
+    pub fn add_row(&mut self, alloc: Global, words: &mut Words) -> Told {
         let table = words.table()?;
         let values = words.literals(alloc)?;
         words.end()?;

@@ -1,53 +1,59 @@
 //! The calls of a site that an origin or a position names, and those of a site alone.
 
-use crate::told::{push_error, push_seen, refused};
+use crate::packets::last_number;
+use crate::told::{Told, push_error, push_seen, refused, told};
 use crate::works::{WorkAnswer, apply_by_work, settle_newest};
 use case_lines::{CaseStop, Words, push_name};
 use rep_calls::Statement;
+use rep_lists::NoMemory;
 use rep_values::{ApplyError, SiteName};
 use row_tables::ListTables;
 use site_core::Site;
 use site_state::{Applied, Why};
 use std::alloc::Global;
 
+/// A space, and the number of a block, or `none` where no row changed.
+fn push_block(out: &mut String, alloc: Global, number: u64) -> Result<(), NoMemory> {
+    if number == 0 {
+        out.push_str(" none")?;
+        return Ok(());
+    }
+    out.push_str(&format!(in alloc; " {number}")?)?;
+    Ok(())
+}
+
 /// `commit SITE NUMBER`, or `commit SITE none` where no row changed.
+fn told_commit(alloc: Global, name: &SiteName, number: u64) -> Told {
+    let mut out = format!(in alloc; "commit")?;
+    push_name(&mut out, &name.0)?;
+    push_block(&mut out, alloc, number)?;
+    Ok(Some(out))
+}
+
+/// Which block it was, or why it was refused.
 pub fn commit(
     alloc: Global,
     site: &mut Site<ListTables>,
     name: &SiteName,
     statements: &[Statement],
-) -> Result<String, CaseStop> {
+) -> Told {
     if site.moment() == u64::MAX {
         return Err(CaseStop::NoCase);
     }
-    let number = match site.commit(alloc, statements) {
-        Ok(number) => number,
-        Err(stop) => return refused(alloc, stop.statement, &stop.refusal),
-    };
-    let mut out = String::new(alloc);
-    out.push_str("commit")?;
-    push_name(&mut out, &name.0)?;
-    if number == 0 {
-        out.push_str(" none")?;
-    } else {
-        out.push_str(&format!(in alloc; " {number}")?)?;
+    match site.commit(alloc, statements) {
+        Ok(number) => told_commit(alloc, name, number),
+        Err(stop) => refused(alloc, stop.statement, &stop.refusal),
     }
-    Ok(out)
 }
 
 /// Nothing is told.
-pub fn set_clock(
-    site: &mut Site<ListTables>,
-    words: &mut Words,
-) -> Result<Option<String>, CaseStop> {
-    let clock = words.whole()?;
-    words.end()?;
-    site.set_clock(clock);
+pub fn set_clock(site: &mut Site<ListTables>, words: &mut Words) -> Told {
+    site.set_clock(last_number(words)?);
     Ok(None)
 }
 
 /// Nothing is told.
-pub fn begin(site: &mut Site<ListTables>, words: &mut Words) -> Result<Option<String>, CaseStop> {
+pub fn begin(site: &mut Site<ListTables>, words: &mut Words) -> Told {
     words.end()?;
     if site.moment() == u64::MAX {
         return Err(CaseStop::NoCase);
@@ -57,55 +63,50 @@ pub fn begin(site: &mut Site<ListTables>, words: &mut Words) -> Result<Option<St
 }
 
 /// Whether the newest entry is one that can be settled.
-pub fn settle(
-    alloc: Global,
-    site: &mut Site<ListTables>,
-    words: &mut Words,
-) -> Result<Option<String>, CaseStop> {
+pub fn settle(alloc: Global, site: &mut Site<ListTables>, words: &mut Words) -> Told {
     words.end()?;
     let word = if settle_newest(alloc, site)? {
         "settled"
     } else {
         "not settled"
     };
-    Ok(Some(format!(in alloc; "{word}")?))
+    told(alloc, word)
 }
 
 /// How many transactions are let go of.
-pub fn purge(
-    alloc: Global,
-    site: &mut Site<ListTables>,
-    words: &mut Words,
-) -> Result<Option<String>, CaseStop> {
+pub fn purge(alloc: Global, site: &mut Site<ListTables>, words: &mut Words) -> Told {
     words.end()?;
     let count = site.purge();
     Ok(Some(format!(in alloc; "purged {count}")?))
 }
 
 /// What the site has seen of the masters among its senders.
-pub fn seen(
-    alloc: Global,
-    site: &Site<ListTables>,
-    words: &mut Words,
-) -> Result<Option<String>, CaseStop> {
+pub fn seen(alloc: Global, site: &Site<ListTables>, words: &mut Words) -> Told {
     words.end()?;
     let past = site.past(alloc)?;
-    let mut out = String::new(alloc);
-    out.push_str("seen")?;
+    let mut out = format!(in alloc; "seen")?;
     push_seen(&mut out, alloc, past.as_slice())?;
     Ok(Some(out))
 }
 
-fn pass(alloc: Global, site: &mut Site<ListTables>, origin: &SiteName) -> Result<String, CaseStop> {
+fn pass(alloc: Global, site: &mut Site<ListTables>, origin: &SiteName, words: &Words) -> Told {
+    words.end()?;
     if site.moment() == u64::MAX {
         return Err(CaseStop::NoCase);
     }
     let count = site.apply_pass(alloc, origin)?;
     let low = site.mark(origin);
-    Ok(format!(in alloc;
+    Ok(Some(format!(in alloc;
         "pass done {} errors {} low {low}",
         count.done, count.errors
-    )?)
+    )?))
+}
+
+/// Up to which number all of an origin's blocks are covered.
+fn covered(alloc: Global, site: &Site<ListTables>, origin: &SiteName, words: &Words) -> Told {
+    words.end()?;
+    let number = site.covered(origin);
+    Ok(Some(format!(in alloc; "covered {number}")?))
 }
 
 fn word_of(why: Why) -> &'static str {
@@ -116,83 +117,57 @@ fn word_of(why: Why) -> &'static str {
     }
 }
 
-fn told_done(alloc: Global) -> Result<String, CaseStop> {
-    Ok(format!(in alloc; "Done")?)
-}
-
-fn told_error(alloc: Global, error: &ApplyError) -> Result<String, CaseStop> {
+fn told_error(alloc: Global, error: &ApplyError) -> Told {
     let mut out = format!(in alloc; "Error")?;
     push_error(&mut out, error)?;
-    Ok(out)
+    Ok(Some(out))
 }
 
-fn told_stale(alloc: Global, why: Why) -> Result<String, CaseStop> {
-    Ok(format!(in alloc; "Stale {}", word_of(why))?)
+fn told_stale(alloc: Global, why: Why) -> Told {
+    let word = word_of(why);
+    Ok(Some(format!(in alloc; "Stale {word}")?))
 }
 
-fn apply(
-    alloc: Global,
-    site: &mut Site<ListTables>,
-    origin: &SiteName,
-    position: u64,
-) -> Result<String, CaseStop> {
-    match site.apply_one(alloc, origin, position)? {
-        Applied::Done => told_done(alloc),
-        Applied::Error(error) => told_error(alloc, &error),
-        Applied::Stale(why) => told_stale(alloc, why),
+fn told_applied(alloc: Global, applied: &Applied) -> Told {
+    match applied {
+        Applied::Done => told(alloc, "Done"),
+        Applied::Error(error) => told_error(alloc, error),
+        Applied::Stale(why) => told_stale(alloc, *why),
     }
 }
 
-fn work(
-    alloc: Global,
-    site: &mut Site<ListTables>,
-    origin: &SiteName,
-    position: u64,
-) -> Result<String, CaseStop> {
+fn apply(alloc: Global, site: &mut Site<ListTables>, origin: &SiteName, position: u64) -> Told {
+    let applied = site.apply_one(alloc, origin, position)?;
+    told_applied(alloc, &applied)
+}
+
+fn work(alloc: Global, site: &mut Site<ListTables>, origin: &SiteName, position: u64) -> Told {
     match apply_by_work(alloc, site, origin, position)? {
-        WorkAnswer::Applied(Applied::Done) => told_done(alloc),
-        WorkAnswer::Applied(Applied::Error(error)) => told_error(alloc, &error),
-        WorkAnswer::Applied(Applied::Stale(why)) => told_stale(alloc, why),
-        WorkAnswer::Unique => Ok(format!(in alloc; "Unique")?),
+        WorkAnswer::Applied(applied) => told_applied(alloc, &applied),
+        WorkAnswer::Unique => told(alloc, "Unique"),
     }
 }
 
-fn stale(
-    alloc: Global,
-    site: &Site<ListTables>,
-    origin: &SiteName,
-    position: u64,
-) -> Result<String, CaseStop> {
-    let word = match site.stale(origin, position) {
-        Some(why) => word_of(why),
-        None => "ready",
-    };
-    Ok(format!(in alloc; "{word}")?)
+fn stale(alloc: Global, site: &Site<ListTables>, origin: &SiteName, position: u64) -> Told {
+    match site.stale(origin, position) {
+        Some(why) => told(alloc, word_of(why)),
+        None => told(alloc, "ready"),
+    }
 }
 
-fn lowest(
-    alloc: Global,
-    site: &Site<ListTables>,
-    origin: &SiteName,
-    above: u64,
-) -> Result<String, CaseStop> {
+fn lowest(alloc: Global, site: &Site<ListTables>, origin: &SiteName, above: u64) -> Told {
     match site.lowest_ready(origin, above) {
-        Some(position) => Ok(format!(in alloc; "lowest {position}")?),
-        None => Ok(format!(in alloc; "lowest none")?),
+        Some(position) => Ok(Some(format!(in alloc; "lowest {position}")?)),
+        None => told(alloc, "lowest none"),
     }
 }
 
-fn execute(
-    alloc: Global,
-    site: &mut Site<ListTables>,
-    origin: &SiteName,
-    position: u64,
-) -> Result<String, CaseStop> {
+fn execute(alloc: Global, site: &mut Site<ListTables>, origin: &SiteName, position: u64) -> Told {
     if site.moment() == u64::MAX {
         return Err(CaseStop::NoCase);
     }
     match site.execute_error(alloc, origin, position) {
-        Ok(()) => Ok(format!(in alloc; "executed")?),
+        Ok(()) => told(alloc, "executed"),
         Err(refusal) => refused(alloc, 0, &refusal),
     }
 }
@@ -202,12 +177,12 @@ fn drop_error(
     site: &mut Site<ListTables>,
     origin: &SiteName,
     position: u64,
-) -> Result<String, CaseStop> {
+) -> Told {
     if site.moment() == u64::MAX {
         return Err(CaseStop::NoCase);
     }
     match site.delete_error(origin, position) {
-        Ok(()) => Ok(format!(in alloc; "dropped")?),
+        Ok(()) => told(alloc, "dropped"),
         Err(refusal) => refused(alloc, 0, &refusal),
     }
 }
@@ -218,10 +193,8 @@ fn at_position(
     site: &mut Site<ListTables>,
     origin: &SiteName,
     kind: &[u8],
-    words: &mut Words,
-) -> Result<String, CaseStop> {
-    let position = words.whole()?;
-    words.end()?;
+    position: u64,
+) -> Told {
     match kind {
         b"apply" => apply(alloc, site, origin, position),
         b"work" => work(alloc, site, origin, position),
@@ -239,18 +212,11 @@ pub fn from_origin(
     site: &mut Site<ListTables>,
     kind: &[u8],
     words: &mut Words,
-) -> Result<Option<String>, CaseStop> {
+) -> Told {
     let origin = words.site()?;
-    let answer = match kind {
-        b"pass" => {
-            words.end()?;
-            pass(alloc, site, &origin)?
-        }
-        b"covered" => {
-            words.end()?;
-            format!(in alloc; "covered {}", site.covered(&origin))?
-        }
-        _ => at_position(alloc, site, &origin, kind, words)?,
-    };
-    Ok(Some(answer))
+    match kind {
+        b"pass" => pass(alloc, site, &origin, words),
+        b"covered" => covered(alloc, site, &origin, words),
+        _ => at_position(alloc, site, &origin, kind, last_number(words)?),
+    }
 }

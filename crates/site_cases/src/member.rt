@@ -1,6 +1,7 @@
 //! A site of the cases.
 ghost use Rattle.std.specs.Prelude.{◌≡◌, IfOk};
 ghost use Rattle.rep_schema.specs.Shape.{HasShape};
+ghost use Rattle.rep_schema.specs.Sites.{senders_of, destinations_of};
 ghost use Rattle.site_state.specs.State.{is_master_site};
 ghost use Rattle.site_state.specs.Fits.{IsKeyed};
 
@@ -23,13 +24,29 @@ pub struct BaseRow {
     pub values: Items<Literal>,
 }
 
+/// The sites that send to a site, and those that it sends to.
+#[derive(Drop)]
+pub struct Parties {
+    pub senders: Items<SiteName>,
+    pub destinations: Items<SiteName>,
+}
+
 /// A site, and those with which it exchanges packets.
 #[derive(Drop)]
 pub struct Member {
     pub name: SiteName,
-    pub senders: Items<SiteName>,
-    pub destinations: Items<SiteName>,
+    pub parties: Parties,
     pub site: Site<ListTables>,
+}
+
+fn parties_of(alloc: Global, schema: &Schema, name: &SiteName) -> Result<Parties, CaseStop>
+    ensures senders { IfOk result (λ parties. parties.senders ≡ senders_of schema.now name.now) }
+    ensures destinations { IfOk result (λ parties. parties.destinations ≡ destinations_of schema.now name.now) }
+{
+    Ok(Parties {
+        senders: senders_of(alloc, schema, name)?,
+        destinations: destinations_of(alloc, schema, name)?,
+    })
 }
 
 fn put_row(alloc: Global, store: &mut ListTables, row: &BaseRow) -> Result<(), CaseStop>
@@ -89,6 +106,33 @@ fn base_store(
 }
 
 impl Member {
+    /// The site of this name over a store.
+    fn of(
+        alloc: Global,
+        schema: &Schema,
+        store: ListTables,
+        name: SiteName,
+    ) -> Result<Member, CaseStop>
+        requires keyed { IsKeyed store.schema }
+        requires schema { store.schema ≡ schema.now }
+    {
+        let parties = parties_of(alloc, schema, &name)?;
+        let site = Site::make(
+            alloc,
+            store,
+            here_of(schema, name),
+            parties.senders.as_slice(),
+            parties.destinations.as_slice(),
+            &TableSet::below(0),
+            Items::new(alloc),
+        )?;
+        Ok(Member {
+            name,
+            parties,
+            site,
+        })
+    }
+
     /// The site of this name, with these rows, or the rule that the schema breaks.
     pub fn open(
         alloc: Global,
@@ -98,27 +142,9 @@ impl Member {
     ) -> Result<Result<Member, u8>, CaseStop>
         requires { HasShape schema.now }
     {
-        let store = match base_store(alloc, schema, rows)? {
-            Ok(store) => store,
-            Err(rule) => return Ok(Err(rule)),
-        };
-        let here = here_of(schema, name);
-        let senders = senders_of(alloc, schema, &name)?;
-        let destinations = destinations_of(alloc, schema, &name)?;
-        let site = Site::make(
-            alloc,
-            store,
-            here,
-            senders.as_slice(),
-            destinations.as_slice(),
-            &TableSet::below(0),
-            Items::new(alloc),
-        )?;
-        Ok(Ok(Member {
-            name,
-            senders,
-            destinations,
-            site,
-        }))
+        match base_store(alloc, schema, rows)? {
+            Ok(store) => Ok(Ok(Member::of(alloc, schema, store, name)?)),
+            Err(rule) => Ok(Err(rule)),
+        }
     }
 }

@@ -2,7 +2,7 @@
 ghost use Rattle.std.specs.Prelude.{◌≤◌, length, IsTrue};
 
 use crate::member::Member;
-use crate::told::text_of;
+use crate::told::{Told, text_of};
 use case_lines::{CaseStop, push_name};
 use rep_lists::NoMemory;
 use rep_schema::{RowStore, Schema};
@@ -29,36 +29,56 @@ fn add_rows(lines: &mut Lines, member: &Member) -> Result<(), CaseStop> {
 }
 
 /// The moment, the clock and the last stamp.
-fn numbers(alloc: Global, member: &Member) -> Result<String, NoMemory> {
+fn numbers(alloc: Global, member: &Member) -> Told {
     let site: &Site<ListTables> = &member.site;
     let mut out = format!(in alloc; "site")?;
     push_name(&mut out, &member.name.0)?;
+    push_moment(&mut out, alloc, site)?;
+    Ok(Some(out))
+}
+
+fn push_moment(out: &mut String, alloc: Global, site: &Site<ListTables>) -> Result<(), NoMemory> {
     let (moment, stamps) = (site.moment(), site.stamps());
     out.push_str(&format!(in alloc;
         " moment {moment} clock {} last {}",
         stamps.clock, stamps.last
     )?)?;
-    Ok(out)
+    Ok(())
+}
+
+/// The lines of what a word names.
+fn add_shown(lines: &mut Lines, word: &[u8], member: &Member) -> Result<(), NoMemory> {
+    let (name, site) = (&member.name, &member.site);
+    let destinations = member.parties.destinations.as_slice();
+    match word {
+        b"queue" => add_queue(lines, name, destinations, site),
+        b"errors" => add_errors(lines, name, site),
+        b"marks" => {
+            let senders = member.parties.senders.as_slice();
+            add_marks(lines, name, senders, destinations, site)
+        }
+        _ => add_journal(lines, name, site),
+    }
+}
+
+fn told_tables(alloc: Global, member: &Member) -> Told {
+    let mut lines = Lines::make(alloc);
+    add_rows(&mut lines, member)?;
+    Ok(Some(text_of(alloc, &lines)?))
+}
+
+fn told_lines(alloc: Global, word: &[u8], member: &Member) -> Told {
+    let mut lines = Lines::make(alloc);
+    add_shown(&mut lines, word, member)?;
+    Ok(Some(text_of(alloc, &lines)?))
 }
 
 /// `show WORD SITE`: the word and the site, and then a line for each thing that is shown.
-pub fn shown(alloc: Global, word: &[u8], member: &Member) -> Result<String, CaseStop> {
-    let mut lines = Lines::make(alloc);
-    let (name, site) = (&member.name, &member.site);
+pub fn shown(alloc: Global, word: &[u8], member: &Member) -> Told {
     match word {
-        b"tables" => add_rows(&mut lines, member)?,
-        b"queue" => add_queue(&mut lines, name, member.destinations.as_slice(), site)?,
-        b"errors" => add_errors(&mut lines, name, site)?,
-        b"marks" => add_marks(
-            &mut lines,
-            name,
-            member.senders.as_slice(),
-            member.destinations.as_slice(),
-            site,
-        )?,
-        b"journal" => add_journal(&mut lines, name, site)?,
-        b"site" => return Ok(numbers(alloc, member)?),
-        _ => return Err(CaseStop::NoCase),
+        b"tables" => told_tables(alloc, member),
+        b"queue" | b"errors" | b"marks" | b"journal" => told_lines(alloc, word, member),
+        b"site" => numbers(alloc, member),
+        _ => Err(CaseStop::NoCase),
     }
-    Ok(text_of(alloc, &lines)?)
 }

@@ -3,31 +3,47 @@
 use case_lines::{CaseStop, push_name};
 use rep_calls::Past;
 use rep_lists::NoMemory;
-use rep_values::{ApplyError, Refusal};
+use rep_values::{ApplyError, Name, Refusal};
 use report_text::{Lines, MOST_LINE, refused_line};
 use std::alloc::Global;
 use std::str;
 
+/// What a line tells; None where it tells nothing.
+pub type Told = Result<Option<String>, CaseStop>;
+
+/// These words.
+pub fn told(alloc: Global, words: &str) -> Told {
+    Ok(Some(format!(in alloc; "{words}")?))
+}
+
+fn kind_of(error: &ApplyError) -> &'static str {
+    match error {
+        ApplyError::NoRow => " NoRow",
+        ApplyError::DeleteConflict => " DeleteConflict",
+        ApplyError::ValueRange => " ValueRange",
+        ApplyError::UpdateConflict(_) => " UpdateConflict",
+        ApplyError::UniqueConflict(_) => " UniqueConflict",
+        ApplyError::CheckFailed(_) => " CheckFailed",
+    }
+}
+
+/// The group, the constraint or the check of an error.
+fn name_in(error: &ApplyError) -> Option<&Name> {
+    match error {
+        ApplyError::NoRow | ApplyError::DeleteConflict | ApplyError::ValueRange => None,
+        ApplyError::UpdateConflict(name)
+        | ApplyError::UniqueConflict(name)
+        | ApplyError::CheckFailed(name) => Some(name),
+    }
+}
+
 /// Why a call fails.
 pub fn push_error(out: &mut String, error: &ApplyError) -> Result<(), NoMemory> {
-    match error {
-        ApplyError::NoRow => out.push_str(" NoRow")?,
-        ApplyError::DeleteConflict => out.push_str(" DeleteConflict")?,
-        ApplyError::ValueRange => out.push_str(" ValueRange")?,
-        ApplyError::UpdateConflict(group) => {
-            out.push_str(" UpdateConflict")?;
-            push_name(out, group)?;
-        }
-        ApplyError::UniqueConflict(constraint) => {
-            out.push_str(" UniqueConflict")?;
-            push_name(out, constraint)?;
-        }
-        ApplyError::CheckFailed(check) => {
-            out.push_str(" CheckFailed")?;
-            push_name(out, check)?;
-        }
+    out.push_str(kind_of(error))?;
+    match name_in(error) {
+        Some(name) => push_name(out, name),
+        None => Ok(()),
     }
-    Ok(())
 }
 
 /// The lines of a report without the last one's end.
@@ -43,21 +59,26 @@ pub fn text_of(alloc: Global, lines: &Lines) -> Result<String, NoMemory> {
 }
 
 /// The line of what is refused, as reports have it: behind the number of the statement in its block, or 0.
-pub fn refused(alloc: Global, statement: u32, refusal: &Refusal) -> Result<String, CaseStop> {
+pub fn refused(alloc: Global, statement: u32, refusal: &Refusal) -> Told {
     if let Refusal::Memory = refusal {
         return Err(CaseStop::Memory);
     }
     let mut lines = Lines::make(alloc);
     lines.reserve(MOST_LINE)?;
     refused_line(&mut lines, statement, refusal);
-    Ok(text_of(alloc, &lines)?)
+    Ok(Some(text_of(alloc, &lines)?))
+}
+
+fn push_origin(out: &mut String, alloc: Global, seen: &Past) -> Result<(), NoMemory> {
+    push_name(out, &seen.origin.0)?;
+    out.push_str(&format!(in alloc; " {}", seen.number)?)?;
+    Ok(())
 }
 
 /// Each master that was seen, and its number.
 pub fn push_seen(out: &mut String, alloc: Global, past: &[Past]) -> Result<(), NoMemory> {
     for seen in past {
-        push_name(out, &seen.origin.0)?;
-        out.push_str(&format!(in alloc; " {}", seen.number)?)?;
+        push_origin(out, alloc, seen)?;
     }
     Ok(())
 }
