@@ -4,7 +4,8 @@
 //! none of which is held for more than so many turns; what stands behind it is another case.
 #![tactic(auto)]
 
-ghost use Rattle.std.specs.Prelude.{◌≤◌, IfSome};
+ghost use Rattle.std.specs.Prelude.{◌+◌, ◌^◌, ◌<◌, ◌≤◌, IfOk, IfSome};
+ghost use Rattle.event_laws.specs.Confluence.{CanPassInAnyOrder};
 
 mod laws;
 mod noting;
@@ -14,11 +15,12 @@ mod pass;
 mod told;
 
 use case_lines::CaseStop;
-use noting::Puts;
+use noting::{NotingTables, Puts};
 use order::Order;
 use pass::mark_after_pass;
+use rep_values::SiteName;
+use site_core::Site;
 use std::alloc::{AllocError, Global};
-use std::mem;
 use std::sync::{Arc, Wait};
 use std::thread::Threads;
 use told::Told;
@@ -36,27 +38,34 @@ fn crew_of(line: &str) -> Option<(u32, u64)>
     Some((appliers, turns))
 }
 
+/// The site that makes the pass, and the one whose blocks it applies.
+fn receiver(
+    alloc: Global,
+    told: &Told,
+    puts: Arc<Puts>,
+) -> Result<(Site<NotingTables>, SiteName), CaseStop>
+    ensures passes { IfOk result (λ receiver. CanPassInAnyOrder receiver.1 receiver.0) }
+    ensures few { IfOk result (λ receiver. receiver.0.moment + 1 < 2 ^ 64) }
+{
+    let pair = told.pair(alloc, puts)?;
+    pair.into_receiver()
+}
+
 /// What is printed of a pass.
 fn outcome<R: Threads + Wait + Sync>(
     rt: &R,
     alloc: Global,
-    told: Told,
+    told: &Told,
     crew: (u32, u64),
 ) -> Result<String, CaseStop>
     requires { (1 ≤ crew.0) × (crew.0 ≤ 8) }
 {
     let (appliers, turns) = crew;
-    let puts = Arc::new(alloc, Puts::new())?;
-    let order = Order::new(puts.clone()?, turns);
-    let pair = told.into_pair(alloc, puts.clone()?)?;
-    let (site, origin) = pair.into_receiver()?;
-    puts.clear();
+    let order = Order::new(Arc::new(alloc, Puts::new())?, turns);
+    let (site, origin) = receiver(alloc, told, order.puts()?)?;
+    order.begin();
     let low = mark_after_pass(rt, alloc, site, &origin, appliers, &order)?;
-    let how = if order.was_kept() {
-        "side by side"
-    } else {
-        "one after another"
-    };
+    let how = order.word();
     Ok(format!(in alloc; "low {low}\n{how}")?)
 }
 
@@ -64,7 +73,7 @@ fn outcome<R: Threads + Wait + Sync>(
 fn report<R: Threads + Wait + Sync>(
     rt: &R,
     alloc: Global,
-    told: Told,
+    told: &Told,
     crew: (u32, u64),
 ) -> Result<String, AllocError>
     requires { (1 ≤ crew.0) × (crew.0 ≤ 8) }
@@ -76,18 +85,36 @@ fn report<R: Threads + Wait + Sync>(
     }
 }
 
+/// What comes of a line; None where it tells nothing.
+fn answer<R: Threads + Wait + Sync>(
+    rt: &R,
+    alloc: Global,
+    told: &mut Told,
+    line: &str,
+) -> Result<Option<String>, AllocError> {
+    if let Some(crew) = crew_of(line) {
+        let report = report(rt, alloc, told, crew)?;
+        *told = Told::new(alloc);
+        return Ok(Some(format!(in alloc; "{line}\n{report}")?));
+    }
+    match told.take_line(alloc, line) {
+        Ok(()) => Ok(None),
+        Err(_) => Ok(Some(format!(in alloc; "no case")?)),
+    }
+}
+
+fn tell(rt: &HostRuntime, answer: Option<String>) -> anyhow::Result<()> {
+    if let Some(answer) = answer {
+        println!(rt; "{answer}")?;
+    }
+    Ok(())
+}
+
 fn main(rt: HostRuntime) -> anyhow::Result<()> {
     let alloc = rt.alloc();
     let mut told = Told::new(alloc);
     for line in rt.lines(alloc) {
-        let line = line?;
-        if let Some(crew) = crew_of(&line) {
-            let case = mem::replace(&mut told, Told::new(alloc));
-            let report = report(&rt, alloc, case, crew)?;
-            println!(rt; "{line}\n{report}")?;
-        } else if told.take_line(alloc, &line).is_err() {
-            println!(rt; "no case")?;
-        }
+        tell(&rt, answer(&rt, alloc, &mut told, &line?)?)?;
     }
     Ok(())
 }

@@ -2,6 +2,7 @@
 
 use crate::noting::Puts;
 use rep_io::Watch;
+use std::alloc::AllocError;
 use std::hint::spin_loop;
 use std::sync::Arc;
 use std::sync::atomic::{AtomicU64, Ordering};
@@ -36,9 +37,23 @@ impl Order {
         }
     }
 
+    /// What is put is noted there.
+    pub fn puts(&self) -> Result<Arc<Puts>, AllocError> {
+        self.puts.clone()
+    }
+
+    /// Nothing was put from now on.
+    pub fn begin(&self) {
+        self.puts.clear();
+    }
+
     /// Whether both came, and neither was held in vain, and each row was put when it had to be.
-    pub fn was_kept(&self) -> bool {
-        self.came.load(Ordering::SeqCst) == BOTH
+    pub fn word(&self) -> &'static str {
+        if self.came.load(Ordering::SeqCst) == BOTH {
+            "side by side"
+        } else {
+            "one after another"
+        }
     }
 
     fn add(&self, bits: u64) {

@@ -3,6 +3,7 @@ ghost use Rattle.std.specs.Prelude.{◌≡◌, ◌+◌, ◌^◌, ◌<◌, [], le
 ghost use Rattle.event_laws.specs.Confluence.{CanPassInAnyOrder};
 ghost use Rattle.rep_schema.specs.Shape.{HasShape};
 ghost use Rattle.rep_laws.specs.Commuting.{IsSound};
+ghost use Rattle.rep_schema.specs.Sites.{senders_of, destinations_of};
 ghost use Rattle.site_state.specs.State.{is_master_site};
 ghost use Rattle.store_crews.specs.Runs.{AreInARun, opened};
 
@@ -39,6 +40,44 @@ impl Model for Pair {
     ghost invariant = { λ p. AreInARun p.from p.to };
 }
 
+/// The sites that send to a site, and those that it sends to.
+#[derive(Drop)]
+struct Parties {
+    senders: Items<SiteName>,
+    destinations: Items<SiteName>,
+}
+
+fn parties_of(alloc: Global, schema: &Schema, name: &SiteName) -> Result<Parties, CaseStop>
+    ensures senders { IfOk result (λ parties. parties.senders ≡ senders_of schema.now name.now) }
+    ensures destinations { IfOk result (λ parties. parties.destinations ≡ destinations_of schema.now name.now) }
+{
+    Ok(Parties {
+        senders: senders_of(alloc, schema, name)?,
+        destinations: destinations_of(alloc, schema, name)?,
+    })
+}
+
+/// All of the first four tables.
+fn here_of(schema: &Schema, name: SiteName) -> Here
+    ensures site { result.site ≡ name }
+    ensures master { result.is_master ≡ is_master_site schema.now name }
+{
+    Here {
+        site: name,
+        is_master: is_master_site(schema, &name),
+        tables: TableSet::of(&[0, 1, 2, 3]),
+    }
+}
+
+/// A new store of a schema.
+fn new_store(alloc: Global, schema: &Schema, puts: Arc<Puts>) -> Result<NotingTables, CaseStop>
+    ensures schema { IfOk result (λ s. s.tables.schema ≡ schema.now) }
+    ensures tables { IfOk result (λ s. s.tables.tables ≡ replicate (length schema.now.tables) []) }
+{
+    let schema = schema.copy(alloc)?;
+    Ok(NotingTables::make(alloc, schema, puts)?)
+}
+
 /// A new site of a schema.
 fn open(
     alloc: Global,
@@ -52,20 +91,14 @@ fn open(
     ensures master { IfOk result (λ site. site.here.is_master ≡ is_master_site schema.now site.here.site) }
 {
     sound_schemas_have_keys();
-    let store = NotingTables::make(alloc, schema.copy(alloc)?, puts)?;
-    let here = Here {
-        site: name,
-        is_master: is_master_site(schema, &name),
-        tables: TableSet::of(&[0, 1, 2, 3]),
-    };
-    let senders = senders_of(alloc, schema, &name)?;
-    let destinations = destinations_of(alloc, schema, &name)?;
+    let store = new_store(alloc, schema, puts)?;
+    let parties = parties_of(alloc, schema, &name)?;
     let site = Site::make(
         alloc,
         store,
-        here,
-        senders.as_slice(),
-        destinations.as_slice(),
+        here_of(schema, name),
+        parties.senders.as_slice(),
+        parties.destinations.as_slice(),
         &TableSet::below(0),
         Items::new(alloc),
     )?;
@@ -96,25 +129,34 @@ impl Pair {
     }
 
     /// A block of the site that writes.
-    pub fn commit(&mut self, alloc: Global, statement: Statement) -> Result<(), CaseStop> {
+    fn commit(&mut self, alloc: Global, block: &[Statement]) -> Result<(), CaseStop> {
         if self.from.moment() == u64::MAX {
             return Err(CaseStop::NoCase);
         }
         two_sites_run();
-        match self.from.commit(alloc, &[statement]) {
+        match self.from.commit(alloc, block) {
             Ok(_) => Ok(()),
             Err(_) => Err(CaseStop::NoCase),
         }
     }
 
     /// The packet of a position comes to the other site.
-    pub fn deliver(&mut self, alloc: Global, position: u64) -> Result<(), CaseStop> {
+    fn deliver(&mut self, alloc: Global, position: u64) -> Result<(), CaseStop> {
         two_sites_run();
         let Some(sealed) = self.from.packet(alloc, self.to.name(), position)? else {
             return Err(CaseStop::NoCase);
         };
         let packet = sealed.unseal(alloc)?;
         self.to.accept(packet)?;
+        Ok(())
+    }
+
+    /// Each statement is a block of the site that writes, whose packet comes to the other one.
+    pub fn run(&mut self, alloc: Global, statements: &[Statement]) -> Result<(), CaseStop> {
+        for place in 0..statements.len() {
+            self.commit(alloc, &statements[place..place + 1])?;
+            self.deliver(alloc, place as u64 + 1)?;
+        }
         Ok(())
     }
 

@@ -6,8 +6,8 @@ use crate::pair::Pair;
 use case_lines::{CaseStop, Words, declare, read_statement};
 use rep_calls::Statement;
 use rep_schema::Schema;
-use rep_values::{ApplyError, Refusal};
-use script_lex::lex;
+use rep_values::{ApplyError, Refusal, SiteName};
+use script_lex::{Token, lex};
 use std::alloc::Global;
 use std::marker::Model;
 use std::sync::Arc;
@@ -55,34 +55,39 @@ impl Told {
         }
     }
 
-    /// Takes in a declaration or a statement.
-    pub fn take_line(&mut self, alloc: Global, line: &str) -> Result<(), CaseStop> {
-        let tokens = lex(alloc, line.as_bytes())?;
-        let mut ahead = Words::of(tokens.as_slice());
-        let kind = ahead.word()?;
-        let mut words = Words::of(tokens.as_slice());
-        match kind {
-            b"insert" | b"update" | b"delete" => {
-                self.blocks.push(read_statement(alloc, &mut words)?)?;
-                Ok(())
-            }
-            _ => add_declaration(alloc, &mut self.schema, &mut words),
+    /// Takes in the declaration or the statement that these words are.
+    fn take(&mut self, alloc: Global, tokens: &[Token]) -> Result<(), CaseStop> {
+        let mut words = Words::of(tokens);
+        match words.word()? {
+            b"insert" | b"update" | b"delete" => self.add_block(alloc, &mut Words::of(tokens)),
+            _ => add_declaration(alloc, &mut self.schema, &mut Words::of(tokens)),
         }
     }
 
-    /// The first two sites, of which the first one has committed the blocks and the other one has their packets.
-    pub fn into_pair(self, alloc: Global, puts: Arc<Puts>) -> Result<Pair, CaseStop> {
+    fn add_block(&mut self, alloc: Global, words: &mut Words) -> Result<(), CaseStop> {
+        self.blocks.push(read_statement(alloc, words)?)?;
+        Ok(())
+    }
+
+    /// Takes in a declaration or a statement.
+    pub fn take_line(&mut self, alloc: Global, line: &str) -> Result<(), CaseStop> {
+        let tokens = lex(alloc, line.as_bytes())?;
+        self.take(alloc, tokens.as_slice())
+    }
+
+    /// The names of the first two sites.
+    fn names(&self) -> Option<(SiteName, SiteName)> {
         let sites = self.schema.sites.as_slice();
-        let (Some(first), Some(second)) = (sites.get(0), sites.get(1)) else {
+        Some((sites.get(0)?.name, sites.get(1)?.name))
+    }
+
+    /// The first two sites, of which the first one has committed the blocks and the other one has their packets.
+    pub fn pair(&self, alloc: Global, puts: Arc<Puts>) -> Result<Pair, CaseStop> {
+        let Some(names) = self.names() else {
             return Err(CaseStop::NoCase);
         };
-        let names = (first.name, second.name);
         let mut pair = Pair::open(alloc, &self.schema, names, puts)?;
-        let Told { blocks, .. } = self;
-        for (place, block) in blocks.into_iter().enumerate() {
-            pair.commit(alloc, block)?;
-            pair.deliver(alloc, place as u64 + 1)?;
-        }
+        pair.run(alloc, &self.blocks)?;
         Ok(pair)
     }
 }
