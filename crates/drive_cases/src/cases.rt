@@ -22,87 +22,126 @@ fn is_whole(ended: &Ended) -> bool {
     }
 }
 
+/// Adds what is told of a run with these faults, and answers whether no fault ended it.
+fn add_run(
+    alloc: Global,
+    told: &mut Vec<String>,
+    what: &str,
+    script: &[u8],
+    faults: Faults,
+) -> Result<bool, AllocError> {
+    let ended = run(alloc, script, faults)?;
+    told.push(ended_line(alloc, what, &ended)?)?;
+    Ok(is_whole(&ended))
+}
+
 /// `run SCRIPT`, in pieces of at most so many bytes.
 fn whole_run(alloc: Global, most: u64, script: &[u8]) -> Result<Vec<String>, AllocError> {
-    let faults = Faults {
-        most,
-        read: 0,
-        write: 0,
-    };
-    let ended = run(alloc, script, faults)?;
-    Ok(vec![in alloc; ended_line(alloc, "run", &ended)?]?)
+    let mut told = Vec::new(alloc);
+    add_run(alloc, &mut told, "run", script, Faults::none(most))?;
+    Ok(told)
+}
+
+/// The same where a read fails.
+fn add_faulty_read(
+    alloc: Global,
+    told: &mut Vec<String>,
+    most: u64,
+    read: u64,
+    script: &[u8],
+) -> Result<bool, AllocError> {
+    let what = format!(in alloc; "read {read} fails")?;
+    add_run(
+        alloc,
+        told,
+        what.as_str(),
+        script,
+        Faults::of_read(most, read),
+    )
 }
 
 /// Each read fails in turn, up to the first that isn't asked for.
 fn faulty_reads(alloc: Global, most: u64, script: &[u8]) -> Result<Vec<String>, AllocError> {
     let mut told = Vec::new(alloc);
     for read in 1..=MOST_CALLS {
-        let faults = Faults {
-            most,
-            read,
-            write: 0,
-        };
-        let ended = run(alloc, script, faults)?;
-        let what = format!(in alloc; "read {read} fails")?;
-        told.push(ended_line(alloc, what.as_str(), &ended)?)?;
-        if is_whole(&ended) {
+        if add_faulty_read(alloc, &mut told, most, read, script)? {
             break;
         }
     }
     Ok(told)
+}
+
+/// The same where a write fails.
+fn add_faulty_write(
+    alloc: Global,
+    told: &mut Vec<String>,
+    most: u64,
+    write: u64,
+    script: &[u8],
+) -> Result<bool, AllocError> {
+    let what = format!(in alloc; "write {write} fails")?;
+    add_run(
+        alloc,
+        told,
+        what.as_str(),
+        script,
+        Faults::of_write(most, write),
+    )
 }
 
 /// Each write fails in turn, up to the first that isn't asked for.
 fn faulty_writes(alloc: Global, most: u64, script: &[u8]) -> Result<Vec<String>, AllocError> {
     let mut told = Vec::new(alloc);
     for write in 1..=MOST_CALLS {
-        let faults = Faults {
-            most,
-            read: 0,
-            write,
-        };
-        let ended = run(alloc, script, faults)?;
-        let what = format!(in alloc; "write {write} fails")?;
-        told.push(ended_line(alloc, what.as_str(), &ended)?)?;
-        if is_whole(&ended) {
+        if add_faulty_write(alloc, &mut told, most, write, script)? {
             break;
         }
     }
     Ok(told)
 }
 
+/// The same where the script is cut behind so many bytes.
+fn add_cut(
+    alloc: Global,
+    told: &mut Vec<String>,
+    most: u64,
+    count: usize,
+    script: &[u8],
+) -> Result<bool, AllocError> {
+    let what = format!(in alloc; "cut at {count}")?;
+    let (cut, _) = script.split_at(count);
+    add_run(alloc, told, what.as_str(), cut, Faults::none(most))
+}
+
 /// The script is cut behind each of its bytes.
 fn cut_scripts(alloc: Global, most: u64, script: &[u8]) -> Result<Vec<String>, AllocError> {
     let mut told = Vec::new(alloc);
     for count in 0..script.len() {
-        let (cut, _) = script.split_at(count);
-        let faults = Faults {
-            most,
-            read: 0,
-            write: 0,
-        };
-        let ended = run(alloc, cut, faults)?;
-        let what = format!(in alloc; "cut at {count}")?;
-        told.push(ended_line(alloc, what.as_str(), &ended)?)?;
+        add_cut(alloc, &mut told, most, count, script)?;
     }
     Ok(told)
+}
+
+/// The status, the length of the report, and its end.
+fn end_line(alloc: Global, count: u64, ended: &Ended) -> Result<String, AllocError> {
+    let status = ended.status;
+    let size = ended.report.len();
+    let (_, end) = ended.report.split_at(size.saturating_sub(20));
+    let end = with_strokes(alloc, end)?;
+    format!(in alloc; "bytes {count}: {status:?}, {size} bytes, at the end [{end}]")
 }
 
 /// So many equal bytes, of which the end of the report and its length are told.
 fn equal_bytes(alloc: Global, count: u64, byte: u8) -> Result<Vec<String>, AllocError> {
     let script = vec![in alloc; byte; count as usize]?;
-    let faults = Faults {
-        most: 4_096,
-        read: 0,
-        write: 0,
-    };
-    let ended = run(alloc, &script, faults)?;
-    let status = ended.status;
-    let size = ended.report.len();
-    let (_, end) = ended.report.split_at(size.saturating_sub(20));
-    let end = with_strokes(alloc, end)?;
-    let told = format!(in alloc; "bytes {count}: {status:?}, {size} bytes, at the end [{end}]")?;
+    let ended = run(alloc, &script, Faults::none(4_096))?;
+    let told = end_line(alloc, count, &ended)?;
     Ok(vec![in alloc; told]?)
+}
+
+fn read_line(alloc: Global, written: &[u8]) -> Result<String, AllocError> {
+    let written = with_strokes(alloc, written)?;
+    format!(in alloc; "read behind [{written}]")
 }
 
 /// What had been written at each read.
@@ -110,8 +149,7 @@ fn asked_reads(alloc: Global, most: u64, script: &[u8]) -> Result<Vec<String>, A
     let reader = noted_run(alloc, script, most)?;
     let mut told = Vec::new(alloc);
     for note in &reader.notes {
-        let written = with_strokes(alloc, note)?;
-        told.push(format!(in alloc; "read behind [{written}]")?)?;
+        told.push(read_line(alloc, note)?)?;
     }
     Ok(told)
 }
@@ -120,22 +158,27 @@ fn no_case(alloc: Global) -> Result<Vec<String>, AllocError> {
     Ok(vec![in alloc; format!(in alloc; "no case")?]?)
 }
 
+/// What a case of this kind prints.
+fn told(alloc: Global, kind: &str, most: u64, script: &[u8]) -> Result<Vec<String>, AllocError> {
+    match kind {
+        "run" => whole_run(alloc, most, script),
+        "asked" => asked_reads(alloc, most, script),
+        "reads" => faulty_reads(alloc, most, script),
+        "writes" => faulty_writes(alloc, most, script),
+        "cuts" => cut_scripts(alloc, most, script),
+        "bytes" => equal_bytes(alloc, most, script.first().copied().unwrap_or(b' ')),
+        _ => no_case(alloc),
+    }
+}
+
 /// What a case prints: `run`, `asked`, `reads`, `writes` or `cuts`, the most bytes that a call moves, and a script; or `bytes`,
 /// their number, and the byte.
 pub fn outcomes(alloc: Global, line: &str) -> Result<Vec<String>, AllocError> {
-    let (verb, rest) = line.split_once(' ').unwrap_or((line, ""));
+    let (kind, rest) = line.split_once(' ').unwrap_or((line, ""));
     let (most, text) = rest.split_once(' ').unwrap_or((rest, ""));
     let Ok(most) = most.parse::<u64>() else {
         return no_case(alloc);
     };
     let script = with_line_ends(alloc, text)?;
-    match verb {
-        "run" => whole_run(alloc, most, &script),
-        "asked" => asked_reads(alloc, most, &script),
-        "reads" => faulty_reads(alloc, most, &script),
-        "writes" => faulty_writes(alloc, most, &script),
-        "cuts" => cut_scripts(alloc, most, &script),
-        "bytes" => equal_bytes(alloc, most, script.first().copied().unwrap_or(b' ')),
-        _ => no_case(alloc),
-    }
+    told(alloc, kind, most, &script)
 }

@@ -15,6 +15,46 @@ pub struct Faults {
     pub write: u64,
 }
 
+impl Faults {
+    /// No call fails.
+    pub fn none(most: u64) -> Faults {
+        Faults {
+            most,
+            read: 0,
+            write: 0,
+        }
+    }
+
+    /// A read fails.
+    pub fn of_read(most: u64, read: u64) -> Faults {
+        Faults {
+            most,
+            read,
+            write: 0,
+        }
+    }
+
+    /// A write fails.
+    pub fn of_write(most: u64, write: u64) -> Faults {
+        Faults {
+            most,
+            read: 0,
+            write,
+        }
+    }
+
+    fn source(&self, alloc: Global, script: &[u8]) -> Result<FailingSource, AllocError> {
+        let script = script.to_vec(alloc)?;
+        let read = vec![in alloc; self.read]?;
+        Ok(FailingSource::make(script, read, self.most.max(1)))
+    }
+
+    fn sink(&self, alloc: Global) -> Result<FailingSink, AllocError> {
+        let write = vec![in alloc; self.write]?;
+        Ok(FailingSink::make(alloc, write, self.most.max(1)))
+    }
+}
+
 /// How a run ended, and what was written.
 #[derive(Drop)]
 pub struct Ended {
@@ -42,27 +82,24 @@ pub fn with_strokes(alloc: Global, bytes: &[u8]) -> Result<String, AllocError> {
 
 /// Runs a script, of which a line that begins with `!` breaks a rule.
 pub fn run(alloc: Global, script: &[u8], faults: Faults) -> Result<Ended, AllocError> {
-    let most = faults.most.max(1);
-    let read = vec![in alloc; faults.read]?;
-    let write = vec![in alloc; faults.write]?;
-    let mut source = FailingSource::make(script.to_vec(alloc)?, read, most);
-    let mut sink = FailingSink::make(alloc, write, most);
-    let mut reader = Straight;
+    let mut source = faults.source(alloc, script)?;
+    let mut sink = faults.sink(alloc)?;
     let runner = Repeat { mark: b'!' };
-    let status = drive(alloc, runner, &mut reader, &mut source, &mut sink);
+    let status = drive(alloc, runner, &mut Straight, &mut source, &mut sink);
     let report = sink.taken().to_vec(alloc)?;
     Ok(Ended { status, report })
 }
 
 /// Runs a script of which a read gives so many bytes at most, and gives what its reader noted.
 pub fn noted_run(alloc: Global, script: &[u8], most: u64) -> Result<Noting, AllocError> {
+    let script = script.to_vec(alloc)?;
+    let mut source = FailingSource::make(script, Vec::new(alloc), most.max(1));
+    let mut sink = BytesSink::make(alloc);
     let mut reader = Noting {
         alloc,
         notes: Vec::new(alloc),
         whole: true,
     };
-    let mut source = FailingSource::make(script.to_vec(alloc)?, Vec::new(alloc), most.max(1));
-    let mut sink = BytesSink::make(alloc);
     let runner = Repeat { mark: b'!' };
     drive(alloc, runner, &mut reader, &mut source, &mut sink);
     if reader.whole {

@@ -39,6 +39,18 @@ fn add_line(script: &mut Vec<u8>, line: &str) -> Result<(), AllocError> {
     Ok(())
 }
 
+/// Adds the line, in which a number stands for `%`.
+fn add_numbered(
+    alloc: Global,
+    script: &mut Vec<u8>,
+    number: u64,
+    repeat: &str,
+) -> Result<(), AllocError> {
+    let digits = format!(in alloc; "{number}")?;
+    let line = repeat.replace(alloc, '%', digits.as_str())?;
+    add_line(script, line.as_str())
+}
+
 /// Adds so many lines, in which the number of each stands for `%`.
 fn add_repeats(
     alloc: Global,
@@ -47,10 +59,15 @@ fn add_repeats(
     repeat: &str,
 ) -> Result<(), AllocError> {
     for number in 1..=count {
-        let digits = format!(in alloc; "{number}")?;
-        let line = repeat.replace(alloc, '%', digits.as_str())?;
-        add_line(script, line.as_str())?;
+        add_numbered(alloc, script, number, repeat)?;
     }
+    Ok(())
+}
+
+fn begin_case(alloc: Global, cases: &mut Vec<Case>, line: &str) -> Result<(), AllocError> {
+    let title = format!(in alloc; "{line}")?;
+    let script = Vec::new(alloc);
+    cases.push(Case { title, script })?;
     Ok(())
 }
 
@@ -58,10 +75,7 @@ fn add_repeats(
 /// it is passed over.
 pub fn take_line(alloc: Global, cases: &mut Vec<Case>, line: &str) -> Result<(), AllocError> {
     if line.starts_with("== ") {
-        let title = format!(in alloc; "{line}")?;
-        let script = Vec::new(alloc);
-        cases.push(Case { title, script })?;
-        return Ok(());
+        return begin_case(alloc, cases, line);
     }
     let Some(case) = cases.last_mut() else {
         return Ok(());
@@ -94,27 +108,46 @@ fn told(alloc: Global, title: &str, ended: &Ended) -> Result<String, AllocError>
     format!(in alloc; "{title}\n{report}-- status {status}\n")
 }
 
+/// The same, and what is to be said of the run.
+fn told_with(alloc: Global, title: &str, ended: &Ended, more: &str) -> Result<String, AllocError> {
+    let front = told(alloc, title, ended)?;
+    format!(in alloc; "{front}-- {more}\n")
+}
+
+fn told_alone(alloc: Global, case: &Case) -> Result<String, AllocError> {
+    let ended = run(alloc, &case.script)?;
+    told(alloc, case.title.as_str(), &ended)
+}
+
+fn told_cut(alloc: Global, case: &Case) -> Result<String, AllocError> {
+    let whole = run(alloc, &case.script)?;
+    let cuts = cut_line(alloc, &case.script, &whole.report)?;
+    told_with(alloc, case.title.as_str(), &whole, cuts.as_str())
+}
+
+fn told_held<R: Threads + Wait + Sync>(
+    rt: &R,
+    alloc: Global,
+    appliers: u32,
+    turns: u64,
+    case: &Case,
+) -> Result<String, AllocError> {
+    let title = case.title.as_str();
+    match run_held(rt, alloc, appliers, turns, &case.script)? {
+        Some((ended, how)) => told_with(alloc, title, &ended, how),
+        None => format!(in alloc; "{title}\n-- no crew\n"),
+    }
+}
+
 /// What a case prints: its name, the report of its script, the status, and what is to be said of its cuts or its crew.
 pub fn outcome<R: Threads + Wait + Sync>(
     rt: &R,
     alloc: Global,
     case: &Case,
 ) -> Result<String, AllocError> {
-    let title = case.title.as_str();
-    match way_of(title) {
-        Way::Alone => told(alloc, title, &run(alloc, &case.script)?),
-        Way::Cut => {
-            let whole = run(alloc, &case.script)?;
-            let front = told(alloc, title, &whole)?;
-            let cuts = cut_line(alloc, &case.script, &whole.report)?;
-            format!(in alloc; "{front}{cuts}\n")
-        }
-        Way::Crew { appliers, turns } => {
-            let Some((ended, how)) = run_held(rt, alloc, appliers, turns, &case.script)? else {
-                return format!(in alloc; "{title}\n-- no crew\n");
-            };
-            let front = told(alloc, title, &ended)?;
-            format!(in alloc; "{front}-- {how}\n")
-        }
+    match way_of(case.title.as_str()) {
+        Way::Alone => told_alone(alloc, case),
+        Way::Cut => told_cut(alloc, case),
+        Way::Crew { appliers, turns } => told_held(rt, alloc, appliers, turns, case),
     }
 }

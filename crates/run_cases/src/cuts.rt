@@ -28,7 +28,7 @@ fn first_other(alloc: Global, script: &[u8], whole: &[u8]) -> Result<Option<usiz
 pub fn cut_line(alloc: Global, script: &[u8], whole: &[u8]) -> Result<String, AllocError> {
     let cuts = script.len();
     match first_other(alloc, script, whole)? {
-        None => format!(in alloc; "-- {cuts} cuts: all are fronts"),
-        Some(cut) => format!(in alloc; "-- {cuts} cuts: the one behind byte {cut} is no front"),
+        None => format!(in alloc; "{cuts} cuts: all are fronts"),
+        Some(cut) => format!(in alloc; "{cuts} cuts: the one behind byte {cut} is no front"),
     }
 }

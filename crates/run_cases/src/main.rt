@@ -11,16 +11,21 @@ mod cuts;
 mod meeting;
 mod runs;
 
+use cases::{Case, outcome, take_line};
 use std::io;
 
-fn main(rt: HostRuntime) -> io::Result<()> {
+fn read_cases(rt: &HostRuntime) -> io::Result<Vec<Case>> {
     let mut cases = Vec::new(rt.alloc());
     for line in rt.lines(rt.alloc()) {
-        let line = line?;
-        cases::take_line(rt.alloc(), &mut cases, line.as_str())?;
+        take_line(rt.alloc(), &mut cases, &line?)?;
     }
+    Ok(cases)
+}
+
+fn main(rt: HostRuntime) -> io::Result<()> {
+    let cases = read_cases(&rt)?;
     for case in &cases {
-        let told = cases::outcome(&rt, rt.alloc(), case)?;
+        let told = outcome(&rt, rt.alloc(), case)?;
         print!(rt; "{told}")?;
     }
     Ok(())
