@@ -2,7 +2,8 @@
 
 use case_lines::{CaseStop, Words};
 use rep_values::{
-    Key, SiteName, TableName, compare_keys, compare_names, compare_values, same_value, same_values,
+    Key, Name, SiteName, TableName, Value, compare_keys, compare_names, compare_values, same_value,
+    same_values,
 };
 use script_lex::Symbol;
 use std::alloc::{AllocError, Global};
@@ -20,27 +21,46 @@ fn push_same(out: &mut String, is_same: bool) -> Result<(), AllocError> {
     out.push_str(if is_same { " same" } else { " different" })
 }
 
-/// `VALUE : VALUE`.
-pub fn value_order_case(out: &mut String, words: &mut Words) -> Result<(), CaseStop> {
-    let first = words.value()?;
-    words.symbol(Symbol::Colon)?;
-    let second = words.value()?;
-    push_order(out, compare_values(&first, &second))?;
-    push_same(out, same_value(&first, &second))?;
+fn push_value_order(out: &mut String, first: &Value, second: &Value) -> Result<(), CaseStop> {
+    push_order(out, compare_values(first, second))?;
+    push_same(out, same_value(first, second))?;
     Ok(())
 }
 
-fn read_key(alloc: Global, words: &mut Words) -> Result<Key, CaseStop> {
-    words.key(alloc)
+fn read_values(words: &mut Words) -> Result<(Value, Value), CaseStop> {
+    let first = words.value()?;
+    words.symbol(Symbol::Colon)?;
+    Ok((first, words.value()?))
+}
+
+/// `VALUE : VALUE`.
+pub fn value_order_case(out: &mut String, words: &mut Words) -> Result<(), CaseStop> {
+    let (first, second) = read_values(words)?;
+    push_value_order(out, &first, &second)
+}
+
+fn push_key_order(out: &mut String, first: &Key, second: &Key) -> Result<(), CaseStop> {
+    push_order(out, compare_keys(first, second))?;
+    push_same(out, same_values(first.values(), second.values()))?;
+    Ok(())
+}
+
+fn read_keys(alloc: Global, words: &mut Words) -> Result<(Key, Key), CaseStop> {
+    let first = words.key(alloc)?;
+    words.symbol(Symbol::Colon)?;
+    Ok((first, words.key(alloc)?))
 }
 
 /// `KEY : KEY`.
 pub fn key_order_case(out: &mut String, alloc: Global, words: &mut Words) -> Result<(), CaseStop> {
-    let first = read_key(alloc, words)?;
-    words.symbol(Symbol::Colon)?;
-    let second = read_key(alloc, words)?;
-    push_order(out, compare_keys(&first, &second))?;
-    push_same(out, same_values(first.values(), second.values()))?;
+    let (first, second) = read_keys(alloc, words)?;
+    push_key_order(out, &first, &second)
+}
+
+fn push_name_order(out: &mut String, first: &Name, second: &Name) -> Result<(), CaseStop> {
+    push_order(out, compare_names(first, second))?;
+    push_same(out, SiteName(*first).is_same(&SiteName(*second)))?;
+    push_same(out, TableName(*first).is_same(&TableName(*second)))?;
     Ok(())
 }
 
@@ -48,8 +68,5 @@ pub fn key_order_case(out: &mut String, alloc: Global, words: &mut Words) -> Res
 pub fn name_order_case(out: &mut String, words: &mut Words) -> Result<(), CaseStop> {
     let first = words.name()?;
     let second = words.name()?;
-    push_order(out, compare_names(&first, &second))?;
-    push_same(out, SiteName(first).is_same(&SiteName(second)))?;
-    push_same(out, TableName(first).is_same(&TableName(second)))?;
-    Ok(())
+    push_name_order(out, &first, &second)
 }

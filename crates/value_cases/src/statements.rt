@@ -36,6 +36,23 @@ fn push_set(out: &mut String, alloc: Global, set: &Set) -> Result<(), NoMemory> 
     }
 }
 
+fn push_update(
+    out: &mut String,
+    alloc: Global,
+    table: &TableName,
+    key: &[Literal],
+    sets: &[Set],
+) -> Result<(), NoMemory> {
+    push_front(out, alloc, " update", table, key)?;
+    let mut mark = " :";
+    for set in sets {
+        out.push_str(mark)?;
+        push_set(out, alloc, set)?;
+        mark = " ,";
+    }
+    Ok(())
+}
+
 fn push_statement(out: &mut String, alloc: Global, statement: &Statement) -> Result<(), NoMemory> {
     match statement {
         Statement::Insert { table, values } => {
@@ -45,21 +62,19 @@ fn push_statement(out: &mut String, alloc: Global, statement: &Statement) -> Res
             push_front(out, alloc, " delete", table, key.as_slice())
         }
         Statement::Update { table, key, sets } => {
-            push_front(out, alloc, " update", table, key.as_slice())?;
-            let mut mark = " :";
-            for set in sets.as_slice() {
-                out.push_str(mark)?;
-                push_set(out, alloc, set)?;
-                mark = " ,";
-            }
-            Ok(())
+            push_update(out, alloc, table, key.as_slice(), sets.as_slice())
         }
     }
+}
+
+fn push_copy(out: &mut String, alloc: Global, statement: &Statement) -> Result<(), NoMemory> {
+    let copy = statement.copy(alloc)?;
+    push_statement(out, alloc, &copy)
 }
 
 /// The copy of a statement.
 pub fn statement_case(out: &mut String, alloc: Global, words: &mut Words) -> Result<(), CaseStop> {
     let statement = read_statement(alloc, words)?;
-    push_statement(out, alloc, &statement.copy(alloc)?)?;
+    push_copy(out, alloc, &statement)?;
     Ok(())
 }
