@@ -33,71 +33,111 @@ use script_lex::lex;
 use std::alloc::Global;
 use unpacked::unpacked;
 
+/// One call more behind those that are kept.
+fn keep(alloc: Global, calls: &mut Vec<Call>, words: &mut Words) -> Result<(), CaseStop> {
+    calls.push(read_call(alloc, words)?)?;
+    Ok(())
+}
+
+/// The last call, once more.
+fn repeat_once(alloc: Global, calls: &mut Vec<Call>) -> Result<(), CaseStop> {
+    let Some(call) = calls.last() else {
+        return Err(CaseStop::NoCase);
+    };
+    let call = call.copy(alloc)?;
+    calls.push(call)?;
+    Ok(())
+}
+
 /// The last call, so many times more.
 fn repeat(alloc: Global, calls: &mut Vec<Call>, words: &mut Words) -> Result<(), CaseStop> {
     let count = words.whole()?;
     words.end()?;
     for _ in 0..count {
-        let Some(call) = calls.last() else {
-            return Err(CaseStop::NoCase);
-        };
-        let call = call.copy(alloc)?;
-        calls.push(call)?;
+        repeat_once(alloc, calls)?;
     }
     Ok(())
 }
 
-/// The outcome of a line with these words; None where it only keeps calls.
+/// What a line gives: None where it only keeps calls.
+type Outcome = Result<Option<String>, CaseStop>;
+
+/// The outcome of a line that was done and shows nothing.
+fn silent(done: Result<(), CaseStop>) -> Outcome {
+    done?;
+    Ok(None)
+}
+
+/// The outcome of a line that shows something.
+fn told(text: Result<String, CaseStop>) -> Outcome {
+    Ok(Some(text?))
+}
+
+/// The outcome of a line of this kind with these words.
 fn outcome_of_words(
     alloc: Global,
     calls: &mut Vec<Call>,
     kind: &str,
-    rest: &str,
-) -> Result<Option<String>, CaseStop> {
-    let tokens = lex(alloc, rest.as_bytes())?;
-    let mut words = Words::of(tokens.as_slice());
+    words: &mut Words,
+) -> Outcome {
     match kind {
-        "call" => {
-            calls.push(read_call(alloc, &mut words)?)?;
-            Ok(None)
-        }
-        "again" => {
-            repeat(alloc, calls, &mut words)?;
-            Ok(None)
-        }
-        "carry" => Ok(Some(carried(alloc, &mut words, calls)?)),
-        "mark" => Ok(Some(marked(alloc, &mut words)?)),
+        "call" => silent(keep(alloc, calls, words)),
+        "again" => silent(repeat(alloc, calls, words)),
+        "carry" => told(carried(alloc, words, calls)),
+        "mark" => told(marked(alloc, words)),
         _ => Err(CaseStop::NoCase),
     }
 }
 
-fn outcome(alloc: Global, calls: &mut Vec<Call>, line: &str) -> Result<Option<String>, CaseStop> {
+/// The outcome of a line of this kind, whose rest is read as words.
+fn outcome_of_line(alloc: Global, calls: &mut Vec<Call>, kind: &str, rest: &str) -> Outcome {
+    let tokens = lex(alloc, rest.as_bytes())?;
+    outcome_of_words(alloc, calls, kind, &mut Words::of(tokens.as_slice()))
+}
+
+fn outcome(alloc: Global, calls: &mut Vec<Call>, line: &str) -> Outcome {
     let Some((kind, rest)) = line.split_once(' ') else {
         return Err(CaseStop::NoCase);
     };
     match kind {
-        "bytes" => Ok(Some(unpacked(alloc, rest)?)),
-        "near" => Ok(Some(near(alloc, rest)?)),
-        "plan" => Ok(Some(plan::shown(alloc, rest)?)),
-        _ => outcome_of_words(alloc, calls, kind, rest),
+        "bytes" => told(unpacked(alloc, rest)),
+        "near" => told(near(alloc, rest)),
+        "plan" => told(plan::shown(alloc, rest)),
+        _ => outcome_of_line(alloc, calls, kind, rest),
     }
 }
 
-fn main(rt: HostRuntime) -> Result<()> {
-    let alloc = rt.alloc();
-    let mut calls = Vec::new(alloc);
-    for line in rt.lines(alloc) {
-        let line = line?;
-        if line.is_empty() || line.starts_with('#') {
-            println!(rt; "{line}")?;
-            continue;
-        }
-        match outcome(alloc, &mut calls, &line) {
-            Ok(Some(outcome)) => println!(rt; "{outcome}")?,
-            Ok(None) => {}
-            Err(CaseStop::NoCase) => println!(rt; "no case")?,
-            Err(CaseStop::Memory) => println!(rt; "no memory")?,
-        }
+fn echo(rt: &HostRuntime, line: &str) -> Result<()> {
+    println!(rt; "{line}")?;
+    Ok(())
+}
+
+fn tell(rt: &HostRuntime, outcome: Outcome) -> Result<()> {
+    match outcome {
+        Ok(Some(outcome)) => println!(rt; "{outcome}")?,
+        Ok(None) => {}
+        Err(CaseStop::NoCase) => println!(rt; "no case")?,
+        Err(CaseStop::Memory) => println!(rt; "no memory")?,
     }
     Ok(())
+}
+
+/// Prints the outcome of a line.
+fn answer(rt: &HostRuntime, calls: &mut Vec<Call>, line: &str) -> Result<()> {
+    if line.is_empty() || line.starts_with('#') {
+        return echo(rt, line);
+    }
+    tell(rt, outcome(rt.alloc(), calls, line))
+}
+
+fn answer_all(rt: &HostRuntime, calls: &mut Vec<Call>) -> Result<()> {
+    for line in rt.lines(rt.alloc()) {
+        answer(rt, calls, &line?)?;
+    }
+    Ok(())
+}
+
+fn main(rt: HostRuntime) -> Result<()> {
+    let mut calls = Vec::new(rt.alloc());
+    answer_all(&rt, &mut calls)
 }

@@ -1,9 +1,10 @@
 //! The packets among bytes that are nearly those of one.
 
 use crate::pieces::bytes_of_pieces;
+use crate::shown::push_kept;
 use crate::unpacked::is_kept;
 use case_lines::CaseStop;
-use packet_code::decode;
+use packet_code::{Packet, decode};
 use rep_lists::NoMemory;
 use std::alloc::Global;
 
@@ -14,13 +15,24 @@ struct Found {
     kept: bool,
 }
 
+/// Takes in a packet that has these bytes.
+fn take_in_packet(
+    alloc: Global,
+    found: &mut Found,
+    packet: &Packet,
+    bytes: &[u8],
+) -> Result<(), NoMemory> {
+    found.packets = found.packets.saturating_add(1);
+    found.kept = found.kept && is_kept(alloc, packet, bytes)?;
+    Ok(())
+}
+
 /// Takes in one more.
 fn take_in(alloc: Global, found: &mut Found, bytes: &[u8]) -> Result<(), NoMemory> {
-    if let Some(packet) = decode(alloc, bytes)? {
-        found.packets = found.packets.saturating_add(1);
-        found.kept = found.kept && is_kept(alloc, &packet, bytes)?;
+    match decode(alloc, bytes)? {
+        Some(packet) => take_in_packet(alloc, found, &packet, bytes),
+        None => Ok(()),
     }
-    Ok(())
 }
 
 /// All that differ at one place.
@@ -57,23 +69,31 @@ fn longer(alloc: Global, found: &mut Found, bytes: &mut Vec<u8>) -> Result<(), N
     Ok(())
 }
 
-/// How many are packets of those that differ at one place, end early, or have one byte more.
-pub fn near(alloc: Global, pieces: &str) -> Result<String, CaseStop> {
-    let mut bytes = bytes_of_pieces(alloc, pieces)?;
+/// The three counts, and whether each packet among them has its bytes again.
+fn told(alloc: Global, other: Found, shorter: Found, more: Found) -> Result<String, CaseStop> {
+    let mut out = format!(in alloc;
+        "{} changed, {} cut, {} longer",
+        other.packets, shorter.packets, more.packets
+    )?;
+    push_kept(&mut out, other.kept && shorter.kept && more.kept)?;
+    Ok(out)
+}
+
+/// What is found of those that differ at one place, end early, or have one byte more.
+fn near_bytes(alloc: Global, bytes: &mut Vec<u8>) -> Result<String, CaseStop> {
     let none = Found {
         packets: 0,
         kept: true,
     };
     let (mut other, mut shorter, mut more) = (none, none, none);
-    changed(alloc, &mut other, &mut bytes)?;
-    cut(alloc, &mut shorter, &bytes)?;
-    longer(alloc, &mut more, &mut bytes)?;
-    let mut out = format!(in alloc;
-        "{} changed, {} cut, {} longer",
-        other.packets, shorter.packets, more.packets
-    )?;
-    if !(other.kept && shorter.kept && more.kept) {
-        out.push_str(" and others")?;
-    }
-    Ok(out)
+    changed(alloc, &mut other, bytes)?;
+    cut(alloc, &mut shorter, bytes)?;
+    longer(alloc, &mut more, bytes)?;
+    told(alloc, other, shorter, more)
+}
+
+/// How many are packets of those that differ at one place, end early, or have one byte more.
+pub fn near(alloc: Global, pieces: &str) -> Result<String, CaseStop> {
+    let mut bytes = bytes_of_pieces(alloc, pieces)?;
+    near_bytes(alloc, &mut bytes)
 }

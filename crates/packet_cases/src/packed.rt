@@ -1,11 +1,13 @@
 //! The bytes of packets that are given in words.
 ghost use Rattle.packet_code.specs.Limits.{IsPacket};
 
+use crate::shown::{no_packet, push_kept};
 use crate::unpacked::is_kept;
 use case_lines::{CaseStop, Words, read_past};
 use packet_code::{Packet, Route, Sealed, encode, is_packet};
-use rep_calls::{Call, Txn};
+use rep_calls::{Call, Past, Txn};
 use rep_lists::{Items, NoMemory};
+use rep_values::SiteName;
 use std::alloc::Global;
 use std::mem;
 
@@ -36,19 +38,77 @@ fn sealed(alloc: Global, packet: &Packet) -> Result<Sealed, NoMemory>
     }
 }
 
+/// Whether the packet, sealed from its parts, has these bytes.
+fn parts_have_bytes(alloc: Global, packet: &Packet, bytes: &[u8]) -> Result<bool, NoMemory> {
+    if !is_packet(packet) {
+        return Ok(false);
+    }
+    Ok(sealed(alloc, packet)?.bytes() == bytes)
+}
+
+/// The bytes in hexadecimal, and whether others were found in their place.
+fn told(alloc: Global, bytes: &[u8], is_same: bool) -> Result<String, CaseStop> {
+    let mut out = hex::encode(alloc, bytes)?;
+    push_kept(&mut out, is_same)?;
+    Ok(out)
+}
+
 /// The bytes of a packet in hexadecimal, if it is one; they stay the same under a seal, in a copy, and there and back.
 fn packed(alloc: Global, packet: &Packet) -> Result<String, CaseStop> {
-    let mut out = String::new(alloc);
     if !is_packet(packet) {
-        out.push_str("no packet")?;
-        return Ok(out);
+        return no_packet(alloc);
     }
     let bytes = encode(alloc, packet)?;
-    out.push_str(&hex::encode(alloc, bytes.as_slice())?)?;
-    if !is_kept(alloc, packet, &bytes)? || sealed(alloc, packet)?.bytes() != bytes.as_slice() {
-        out.push_str(" and others")?;
+    let is_same = is_kept(alloc, packet, &bytes)? && parts_have_bytes(alloc, packet, &bytes)?;
+    told(alloc, &bytes, is_same)
+}
+
+/// `FROM TO`
+fn read_sites(words: &mut Words) -> Result<(SiteName, SiteName), CaseStop> {
+    Ok((words.site()?, words.site()?))
+}
+
+/// `NUMBER POSITION DEP`
+fn read_numbers(words: &mut Words) -> Result<(u64, u64, u64), CaseStop> {
+    Ok((words.whole()?, words.whole()?, words.whole()?))
+}
+
+/// `FROM TO NUMBER POSITION DEP`
+fn read_route(words: &mut Words) -> Result<Route, CaseStop> {
+    let (from, to) = read_sites(words)?;
+    let (number, position, dep) = read_numbers(words)?;
+    Ok(Route {
+        from,
+        to,
+        number,
+        position,
+        dep,
+    })
+}
+
+/// The packet that carries a transaction on its route.
+fn carry(route: &Route, past: Items<Past>, txn: Txn) -> Packet {
+    Packet::Carry {
+        from: route.from,
+        to: route.to,
+        number: route.number,
+        position: route.position,
+        dep: route.dep,
+        past,
+        txn,
     }
-    Ok(out)
+}
+
+/// The route, and what was seen, up to the end of the line.
+fn read_head(alloc: Global, words: &mut Words) -> Result<(Route, Items<Past>), CaseStop> {
+    Ok((read_route(words)?, read_past(alloc, words)?))
+}
+
+/// The packet of this line that carries these calls.
+fn read_carry(alloc: Global, words: &mut Words, calls: Vec<Call>) -> Result<Packet, CaseStop> {
+    let (route, past) = read_head(alloc, words)?;
+    let txn = Txn::of(alloc, Items::from_vec(calls))?;
+    Ok(carry(&route, past, txn))
 }
 
 /// The bytes of the packet that carries the calls, which are taken away.
@@ -58,32 +118,20 @@ pub fn carried(
     calls: &mut Vec<Call>,
 ) -> Result<String, CaseStop> {
     let calls = mem::replace(calls, Vec::new(alloc));
-    let from = words.site()?;
-    let to = words.site()?;
-    let number = words.whole()?;
-    let position = words.whole()?;
-    let dep = words.whole()?;
-    let past = read_past(alloc, words)?;
-    let txn = Txn::of(alloc, Items::from_vec(calls))?;
-    packed(
-        alloc,
-        &Packet::Carry {
-            from,
-            to,
-            number,
-            position,
-            dep,
-            past,
-            txn,
-        },
-    )
+    let packet = read_carry(alloc, words, calls)?;
+    packed(alloc, &packet)
+}
+
+/// `FROM TO MARK`
+fn read_mark(words: &mut Words) -> Result<Packet, CaseStop> {
+    let (from, to) = read_sites(words)?;
+    let mark = words.whole()?;
+    words.end()?;
+    Ok(Packet::Mark { from, to, mark })
 }
 
 /// The bytes of the mark.
 pub fn marked(alloc: Global, words: &mut Words) -> Result<String, CaseStop> {
-    let from = words.site()?;
-    let to = words.site()?;
-    let mark = words.whole()?;
-    words.end()?;
-    packed(alloc, &Packet::Mark { from, to, mark })
+    let packet = read_mark(words)?;
+    packed(alloc, &packet)
 }

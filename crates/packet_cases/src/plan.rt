@@ -1,6 +1,7 @@
 //! A plan on a net of one direction.
 ghost use Rattle.net_plan.specs.Directions.{HasDirection};
 
+use crate::shown::push_count;
 use case_lines::CaseStop;
 use net_plan::{Fate, Net};
 use packet_code::{Packet, Sealed};
@@ -26,17 +27,32 @@ fn fate_of(word: &str) -> Option<Fate> {
     }
 }
 
-/// Shows the mark of a packet that comes, or that none does.
-fn push_mark(way: &Way, out: &mut String, packet: Option<Sealed>) -> Result<(), CaseStop> {
-    let Some(sealed) = packet else {
-        out.push_str(" none")?;
-        return Ok(());
-    };
-    match sealed.unseal(way.alloc)? {
-        Packet::Mark { mark, .. } => out.push_str(&format!(in way.alloc; " {mark}")?)?,
+/// The mark of a packet that came.
+fn push_packet(way: &Way, out: &mut String, packet: &Packet) -> Result<(), CaseStop> {
+    match packet {
+        Packet::Mark { mark, .. } => push_count(out, way.alloc, *mark)?,
         Packet::Carry { .. } => out.push_str(" other")?,
     }
     Ok(())
+}
+
+/// Shows the mark of a sealed packet that comes.
+fn push_sealed(way: &Way, out: &mut String, sealed: &Sealed) -> Result<(), CaseStop> {
+    let packet = sealed.unseal(way.alloc)?;
+    push_packet(way, out, &packet)
+}
+
+fn push_none(out: &mut String) -> Result<(), CaseStop> {
+    out.push_str(" none")?;
+    Ok(())
+}
+
+/// Shows the mark of a packet that comes, or that none does.
+fn push_mark(way: &Way, out: &mut String, packet: Option<Sealed>) -> Result<(), CaseStop> {
+    match packet {
+        Some(sealed) => push_sealed(way, out, &sealed),
+        None => push_none(out),
+    }
 }
 
 fn send(net: &mut Net, way: &Way, mark: u64) -> Result<(), NoMemory>
@@ -92,6 +108,57 @@ fn link(net: &Net, way: &Way) -> &'static str
     }
 }
 
+/// Sends the next mark.
+fn send_next(net: &mut Net, way: &Way, sent: &mut u64) -> Result<(), CaseStop>
+    requires { HasDirection net.old way.now.from way.now.to }
+    ensures { HasDirection net.new way.now.from way.now.to }
+{
+    *sent = sent.saturating_add(1);
+    send(net, way, *sent)?;
+    Ok(())
+}
+
+/// Delivers a packet and shows its mark.
+fn deliver_next(net: &mut Net, way: &Way, out: &mut String) -> Result<(), CaseStop>
+    requires { HasDirection net.old way.now.from way.now.to }
+    ensures { HasDirection net.new way.now.from way.now.to }
+{
+    let packet = deliver(net, way);
+    push_mark(way, out, packet)
+}
+
+/// Does one word that is no fate.
+fn act(
+    net: &mut Net,
+    way: &Way,
+    out: &mut String,
+    sent: &mut u64,
+    word: &str,
+) -> Result<(), CaseStop>
+    requires { HasDirection net.old way.now.from way.now.to }
+    ensures { HasDirection net.new way.now.from way.now.to }
+{
+    match word {
+        "clear" => {
+            clear(net, way);
+            Ok(())
+        }
+        "send" => send_next(net, way, sent),
+        "release" => Ok(release(net, way)?),
+        "deliver" => deliver_next(net, way, out),
+        "down" => {
+            set_link(net, way, false);
+            Ok(())
+        }
+        "up" => {
+            set_link(net, way, true);
+            Ok(())
+        }
+        "link" => Ok(out.push_str(link(net, way))?),
+        _ => Err(CaseStop::NoCase),
+    }
+}
+
 /// Does one word.
 fn step(
     net: &mut Net,
@@ -103,45 +170,49 @@ fn step(
     requires { HasDirection net.old way.now.from way.now.to }
     ensures { HasDirection net.new way.now.from way.now.to }
 {
-    if let Some(fate) = fate_of(word) {
-        add_fate(net, way, fate)?;
-        return Ok(());
+    match fate_of(word) {
+        Some(fate) => Ok(add_fate(net, way, fate)?),
+        None => act(net, way, out, sent, word),
     }
-    match word {
-        "clear" => clear(net, way),
-        "send" => {
-            *sent = sent.saturating_add(1);
-            send(net, way, *sent)?;
-        }
-        "release" => release(net, way)?,
-        "deliver" => {
-            let packet = deliver(net, way);
-            push_mark(way, out, packet)?;
-        }
-        "down" => set_link(net, way, false),
-        "up" => set_link(net, way, true),
-        "link" => out.push_str(link(net, way))?,
-        _ => return Err(CaseStop::NoCase),
+}
+
+fn site_of(name: &[u8]) -> Result<SiteName, CaseStop> {
+    match Name::of(name) {
+        Some(name) => Ok(SiteName(name)),
+        None => Err(CaseStop::NoCase),
+    }
+}
+
+/// The way from A to B.
+fn way_of(alloc: Global) -> Result<Way, CaseStop> {
+    Ok(Way {
+        alloc,
+        from: site_of(b"A")?,
+        to: site_of(b"B")?,
+    })
+}
+
+/// Does one word after another on a net.
+fn walk(net: &mut Net, way: &Way, out: &mut String, plan: &str) -> Result<(), CaseStop>
+    requires { HasDirection net.old way.now.from way.now.to }
+{
+    let mut sent: u64 = 0;
+    for word in plan.split(' ') {
+        step(net, way, out, &mut sent, word)?;
     }
     Ok(())
 }
 
+/// What a plan shows on a way.
+fn shown_on(way: &Way, plan: &str) -> Result<String, CaseStop> {
+    let mut net = Net::make(way.alloc, &[(way.from, way.to)])?;
+    let mut out = format!(in way.alloc; "shows")?;
+    walk(&mut net, way, &mut out, plan)?;
+    Ok(out)
+}
+
 /// What a plan shows.
 pub fn shown(alloc: Global, plan: &str) -> Result<String, CaseStop> {
-    let (Some(from), Some(to)) = (Name::of(b"A"), Name::of(b"B")) else {
-        return Err(CaseStop::NoCase);
-    };
-    let way = Way {
-        alloc,
-        from: SiteName(from),
-        to: SiteName(to),
-    };
-    let mut net = Net::make(alloc, &[(way.from, way.to)])?;
-    let mut out = String::new(alloc);
-    out.push_str("shows")?;
-    let mut sent: u64 = 0;
-    for word in plan.split(' ') {
-        step(&mut net, &way, &mut out, &mut sent, word)?;
-    }
-    Ok(out)
+    let way = way_of(alloc)?;
+    shown_on(&way, plan)
 }

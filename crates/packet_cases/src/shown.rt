@@ -1,13 +1,14 @@
 //! Packets as words.
 
-use case_lines::{push_name, push_past, push_values};
+use case_lines::{CaseStop, push_name, push_past, push_values};
 use packet_code::Packet;
 use rep_calls::{Call, Part, Txn};
 use rep_lists::NoMemory;
-use rep_values::SiteName;
+use rep_values::{Key, SiteName, Value};
 use std::alloc::Global;
 
-fn push_count(out: &mut String, alloc: Global, count: u64) -> Result<(), NoMemory> {
+/// A space, and the count.
+pub fn push_count(out: &mut String, alloc: Global, count: u64) -> Result<(), NoMemory> {
     out.push_str(&format!(in alloc; " {count}")?)?;
     Ok(())
 }
@@ -26,7 +27,7 @@ fn push_of(
     alloc: Global,
     kind: &str,
     table: u32,
-    values: &[rep_values::Value],
+    values: &[Value],
 ) -> Result<(), NoMemory> {
     out.push_str(kind)?;
     push_count(out, alloc, u64::from(table))?;
@@ -34,31 +35,45 @@ fn push_of(
     push_values(out, alloc, values)
 }
 
+fn push_update(
+    out: &mut String,
+    alloc: Global,
+    table: u32,
+    key: &Key,
+    parts: &[Part],
+) -> Result<(), NoMemory> {
+    push_of(out, alloc, "update", table, key.values())?;
+    for part in parts {
+        push_part(out, alloc, part)?;
+    }
+    Ok(())
+}
+
 fn push_call(out: &mut String, alloc: Global, call: &Call) -> Result<(), NoMemory> {
     match call {
         Call::Insert { table, row } => push_of(out, alloc, "insert", *table, row.values()),
         Call::Delete { table, row } => push_of(out, alloc, "delete", *table, row.values()),
         Call::Update { table, key, parts } => {
-            push_of(out, alloc, "update", *table, key.values())?;
-            for part in parts.as_slice() {
-                push_part(out, alloc, part)?;
-            }
-            Ok(())
+            push_update(out, alloc, *table, key, parts.as_slice())
         }
     }
 }
 
-/// The calls, where there are at most three, or their number.
-fn push_txn(out: &mut String, alloc: Global, txn: &Txn) -> Result<(), NoMemory> {
-    if txn.calls.len() > 3 {
-        push_count(out, alloc, txn.calls.len() as u64)?;
-        out.push_str(" calls")?;
-        return Ok(());
-    }
-    for call in txn.calls.as_slice() {
+fn push_calls(out: &mut String, alloc: Global, calls: &[Call]) -> Result<(), NoMemory> {
+    for call in calls {
         out.push_str(" ; ")?;
         push_call(out, alloc, call)?;
     }
+    Ok(())
+}
+
+/// The calls, where there are at most three, or their number.
+fn push_txn(out: &mut String, alloc: Global, txn: &Txn) -> Result<(), NoMemory> {
+    if txn.calls.len() <= 3 {
+        return push_calls(out, alloc, txn.calls.as_slice());
+    }
+    push_count(out, alloc, txn.calls.len() as u64)?;
+    out.push_str(" calls")?;
     Ok(())
 }
 
@@ -67,9 +82,27 @@ fn push_sites(out: &mut String, from: &SiteName, to: &SiteName) -> Result<(), No
     push_name(out, &to.0)
 }
 
-/// The packet with its past and its calls.
-pub fn shown(alloc: Global, packet: &Packet) -> Result<String, NoMemory> {
-    let mut out = String::new(alloc);
+fn push_counts(out: &mut String, alloc: Global, counts: &[u64]) -> Result<(), NoMemory> {
+    for count in counts {
+        push_count(out, alloc, *count)?;
+    }
+    Ok(())
+}
+
+/// A packet's kind, its sites and its numbers.
+fn push_front(
+    out: &mut String,
+    alloc: Global,
+    kind: &str,
+    sites: (&SiteName, &SiteName),
+    counts: &[u64],
+) -> Result<(), NoMemory> {
+    out.push_str(kind)?;
+    push_sites(out, sites.0, sites.1)?;
+    push_counts(out, alloc, counts)
+}
+
+fn push_packet(out: &mut String, alloc: Global, packet: &Packet) -> Result<(), NoMemory> {
     match packet {
         Packet::Carry {
             from,
@@ -80,19 +113,31 @@ pub fn shown(alloc: Global, packet: &Packet) -> Result<String, NoMemory> {
             past,
             txn,
         } => {
-            out.push_str("carry")?;
-            push_sites(&mut out, from, to)?;
-            push_count(&mut out, alloc, *number)?;
-            push_count(&mut out, alloc, *position)?;
-            push_count(&mut out, alloc, *dep)?;
-            push_past(&mut out, alloc, past.as_slice())?;
-            push_txn(&mut out, alloc, txn)?;
+            push_front(out, alloc, "carry", (from, to), &[*number, *position, *dep])?;
+            push_past(out, alloc, past.as_slice())?;
+            push_txn(out, alloc, txn)
         }
-        Packet::Mark { from, to, mark } => {
-            out.push_str("mark")?;
-            push_sites(&mut out, from, to)?;
-            push_count(&mut out, alloc, *mark)?;
-        }
+        Packet::Mark { from, to, mark } => push_front(out, alloc, "mark", (from, to), &[*mark]),
     }
+}
+
+/// The packet with its past and its calls.
+pub fn shown(alloc: Global, packet: &Packet) -> Result<String, NoMemory> {
+    let mut out = String::new(alloc);
+    push_packet(&mut out, alloc, packet)?;
     Ok(out)
+}
+
+/// What is told of bytes that are no packet's.
+pub fn no_packet(alloc: Global) -> Result<String, CaseStop> {
+    let out = format!(in alloc; "no packet")?;
+    Ok(out)
+}
+
+/// Nothing where the bytes were the same everywhere, or that there were others.
+pub fn push_kept(out: &mut String, is_kept: bool) -> Result<(), NoMemory> {
+    if !is_kept {
+        out.push_str(" and others")?;
+    }
+    Ok(())
 }

@@ -1,6 +1,6 @@
 -- Words done one after another.
 use Rattle.net_plan.specs.Directions.{HasDirection}
-use Rattle.packet_cases.proofs.plan.shown.Given as goal
+use Rattle.packet_cases.proofs.plan.walk.Given as goal
 
 -- the direction is there
 abbrev pub invariant-loop-word : goal.invariant-loop-word
