@@ -1,7 +1,7 @@
 //! Refreshes of the snapshot's table.
 ghost use Rattle.std.specs.Prelude.{◌≡◌};
 
-use crate::shown::push_changes;
+use crate::shown::{changes_shown, lookups_shown, taken_back_shown};
 use case_lines::CaseStop;
 use fast_refresh::{
     CountedView, MasterView, refresh_complete, refresh_fast, rows_shown, shows_others,
@@ -36,9 +36,7 @@ pub fn by_keys(
     holds_tables(master);
     let mut view = CountedView::of(master);
     let changes = refresh_fast(alloc, snap, store, &mut view, keys, moment)?;
-    let mut out = format!(in alloc; "lookups {} changes {}", view.lookups(), changes.rows.len())?;
-    push_changes(&mut out, alloc, &changes)?;
-    Ok(out)
+    lookups_shown(alloc, view.lookups(), &changes)
 }
 
 /// By the rows that the query picks.
@@ -60,9 +58,7 @@ pub fn by_rows(
     }
     let rows = rows_shown(alloc, &snap.query, master, snap.table)?;
     let changes = refresh_complete(alloc, snap, store, rows.as_slice(), moment)?;
-    let mut out = format!(in alloc; "changes {}", changes.rows.len())?;
-    push_changes(&mut out, alloc, &changes)?;
-    Ok(out)
+    changes_shown(alloc, &changes)
 }
 
 /// By the rows that the query picks, and all taken back.
@@ -85,7 +81,7 @@ pub fn and_back(
     let rows = rows_shown(alloc, &snap.query, master, snap.table)?;
     holds_tables(store);
     let changes = refresh_complete(alloc, snap, store, rows.as_slice(), moment)?;
-    let out = format!(in alloc; "changes {} taken back", changes.rows.len())?;
+    let out = taken_back_shown(alloc, &changes)?;
     undo(store, changes);
     Ok(out)
 }
