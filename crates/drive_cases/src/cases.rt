@@ -100,16 +100,15 @@ fn faulty_writes(alloc: Global, most: u64, script: &[u8]) -> Result<Vec<String>,
     Ok(told)
 }
 
-/// The same where the script is cut behind so many bytes.
+/// The same of a script that is cut.
 fn add_cut(
     alloc: Global,
     told: &mut Vec<String>,
     most: u64,
-    count: usize,
-    script: &[u8],
+    cut: &[u8],
 ) -> Result<bool, AllocError> {
+    let count = cut.len();
     let what = format!(in alloc; "cut at {count}")?;
-    let (cut, _) = script.split_at(count);
     add_run(alloc, told, what.as_str(), cut, Faults::none(most))
 }
 
@@ -117,7 +116,8 @@ fn add_cut(
 fn cut_scripts(alloc: Global, most: u64, script: &[u8]) -> Result<Vec<String>, AllocError> {
     let mut told = Vec::new(alloc);
     for count in 0..script.len() {
-        add_cut(alloc, &mut told, most, count, script)?;
+        let (cut, _) = script.split_at(count);
+        add_cut(alloc, &mut told, most, cut)?;
     }
     Ok(told)
 }
