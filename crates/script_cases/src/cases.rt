@@ -2,7 +2,7 @@
 
 use crate::commands::command_text;
 use crate::readings::{groups_text, parts_text};
-use crate::texts::{stop_text, tokens_text};
+use crate::texts::{stop_text, tokens_text, word_text};
 use script_lex::lex;
 use script_parse::parse_line;
 use std::alloc::{AllocError, Global};
@@ -31,6 +31,6 @@ pub fn outcome(alloc: Global, case: &str) -> Result<String, AllocError> {
         "parts" => parts_text(alloc, line),
         "groups" => groups_text(alloc, line),
         "line" => crate::printed::printed_text(alloc, line),
-        _ => format!(in alloc; "no case"),
+        _ => word_text(alloc, "no case"),
     }
 }

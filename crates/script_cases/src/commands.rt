@@ -2,17 +2,12 @@
 
 use crate::declared::declared_text;
 use crate::stated::{row_text, statement_text};
-use crate::texts::{literal_text, text_of};
+use crate::texts::{literal_text, name_text, text_of, word_text};
 use net_plan::Fate;
 use rep_lists::Items;
 use rep_values::{SiteName, TableName};
 use script_parse::{Command, Link, Refresh, Shown, TestWords};
 use std::alloc::{AllocError, Global};
-
-fn at_text(alloc: Global, word: &str, site: &SiteName) -> Result<String, AllocError> {
-    let site = text_of(site.0.bytes());
-    format!(in alloc; "{word} {site}")
-}
 
 fn way_text(
     alloc: Global,
@@ -25,6 +20,18 @@ fn way_text(
     format!(in alloc; "{word} from {from} to {to}")
 }
 
+fn fate_text(alloc: Global, fate: Fate) -> Result<String, AllocError> {
+    format!(in alloc; " {fate:?}")
+}
+
+fn push_fates(told: &mut String, alloc: Global, fates: &[Fate]) -> Result<(), AllocError> {
+    for fate in fates {
+        let fate = fate_text(alloc, *fate)?;
+        told.push_str(fate.as_str())?;
+    }
+    Ok(())
+}
+
 fn fates_text(
     alloc: Global,
     from: &SiteName,
@@ -32,11 +39,35 @@ fn fates_text(
     fates: &Items<Fate>,
 ) -> Result<String, AllocError> {
     let mut told = way_text(alloc, "fates", from, to)?;
-    for fate in fates.as_slice() {
-        let fate = format!(in alloc; " {fate:?}")?;
-        told.push_str(fate.as_str())?;
-    }
+    push_fates(&mut told, alloc, fates.as_slice())?;
     Ok(told)
+}
+
+fn test_text(alloc: Global, test: &TestWords) -> Result<String, AllocError> {
+    let column = text_of(test.column.bytes());
+    let rel = test.rel;
+    let value = literal_text(alloc, &test.value)?;
+    format!(in alloc; ", {column} {rel:?}{value}")
+}
+
+fn push_tests(told: &mut String, alloc: Global, tests: &[TestWords]) -> Result<(), AllocError> {
+    for test in tests {
+        let test = test_text(alloc, test)?;
+        told.push_str(test.as_str())?;
+    }
+    Ok(())
+}
+
+/// A table at a site, behind a word.
+fn table_text(
+    alloc: Global,
+    word: &str,
+    site: &SiteName,
+    table: &TableName,
+) -> Result<String, AllocError> {
+    let site = text_of(site.0.bytes());
+    let table = text_of(table.0.bytes());
+    format!(in alloc; "{word} at {site} of {table}")
 }
 
 fn snapshot_text(
@@ -45,18 +76,9 @@ fn snapshot_text(
     table: &TableName,
     tests: &Option<Items<TestWords>>,
 ) -> Result<String, AllocError> {
-    let table = text_of(table.0.bytes());
-    let mut told = at_text(alloc, "snapshot at", site)?;
-    let of = format!(in alloc; " of {table}")?;
-    told.push_str(of.as_str())?;
+    let mut told = table_text(alloc, "snapshot", site, table)?;
     if let Some(tests) = tests {
-        for test in tests.as_slice() {
-            let column = text_of(test.column.bytes());
-            let rel = test.rel;
-            let value = literal_text(alloc, &test.value)?;
-            let test = format!(in alloc; ", {column} {rel:?}{value}")?;
-            told.push_str(test.as_str())?;
-        }
+        push_tests(&mut told, alloc, tests.as_slice())?;
     }
     Ok(told)
 }
@@ -94,23 +116,13 @@ fn link_text(
 }
 
 fn clock_text(alloc: Global, site: &SiteName, time: u64) -> Result<String, AllocError> {
-    let at = at_text(alloc, "clock of", site)?;
+    let at = name_text(alloc, "clock of", &site.0)?;
     format!(in alloc; "{at} {time}")
 }
 
 fn refresh_text(alloc: Global, site: &SiteName, how: Refresh) -> Result<String, AllocError> {
-    let at = at_text(alloc, "refresh", site)?;
+    let at = name_text(alloc, "refresh", &site.0)?;
     format!(in alloc; "{at} {how:?}")
-}
-
-fn purge_log_text(
-    alloc: Global,
-    master: &SiteName,
-    table: &TableName,
-) -> Result<String, AllocError> {
-    let table = text_of(table.0.bytes());
-    let at = at_text(alloc, "purge log at", master)?;
-    format!(in alloc; "{at} of {table}")
 }
 
 fn show_text(alloc: Global, what: Shown, site: &SiteName) -> Result<String, AllocError> {
@@ -121,21 +133,21 @@ fn show_text(alloc: Global, what: Shown, site: &SiteName) -> Result<String, Allo
 /// A command by its parts.
 pub fn command_text(alloc: Global, command: &Command) -> Result<String, AllocError> {
     match command {
-        Command::Nothing => format!(in alloc; "nothing"),
+        Command::Nothing => word_text(alloc, "nothing"),
         Command::Declare(declaration) => declared_text(alloc, declaration),
         Command::Snapshot { site, table, tests } => snapshot_text(alloc, site, table, tests),
         Command::Row { table, values } => row_text(alloc, "row", table, values),
-        Command::Resume => format!(in alloc; "resume"),
+        Command::Resume => word_text(alloc, "resume"),
         Command::Statement(statement) => statement_text(alloc, statement),
-        Command::Txn { site } => at_text(alloc, "txn", site),
-        Command::Commit => format!(in alloc; "commit"),
-        Command::Abandon => format!(in alloc; "abandon"),
+        Command::Txn { site } => name_text(alloc, "txn", &site.0),
+        Command::Commit => word_text(alloc, "commit"),
+        Command::Abandon => word_text(alloc, "abandon"),
         Command::Push { from, to, count } => push_text(alloc, from, to, *count),
         Command::Fates { from, to, fates } => fates_text(alloc, from, to, fates),
         Command::ClearFates { from, to } => way_text(alloc, "no more fates", from, to),
         Command::Link { from, to, link } => link_text(alloc, from, to, *link),
         Command::Clock { site, time } => clock_text(alloc, site, *time),
-        Command::Purge { site } => at_text(alloc, "purge", site),
+        Command::Purge { site } => name_text(alloc, "purge", &site.0),
         Command::Execute {
             site,
             origin,
@@ -147,8 +159,8 @@ pub fn command_text(alloc: Global, command: &Command) -> Result<String, AllocErr
             position,
         } => { error_text(alloc, "drop error", site, origin, *position) }
         Command::Refresh { site, how } => refresh_text(alloc, site, *how),
-        Command::PurgeLog { master, table } => purge_log_text(alloc, master, table),
-        Command::Suspend => format!(in alloc; "suspend"),
+        Command::PurgeLog { master, table } => table_text(alloc, "purge log", master, table),
+        Command::Suspend => word_text(alloc, "suspend"),
         Command::Join { site, source } => way_text(alloc, "join", site, source),
         Command::Show { what, site } => show_text(alloc, *what, site),
     }

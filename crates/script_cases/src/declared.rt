@@ -1,26 +1,34 @@
 //! Declarations as they are printed.
 
-use crate::texts::{literal_text, names_text, text_of};
+use crate::texts::{literal_text, name_text, names_text, text_of, word_text};
 use rep_declare::{Declare, MethodWords, UniqueWords};
 use rep_lists::Items;
 use rep_schema::{Column, Rel};
 use rep_values::{Literal, Name, SiteName, TableName};
 use std::alloc::{AllocError, Global};
 
+fn column_text(alloc: Global, column: &Column) -> Result<String, AllocError> {
+    let name = text_of(column.name.bytes());
+    let kind = column.kind;
+    let key = if column.key { " key" } else { "" };
+    format!(in alloc; ", {name} {kind:?}{key}")
+}
+
+fn push_columns(told: &mut String, alloc: Global, columns: &[Column]) -> Result<(), AllocError> {
+    for column in columns {
+        let column = column_text(alloc, column)?;
+        told.push_str(column.as_str())?;
+    }
+    Ok(())
+}
+
 fn columns_text(
     alloc: Global,
     name: &TableName,
     columns: &Items<Column>,
 ) -> Result<String, AllocError> {
-    let table = text_of(name.0.bytes());
-    let mut told = format!(in alloc; "table {table}")?;
-    for column in columns.as_slice() {
-        let name = text_of(column.name.bytes());
-        let kind = column.kind;
-        let key = if column.key { " key" } else { "" };
-        let column = format!(in alloc; ", {name} {kind:?}{key}")?;
-        told.push_str(column.as_str())?;
-    }
+    let mut told = name_text(alloc, "table", &name.0)?;
+    push_columns(&mut told, alloc, columns.as_slice())?;
     Ok(told)
 }
 
@@ -38,38 +46,32 @@ fn named_text(
     format!(in alloc; "{what} {name} of {table}:{columns}")
 }
 
+fn priority_text(alloc: Global, column: &Name, group: &Name) -> Result<String, AllocError> {
+    let column = text_of(column.bytes());
+    let group = text_of(group.bytes());
+    format!(in alloc; "priority of {column} by {group}")
+}
+
 fn method_text(alloc: Global, method: &MethodWords) -> Result<String, AllocError> {
     match method {
-        MethodWords::Latest(column) => { format!(in alloc; "latest {}", text_of(column.bytes())) }
-        MethodWords::Earliest(column) => {
-            format!(in alloc; "earliest {}", text_of(column.bytes()))
-        }
-        MethodWords::Overwrite => format!(in alloc; "overwrite"),
-        MethodWords::Discard => format!(in alloc; "discard"),
-        MethodWords::Additive => format!(in alloc; "additive"),
-        MethodWords::Average => format!(in alloc; "average"),
-        MethodWords::Maximum(column) => { format!(in alloc; "maximum {}", text_of(column.bytes())) }
-        MethodWords::Minimum(column) => { format!(in alloc; "minimum {}", text_of(column.bytes())) }
-        MethodWords::Priority { column, group } => {
-            let column = text_of(column.bytes());
-            let group = text_of(group.bytes());
-            format!(in alloc; "priority of {column} by {group}")
-        }
-        MethodWords::SitePriority(column) => {
-            format!(in alloc; "site priority {}", text_of(column.bytes()))
-        }
+        MethodWords::Latest(column) => name_text(alloc, "latest", column),
+        MethodWords::Earliest(column) => name_text(alloc, "earliest", column),
+        MethodWords::Overwrite => word_text(alloc, "overwrite"),
+        MethodWords::Discard => word_text(alloc, "discard"),
+        MethodWords::Additive => word_text(alloc, "additive"),
+        MethodWords::Average => word_text(alloc, "average"),
+        MethodWords::Maximum(column) => name_text(alloc, "maximum", column),
+        MethodWords::Minimum(column) => name_text(alloc, "minimum", column),
+        MethodWords::Priority { column, group } => priority_text(alloc, column, group),
+        MethodWords::SitePriority(column) => name_text(alloc, "site priority", column),
     }
 }
 
 fn unique_text(alloc: Global, method: &UniqueWords) -> Result<String, AllocError> {
     match method {
-        UniqueWords::AppendSite(column) => {
-            format!(in alloc; "append site to {}", text_of(column.bytes()))
-        }
-        UniqueWords::AppendSequence(column) => {
-            format!(in alloc; "append sequence to {}", text_of(column.bytes()))
-        }
-        UniqueWords::Discard => format!(in alloc; "discard"),
+        UniqueWords::AppendSite(column) => name_text(alloc, "append site to", column),
+        UniqueWords::AppendSequence(column) => name_text(alloc, "append sequence to", column),
+        UniqueWords::Discard => word_text(alloc, "discard"),
     }
 }
 
@@ -85,11 +87,6 @@ fn check_text(
     let column = text_of(names.1.bytes());
     let value = literal_text(alloc, value)?;
     format!(in alloc; "check {check} of {table}: {column} {rel:?}{value}")
-}
-
-fn site_text(alloc: Global, what: &str, name: &SiteName) -> Result<String, AllocError> {
-    let name = text_of(name.0.bytes());
-    format!(in alloc; "{what} {name}")
 }
 
 fn snapshot_site_text(
@@ -131,11 +128,6 @@ fn constraint_method_text(
     format!(in alloc; "method of constraint {constraint} of {table}: {method}")
 }
 
-fn convergent_text(alloc: Global, table: &TableName) -> Result<String, AllocError> {
-    let table = text_of(table.0.bytes());
-    format!(in alloc; "convergent {table}")
-}
-
 fn level_text(
     alloc: Global,
     group: &Name,
@@ -150,8 +142,8 @@ fn level_text(
 /// A declaration by its parts.
 pub fn declared_text(alloc: Global, declaration: &Declare) -> Result<String, AllocError> {
     match declaration {
-        Declare::Site { name } => site_text(alloc, "site", name),
-        Declare::LateSite { name } => site_text(alloc, "late site", name),
+        Declare::Site { name } => name_text(alloc, "site", &name.0),
+        Declare::LateSite { name } => name_text(alloc, "late site", &name.0),
         Declare::SnapSite { name, master } => snapshot_site_text(alloc, name, master),
         Declare::Table { name, columns } => columns_text(alloc, name, columns),
         Declare::Group {
@@ -187,6 +179,6 @@ pub fn declared_text(alloc: Global, declaration: &Declare) -> Result<String, All
             rel,
             value,
         } => { check_text(alloc, table, (check, column), *rel, value) }
-        Declare::Convergent { table } => convergent_text(alloc, table),
+        Declare::Convergent { table } => name_text(alloc, "convergent", &table.0),
     }
 }

@@ -11,16 +11,29 @@ mod texts;
 
 use std::io;
 
+fn echo(rt: &HostRuntime, line: &str) -> io::Result<()> {
+    println!(rt; "{line}")?;
+    Ok(())
+}
+
+fn tell(rt: &HostRuntime, told: &str) -> io::Result<()> {
+    println!(rt; "  {told}")?;
+    Ok(())
+}
+
+/// Prints a case and its outcome, or a remark.
+fn answer(rt: &HostRuntime, line: &str) -> io::Result<()> {
+    if line.starts_with('#') {
+        return echo(rt, line);
+    }
+    let told = cases::outcome(rt.alloc(), line)?;
+    echo(rt, line)?;
+    tell(rt, &told)
+}
+
 fn main(rt: HostRuntime) -> io::Result<()> {
     for line in rt.lines(rt.alloc()) {
-        let line = line?;
-        if line.as_str().starts_with('#') {
-            println!(rt; "{line}")?;
-            continue;
-        }
-        let told = cases::outcome(rt.alloc(), line.as_str())?;
-        println!(rt; "{line}")?;
-        println!(rt; "  {told}")?;
+        answer(&rt, &line?)?;
     }
     Ok(())
 }
