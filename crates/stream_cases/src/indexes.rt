@@ -1,7 +1,8 @@
 //! Cases of the dependency index of a site.
 
-use crate::queues::read_sites;
+use crate::queues::{read_sites, read_table};
 use crate::scan::compared;
+use crate::told::text;
 use case_lines::{CaseStop, Words};
 use dependency_index::{Index, Token, Tokens};
 use rep_lists::{Items, NoMemory};
@@ -27,26 +28,27 @@ pub fn note_next(
     }
 }
 
-fn read_table(words: &mut Words) -> Result<u32, CaseStop> {
-    u32::try_from(words.whole()?).map_err(|_| CaseStop::NoCase)
+fn read_row(alloc: Global, words: &mut Words) -> Result<Token, CaseStop> {
+    let table = read_table(words)?;
+    let key = words.key(alloc)?;
+    Ok(Token::Key { table, key })
+}
+
+fn read_unique(words: &mut Words) -> Result<Token, CaseStop> {
+    let table = read_table(words)?;
+    Ok(Token::Unique { table })
 }
 
 fn read_token(alloc: Global, words: &mut Words) -> Result<Token, CaseStop> {
     match words.word()? {
-        b"row" => {
-            let table = read_table(words)?;
-            let key = words.key(alloc)?;
-            Ok(Token::Key { table, key })
-        }
-        b"unique" => Ok(Token::Unique {
-            table: read_table(words)?,
-        }),
+        b"row" => read_row(alloc, words),
+        b"unique" => read_unique(words),
         _ => Err(CaseStop::NoCase),
     }
 }
 
-fn note(alloc: Global, index: &mut Index, words: &mut Words) -> Result<String, CaseStop> {
-    let site = words.site()?;
+/// The tokens up to the end of the line.
+fn read_tokens(alloc: Global, words: &mut Words) -> Result<Tokens, CaseStop> {
     let mut list = Items::new(alloc);
     for _ in 0..u64::MAX {
         if words.is_done() {
@@ -54,10 +56,24 @@ fn note(alloc: Global, index: &mut Index, words: &mut Words) -> Result<String, C
         }
         list.push(read_token(alloc, words)?)?;
     }
-    match note_next(index, &site, &Tokens { list })? {
-        Some(dep) => Ok(format!(in alloc; "position {} dep {dep}", index.count(&site))?),
-        None => Ok(format!(in alloc; "refused")?),
+    Ok(Tokens { list })
+}
+
+fn note_text(alloc: Global, position: u64, dep: u64) -> Result<String, CaseStop> {
+    Ok(format!(in alloc; "position {position} dep {dep}")?)
+}
+
+fn note(alloc: Global, index: &mut Index, words: &mut Words) -> Result<String, CaseStop> {
+    let site = words.site()?;
+    let tokens = read_tokens(alloc, words)?;
+    match note_next(index, &site, &tokens)? {
+        Some(dep) => note_text(alloc, index.count(&site), dep),
+        None => text(alloc, "refused"),
     }
+}
+
+fn agreed_text(alloc: Global, agreed: u64) -> Result<String, CaseStop> {
+    Ok(format!(in alloc; "{agreed} notes agree")?)
 }
 
 fn compare(alloc: Global, words: &mut Words) -> Result<String, CaseStop> {
@@ -65,9 +81,16 @@ fn compare(alloc: Global, words: &mut Words) -> Result<String, CaseStop> {
     let keys = words.whole()?;
     words.end()?;
     match compared(alloc, count, keys)? {
-        Some(agreed) => Ok(format!(in alloc; "{agreed} notes agree")?),
+        Some(agreed) => agreed_text(alloc, agreed),
         None => Err(CaseStop::NoCase),
     }
+}
+
+/// Begins with an empty index for the sites of the line.
+fn begin(alloc: Global, index: &mut Index, words: &mut Words) -> Result<Option<String>, CaseStop> {
+    let sites = read_sites(alloc, words)?;
+    *index = Index::make(alloc, sites.as_slice())?;
+    Ok(None)
 }
 
 /// The outcome of a line of this kind.
@@ -78,12 +101,8 @@ pub fn outcome(
     words: &mut Words,
 ) -> Result<Option<String>, CaseStop> {
     match kind {
-        b"index" => {
-            let sites = read_sites(alloc, words)?;
-            *index = Index::make(alloc, sites.as_slice())?;
-            Ok(None)
-        }
-        b"note" => Ok(Some(note(alloc, index, words)?)),
-        _ => Ok(Some(compare(alloc, words)?)),
+        b"index" => begin(alloc, index, words),
+        b"note" => note(alloc, index, words).map(Some),
+        _ => compare(alloc, words).map(Some),
     }
 }

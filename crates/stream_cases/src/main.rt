@@ -23,6 +23,7 @@ mod queues;
 mod scan;
 mod state;
 mod tokens;
+mod told;
 
 use anyhow::Result;
 use case_lines::{CaseStop, Words};
@@ -30,26 +31,36 @@ use script_lex::lex;
 use state::State;
 use std::alloc::Global;
 
+/// The outcome of a line of this kind.
+fn outcome_of(
+    alloc: Global,
+    state: &mut State,
+    kind: &[u8],
+    words: &mut Words,
+) -> Result<Option<String>, CaseStop> {
+    match kind {
+        b"marks" | b"finish" | b"finished" | b"ready" | b"orders" => {
+            marks::outcome(alloc, &mut state.finished, kind, words)
+        }
+        b"queue" | b"push" | b"entry" | b"place" | b"order" | b"acknowledge" | b"purge" => {
+            queues::outcome(alloc, &mut state.queue, kind, words)
+        }
+        b"index" | b"note" | b"compare" => {
+            indexes::outcome(alloc, &mut state.index, kind, words)
+        }
+        b"schema" | b"declare" | b"call" | b"tokens" | b"lines" => {
+            tokens::outcome(alloc, &mut state.declared, kind, words)
+        }
+        _ => Err(CaseStop::NoCase),
+    }
+}
+
 /// The outcome of a line; None where it tells nothing.
 fn outcome(alloc: Global, state: &mut State, line: &str) -> Result<Option<String>, CaseStop> {
     let tokens = lex(alloc, line.as_bytes())?;
     let mut words = Words::of(tokens.as_slice());
     let kind = words.word()?;
-    match kind {
-        b"marks" | b"finish" | b"finished" | b"ready" | b"orders" => {
-            marks::outcome(alloc, &mut state.finished, kind, &mut words)
-        }
-        b"queue" | b"push" | b"entry" | b"place" | b"order" | b"acknowledge" | b"purge" => {
-            queues::outcome(alloc, &mut state.queue, kind, &mut words)
-        }
-        b"index" | b"note" | b"compare" => {
-            indexes::outcome(alloc, &mut state.index, kind, &mut words)
-        }
-        b"schema" | b"declare" | b"call" | b"tokens" | b"lines" => {
-            tokens::outcome(alloc, &mut state.declared, kind, &mut words)
-        }
-        _ => Err(CaseStop::NoCase),
-    }
+    outcome_of(alloc, state, kind, &mut words)
 }
 
 fn echo(rt: &HostRuntime, line: &str) -> Result<()> {

@@ -70,50 +70,100 @@ fn scanned(stream: &[Tokens], tokens: &Tokens) -> u64 {
     0
 }
 
-/// Notes a transaction in a stream; whether the index and the scan tell the same.
-fn agrees(
-    index: &mut Index,
-    to: &SiteName,
-    stream: &mut Vec<Tokens>,
-    tokens: Tokens,
-) -> Result<bool, NoMemory> {
-    let expected = scanned(stream.as_slice(), &tokens);
-    let found = note_next(index, to, &tokens)?;
-    stream.push(tokens)?;
-    Ok(found == Some(expected))
+/// The transactions of a stream to a site.
+#[derive(Drop)]
+struct Stream {
+    to: SiteName,
+    sent: Vec<Tokens>,
+}
+
+impl Stream {
+    fn new(alloc: Global, to: SiteName) -> Stream {
+        Stream {
+            to,
+            sent: Vec::new(alloc),
+        }
+    }
+
+    /// Notes a transaction; whether the index and the scan tell the same.
+    fn agrees(&mut self, index: &mut Index, tokens: Tokens) -> Result<bool, NoMemory> {
+        let expected = scanned(self.sent.as_slice(), &tokens);
+        let found = note_next(index, &self.to, &tokens)?;
+        self.sent.push(tokens)?;
+        Ok(found == Some(expected))
+    }
+}
+
+/// Generated transactions over so many keys, noted in an index, and how many of the notes agree with a scan.
+#[derive(Drop)]
+struct Comparison {
+    index: Index,
+    numbers: Numbers,
+    keys: u64,
+    agreed: u64,
+}
+
+impl Comparison {
+    fn new(alloc: Global, sites: &[SiteName], keys: u64) -> Result<Comparison, NoMemory> {
+        let index = Index::make(alloc, sites)?;
+        Ok(Comparison {
+            index,
+            numbers: Numbers { state: 1 },
+            keys,
+            agreed: 0,
+        })
+    }
+
+    /// Notes the next transaction in a stream.
+    fn note(&mut self, alloc: Global, stream: &mut Stream) -> Result<(), NoMemory> {
+        let tokens = tokens(alloc, &mut self.numbers, self.keys)?;
+        if stream.agrees(&mut self.index, tokens)? {
+            self.agreed = self.agreed.saturating_add(1);
+        }
+        Ok(())
+    }
+
+    /// Notes so many transactions: of each three the first in the one stream, the second in the other, the third in both.
+    fn note_all(
+        &mut self,
+        alloc: Global,
+        count: u64,
+        first: &mut Stream,
+        second: &mut Stream,
+    ) -> Result<(), NoMemory> {
+        for number in 0..count {
+            if number % 3 != 1 {
+                self.note(alloc, first)?;
+            }
+            if number % 3 != 0 {
+                self.note(alloc, second)?;
+            }
+        }
+        Ok(())
+    }
+}
+
+/// How many notes agree with the scans of the streams to two sites.
+fn compared_for(
+    alloc: Global,
+    sites: [SiteName; 2],
+    count: u64,
+    keys: u64,
+) -> Result<u64, NoMemory> {
+    let mut comparison = Comparison::new(alloc, &sites, keys)?;
+    let mut first = Stream::new(alloc, sites[0]);
+    let mut second = Stream::new(alloc, sites[1]);
+    comparison.note_all(alloc, count, &mut first, &mut second)?;
+    Ok(comparison.agreed)
 }
 
 /// How many notes of so many transactions agree, over so many keys; every third transaction goes to both of two sites.
 pub fn compared(alloc: Global, count: u64, keys: u64) -> Result<Option<u64>, NoMemory> {
-    let (Some(b), Some(c)) = (Name::of(b"B"), Name::of(b"C")) else {
-        return Ok(None);
-    };
-    let (b, c) = (SiteName(b), SiteName(c));
-    let mut index = Index::make(alloc, &[b, c])?;
-    let (mut to_b, mut to_c) = (Vec::new(alloc), Vec::new(alloc));
-    let mut numbers = Numbers { state: 1 };
-    let mut agreed = 0u64;
-    for number in 0..count {
-        if number % 3 != 1
-            && agrees(
-                &mut index,
-                &b,
-                &mut to_b,
-                tokens(alloc, &mut numbers, keys)?,
-            )?
-        {
-            agreed = agreed.saturating_add(1);
+    match (Name::of(b"B"), Name::of(b"C")) {
+        (Some(b), Some(c)) => {
+            let sites = [SiteName(b), SiteName(c)];
+            Ok(Some(compared_for(alloc, sites, count, keys)?))
         }
-        if number % 3 != 0
-            && agrees(
-                &mut index,
-                &c,
-                &mut to_c,
-                tokens(alloc, &mut numbers, keys)?,
-            )?
-        {
-            agreed = agreed.saturating_add(1);
-        }
+        _ => Ok(None),
     }
-    Ok(Some(agreed))
 }
