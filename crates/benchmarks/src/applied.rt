@@ -1,6 +1,7 @@
 //! Applied transactions of one update each.
 
 use crate::applied_runs::{Bench, filled, updated};
+use crate::asked::{read_numbers, told_run};
 use crate::stock::stock;
 use anyhow::{Context, Result};
 use case_lines::CaseStop;
@@ -31,11 +32,6 @@ fn transactions_applied(alloc: Global, rows: u64, count: u64) -> Result<u64, Cas
 /// What comes of the rows and the number of transactions that are asked for.
 pub fn told(alloc: Global, asked: &str) -> Result<String> {
     let (rows, count) = asked.split_once(' ').context("rows and transactions")?;
-    let rows = rows.parse::<u64>().context("a number of rows")?;
-    let count = count.parse::<u64>().context("a number of transactions")?;
-    match transactions_applied(alloc, rows, count) {
-        Ok(run) => Ok(format!(in alloc; "{rows} rows: {run} of {count} transactions")?),
-        Err(CaseStop::NoCase) => Ok(format!(in alloc; "no table")?),
-        Err(CaseStop::Memory) => Ok(format!(in alloc; "no memory")?),
-    }
+    let (rows, count) = read_numbers(rows, count)?;
+    told_run(alloc, rows, count, transactions_applied(alloc, rows, count))
 }

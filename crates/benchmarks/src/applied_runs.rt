@@ -8,8 +8,8 @@ ghost use Rattle.txn_effects.specs.Calls.{HasKeys, KeysStandAlone};
 use case_lines::{CaseStop, Words, read_call};
 use conflict_detect::fits;
 use page_tables::PageTables;
-use rep_calls::Txn;
-use rep_lists::Items;
+use rep_calls::{Call, Txn};
+use rep_lists::{Items, NoMemory};
 use rep_schema::{RowStore, Schema};
 use rep_values::{Name, SiteName};
 use script_lex::lex;
@@ -34,13 +34,39 @@ impl Bench {
     }
 }
 
-/// A transaction of one call.
+fn txn_of_call(alloc: Global, call: Call) -> Result<Txn, NoMemory> {
+    let mut calls = Items::new(alloc);
+    calls.push(call)?;
+    Txn::of(alloc, calls)
+}
+
+/// A transaction of the call that a line is.
 fn txn_of(alloc: Global, line: &str) -> Result<Txn, CaseStop> {
     let tokens = lex(alloc, line.as_bytes())?;
-    let mut calls = Items::new(alloc);
-    calls.push(read_call(alloc, &mut Words::of(tokens.as_slice()))?)?;
-    let txn = Txn::of(alloc, calls)?;
-    Ok(txn)
+    let call = read_call(alloc, &mut Words::of(tokens.as_slice()))?;
+    Ok(txn_of_call(alloc, call)?)
+}
+
+/// An insert of the row of a number.
+fn insert(bench: &Bench, row: u64) -> Result<Txn, CaseStop> {
+    let line = format!(in bench.alloc; "insert 0 : 'A' {row} 1000 12344 'n12344'")?;
+    txn_of(bench.alloc, &line)
+}
+
+/// An update of the row of a number to other values.
+fn update_there(bench: &Bench, row: u64) -> Result<Txn, CaseStop> {
+    let line = format!(in bench.alloc;
+        "update 0 : 'A' {row}, 0 : 1000 > 1003, 1 : 12344 > 12345, 2 : 'n12344' > 'n12345'"
+    )?;
+    txn_of(bench.alloc, &line)
+}
+
+/// An update of the row of a number from those values back.
+fn update_back(bench: &Bench, row: u64) -> Result<Txn, CaseStop> {
+    let line = format!(in bench.alloc;
+        "update 0 : 'A' {row}, 0 : 1003 > 1000, 1 : 12345 > 12344, 2 : 'n12345' > 'n12344'"
+    )?;
+    txn_of(bench.alloc, &line)
 }
 
 /// Whether a transaction fits the schema and has few calls.
@@ -108,8 +134,7 @@ pub fn filled(
     ensures counted { AreCounters store.old.schema counters.new }
 {
     for row in 0..rows {
-        let line = format!(in bench.alloc; "insert 0 : 'A' {row} 1000 12344 'n12344'")?;
-        let txn = txn_of(bench.alloc, &line)?;
+        let txn = insert(bench, row)?;
         if !can_be_applied(store.schema(), &txn) {
             return Err(CaseStop::NoCase);
         }
@@ -135,20 +160,14 @@ pub fn updated(
     requires counters { AreCounters store.old.schema counters.old }
 {
     let row = rows / 2;
-    let up = format!(in bench.alloc;
-        "update 0 : 'A' {row}, 0 : 1000 > 1003, 1 : 12344 > 12345, 2 : 'n12344' > 'n12345'"
-    )?;
-    let down = format!(in bench.alloc;
-        "update 0 : 'A' {row}, 0 : 1003 > 1000, 1 : 12345 > 12344, 2 : 'n12345' > 'n12344'"
-    )?;
-    let up = txn_of(bench.alloc, &up)?;
-    let down = txn_of(bench.alloc, &down)?;
-    if !can_be_applied(store.schema(), &up) || !can_be_applied(store.schema(), &down) {
+    let there = update_there(bench, row)?;
+    let back = update_back(bench, row)?;
+    if !can_be_applied(store.schema(), &there) || !can_be_applied(store.schema(), &back) {
         return Err(CaseStop::NoCase);
     }
     let mut applied: u64 = 0;
     for number in 0..count {
-        if is_turn_applied(store, counters, bench, &up, &down, number) {
+        if is_turn_applied(store, counters, bench, &there, &back, number) {
             applied = applied.saturating_add(1);
         }
     }

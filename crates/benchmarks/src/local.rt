@@ -1,5 +1,6 @@
 //! Local transactions of one update each.
 
+use crate::asked::{read_numbers, told_run};
 use crate::local_runs::{Bench, filled, updated};
 use crate::stock::stock;
 use anyhow::{Context, Result};
@@ -29,11 +30,6 @@ fn transactions_run(alloc: Global, rows: u64, count: u64) -> Result<u64, CaseSto
 /// What comes of the rows and the number of transactions that are asked for.
 pub fn told(alloc: Global, asked: &str) -> Result<String> {
     let (rows, count) = asked.split_once(' ').context("rows and transactions")?;
-    let rows = rows.parse::<u64>().context("a number of rows")?;
-    let count = count.parse::<u64>().context("a number of transactions")?;
-    match transactions_run(alloc, rows, count) {
-        Ok(run) => Ok(format!(in alloc; "{rows} rows: {run} of {count} transactions")?),
-        Err(CaseStop::NoCase) => Ok(format!(in alloc; "no table")?),
-        Err(CaseStop::Memory) => Ok(format!(in alloc; "no memory")?),
-    }
+    let (rows, count) = read_numbers(rows, count)?;
+    told_run(alloc, rows, count, transactions_run(alloc, rows, count))
 }

@@ -40,6 +40,28 @@ fn statement(alloc: Global, line: &str) -> Result<Statement, CaseStop> {
     read_statement(alloc, &mut Words::of(tokens.as_slice()))
 }
 
+/// An insert of the row of a number.
+fn insert(bench: &Bench, row: u64) -> Result<Statement, CaseStop> {
+    let line = format!(in bench.alloc; "insert STOCK 'A' {row} 1000 0 'base'")?;
+    statement(bench.alloc, &line)
+}
+
+/// An update of the row of a number to other values.
+fn update_there(bench: &Bench, row: u64) -> Result<Statement, CaseStop> {
+    let line = format!(in bench.alloc;
+        "update STOCK 'A' {row} : QTY + 3, TOP = 12345, NAME = 'n12345'"
+    )?;
+    statement(bench.alloc, &line)
+}
+
+/// An update of the row of a number from those values back.
+fn update_back(bench: &Bench, row: u64) -> Result<Statement, CaseStop> {
+    let line = format!(in bench.alloc;
+        "update STOCK 'A' {row} : QTY + -3, TOP = 12344, NAME = 'n12344'"
+    )?;
+    statement(bench.alloc, &line)
+}
+
 /// Whether the block ran.
 fn run(store: &mut PageTables, bench: &mut Bench, block: &[Statement]) -> bool
     requires shape { HasShape store.old.schema }
@@ -58,8 +80,7 @@ pub fn filled(store: &mut PageTables, bench: &mut Bench, rows: u64) -> Result<()
     ensures { store.new.schema ≡ store.old.schema }
 {
     for row in 0..rows {
-        let line = format!(in bench.alloc; "insert STOCK 'A' {row} 1000 0 'base'")?;
-        let block = [statement(bench.alloc, &line)?];
+        let block = [insert(bench, row)?];
         if !run(store, bench, &block) {
             return Err(CaseStop::NoCase);
         }
@@ -79,16 +100,7 @@ pub fn updated(
     requires apart { KeysStandAlone store.old.schema }
 {
     let row = rows / 2;
-    let up = format!(in bench.alloc;
-        "update STOCK 'A' {row} : QTY + 3, TOP = 12345, NAME = 'n12345'"
-    )?;
-    let down = format!(in bench.alloc;
-        "update STOCK 'A' {row} : QTY + -3, TOP = 12344, NAME = 'n12344'"
-    )?;
-    let blocks = [
-        [statement(bench.alloc, &up)?],
-        [statement(bench.alloc, &down)?],
-    ];
+    let blocks = [[update_there(bench, row)?], [update_back(bench, row)?]];
     let mut run_well: u64 = 0;
     for number in 0..count {
         if run(store, bench, &blocks[(number % 2) as usize]) {

@@ -7,6 +7,7 @@
 
 mod applied;
 mod applied_runs;
+mod asked;
 mod local;
 mod local_runs;
 mod notes;
@@ -16,28 +17,38 @@ mod sample;
 mod stock;
 
 use anyhow::{Context, Result};
+use asked::text;
 use std::alloc::Global;
+
+/// What comes of what is asked under a name.
+fn told_under(alloc: Global, name: &str, asked: &str) -> Result<String> {
+    match name {
+        "packet" => packets::told(alloc, asked),
+        "notes" => notes::told(alloc, asked),
+        "local" => local::told(alloc, asked),
+        "applied" => applied::told(alloc, asked),
+        _ => text(alloc, "nothing is measured under this name"),
+    }
+}
 
 /// What comes of a line.
 fn told(alloc: Global, line: &str) -> Result<String> {
     let (name, asked) = line
         .split_once(' ')
         .context("what is measured, and how often")?;
-    match name {
-        "packet" => packets::told(alloc, asked),
-        "notes" => notes::told(alloc, asked),
-        "local" => local::told(alloc, asked),
-        "applied" => applied::told(alloc, asked),
-        _ => Ok(format!(in alloc; "nothing is measured under this name")?),
-    }
+    told_under(alloc, name, asked)
+}
+
+/// Prints what comes of a line.
+fn answer(rt: &HostRuntime, line: &str) -> Result<()> {
+    let told = told(rt.alloc(), line)?;
+    println!(rt; "{told}")?;
+    Ok(())
 }
 
 fn main(rt: HostRuntime) -> Result<()> {
-    let alloc = rt.alloc();
-    for line in rt.lines(alloc) {
-        let line = line?;
-        let told = told(alloc, &line)?;
-        println!(rt; "{told}")?;
+    for line in rt.lines(rt.alloc()) {
+        answer(&rt, &line?)?;
     }
     Ok(())
 }

@@ -1,5 +1,6 @@
 //! Transactions of one row each, noted in an index of dependencies.
 
+use crate::asked::{read_numbers, text};
 use anyhow::{Context, Result};
 use dependency_index::{Index, Token, Tokens};
 use rep_lists::{Items, NoMemory};
@@ -39,6 +40,23 @@ fn note_next(index: &mut Index, to: &SiteName, tokens: &Tokens) -> Result<u64, N
     }
 }
 
+/// Notes so many transactions, and gives the last one's dependency number.
+fn note_all(
+    alloc: Global,
+    index: &mut Index,
+    to: &SiteName,
+    keys: u64,
+    notes: u64,
+) -> Result<u64, NoMemory> {
+    let mut last = 0;
+    for number in 0..notes {
+        if let Some(tokens) = tokens(alloc, keys, number)? {
+            last = note_next(index, to, &tokens)?;
+        }
+    }
+    Ok(last)
+}
+
 /// The last of so many transactions' dependency numbers.
 fn last_number(alloc: Global, keys: u64, notes: u64) -> Result<u64, NoMemory> {
     let Some(name) = Name::of(b"B") else {
@@ -46,22 +64,19 @@ fn last_number(alloc: Global, keys: u64, notes: u64) -> Result<u64, NoMemory> {
     };
     let to = SiteName(name);
     let mut index = Index::make(alloc, &[to])?;
-    let mut last = 0;
-    for number in 0..notes {
-        if let Some(tokens) = tokens(alloc, keys, number)? {
-            last = note_next(&mut index, &to, &tokens)?;
-        }
-    }
-    Ok(last)
+    note_all(alloc, &mut index, &to, keys, notes)
+}
+
+fn told_last(alloc: Global, keys: u64, notes: u64, last: u64) -> Result<String> {
+    Ok(format!(in alloc; "rows {keys}, notes {notes}, last dependency {last}")?)
 }
 
 /// What comes of the rows and the number of transactions that are asked for.
 pub fn told(alloc: Global, asked: &str) -> Result<String> {
     let (keys, notes) = asked.split_once(' ').context("two numbers")?;
-    let keys = keys.parse::<u64>().context("a number of rows")?;
-    let notes = notes.parse::<u64>().context("a number of transactions")?;
+    let (keys, notes) = read_numbers(keys, notes)?;
     match last_number(alloc, keys, notes) {
-        Ok(last) => Ok(format!(in alloc; "rows {keys}, notes {notes}, last dependency {last}")?),
-        Err(NoMemory) => Ok(format!(in alloc; "no memory")?),
+        Ok(last) => told_last(alloc, keys, notes, last),
+        Err(NoMemory) => text(alloc, "no memory"),
     }
 }
