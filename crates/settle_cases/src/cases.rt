@@ -1,15 +1,15 @@
 //! The lines of the cases, one after the other.
-ghost use Rattle.std.specs.Prelude.{◌<◌, length, IfSome};
+ghost use Rattle.std.specs.Prelude.{◌<◌, length, IfOk};
 ghost use Rattle.rep_schema.specs.Shape.{HasShape};
 ghost use Rattle.settle_cases.specs.Single.{HasShape-prop};
 
-use crate::shown::found;
+use crate::shown::{found, told_number, told_rule, told_stamps};
 use crate::site::Site;
 use case_lines::{CaseStop, Words, declare, read_call, read_statement};
 use rep_calls::{Call, Statement, Txn};
 use rep_lists::{Copies, Items};
 use rep_schema::Schema;
-use rep_values::{ApplyError, Refusal, Row, SiteName};
+use rep_values::{ApplyError, Name, Refusal, Row, SiteName};
 use script_lex::lex;
 use std::alloc::Global;
 use std::mem;
@@ -27,10 +27,56 @@ pub struct Cases {
 }
 
 /// The place of the site of this name.
-fn place_of(sites: &[Site], name: &SiteName) -> Option<usize>
-    ensures { IfSome result (λ place. place < length sites.now) }
+fn place_of(sites: &[Site], name: &SiteName) -> Result<usize, CaseStop>
+    ensures { IfOk result (λ place. place < length sites.now) }
 {
-    sites.iter().position(|site| site.name.is_same(name))
+    sites
+        .iter()
+        .position(|site| site.name.is_same(name))
+        .ok_or(CaseStop::NoCase)
+}
+
+/// The name of a site, up to the end of the line.
+fn read_site(words: &mut Words) -> Result<SiteName, CaseStop> {
+    let name = words.site()?;
+    words.end()?;
+    Ok(name)
+}
+
+/// The names of two sites, up to the end of the line.
+fn read_two_sites(words: &mut Words) -> Result<(SiteName, SiteName), CaseStop> {
+    let first = words.site()?;
+    let second = words.site()?;
+    words.end()?;
+    Ok((first, second))
+}
+
+/// `snapshot`, or nothing at a master, up to the end of the line.
+fn read_is_master(words: &mut Words) -> Result<bool, CaseStop> {
+    if words.is_done() {
+        return Ok(true);
+    }
+    if words.word()? != b"snapshot".as_slice() {
+        return Err(CaseStop::NoCase);
+    }
+    words.end()?;
+    Ok(false)
+}
+
+/// The row of the values that come next; none where nothing is left.
+fn read_row(alloc: Global, words: &mut Words) -> Result<Option<Row>, CaseStop> {
+    if words.is_done() {
+        return Ok(None);
+    }
+    Ok(Some(words.row(alloc)?))
+}
+
+/// Why a declaration was refused; None where it was added.
+fn told_declared(alloc: Global, refused: Option<&Refusal>) -> Result<Option<String>, CaseStop> {
+    match refused {
+        None => Ok(None),
+        Some(refusal) => Ok(Some(told_number(alloc, refusal)?)),
+    }
 }
 
 impl Cases {
@@ -53,36 +99,51 @@ impl Cases {
         if let Some(Refusal::StillFails(ApplyError::NoRow)) = refused {
             return Err(CaseStop::NoCase);
         }
-        match refused {
-            None => Ok(None),
-            Some(refusal) => {
-                let number = refusal.number();
-                Ok(Some(format!(in alloc; "refused: {number}")?))
+        told_declared(alloc, refused.as_ref())
+    }
+
+    /// Adds a site of each of these names with empty tables, and gives the rule that the schema breaks, if any.
+    fn make_sites(
+        &self,
+        alloc: Global,
+        sites: &mut Vec<Site>,
+        names: &[Name],
+    ) -> Result<Option<u8>, CaseStop> {
+        for name in names {
+            match Site::make(alloc, SiteName(*name), &self.schema)? {
+                Ok(site) => sites.push(site)?,
+                Err(rule) => return Ok(Some(rule)),
             }
         }
+        Ok(None)
     }
 
     /// The sites of these names with empty tables, in the place of those before.
-    fn opened(&mut self, alloc: Global, words: &mut Words) -> Result<Option<String>, CaseStop> {
-        let names = words.names(alloc)?;
-        words.end()?;
+    fn open(&mut self, alloc: Global, names: &[Name]) -> Result<Option<String>, CaseStop> {
         let mut sites = Vec::new(alloc);
-        for name in names.as_slice() {
-            match Site::make(alloc, SiteName(*name), &self.schema)? {
-                Ok(site) => sites.push(site)?,
-                Err(rule) => return Ok(Some(format!(in alloc; "broken rule {rule}")?)),
-            }
+        if let Some(rule) = self.make_sites(alloc, &mut sites, names)? {
+            return Ok(Some(told_rule(alloc, rule)?));
         }
         self.sites = sites;
         Ok(None)
     }
 
+    fn opened(&mut self, alloc: Global, words: &mut Words) -> Result<Option<String>, CaseStop> {
+        let names = words.names(alloc)?;
+        words.end()?;
+        self.open(alloc, names.as_slice())
+    }
+
+    /// The calls that are kept, as a transaction; none is kept any more.
+    fn take_calls(&mut self, alloc: Global) -> Result<Txn, CaseStop> {
+        let calls = mem::replace(&mut self.calls, Vec::new(alloc));
+        Ok(Txn::of(alloc, Items::from_vec(calls))?)
+    }
+
     /// The calls that are kept, applied at the first site from an origin, which is the second name.
     fn applied(&mut self, alloc: Global, words: &mut Words) -> Result<Option<String>, CaseStop> {
-        let (name, origin) = (words.site()?, words.site()?);
-        words.end()?;
-        let calls = mem::replace(&mut self.calls, Vec::new(alloc));
-        let txn = Txn::of(alloc, Items::from_vec(calls))?;
+        let (name, origin) = read_two_sites(words)?;
+        let txn = self.take_calls(alloc)?;
         self.applied_at(alloc, &name, &origin, &txn)
     }
 
@@ -93,94 +154,101 @@ impl Cases {
         origin: &SiteName,
         txn: &Txn,
     ) -> Result<Option<String>, CaseStop> {
-        let Some(place) = place_of(&self.sites, name) else {
-            return Err(CaseStop::NoCase);
-        };
+        let place = place_of(&self.sites, name)?;
         let outcome = self.sites[place].apply(alloc, origin, txn)?;
         Ok(Some(outcome))
     }
 
+    /// The last committed transaction.
+    fn last_txn(&self, alloc: Global) -> Result<Txn, CaseStop> {
+        match &self.last {
+            Some(last) => Ok(last.copy(alloc)?),
+            None => Err(CaseStop::NoCase),
+        }
+    }
+
     /// The last committed transaction, applied at the first site from an origin, which is the second name.
     fn delivered(&mut self, alloc: Global, words: &mut Words) -> Result<Option<String>, CaseStop> {
-        let (name, origin) = (words.site()?, words.site()?);
-        words.end()?;
-        let Some(last) = &self.last else {
-            return Err(CaseStop::NoCase);
-        };
-        let txn = last.copy(alloc)?;
+        let (name, origin) = read_two_sites(words)?;
+        let txn = self.last_txn(alloc)?;
         self.applied_at(alloc, &name, &origin, &txn)
     }
 
     /// The statements that are kept, run at a site.
     fn run(&mut self, alloc: Global, words: &mut Words) -> Result<Option<String>, CaseStop> {
         let name = words.site()?;
-        let is_master = words.is_done();
-        if !is_master && words.word()? != b"snapshot".as_slice() {
-            return Err(CaseStop::NoCase);
-        }
-        words.end()?;
+        let is_master = read_is_master(words)?;
         let statements = mem::replace(&mut self.statements, Vec::new(alloc));
-        let Some(place) = place_of(&self.sites, &name) else {
-            return Err(CaseStop::NoCase);
-        };
-        let (outcome, txn) = self.sites[place].run(alloc, is_master, &statements)?;
+        self.run_at(alloc, &name, is_master, &statements)
+    }
+
+    fn run_at(
+        &mut self,
+        alloc: Global,
+        name: &SiteName,
+        is_master: bool,
+        statements: &[Statement],
+    ) -> Result<Option<String>, CaseStop> {
+        let place = place_of(&self.sites, name)?;
+        let (outcome, txn) = self.sites[place].run(alloc, is_master, statements)?;
         self.last = txn;
         Ok(Some(outcome))
     }
 
     /// Sets the clock of a site.
     fn clocked(&mut self, words: &mut Words) -> Result<Option<String>, CaseStop> {
-        let (name, clock) = (words.site()?, words.whole()?);
+        let name = words.site()?;
+        let clock = words.whole()?;
         words.end()?;
-        let Some(place) = place_of(&self.sites, &name) else {
-            return Err(CaseStop::NoCase);
-        };
+        self.set_clock(&name, clock)
+    }
+
+    fn set_clock(&mut self, name: &SiteName, clock: u64) -> Result<Option<String>, CaseStop> {
+        let place = place_of(&self.sites, name)?;
         self.sites[place].stamps.clock = clock;
         Ok(None)
     }
 
     /// The clock of a site, and its last stamp.
     fn stamps(&self, alloc: Global, words: &mut Words) -> Result<Option<String>, CaseStop> {
-        let name = words.site()?;
-        words.end()?;
-        let Some(place) = place_of(&self.sites, &name) else {
-            return Err(CaseStop::NoCase);
-        };
-        let stamps = self.sites[place].stamps;
-        Ok(Some(format!(in alloc; "clock {}, last {}", stamps.clock, stamps.last)?))
+        let name = read_site(words)?;
+        let place = place_of(&self.sites, &name)?;
+        Ok(Some(told_stamps(alloc, &self.sites[place].stamps)?))
     }
 
     /// The row of an insert, put into the tables of a site as a base row.
     fn base(&mut self, alloc: Global, words: &mut Words) -> Result<Option<String>, CaseStop> {
         let name = words.site()?;
-        let Statement::Insert { table, values } = read_statement(alloc, words)? else {
+        let statement = read_statement(alloc, words)?;
+        self.put_base(alloc, &name, &statement)
+    }
+
+    fn put_base(
+        &mut self,
+        alloc: Global,
+        name: &SiteName,
+        statement: &Statement,
+    ) -> Result<Option<String>, CaseStop> {
+        let Statement::Insert { table, values } = statement else {
             return Err(CaseStop::NoCase);
         };
-        let Some(place) = place_of(&self.sites, &name) else {
-            return Err(CaseStop::NoCase);
-        };
-        let outcome = self.sites[place].put_base(alloc, &table, values.as_slice())?;
+        let place = place_of(&self.sites, name)?;
+        let outcome = self.sites[place].put_base(alloc, table, values.as_slice())?;
         Ok(Some(outcome))
     }
 
     /// The base rows of the first site, filled in for the site of the second name.
     fn filled(&mut self, words: &mut Words) -> Result<Option<String>, CaseStop> {
-        let (name, site) = (words.site()?, words.site()?);
-        words.end()?;
-        let Some(place) = place_of(&self.sites, &name) else {
-            return Err(CaseStop::NoCase);
-        };
+        let (name, site) = read_two_sites(words)?;
+        let place = place_of(&self.sites, &name)?;
         self.sites[place].fill_base(&site)?;
         Ok(None)
     }
 
     /// The rows of a site.
     fn rows(&self, alloc: Global, words: &mut Words) -> Result<Option<String>, CaseStop> {
-        let name = words.site()?;
-        words.end()?;
-        let Some(place) = place_of(&self.sites, &name) else {
-            return Err(CaseStop::NoCase);
-        };
+        let name = read_site(words)?;
+        let place = place_of(&self.sites, &name)?;
         Ok(Some(self.sites[place].rows(alloc)?))
     }
 
@@ -189,16 +257,22 @@ impl Cases {
         Ok(None)
     }
 
+    /// Keeps the last statement once more.
+    fn repeat(&mut self, alloc: Global) -> Result<(), CaseStop> {
+        let Some(statement) = self.statements.last() else {
+            return Err(CaseStop::NoCase);
+        };
+        let statement = statement.copy(alloc)?;
+        self.statements.push(statement)?;
+        Ok(())
+    }
+
     /// The last statement, so many times more.
     fn again(&mut self, alloc: Global, words: &mut Words) -> Result<Option<String>, CaseStop> {
         let count = words.whole()?;
         words.end()?;
         for _ in 0..count {
-            let Some(statement) = self.statements.last() else {
-                return Err(CaseStop::NoCase);
-            };
-            let statement = statement.copy(alloc)?;
-            self.statements.push(statement)?;
+            self.repeat(alloc)?;
         }
         Ok(None)
     }
@@ -210,11 +284,7 @@ impl Cases {
 
     /// The row beside which calls are held from now on; none where the line has no value.
     fn beside(&mut self, alloc: Global, words: &mut Words) -> Result<Option<String>, CaseStop> {
-        if words.is_done() {
-            self.row = None;
-        } else {
-            self.row = Some(words.row(alloc)?);
-        }
+        self.row = read_row(alloc, words)?;
         words.end()?;
         Ok(None)
     }
@@ -231,32 +301,50 @@ impl Cases {
         Ok(None)
     }
 
-    /// What a line does; None where it tells nothing.
-    pub fn outcome(&mut self, alloc: Global, line: &str) -> Result<Option<String>, CaseStop> {
-        let (kind, rest) = match line.split_once(' ') {
-            Some((kind, rest)) => (kind, rest),
-            None => (line, ""),
-        };
-        let tokens = lex(alloc, rest.as_bytes())?;
-        let mut words = Words::of(tokens.as_slice());
+    /// What a line does that makes, fills or shows sites.
+    fn site_outcome(
+        &mut self,
+        alloc: Global,
+        kind: &str,
+        words: &mut Words,
+    ) -> Result<Option<String>, CaseStop> {
         match kind {
-            "new" => self.forgotten(alloc, &mut words),
-            "declare" => self.declared(alloc, &mut words),
-            "open" => self.opened(alloc, &mut words),
-            "call" => self.call(alloc, &mut words),
-            "apply" => self.applied(alloc, &mut words),
-            "statement" => self.statement(alloc, &mut words),
-            "again" => self.again(alloc, &mut words),
-            "run" => self.run(alloc, &mut words),
-            "deliver" => self.delivered(alloc, &mut words),
-            "clock" => self.clocked(&mut words),
-            "stamps" => self.stamps(alloc, &mut words),
-            "base" => self.base(alloc, &mut words),
-            "fill" => self.filled(&mut words),
-            "rows" => self.rows(alloc, &mut words),
-            "beside" => self.beside(alloc, &mut words),
-            "detect" => self.detected(alloc, &mut words),
+            "open" => self.opened(alloc, words),
+            "clock" => self.clocked(words),
+            "stamps" => self.stamps(alloc, words),
+            "base" => self.base(alloc, words),
+            "fill" => self.filled(words),
+            "rows" => self.rows(alloc, words),
             _ => Err(CaseStop::NoCase),
         }
+    }
+
+    /// What a line of this kind does; None where it tells nothing.
+    fn outcome_of(
+        &mut self,
+        alloc: Global,
+        kind: &str,
+        words: &mut Words,
+    ) -> Result<Option<String>, CaseStop> {
+        match kind {
+            "new" => self.forgotten(alloc, words),
+            "declare" => self.declared(alloc, words),
+            "call" => self.call(alloc, words),
+            "apply" => self.applied(alloc, words),
+            "statement" => self.statement(alloc, words),
+            "again" => self.again(alloc, words),
+            "run" => self.run(alloc, words),
+            "deliver" => self.delivered(alloc, words),
+            "beside" => self.beside(alloc, words),
+            "detect" => self.detected(alloc, words),
+            kind => self.site_outcome(alloc, kind, words),
+        }
+    }
+
+    /// What a line does; None where it tells nothing.
+    pub fn outcome(&mut self, alloc: Global, line: &str) -> Result<Option<String>, CaseStop> {
+        let (kind, rest) = line.split_once(' ').unwrap_or((line, ""));
+        let tokens = lex(alloc, rest.as_bytes())?;
+        self.outcome_of(alloc, kind, &mut Words::of(tokens.as_slice()))
     }
 }

@@ -17,21 +17,37 @@ use anyhow::Result;
 use case_lines::CaseStop;
 use cases::Cases;
 
-fn main(rt: HostRuntime) -> Result<()> {
-    let alloc = rt.alloc();
-    let mut cases = Cases::new(alloc);
-    for line in rt.lines(alloc) {
-        let line = line?;
-        if line.is_empty() || line.starts_with('#') {
-            println!(rt; "{line}")?;
-            continue;
-        }
-        match cases.outcome(alloc, &line) {
-            Ok(Some(outcome)) => println!(rt; "{outcome}")?,
-            Ok(None) => {}
-            Err(CaseStop::NoCase) => println!(rt; "no case")?,
-            Err(CaseStop::Memory) => println!(rt; "no memory")?,
-        }
+fn echo(rt: &HostRuntime, line: &str) -> Result<()> {
+    println!(rt; "{line}")?;
+    Ok(())
+}
+
+fn tell(rt: &HostRuntime, outcome: Result<Option<String>, CaseStop>) -> Result<()> {
+    match outcome {
+        Ok(Some(outcome)) => println!(rt; "{outcome}")?,
+        Ok(None) => {}
+        Err(CaseStop::NoCase) => println!(rt; "no case")?,
+        Err(CaseStop::Memory) => println!(rt; "no memory")?,
     }
     Ok(())
+}
+
+/// Prints the outcome of a line.
+fn answer(rt: &HostRuntime, cases: &mut Cases, line: &str) -> Result<()> {
+    if line.is_empty() || line.starts_with('#') {
+        return echo(rt, line);
+    }
+    tell(rt, cases.outcome(rt.alloc(), line))
+}
+
+fn answer_all(rt: &HostRuntime, cases: &mut Cases) -> Result<()> {
+    for line in rt.lines(rt.alloc()) {
+        answer(rt, cases, &line?)?;
+    }
+    Ok(())
+}
+
+fn main(rt: HostRuntime) -> Result<()> {
+    let mut cases = Cases::new(rt.alloc());
+    answer_all(&rt, &mut cases)
 }

@@ -3,7 +3,7 @@ ghost use Rattle.rep_schema.specs.Shape.{HasShape};
 ghost use Rattle.settle_cases.specs.Served.{IsServed};
 ghost use Rattle.settle_cases.specs.Single.{IsServed-prop};
 
-use crate::shown::{push_error, push_name_of};
+use crate::shown::{text, told_changed, told_committed, told_error, told_refusal, told_stop};
 use case_lines::{CaseStop, push_row};
 use conflict_detect::fits;
 use local_txn::{Here, Stamps, fill_base_rows, put_base_row, run_local, sound_schemas_fill_freely};
@@ -11,12 +11,20 @@ use rep_calls::{Statement, Txn};
 use rep_laws::sound_schemas_have_keys;
 use rep_lists::{Copies, NoMemory};
 use rep_schema::{RowStore, Schema, TableSet};
-use rep_values::{Literal, SiteName, TableName};
+use rep_values::{Literal, Row, SiteName, TableName};
 use row_tables::ListTables;
 use schema_rules::check;
 use std::alloc::Global;
 use txn_apply::{ApplyStop, apply_txn};
 use unique_resolve::Counters;
+
+/// A row between brackets.
+fn push_row_within(alloc: Global, out: &mut String, row: &Row) -> Result<(), CaseStop> {
+    out.push_str(" (")?;
+    push_row(out, alloc, row)?;
+    out.push_str(" )")?;
+    Ok(())
+}
 
 /// A site with the tables of a sound schema.
 #[derive(Drop)]
@@ -58,23 +66,14 @@ impl Site {
         origin: &SiteName,
         txn: &Txn,
     ) -> Result<String, CaseStop> {
-        let mut out = String::new(alloc);
         if txn.calls.len() > 1_000 || !fits(self.store.schema(), txn) {
-            out.push_str("no fit")?;
-            return Ok(out);
+            return text(alloc, "no fit");
         }
         match apply_txn(alloc, &mut self.store, &mut self.counters, origin, txn) {
-            Ok(applied) => {
-                let changed = applied.changes.rows.len();
-                out.push_str(&format!(in alloc; "applied, {changed} changed")?)?;
-            }
-            Err(ApplyStop::Failed { call, error }) => {
-                out.push_str(&format!(in alloc; "call {call}:")?)?;
-                push_error(&mut out, &error)?;
-            }
-            Err(ApplyStop::Memory) => return Err(CaseStop::Memory),
+            Ok(applied) => told_changed(alloc, applied.changes.rows.len()),
+            Err(ApplyStop::Failed { call, error }) => told_error(alloc, call, &error),
+            Err(ApplyStop::Memory) => Err(CaseStop::Memory),
         }
-        Ok(out)
     }
 
     /// Runs a block of statements at the site, which holds the first three tables, and tells what came of it.
@@ -84,7 +83,6 @@ impl Site {
         is_master: bool,
         statements: &[Statement],
     ) -> Result<(String, Option<Txn>), CaseStop> {
-        let mut out = String::new(alloc);
         let here = Here {
             site: self.name,
             is_master,
@@ -92,15 +90,10 @@ impl Site {
         };
         match run_local(alloc, &mut self.store, &mut self.stamps, &here, statements) {
             Ok(local) => {
-                out.push_str(&format!(in alloc; "committed, {} calls", local.txn.calls.len())?)?;
-                Ok((out, Some(local.txn)))
+                let outcome = told_committed(alloc, local.txn.calls.len())?;
+                Ok((outcome, Some(local.txn)))
             }
-            Err(stop) => {
-                let (statement, number) = (stop.statement, stop.refusal.number());
-                out.push_str(&format!(in alloc; "statement {statement} refused: {number}")?)?;
-                push_name_of(&mut out, &stop.refusal)?;
-                Ok((out, None))
-            }
+            Err(stop) => Ok((told_stop(alloc, &stop)?, None)),
         }
     }
 
@@ -111,15 +104,10 @@ impl Site {
         table: &TableName,
         values: &[Literal],
     ) -> Result<String, CaseStop> {
-        let mut out = String::new(alloc);
         match put_base_row(alloc, &mut self.store, table, values) {
-            Ok(()) => out.push_str("put")?,
-            Err(refusal) => {
-                out.push_str(&format!(in alloc; "refused: {}", refusal.number())?)?;
-                push_name_of(&mut out, &refusal)?;
-            }
+            Ok(()) => text(alloc, "put"),
+            Err(refusal) => told_refusal(alloc, &refusal),
         }
-        Ok(out)
     }
 
     /// Fills in what a site of this name fills of all rows.
@@ -139,25 +127,29 @@ impl Site {
         }
         for place in 0..self.store.count(table) {
             if let Some(row) = self.store.row_in_order(table, place) {
-                out.push_str(" (")?;
-                push_row(out, alloc, row)?;
-                out.push_str(" )")?;
+                push_row_within(alloc, out, row)?;
             }
         }
         Ok(())
     }
 
     /// The rows of the first three tables, of the third only where there is one.
-    pub fn rows(&self, alloc: Global) -> Result<String, CaseStop> {
-        let mut out = String::new(alloc);
+    fn push_tables(&self, alloc: Global, out: &mut String) -> Result<(), CaseStop> {
         out.push_str("0:")?;
-        self.push_rows(alloc, &mut out, 0)?;
+        self.push_rows(alloc, out, 0)?;
         out.push_str("; 1:")?;
-        self.push_rows(alloc, &mut out, 1)?;
+        self.push_rows(alloc, out, 1)?;
         if self.store.schema().tables.len() > 2 {
             out.push_str("; 2:")?;
-            self.push_rows(alloc, &mut out, 2)?;
+            self.push_rows(alloc, out, 2)?;
         }
+        Ok(())
+    }
+
+    /// The rows of its tables.
+    pub fn rows(&self, alloc: Global) -> Result<String, CaseStop> {
+        let mut out = String::new(alloc);
+        self.push_tables(alloc, &mut out)?;
         Ok(out)
     }
 }
