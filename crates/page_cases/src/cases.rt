@@ -1,7 +1,7 @@
 //! What is declared so far, both stores, and the outcomes of lines.
 ghost use Rattle.rep_schema.specs.Shape.{HasShape};
 
-use crate::calls::{found, held, put, rows_shown, taken};
+use crate::calls::{found, held, put, rows_shown, taken, text};
 use crate::series::{put_series, take_series};
 use crate::undone::undone;
 use case_lines::{CaseStop, Words, read_declaration};
@@ -39,12 +39,6 @@ impl Model for Cases {
     ghost invariant = { λ c. HasShape c.schema };
 }
 
-fn text(alloc: Global, words: &str) -> Result<String, CaseStop> {
-    let mut out = String::new(alloc);
-    out.push_str(words)?;
-    Ok(out)
-}
-
 fn declared(alloc: Global, schema: &mut Schema, words: &mut Words) -> Result<String, CaseStop>
     requires { HasShape schema.old }
     ensures { HasShape schema.new }
@@ -56,11 +50,33 @@ fn declared(alloc: Global, schema: &mut Schema, words: &mut Words) -> Result<Str
     }
 }
 
+fn lists_of(alloc: Global, schema: &Schema) -> Result<ListTables, CaseStop> {
+    Ok(ListTables::make(alloc, schema.copy(alloc)?)?)
+}
+
+fn pages_of(alloc: Global, schema: &Schema) -> Result<PageTables, CaseStop> {
+    Ok(PageTables::make(alloc, schema.copy(alloc)?)?)
+}
+
 fn both_of(alloc: Global, schema: &Schema) -> Result<Both, CaseStop> {
-    Ok(Both {
-        lists: ListTables::make(alloc, schema.copy(alloc)?)?,
-        pages: PageTables::make(alloc, schema.copy(alloc)?)?,
-    })
+    let lists = lists_of(alloc, schema)?;
+    let pages = pages_of(alloc, schema)?;
+    Ok(Both { lists, pages })
+}
+
+/// What a line shows of a store.
+fn shown<R: RowStore>(
+    alloc: Global,
+    store: &R,
+    kind: &[u8],
+    words: &mut Words,
+) -> Result<String, CaseStop> {
+    match kind {
+        b"get" => found(alloc, store, words),
+        b"holds" => held(alloc, store, words),
+        b"rows" => rows_shown(alloc, store, words),
+        _ => Err(CaseStop::NoCase),
+    }
 }
 
 /// The outcome of a call on one store.
@@ -73,14 +89,23 @@ fn called<R: RowStore>(
     match kind {
         b"put" => put(alloc, store, words),
         b"puts" => put_series(alloc, store, words),
-        b"get" => found(alloc, store, words),
         b"take" => taken(alloc, store, words),
         b"takes" => take_series(alloc, store, words),
-        b"holds" => held(alloc, store, words),
-        b"rows" => rows_shown(alloc, store, words),
         b"undo" => undone(alloc, store, words),
-        _ => Err(CaseStop::NoCase),
+        _ => shown(alloc, store, kind, words),
     }
+}
+
+fn difference(alloc: Global, lists: &str, pages: &str) -> Result<String, CaseStop> {
+    Ok(format!(in alloc; "in lists {lists}, in pages {pages}")?)
+}
+
+/// The outcome that both stores have, or both outcomes where they differ.
+fn common(alloc: Global, lists: String, pages: String) -> Result<String, CaseStop> {
+    if lists == pages {
+        return Ok(pages);
+    }
+    difference(alloc, &lists, &pages)
 }
 
 /// The outcome on both stores, or both outcomes where they differ.
@@ -94,10 +119,7 @@ fn compared(
     let mut second = *words;
     let lists = called(alloc, &mut both.lists, kind, &mut first)?;
     let pages = called(alloc, &mut both.pages, kind, &mut second)?;
-    if lists == pages {
-        return Ok(pages);
-    }
-    Ok(format!(in alloc; "in lists {lists}, in pages {pages}")?)
+    common(alloc, lists, pages)
 }
 
 impl Cases {
@@ -109,21 +131,40 @@ impl Cases {
         }
     }
 
+    /// Makes both stores of the schema.
+    fn make(&mut self, alloc: Global) -> Result<String, CaseStop> {
+        let both = both_of(alloc, &self.schema)?;
+        self.both = Some(both);
+        text(alloc, "made")
+    }
+
+    /// The outcome of a call on both stores.
+    fn called(&mut self, alloc: Global, kind: &[u8], words: &Words) -> Result<String, CaseStop> {
+        match &mut self.both {
+            Some(both) => compared(alloc, both, kind, words),
+            None => Err(CaseStop::NoCase),
+        }
+    }
+
+    /// The outcome of a line of this kind.
+    fn outcome_of(
+        &mut self,
+        alloc: Global,
+        kind: &[u8],
+        words: &mut Words,
+    ) -> Result<String, CaseStop> {
+        match kind {
+            b"declare" => declared(alloc, &mut self.schema, words),
+            b"make" => self.make(alloc),
+            _ => self.called(alloc, kind, words),
+        }
+    }
+
     /// The outcome of a line.
     pub fn outcome(&mut self, alloc: Global, line: &str) -> Result<String, CaseStop> {
         let tokens = lex(alloc, line.as_bytes())?;
         let mut words = Words::of(tokens.as_slice());
         let kind = words.word()?;
-        match kind {
-            b"declare" => declared(alloc, &mut self.schema, &mut words),
-            b"make" => {
-                self.both = Some(both_of(alloc, &self.schema)?);
-                text(alloc, "made")
-            }
-            kind => match &mut self.both {
-                Some(both) => compared(alloc, both, kind, &words),
-                None => Err(CaseStop::NoCase),
-            },
-        }
+        self.outcome_of(alloc, kind, &mut words)
     }
 }

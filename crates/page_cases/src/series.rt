@@ -64,7 +64,70 @@ fn row_of(alloc: Global, width: usize, key: i64, added: i64) -> Result<Row, Case
     Row::of(alloc, values.as_slice())?.ok_or(CaseStop::NoCase)
 }
 
+/// How many puts ended in each way.
+#[derive(Clone, Copy)]
+struct Counts {
+    new: u32,
+    replaced: u32,
+    refused: u32,
+}
+
+impl Counts {
+    /// Counts one more put.
+    fn add(&mut self, ending: &PutEnding) {
+        match ending {
+            PutEnding::New => self.new = self.new.saturating_add(1),
+            PutEnding::Replaced(_) => self.replaced = self.replaced.saturating_add(1),
+            PutEnding::Unfit | PutEnding::Held => self.refused = self.refused.saturating_add(1),
+        }
+    }
+
+    fn text(&self, alloc: Global) -> Result<String, CaseStop> {
+        let (new, replaced, refused) = (self.new, self.replaced, self.refused);
+        Ok(format!(in alloc; "{new} new, {replaced} replaced, {refused} refused")?)
+    }
+}
+
+/// Puts a row of so many numbers, and tells how that ends.
+fn put_numbers<R: RowStore>(
+    alloc: Global,
+    store: &mut R,
+    table: u32,
+    width: usize,
+    key: i64,
+    added: i64,
+) -> Result<PutEnding, CaseStop> {
+    let row = row_of(alloc, width, key, added)?;
+    put_row(store, table, row)
+}
+
 /// Puts the rows of a series, and counts how the puts end.
+fn put_each<R: RowStore>(
+    alloc: Global,
+    store: &mut R,
+    table: u32,
+    series: &Series,
+    added: i64,
+) -> Result<Counts, CaseStop>
+    requires table { table < length (R.schema store.old).tables }
+    requires first { series.now.first < 20000 }
+    requires step { series.now.step < 20000 }
+    requires count { series.now.count < 20000 }
+{
+    let width = columns_of(store.schema(), table).len();
+    let mut counts = Counts {
+        new: 0,
+        replaced: 0,
+        refused: 0,
+    };
+    for number in 0..series.count {
+        let ending = put_numbers(alloc, store, table, width, series.key(number), added)?;
+        counts.add(&ending);
+    }
+    Ok(counts)
+}
+
+/// Puts the rows of a series, and shows how many puts ended in each way.
 pub fn put_series<R: RowStore>(
     alloc: Global,
     store: &mut R,
@@ -74,22 +137,38 @@ pub fn put_series<R: RowStore>(
     let series = Series::read(words)?;
     let added = words.number()?;
     words.end()?;
-    let width = columns_of(store.schema(), table).len();
-    let mut new = 0u32;
-    let mut replaced = 0u32;
-    let mut refused = 0u32;
-    for number in 0..series.count {
-        let row = row_of(alloc, width, series.key(number), added)?;
-        match put_row(store, table, row)? {
-            PutEnding::New => new = new.saturating_add(1),
-            PutEnding::Replaced(_) => replaced = replaced.saturating_add(1),
-            PutEnding::Unfit | PutEnding::Held => refused = refused.saturating_add(1),
-        }
+    let counts = put_each(alloc, store, table, &series, added)?;
+    counts.text(alloc)
+}
+
+/// Whether there was a row with this number as its key; it is taken.
+fn take_number<R: RowStore>(store: &mut R, table: u32, number: i64) -> Result<bool, CaseStop> {
+    match Key::of(&[Value::Num(number)]) {
+        Some(key) => Ok(take_key(store, table, &key)?.is_some()),
+        None => Err(CaseStop::NoCase),
     }
-    Ok(format!(in alloc; "{new} new, {replaced} replaced, {refused} refused")?)
 }
 
 /// Takes the keys of a series, and counts those that there were.
+fn take_each<R: RowStore>(store: &mut R, table: u32, series: &Series) -> Result<u32, CaseStop>
+    requires first { series.now.first < 20000 }
+    requires step { series.now.step < 20000 }
+    requires count { series.now.count < 20000 }
+{
+    let mut taken = 0u32;
+    for number in 0..series.count {
+        if take_number(store, table, series.key(number))? {
+            taken = taken.saturating_add(1);
+        }
+    }
+    Ok(taken)
+}
+
+fn taken_text(alloc: Global, taken: u32) -> Result<String, CaseStop> {
+    Ok(format!(in alloc; "{taken} taken")?)
+}
+
+/// Takes the keys of a series, and shows how many there were.
 pub fn take_series<R: RowStore>(
     alloc: Global,
     store: &mut R,
@@ -98,14 +177,6 @@ pub fn take_series<R: RowStore>(
     let table = table_in(store, words)?;
     let series = Series::read(words)?;
     words.end()?;
-    let mut taken = 0u32;
-    for number in 0..series.count {
-        let Some(key) = Key::of(&[Value::Num(series.key(number))]) else {
-            return Err(CaseStop::NoCase);
-        };
-        if take_key(store, table, &key)?.is_some() {
-            taken = taken.saturating_add(1);
-        }
-    }
-    Ok(format!(in alloc; "{taken} taken")?)
+    let taken = take_each(store, table, &series)?;
+    taken_text(alloc, taken)
 }

@@ -1,12 +1,11 @@
 //! Changes of all kinds in the first table, taken back.
-ghost use Rattle.std.specs.Prelude.{◌≡◌, ◌+◌, ◌<◌, ◌≤◌, length, slice_index, IfOk, OnOk};
-ghost use Rattle.rep_schema.specs.Changes.{IsChange, made};
+ghost use Rattle.std.specs.Prelude.{◌≡◌, ◌+◌, ◌<◌, ◌≤◌, [], ◌∷◌, length, slice_index, IfOk, OnOk};
+ghost use Rattle.rep_schema.specs.Changes.{IsChange, LeadsTo, made};
 
+use crate::calls::{last_key, test_put, text};
 use case_lines::{CaseStop, Words};
 use rep_lists::{Copies, Items};
-use rep_schema::{
-    Change, Changes, RowStore, columns_of, constraint_count, is_keyed, is_unique, row_fits, undo,
-};
+use rep_schema::{Change, Changes, RowStore, columns_of, is_keyed, undo};
 use rep_values::{Key, Row};
 use script_lex::Symbol;
 use std::alloc::Global;
@@ -22,16 +21,7 @@ fn put_row<R: RowStore>(alloc: Global, store: &mut R, row: Row) -> Result<Change
     ensures room { slice_index (R.spare store.old) 0 ≤ slice_index (R.spare store.new) 0 + 1 }
 {
     let kept = row.copy(alloc)?;
-    if !is_keyed(columns_of(store.schema(), 0)) {
-        return Err(CaseStop::NoCase);
-    }
-    if !row_fits(columns_of(store.schema(), 0), row.values()) {
-        return Err(CaseStop::NoCase);
-    }
-    if constraint_count(store.schema(), 0) > 8 {
-        return Err(CaseStop::NoCase);
-    }
-    if !is_unique(store, 0, &row) {
+    if test_put(store, 0, &row).is_err() {
         return Err(CaseStop::NoCase);
     }
     let before = store.put(0, row);
@@ -62,12 +52,44 @@ fn take_row<R: RowStore>(store: &mut R, key: &Key) -> Result<Change, CaseStop>
     })
 }
 
+// Puts two rows, and answers the changes.
+fn put_rows<R: RowStore>(
+    alloc: Global,
+    store: &mut R,
+    first: Row,
+    second: Row,
+) -> Result<(Change, Change), CaseStop>
+    requires table { 0 < length (R.schema store.old).tables }
+    requires room { 2 ≤ slice_index (R.spare store.old) 0 }
+    ensures table { IfOk result (λ changes. (changes.0.table ≡ 0) × (changes.1.table ≡ 0)) }
+    ensures lead { IfOk result (λ changes. LeadsTo (R.schema store.old) (changes.0 ∷ changes.1 ∷ []) (R.tables store.old) (R.tables store.new)) }
+    ensures schema { R.schema store.new ≡ R.schema store.old }
+    ensures room { slice_index (R.spare store.old) 0 ≤ slice_index (R.spare store.new) 0 + 2 }
+{
+    let first = put_row(alloc, store, first)?;
+    let second = put_row(alloc, store, second)?;
+    Ok((first, second))
+}
+
+// Takes the rows with two keys away, and answers the changes.
+fn take_rows<R: RowStore>(store: &mut R, keys: &(Key, Key)) -> Result<(Change, Change), CaseStop>
+    requires { 0 < length (R.schema store.old).tables }
+    ensures table { IfOk result (λ changes. (changes.0.table ≡ 0) × (changes.1.table ≡ 0)) }
+    ensures lead { IfOk result (λ changes. LeadsTo (R.schema store.old) (changes.0 ∷ changes.1 ∷ []) (R.tables store.old) (R.tables store.new)) }
+    ensures schema { R.schema store.new ≡ R.schema store.old }
+    ensures room { slice_index (R.spare store.old) 0 ≤ slice_index (R.spare store.new) 0 }
+{
+    let first = take_row(store, &keys.0)?;
+    let second = take_row(store, &keys.1)?;
+    Ok((first, second))
+}
+
 // Puts two rows, takes the rows with two keys away, and takes it all back.
 fn change_and_undo<R: RowStore>(
     alloc: Global,
     store: &mut R,
     rows: (Row, Row),
-    keys: (Key, Key),
+    keys: &(Key, Key),
 ) -> Result<(), CaseStop>
     requires { 0 < length (R.schema store.old).tables }
     ensures { OnOk result (R.tables store.new ≡ R.tables store.old) }
@@ -76,10 +98,8 @@ fn change_and_undo<R: RowStore>(
         return Err(CaseStop::NoCase);
     }
     store.reserve(0, 6)?;
-    let first = put_row(alloc, store, rows.0)?;
-    let second = put_row(alloc, store, rows.1)?;
-    let third = take_row(store, &keys.0)?;
-    let fourth = take_row(store, &keys.1)?;
+    let (first, second) = put_rows(alloc, store, rows.0, rows.1)?;
+    let (third, fourth) = take_rows(store, keys)?;
     let rows = vec![in alloc; first, second, third, fourth]?;
     undo(
         store,
@@ -90,23 +110,39 @@ fn change_and_undo<R: RowStore>(
     Ok(())
 }
 
+/// A row before a comma.
+fn read_row(alloc: Global, words: &mut Words) -> Result<Row, CaseStop> {
+    let row = words.row(alloc)?;
+    words.symbol(Symbol::Comma)?;
+    Ok(row)
+}
+
+/// Two rows, each before a comma.
+fn read_rows(alloc: Global, words: &mut Words) -> Result<(Row, Row), CaseStop> {
+    let first = read_row(alloc, words)?;
+    let second = read_row(alloc, words)?;
+    Ok((first, second))
+}
+
+/// The two keys that the line ends with, parted by a comma.
+fn read_keys(alloc: Global, words: &mut Words) -> Result<(Key, Key), CaseStop> {
+    let first = words.key(alloc)?;
+    words.symbol(Symbol::Comma)?;
+    let second = last_key(alloc, words)?;
+    Ok((first, second))
+}
+
 /// Two rows and two keys, each behind a comma: the rows are put, the keys taken, and all is taken back.
 pub fn undone<R: RowStore>(
     alloc: Global,
     store: &mut R,
     words: &mut Words,
 ) -> Result<String, CaseStop> {
-    let first = words.row(alloc)?;
-    words.symbol(Symbol::Comma)?;
-    let second = words.row(alloc)?;
-    words.symbol(Symbol::Comma)?;
-    let third = words.key(alloc)?;
-    words.symbol(Symbol::Comma)?;
-    let fourth = words.key(alloc)?;
-    words.end()?;
+    let rows = read_rows(alloc, words)?;
+    let keys = read_keys(alloc, words)?;
     if store.schema().tables.len() == 0 {
         return Err(CaseStop::NoCase);
     }
-    change_and_undo(alloc, store, (first, second), (third, fourth))?;
-    Ok(format!(in alloc; "undone")?)
+    change_and_undo(alloc, store, rows, &keys)?;
+    text(alloc, "undone")
 }
