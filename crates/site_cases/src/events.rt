@@ -128,22 +128,19 @@ fn told_stale(alloc: Global, why: Why) -> Told {
     Ok(Some(format!(in alloc; "Stale {word}")?))
 }
 
-fn told_applied(alloc: Global, applied: &Applied) -> Told {
-    match applied {
-        Applied::Done => told(alloc, "Done"),
-        Applied::Error(error) => told_error(alloc, error),
-        Applied::Stale(why) => told_stale(alloc, *why),
-    }
-}
-
 fn apply(alloc: Global, site: &mut Site<ListTables>, origin: &SiteName, position: u64) -> Told {
-    let applied = site.apply_one(alloc, origin, position)?;
-    told_applied(alloc, &applied)
+    match site.apply_one(alloc, origin, position)? {
+        Applied::Done => told(alloc, "Done"),
+        Applied::Error(error) => told_error(alloc, &error),
+        Applied::Stale(why) => told_stale(alloc, why),
+    }
 }
 
 fn work(alloc: Global, site: &mut Site<ListTables>, origin: &SiteName, position: u64) -> Told {
     match apply_by_work(alloc, site, origin, position)? {
-        WorkAnswer::Applied(applied) => told_applied(alloc, &applied),
+        WorkAnswer::Applied(Applied::Done) => told(alloc, "Done"),
+        WorkAnswer::Applied(Applied::Error(error)) => told_error(alloc, &error),
+        WorkAnswer::Applied(Applied::Stale(why)) => told_stale(alloc, why),
         WorkAnswer::Unique => told(alloc, "Unique"),
     }
 }
