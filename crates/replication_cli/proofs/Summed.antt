@@ -27,19 +27,23 @@ summary_of seed count r is =
     let tally : r.tally ≡ tally_of (texts 1 cs first_world) = ap (λ (x : Running). x.tally) is ∙ tally_behind cs in
     ap (λ (t : Tally). summary_text seed count t r.world) tally ∙ ap (λ (w : WorldState). summary_text seed count (tally_of (texts 1 cs first_world)) w) world
 
+-- lines that are added one after another
+pub lines_added : (seed count : ℕ) (none first second third all : List ℕ) (t : Tally) (totals : Totals) (agree : Bool) → none ≡ [] → first ≡ none ++ storm_line seed count
+    → second ≡ first ++ tally_lines t → third ≡ second ++ totals_lines totals → all ≡ third ++ agree_line agree
+    → all ≡ storm_line seed count ++ (tally_lines t ++ (totals_lines totals ++ agree_line agree))
+lines_added seed count none first second third all t totals agree none_is first_is second_is third_is all_is =
+    let lines : List ℕ = (storm_line seed count ++ tally_lines t) ++ totals_lines totals in
+    let front : first ≡ storm_line seed count = first_is ∙ ap (λ (l : List ℕ). l ++ storm_line seed count) none_is in
+    let told : second ≡ storm_line seed count ++ tally_lines t = second_is ∙ ap (λ (l : List ℕ). l ++ tally_lines t) front in
+    let summed_up : third ≡ lines = third_is ∙ ap (λ (l : List ℕ). l ++ totals_lines totals) told in
+    all_is ∙ ap (λ (l : List ℕ). l ++ agree_line agree) summed_up ∙ added (storm_line seed count) (tally_lines t) (totals_lines totals) (agree_line agree)
+
 module _ (seed count : ℕ) (r : Running) (is : r ≡ with_commands beginning (storm_commands seed count)) where
-  -- lines that are added one after another
-  pub summed : (none first second third all : List ℕ) (t : Tally) (totals : Totals) (agree : Bool) → none ≡ [] → first ≡ none ++ storm_line seed count
-      → second ≡ first ++ tally_lines t → third ≡ second ++ totals_lines totals → all ≡ third ++ agree_line agree
-      → t ≡ r.tally → totals ≡ totals_of (stock_rows site_a r.world) → agree ≡ masters_agree r.world → all ≡ storm_summary seed count
-  summed none first second third all t totals agree none_is first_is second_is third_is all_is t_is totals_is agree_is =
-      let lines : List ℕ = (storm_line seed count ++ tally_lines t) ++ totals_lines totals in
-      let front : first ≡ storm_line seed count = first_is ∙ ap (λ (l : List ℕ). l ++ storm_line seed count) none_is in
-      let told : second ≡ storm_line seed count ++ tally_lines t = second_is ∙ ap (λ (l : List ℕ). l ++ tally_lines t) front in
-      let summed_up : third ≡ lines = third_is ∙ ap (λ (l : List ℕ). l ++ totals_lines totals) told in
-      all_is ∙ ap (λ (l : List ℕ). l ++ agree_line agree) summed_up
-      ∙ added (storm_line seed count) (tally_lines t) (totals_lines totals) (agree_line agree)
-      ∙ ap (λ (u : Tally). storm_line seed count ++ (tally_lines u ++ (totals_lines totals ++ agree_line agree))) t_is
+  -- they are the summary, where they are of the run and of its world
+  pub summed : (t : Tally) (totals : Totals) (agree : Bool) → t ≡ r.tally → totals ≡ totals_of (stock_rows site_a r.world) → agree ≡ masters_agree r.world
+      → storm_line seed count ++ (tally_lines t ++ (totals_lines totals ++ agree_line agree)) ≡ storm_summary seed count
+  summed t totals agree t_is totals_is agree_is =
+      ap (λ (u : Tally). storm_line seed count ++ (tally_lines u ++ (totals_lines totals ++ agree_line agree))) t_is
       ∙ ap (λ (u : Totals). storm_line seed count ++ (tally_lines r.tally ++ (totals_lines u ++ agree_line agree))) totals_is
       ∙ ap (λ (b : Bool). storm_line seed count ++ (tally_lines r.tally ++ (totals_lines (totals_of (stock_rows site_a r.world)) ++ agree_line b))) agree_is
       ∙ summary_of seed count r is

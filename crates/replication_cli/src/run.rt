@@ -137,6 +137,26 @@ impl Run {
         }
         Ok(())
     }
+
+    // Runs all commands of a storm.
+    fn storm<X: Threads + Wait + Sync, W: Watch>(
+        &mut self,
+        rt: &X,
+        alloc: Global,
+        seed: u64,
+        count: u32,
+        appliers: u32,
+        watch: &W,
+    ) -> Result<(), NoMemory>
+        requires first { self.old.number ≡ 1 }
+        requires count { count ≤ most_rounds }
+        requires appliers { (1 ≤ appliers) × (appliers ≤ 8) }
+        ensures { OnOk result (self.new ≡ with_commands self.old (storm_commands seed count)) }
+    {
+        self.run_all(rt, alloc, &opening(alloc)?, appliers, watch)?;
+        self.run_rounds(rt, alloc, seed, count, appliers, watch)?;
+        self.run_all(rt, alloc, &closing(alloc)?, appliers, watch)
+    }
 }
 
 /// Runs the storm of a seed and a number of rounds, with so many appliers.
@@ -153,8 +173,6 @@ pub fn run_storm<X: Threads + Wait + Sync, W: Watch>(
     ensures { IfOk result (λ run. run ≡ with_commands beginning (storm_commands seed count)) }
 {
     let mut run = Run::start(alloc)?;
-    run.run_all(rt, alloc, &opening(alloc)?, appliers, watch)?;
-    run.run_rounds(rt, alloc, seed, count, appliers, watch)?;
-    run.run_all(rt, alloc, &closing(alloc)?, appliers, watch)?;
+    run.storm(rt, alloc, seed, count, appliers, watch)?;
     Ok(run)
 }

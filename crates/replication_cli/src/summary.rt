@@ -70,6 +70,25 @@ fn add_agree(lines: &mut Lines, agree: bool) -> Result<(), NoMemory>
     }
 }
 
+// The nine lines of what was told, and of what the rows come to.
+fn lines_of(
+    alloc: Global,
+    seed: u64,
+    count: u32,
+    tally: Tally,
+    totals: Totals,
+    agree: bool,
+) -> Result<Lines, NoMemory>
+    ensures { IfOk result (λ lines. lines.bytes ≡ storm_line seed count ++ (tally_lines tally ++ (totals_lines totals ++ agree_line agree))) }
+{
+    let mut lines = Lines::make(alloc);
+    add_words(&mut lines, seed, count)?;
+    add_tally(&mut lines, tally)?;
+    add_totals(&mut lines, totals)?;
+    add_agree(&mut lines, agree)?;
+    Ok(lines)
+}
+
 /// Runs the storm of a seed and a number of rounds with so many appliers, and tells what came of it.
 pub fn summary<X: Threads + Wait + Sync, W: Watch>(
     rt: &X,
@@ -84,10 +103,7 @@ pub fn summary<X: Threads + Wait + Sync, W: Watch>(
     ensures { IfOk result (λ lines. lines.bytes ≡ storm_summary seed count) }
 {
     let run = run_storm(rt, alloc, seed, count, appliers, watch)?;
-    let mut lines = Lines::make(alloc);
-    add_words(&mut lines, seed, count)?;
-    add_tally(&mut lines, run.tally())?;
-    add_totals(&mut lines, site_totals(run.world(), &first_site()))?;
-    add_agree(&mut lines, masters_agree(run.world()))?;
-    Ok(lines)
+    let totals = site_totals(run.world(), &first_site());
+    let agree = masters_agree(run.world());
+    lines_of(alloc, seed, count, run.tally(), totals, agree)
 }
