@@ -8,7 +8,7 @@ use Rattle.rep_schema.specs.Tables.{Cells}
 use Rattle.rep_schema.specs.Groups.{group_columns_of}
 use Rattle.rep_declare.specs.Refusals.{columns_step}
 use Rattle.schema_rules.specs.Rules.{broken_rule}
-use Rattle.site_state.specs.State.{SiteState}
+use Rattle.site_state.specs.State.{SiteState, LogState}
 use Rattle.site_state.specs.Notes.{pending_keys}
 use Rattle.site_state.proofs.WorkedSites.{a, s, n, row, set_to}
 use Rattle.event_laws.specs.Core.{site_of}
@@ -88,3 +88,26 @@ row_is_taken = refl
 nothing_is_pending : pending (stepped 12 (command.Refresh s how.Fast ∷ []) changed) ≡ []
 unfolding group_columns_of columns_step broken_rule
 nothing_is_pending = refl
+
+-- ---- and changed again
+
+-- what was logged up to the mark is pending no more, and what is logged above it is
+abbrev changed_again : WorldState
+changed_again = stepped 12 (command.Refresh s how.Fast ∷ block a (set_to 2 21 ∷ [])) changed
+
+both_keys_are_logged : both [] (λ m x. flat_map (λ (log : LogState). log.keys) m.logs) changed_again ≡ record { key = n 1 ∷ []; moment = 1 } ∷ record { key = n 2 ∷ []; moment = 2 } ∷ []
+unfolding group_columns_of columns_step broken_rule
+both_keys_are_logged = refl
+
+key_above_the_mark_is_pending : pending changed_again ≡ (n 2 ∷ []) ∷ []
+unfolding group_columns_of columns_step broken_rule
+key_above_the_mark_is_pending = refl
+
+-- a log that is purged up to the mark, and no further, still reaches back
+purged_to_the_mark : young (stepped 12 (command.Refresh s how.Fast ∷ command.PurgeLog a t ∷ []) changed) ≡ None
+unfolding group_columns_of columns_step broken_rule
+purged_to_the_mark = refl
+
+purged_above_the_mark : young (stepped 16 (command.PurgeLog a t ∷ []) changed_again) ≡ Some (refusal.LogTooYoung 2 1)
+unfolding group_columns_of columns_step broken_rule
+purged_above_the_mark = refl

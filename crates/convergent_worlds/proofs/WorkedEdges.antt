@@ -1,0 +1,129 @@
+-- Scripts in which a number leaves its range: such an error of a snapshot site's transaction hinders no agreement, dropped or
+-- not; one of a master's does, and a row whose insert stands in it is missing there.
+use Rattle.std.specs.Prelude.{◌≡◌, refl, ℕ, codes, pos, true, false, List, [], ◌∷◌, ◌++◌, None}
+use Rattle.std.specs.List.{list_any}
+use Rattle.rep_values.specs.declared.name.SiteName.{SiteName}
+use Rattle.rep_values.specs.declared.literal.Literal.TheVariants as literal
+use Rattle.rep_values.specs.declared.value.Value.TheVariants.{Words}
+use Rattle.rep_values.specs.declared.refusal.ApplyError.TheVariants as error
+use Rattle.rep_values.specs.declared.refusal.Refusal.TheVariants as refusal
+use Rattle.rep_schema.specs.declared.schema.Kind.TheVariants as kind
+use Rattle.rep_schema.specs.Tables.{Cells}
+use Rattle.rep_schema.specs.Groups.{group_columns_of}
+use Rattle.rep_declare.specs.declared.declaration.Declare.TheVariants as declare
+use Rattle.rep_declare.specs.Refusals.{columns_step}
+use Rattle.schema_rules.specs.Rules.{broken_rule}
+use Rattle.rep_calls.specs.declared.call.Call.{Call}
+use Rattle.rep_calls.specs.declared.call.Call.TheVariants as call
+use Rattle.rep_calls.specs.declared.call.Txn.{Txn}
+use Rattle.rep_calls.specs.declared.statement.Statement.{Statement}
+use Rattle.rep_calls.specs.declared.statement.Statement.TheVariants.{Insert, Update}
+use Rattle.rep_calls.specs.declared.statement.How.TheVariants.{Add}
+use Rattle.site_state.specs.declared.entry.Entry.TheVariants as entry
+use Rattle.site_state.specs.State.{SiteState}
+use Rattle.site_state.proofs.WorkedSites.{a, b, s, n, key_column, number_column, of_calls}
+use Rattle.event_laws.specs.Quiet.{are_quiet}
+use Rattle.event_laws.proofs.Sites.{found_all}
+use Rattle.agreement_laws.specs.Agreement.{drops_of_master, NothingWasDropped}
+use Rattle.script_parse.specs.declared.command.Command.{Command}
+use Rattle.script_parse.specs.declared.command.Command.TheVariants as command
+use Rattle.world_state.proofs.WorkedScripts.{t, master_line, snapshot_site_line, table_line, added_up, resume, block, push, execute, drop_error, stepped, told, journal_at, rows_at}
+use Rattle.world_laws.specs.Scripts.{script_world}
+
+-- ---- what is declared
+
+abbrev level_line : SiteName → ℕ → Command
+level_line site level = command.Declare (declare.SiteLevel site (pos level))
+
+-- amounts at two masters, with a snapshot site of A's: of A's row 1 is nearly as much there as can be
+abbrev declared_lines : List Command
+declared_lines =
+    master_line a ∷ master_line b ∷ snapshot_site_line s a ∷ level_line a 1 ∷ level_line b 2 ∷ level_line s 3 ∷
+    table_line (record { name = codes "HOME"; kind = kind.Site; key = true } ∷ key_column (codes "ID") ∷ number_column (codes "Q") ∷ []) ∷ [] ++ added_up ++
+    command.Declare (declare.Convergent t) ∷ command.Snapshot s t None ∷
+    command.Row t (literal.Words a.0 ∷ literal.Num (pos 1) ∷ literal.Num (pos 999999999999990) ∷ []) ∷ resume ∷ []
+
+abbrev amount : ℕ → ℕ → Cells
+amount k q = Words a.0 ∷ n k ∷ n q ∷ []
+
+abbrev adds : ℕ → ℕ → Statement
+adds k q = Update t (literal.Words a.0 ∷ literal.Num (pos k) ∷ []) (record { column = codes "Q"; how = Add (pos q) } ∷ [])
+
+-- Q of a row, changed
+abbrev added : ℕ → ℕ → ℕ → Call
+added k old new = call.Update 0 (Words a.0 ∷ n k ∷ []) (record { group = 0; old = n old ∷ []; new = n new ∷ [] } ∷ [])
+
+abbrev nine_more : Txn
+nine_more = of_calls (added 1 999999999999990 999999999999999 ∷ [])
+
+-- ---- a snapshot site's error, which its master drops
+
+-- A and its snapshot site add nine each, which is too much, and B has what A added
+abbrev failing : List Command
+failing = declared_lines ++ block a (adds 1 9 ∷ []) ++ block s (adds 1 9 ∷ []) ++ push a b ∷ push s a ∷ []
+
+abbrev dropping : List Command
+dropping = failing ++ drop_error a s 1 ∷ []
+
+error_and_drop : journal_at a (script_world dropping)
+    ≡ entry.Dropped s 1 ∷ entry.Error s 1 1 error.ValueRange nine_more ∷ entry.Local 1 nine_more ∷ []
+unfolding group_columns_of columns_step broken_rule
+error_and_drop = refl
+
+-- the masters are quiet while the error stands, and behind the drop
+quiet_with_the_error : are_quiet (script_world failing).sites ≡ true
+unfolding group_columns_of columns_step broken_rule
+quiet_with_the_error = refl
+
+quiet_behind_the_drop : are_quiet (script_world dropping).sites ≡ true
+unfolding group_columns_of columns_step broken_rule
+quiet_behind_the_drop = refl
+
+-- no master's transaction was dropped, so the law speaks of this world
+nothing_was_dropped : NothingWasDropped (script_world dropping).schema (script_world dropping).sites
+unfolding group_columns_of columns_step broken_rule
+nothing_was_dropped site x found master =
+    found_all (λ (y : SiteState). list_any (drops_of_master (script_world dropping).schema) y.journal ≡ false) site (script_world dropping).sites x (refl, (refl, (refl, tt))) found
+
+rows_of_a : rows_at a (script_world dropping) ≡ (amount 1 999999999999999 ∷ []) ∷ []
+unfolding group_columns_of columns_step broken_rule
+rows_of_a = refl
+
+rows_of_b : rows_at b (script_world dropping) ≡ (amount 1 999999999999999 ∷ []) ∷ []
+unfolding group_columns_of columns_step broken_rule
+rows_of_b = refl
+
+-- ---- a master's error, in which an insert stands
+
+-- A adds nine and inserts row 2, B adds nine; then A changes row 2
+abbrev missing : List Command
+missing = declared_lines
+    ++ block a (adds 1 9 ∷ Insert t (literal.Words a.0 ∷ literal.Num (pos 2) ∷ literal.Num (pos 5) ∷ []) ∷ [])
+    ++ block b (adds 1 9 ∷ []) ++ push a b ∷ block a (adds 2 1 ∷ []) ++ push a b ∷ []
+
+abbrev nine_more_and_a_row : Txn
+nine_more_and_a_row = of_calls (added 1 999999999999990 999999999999999 ∷ call.Insert 0 (amount 2 5) ∷ [])
+
+-- row 2 is missing at B, since its insert is in error there
+row_is_missing : journal_at b (script_world missing)
+    ≡ entry.Error a 2 1 error.NoRow (of_calls (added 2 5 6 ∷ [])) ∷ entry.Error a 1 1 error.ValueRange nine_more_and_a_row ∷ entry.Local 1 nine_more ∷ []
+unfolding group_columns_of columns_step broken_rule
+row_is_missing = refl
+
+-- neither can be executed
+abbrev executions : List Command
+executions = execute b a 2 ∷ execute b a 1 ∷ []
+
+both_still_fail : told 23 executions (script_world missing)
+    ≡ record { line = 23; refusal = refusal.StillFails error.NoRow } ∷ record { line = 24; refusal = refusal.StillFails error.ValueRange } ∷ []
+unfolding group_columns_of columns_step broken_rule
+both_still_fail = refl
+
+-- a master's error hinders quiet, and its drop is one of which the law asks that there is none
+not_quiet : are_quiet (script_world missing).sites ≡ false
+unfolding group_columns_of columns_step broken_rule
+not_quiet = refl
+
+drop_of_a_masters : list_any (drops_of_master (script_world missing).schema) (journal_at b (stepped 23 (drop_error b a 1 ∷ []) (script_world missing))) ≡ true
+unfolding group_columns_of columns_step broken_rule
+drop_of_a_masters = refl
