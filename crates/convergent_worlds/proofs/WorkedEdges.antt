@@ -35,7 +35,7 @@ use Rattle.world_laws.specs.Scripts.{script_world}
 abbrev level_line : SiteName → ℕ → Command
 level_line site level = command.Declare (declare.SiteLevel site (pos level))
 
--- amounts at two masters, with a snapshot site of A's: of A's row 1 is nearly as much there as can be
+-- amounts at two masters, with a snapshot site of A's: of A's first item nearly as much is there as can be
 abbrev declared_lines : List Command
 declared_lines =
     master_line a ∷ master_line b ∷ snapshot_site_line s a ∷ level_line a 1 ∷ level_line b 2 ∷ level_line s 3 ∷
@@ -95,7 +95,7 @@ rows_of_b = refl
 
 -- ---- a master's error, in which an insert stands
 
--- A adds nine and inserts row 2, B adds nine; then A changes row 2
+-- A adds nine and inserts a second row, B adds nine; then A changes the second row
 abbrev missing : List Command
 missing = declared_lines
     ++ block a (adds 1 9 ∷ Insert t (literal.Words a.0 ∷ literal.Num (pos 2) ∷ literal.Num (pos 5) ∷ []) ∷ [])
@@ -104,7 +104,7 @@ missing = declared_lines
 abbrev nine_more_and_a_row : Txn
 nine_more_and_a_row = of_calls (added 1 999999999999990 999999999999999 ∷ call.Insert 0 (amount 2 5) ∷ [])
 
--- row 2 is missing at B, since its insert is in error there
+-- the second row is missing at B, since its insert is in error there
 row_is_missing : journal_at b (script_world missing)
     ≡ entry.Error a 2 1 error.NoRow (of_calls (added 2 5 6 ∷ [])) ∷ entry.Error a 1 1 error.ValueRange nine_more_and_a_row ∷ entry.Local 1 nine_more ∷ []
 unfolding group_columns_of columns_step broken_rule
