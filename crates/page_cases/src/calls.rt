@@ -254,6 +254,19 @@ fn count_text(alloc: Global, count: u64) -> Result<String, CaseStop> {
     Ok(format!(in alloc; "{count} rows")?)
 }
 
+/// Reserves room for so many rows more, and shows how many there are.
+pub fn reserved<R: RowStore>(
+    alloc: Global,
+    store: &mut R,
+    words: &mut Words,
+) -> Result<String, CaseStop> {
+    let table = table_in(store, words)?;
+    let rows = words.whole()?;
+    words.end()?;
+    store.reserve(table, rows)?;
+    count_text(alloc, store.count(table))
+}
+
 /// Each so manieth row of a table, in their order, and the last one.
 pub fn rows_shown<R: RowStore>(
     alloc: Global,

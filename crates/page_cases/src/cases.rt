@@ -1,7 +1,7 @@
 //! What is declared so far, both stores, and the outcomes of lines.
 ghost use Rattle.rep_schema.specs.Shape.{HasShape};
 
-use crate::calls::{found, held, put, rows_shown, taken, text};
+use crate::calls::{found, held, put, reserved, rows_shown, taken, text};
 use crate::series::{put_series, take_series};
 use crate::undone::undone;
 use case_lines::{CaseStop, Words, read_declaration};
@@ -91,6 +91,7 @@ fn called<R: RowStore>(
         b"puts" => put_series(alloc, store, words),
         b"take" => taken(alloc, store, words),
         b"takes" => take_series(alloc, store, words),
+        b"reserve" => reserved(alloc, store, words),
         b"undo" => undone(alloc, store, words),
         _ => shown(alloc, store, kind, words),
     }

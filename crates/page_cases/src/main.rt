@@ -4,9 +4,9 @@
 //! `declare DECLARATION` adds a declaration, and `make` makes both stores of the schema. `put T VALUES`, `get T VALUES`,
 //! `take T VALUES` and `holds T C VALUES` are calls of a store. `puts T FIRST STEP COUNT WRAP ADDED` puts a row for each of
 //! COUNT keys, from FIRST on in steps of STEP, that begin again at WRAP; its other columns have the key and ADDED. `takes T
-//! FIRST STEP COUNT WRAP` takes such keys. `rows T EVERY` shows each so manieth row and the last one. `undo VALUES,
-//! VALUES, KEY, KEY` puts two rows in the first table, takes two away and takes it all back. An empty line and one that
-//! begins with `#` is printed as it is.
+//! FIRST STEP COUNT WRAP` takes such keys. `reserve T N` reserves room for so many rows more and counts those that are there.
+//! `rows T EVERY` shows each so manieth row and the last one. `undo VALUES, VALUES, KEY, KEY` puts two rows in the first
+//! table, takes two away and takes it all back. An empty line and one that begins with `#` is printed as it is.
 #![tactic(auto)]
 
 mod calls;
