@@ -7,3 +7,4 @@ mod Holding
 pub mod Scripts
 pub mod Worlds
 mod WorkedConvergence
+mod WorkedEdges
