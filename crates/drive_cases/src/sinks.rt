@@ -18,11 +18,7 @@ fn offer_line(alloc: Global, taken: Result<(), Failed>) -> Result<String, AllocE
 }
 
 /// One write for each piece.
-fn writes<K: Sink>(
-    alloc: Global,
-    sink: &mut K,
-    pieces: &str,
-) -> Result<Vec<String>, AllocError> {
+fn writes<K: Sink>(alloc: Global, sink: &mut K, pieces: &str) -> Result<Vec<String>, AllocError> {
     let mut told = Vec::new(alloc);
     for piece in pieces.split('/') {
         told.push(write_line(alloc, sink.write(piece.as_bytes()))?)?;
@@ -31,11 +27,7 @@ fn writes<K: Sink>(
 }
 
 /// As many writes for each piece as the sink wants.
-fn offers<K: Sink>(
-    alloc: Global,
-    sink: &mut K,
-    pieces: &str,
-) -> Result<Vec<String>, AllocError> {
+fn offers<K: Sink>(alloc: Global, sink: &mut K, pieces: &str) -> Result<Vec<String>, AllocError> {
     let mut told = Vec::new(alloc);
     for piece in pieces.split('/') {
         told.push(offer_line(alloc, offer(sink, piece.as_bytes()))?)?;

@@ -19,11 +19,7 @@ fn read_line(
 }
 
 /// Reads into one piece, of so many dots at first, until nothing comes, and tells each read with the piece behind it.
-fn reads<S: Source>(
-    alloc: Global,
-    source: &mut S,
-    room: u64,
-) -> Result<Vec<String>, AllocError> {
+fn reads<S: Source>(alloc: Global, source: &mut S, room: u64) -> Result<Vec<String>, AllocError> {
     let mut piece = vec![in alloc; b'.'; room as usize]?;
     let mut told = Vec::new(alloc);
     for _ in 0..MOST_READS {

@@ -47,6 +47,7 @@ use sums::sum_line;
 use told::Told;
 
 /// What a line is.
+#[derive(Drop)]
 enum Form<'a> {
     Remark,
     Add(&'a str),

@@ -30,7 +30,8 @@ pub fn pretend<X: Threads + Sync, W: Watch>(
     requires { (1 ≤ appliers) × (appliers ≤ 8) }
 {
     let apply = |number: usize| -> usize
-        requires { number < 8 }
+        requires appliers { 1 ≤ appliers }
+        requires number { number < 8 }
     { tell(watch, first, appliers, number) };
     thread::map_indices(rt, alloc, appliers as usize, &apply)?;
     Ok(())
