@@ -26,7 +26,7 @@ use Rattle.event_laws.specs.Starts.{IsNewSite}
 use Rattle.site_state.specs.Commits.{site_commit, block_at, committed_by, committed}
 use Rattle.site_state.specs.Packets.{site_packet, packet_found, carry_of, number_at, site_accept, is_foreign, taken_unless, taken_in, arrived_by}
 use Rattle.site_state.specs.DeclaredSites.{IsDeclared}
-use Rattle.event_laws.specs.Core.{site_of, at_site}
+use Rattle.event_laws.specs.Core.{at_site}
 use Rattle.event_laws.specs.Events.{Event, run, receiver}
 use Rattle.event_laws.specs.Events.Event.{Commit, Send, Deliver, Begin, Apply}
 use Rattle.event_laws.specs.Fitting.{StartsFit}
