@@ -152,14 +152,13 @@ impl Pair {
         Ok(())
     }
 
-    /// The other site passes for the one that writes.
-    fn apply(&mut self, alloc: Global) -> Result<(), CaseStop> {
+    /// The other site passes for a sender.
+    fn apply(&mut self, alloc: Global, origin: &SiteName) -> Result<(), CaseStop> {
         if self.to.moment() == u64::MAX {
             return Err(CaseStop::NoCase);
         }
         two_sites_run();
-        let origin = *self.from.name();
-        match self.to.apply_pass(alloc, &origin) {
+        match self.to.apply_pass(alloc, origin) {
             Ok(_) => Ok(()),
             Err(_) => Err(CaseStop::Memory),
         }
@@ -167,11 +166,12 @@ impl Pair {
 
     /// The site that writes commits each block, and its packet comes to the other one, which passes once it has so many.
     pub fn run(&mut self, alloc: Global, blocks: &[Block], applied: usize) -> Result<(), CaseStop> {
+        let origin = *self.from.name();
         for place in 0..blocks.len() {
             self.commit(alloc, &blocks[place].statements)?;
             self.deliver(alloc, place as u64 + 1)?;
             if place + 1 == applied {
-                self.apply(alloc)?;
+                self.apply(alloc, &origin)?;
             }
         }
         Ok(())
