@@ -7,10 +7,10 @@
 //! comes to the second. `* COUNT STATEMENT` is so many such blocks and `block COUNT STATEMENT` is one block of so many statements;
 //! in each a number from 1 on stands for `%`. What stands before a line `apply` the second site applies alone.
 //!
-//! A line `run APPLIERS TURNS` makes the second one's pass, by so many appliers. Those of the second and the third block are held
-//! until both have come, none for more than so many turns. It prints whether they met, and whether rows were put when they had to
-//! be: none whose number begins with 1 before an applier came with the first block, one before one came with the third, and none
-//! whose number begins with 2 as long as the applier of the second block was held.
+//! A line `run APPLIERS TURNS` makes the second one's pass, by so many appliers. Of the first three blocks that it applies, those
+//! who come with the second and the third are held until both have come, none for more than so many turns. It prints whether they
+//! met, and whether rows were put when they had to be: none whose number begins with 1 before an applier came with the first
+//! block, one before one came with the third, and none whose number begins with 2 as long as the applier of the second was held.
 //!
 //! `fake APPLIERS TURNS` prints the same of so many threads that only tell that they work on the three blocks. The caller makes
 //! the pass, once behind their calls and once before them. What stands behind a line of these two is another case. An empty line
