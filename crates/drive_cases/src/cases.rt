@@ -1,6 +1,7 @@
 //! The lines that a case prints.
 
 use crate::runs::{Ended, Faults, noted_run, run, with_line_ends, with_strokes};
+use crate::{sinks, sources};
 use script_drive::Status;
 use std::alloc::{AllocError, Global};
 
@@ -158,8 +159,13 @@ fn no_case(alloc: Global) -> Result<Vec<String>, AllocError> {
     Ok(vec![in alloc; format!(in alloc; "no case")?]?)
 }
 
-/// What a case of this kind prints.
-fn told(alloc: Global, kind: &str, most: u64, script: &[u8]) -> Result<Vec<String>, AllocError> {
+/// What a case of this kind prints, of a script.
+fn told_of_script(
+    alloc: Global,
+    kind: &str,
+    most: u64,
+    script: &[u8],
+) -> Result<Vec<String>, AllocError> {
     match kind {
         "run" => whole_run(alloc, most, script),
         "asked" => asked_reads(alloc, most, script),
@@ -171,14 +177,40 @@ fn told(alloc: Global, kind: &str, most: u64, script: &[u8]) -> Result<Vec<Strin
     }
 }
 
-/// What a case prints: `run`, `asked`, `reads`, `writes` or `cuts`, the most bytes that a call moves, and a script; or `bytes`,
-/// their number, and the byte.
+fn run_of_text(
+    alloc: Global,
+    kind: &str,
+    most: u64,
+    text: &str,
+) -> Result<Vec<String>, AllocError> {
+    let script = with_line_ends(alloc, text)?;
+    told_of_script(alloc, kind, most, &script)
+}
+
+/// What a case of this kind prints.
+fn told(alloc: Global, kind: &str, most: u64, text: &str) -> Result<Vec<String>, AllocError> {
+    match kind {
+        "source" => sources::of_bytes(alloc, most, text),
+        "reader" => sources::of_reader(alloc, most, text),
+        "failing-source" => sources::of_failing(alloc, most, text),
+        "writer" => sinks::to_writer(alloc, most, text),
+        "offers" => sinks::offered(alloc, most, text),
+        "failing-sink" => sinks::to_failing(alloc, most, text),
+        _ => run_of_text(alloc, kind, most, text),
+    }
+}
+
+/// What a case prints: `run`, `asked`, `reads`, `writes` or `cuts`, the most bytes that a call moves, and a script; `bytes`,
+/// their number, and the byte; `source`, `reader` or `failing-source`, the most bytes that a read gives, and all bytes; `writer`
+/// or `offers`, the room, and pieces; `failing-sink`, the most bytes that a write takes, and pieces; or `sink` and pieces.
 pub fn outcomes(alloc: Global, line: &str) -> Result<Vec<String>, AllocError> {
     let (kind, rest) = line.split_once(' ').unwrap_or((line, ""));
+    if kind == "sink" {
+        return sinks::to_bytes(alloc, rest);
+    }
     let (most, text) = rest.split_once(' ').unwrap_or((rest, ""));
-    let Ok(most) = most.parse::<u64>() else {
-        return no_case(alloc);
-    };
-    let script = with_line_ends(alloc, text)?;
-    told(alloc, kind, most, &script)
+    match most.parse::<u64>() {
+        Ok(most) => told(alloc, kind, most, text),
+        Err(_) => no_case(alloc),
+    }
 }

@@ -1,6 +1,6 @@
 //! The scripts of the input, and what each prints.
 
-use crate::crews::run_held;
+use crate::crews::{Held, run_held};
 use crate::cuts::cut_line;
 use crate::runs::{Ended, run};
 use std::alloc::{AllocError, Global};
@@ -13,8 +13,8 @@ enum Way {
     Alone,
     /// Cut behind each byte as well.
     Cut,
-    /// By so many appliers, none of which is held for more than so many turns.
-    Crew { appliers: u32, turns: u64 },
+    /// By a crew.
+    Crew(Held),
 }
 
 /// A script of the input.
@@ -39,7 +39,7 @@ fn add_line(script: &mut Vec<u8>, line: &str) -> Result<(), AllocError> {
     Ok(())
 }
 
-/// Adds the line, in which a number stands for `%`.
+/// Adds the line, in which a number stands for `%` and the end of a line for `;`.
 fn add_numbered(
     alloc: Global,
     script: &mut Vec<u8>,
@@ -48,7 +48,8 @@ fn add_numbered(
 ) -> Result<(), AllocError> {
     let digits = format!(in alloc; "{number}")?;
     let line = repeat.replace(alloc, '%', digits.as_str())?;
-    add_line(script, line.as_str())
+    let lines = line.replace(alloc, ';', "\n")?;
+    add_line(script, lines.as_str())
 }
 
 /// Adds so many lines, in which the number of each stands for `%`.
@@ -86,12 +87,21 @@ pub fn take_line(alloc: Global, cases: &mut Vec<Case>, line: &str) -> Result<(),
     }
 }
 
-/// The appliers and the turns of `== crew APPLIERS TURNS`.
+/// `APPLIERS TURNS`, and ` from FIRST` where the first position isn't 1.
+fn held_of(words: &str) -> Option<Held> {
+    let (appliers, rest) = words.split_once(' ')?;
+    let (turns, first) = rest.split_once(" from ").unwrap_or((rest, "1"));
+    Some(Held {
+        appliers: appliers.parse::<u32>().ok()?,
+        turns: turns.parse::<u64>().ok()?,
+        first: first.parse::<u64>().ok()?,
+    })
+}
+
+/// The crew of `== crew APPLIERS TURNS`.
 fn crew_of(title: &str) -> Option<Way> {
-    let (appliers, turns) = title.strip_prefix("== crew ")?.split_once(' ')?;
-    let appliers = appliers.parse::<u32>().ok()?;
-    let turns = turns.parse::<u64>().ok()?;
-    Some(Way::Crew { appliers, turns })
+    let held = held_of(title.strip_prefix("== crew ")?)?;
+    Some(Way::Crew(held))
 }
 
 fn way_of(title: &str) -> Way {
@@ -128,12 +138,11 @@ fn told_cut(alloc: Global, case: &Case) -> Result<String, AllocError> {
 fn told_held<R: Threads + Wait + Sync>(
     rt: &R,
     alloc: Global,
-    appliers: u32,
-    turns: u64,
+    held: Held,
     case: &Case,
 ) -> Result<String, AllocError> {
     let title = case.title.as_str();
-    match run_held(rt, alloc, appliers, turns, &case.script)? {
+    match run_held(rt, alloc, held, &case.script)? {
         Some((ended, how)) => told_with(alloc, title, &ended, how),
         None => format!(in alloc; "{title}\n-- no crew\n"),
     }
@@ -148,6 +157,6 @@ pub fn outcome<R: Threads + Wait + Sync>(
     match way_of(case.title.as_str()) {
         Way::Alone => told_alone(alloc, case),
         Way::Cut => told_cut(alloc, case),
-        Way::Crew { appliers, turns } => told_held(rt, alloc, appliers, turns, case),
+        Way::Crew(held) => told_held(rt, alloc, held, case),
     }
 }

@@ -1,8 +1,10 @@
 //! Runs the scripts of its input as the program runs them, and prints the report and the status of each. A line that begins
-//! with `== ` begins a script and names it, and `* COUNT LINE` stands for so many lines. With a name that begins with `cut `
-//! the script is also run cut behind each byte. A script behind `== crew APPLIERS TURNS` is run by so many appliers, which are
-//! held until two of them work side by side, none for more than so many turns, and its case tells whether they did, which no
-//! contract says.
+//! with `== ` begins a script and names it, and `* COUNT LINE` stands for so many lines, or for so many times the lines between
+//! `;`, with a number for `%`. With a name that begins with `cut ` the script is also run cut behind each byte.
+//!
+//! A script behind `== crew APPLIERS TURNS` is run by so many appliers. Those that work on positions 2 and 3 of a sender are held
+//! until both do, none for more than so many turns, and the case tells whether they met, which no contract says. With ` from FIRST`
+//! behind the turns they are the two positions behind that one.
 #![tactic(auto)]
 
 mod cases;

@@ -12,19 +12,21 @@ const BOTH: u64 = SECOND | THIRD;
 
 const LATE: u64 = 4;
 
-/// Holds the appliers that work on positions 2 and 3 until both do, each for at most so many turns.
+/// Holds the appliers that work on the second and the third of three positions until both do, each for at most so many turns.
 #[derive(Drop)]
 pub struct Meeting {
     turns: u64,
+    first: u64,
     // A bit for each of the two positions that an applier came with, and one where an applier was held in vain.
     came: AtomicU64,
 }
 
 impl Meeting {
-    /// Nobody came yet.
-    pub fn new(turns: u64) -> Meeting {
+    /// Nobody came yet. The first of the three positions is given.
+    pub fn new(turns: u64, first: u64) -> Meeting {
         Meeting {
             turns,
+            first,
             came: AtomicU64::new(0),
         }
     }
@@ -47,10 +49,10 @@ impl Meeting {
 
 impl Watch for Meeting {
     fn working(&self, _applier: u32, position: u64) {
-        let bit = match position {
-            2 => SECOND,
-            3 => THIRD,
-            _ => return,
+        let bit = match position.checked_sub(self.first) {
+            Some(1) => SECOND,
+            Some(2) => THIRD,
+            Some(_) | None => return,
         };
         self.came.fetch_or(bit, Ordering::SeqCst);
         self.wait_for_both();

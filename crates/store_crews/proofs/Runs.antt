@@ -2,7 +2,9 @@
 use Rattle.std.proofs.Common.{◌≡◌, ℕ, List, [], ◌∷◌, map, Bool, true, false, cond, Some, None, Result, Ok, Err, refl, sym, ◌∙◌, ap, subst}
 use Rattle.std.specs.Prelude.{Option, length, replicate, nat_le, nat_lt}
 use Rattle.std.specs.List.{range_with_len}
-use Rattle.site_state.specs.Steps.{is_empty}
+use Rattle.site_state.specs.Steps.{is_empty, begun}
+use Rattle.site_state.specs.Passes.{site_apply, apply_each}
+use Rattle.site_state.proofs.Stepping.{apply_steps}
 use mathlib.Core.Bool.{true≢false}
 use Rattle.rep_values.specs.declared.name.SiteName.{SiteName}
 use Rattle.rep_schema.specs.declared.schema.Schema.{Schema}
@@ -14,7 +16,7 @@ use Rattle.packet_code.specs.declared.packet.Packet.TheVariants.{Carry, Mark}
 use Rattle.local_txn.specs.declared.local.Here.{Here}
 use Rattle.deferred_queue.specs.Streams.{is_same_site}
 use Rattle.deferred_queue.proofs.Sites.{is_same_site-true, is_same_site-refl}
-use Rattle.site_state.specs.State.{SenderState, DestinationState, SiteState, is_master_site, arrived_at}
+use Rattle.site_state.specs.State.{SenderState, DestinationState, SiteState, is_master_site, is_among, arrived_at}
 use Rattle.rep_schema.specs.Sites.{senders_of, destinations_of}
 use Rattle.site_state.specs.declared.arrival.Arrival.{Arrival}
 use Rattle.site_state.specs.Making.{new_sender, new_destination}
@@ -24,14 +26,14 @@ use Rattle.event_laws.specs.Starts.{IsNewSite}
 use Rattle.site_state.specs.Commits.{site_commit, block_at, committed_by, committed}
 use Rattle.site_state.specs.Packets.{site_packet, packet_found, carry_of, number_at, site_accept, is_foreign, taken_unless, taken_in, arrived_by}
 use Rattle.site_state.specs.DeclaredSites.{IsDeclared}
-use Rattle.event_laws.specs.Core.{site_of, at_site}
+use Rattle.event_laws.specs.Core.{at_site}
 use Rattle.event_laws.specs.Events.{Event, run, receiver}
-use Rattle.event_laws.specs.Events.Event.{Commit, Send, Deliver}
+use Rattle.event_laws.specs.Events.Event.{Commit, Send, Deliver, Begin, Apply}
 use Rattle.event_laws.specs.Fitting.{StartsFit}
 use Rattle.event_laws.proofs.Sites.{KeepsHere, found_changed, found_other}
 use Rattle.event_laws.proofs.NewSites.{new_site_is_new}
 use Rattle.event_laws.proofs.Confluence.{every_site_can_pass_in_any_order}
-use Rattle.store_crews.specs.Runs.{opened, TwoBegin, TwoCommit, TwoDeliver, TwoPass}
+use Rattle.store_crews.specs.Runs.{AreInARun, opened, TwoBegin, TwoCommit, TwoDeliver, TwoApply, TwoPass}
 
 -- ---- what a commit and a packet leave
 
@@ -121,6 +123,62 @@ two_deliver from to position packet a is = record {
 
     sites : (run events a.start).sites ≡ at_site to.here.site (site_accept packet) (run a.events a.start).sites
     sites = rw (a.from_there, is, packet_goes to.here.site position from packet is) refl
+
+-- they stand in a run in which the other site has begun a pass
+record Passing (from to : SiteState) : Type 0 where
+  along : AreInARun from to
+  began : is_among (run along.events along.start).begun to.here.site ≡ true
+
+begun_here : KeepsHere begun
+begun_here x = refl
+
+pass_begins : (from to : SiteState) → AreInARun from to → Passing from (begun to)
+pass_begins from to a = record {
+  along = record {
+    schema = a.schema;
+    start = a.start;
+    events = Begin to.here.site ∷ a.events;
+    fit = a.fit;
+    declared = a.declared;
+    from_there = found_other to.here.site from.here.site begun (run a.events a.start).sites begun_here (turned from.here.site to.here.site a.apart) ∙ a.from_there;
+    to_there = found_changed to.here.site begun (run a.events a.start).sites to begun_here a.to_there;
+    apart = a.apart;
+    of_schema = a.of_schema;
+  };
+  began = rw (is_same_site-refl to.here.site) refl;
+}
+
+position_goes : (from to : SiteState) (origin : SiteName) (position : ℕ) → Passing from to → Passing from (site_apply origin position to)
+position_goes from to origin position p = record {
+  along = record {
+    schema = a.schema;
+    start = a.start;
+    events = Apply to.here.site origin position ∷ a.events;
+    fit = a.fit;
+    declared = a.declared;
+    from_there = rw sites (found_other to.here.site from.here.site (site_apply origin position) (run a.events a.start).sites keeps (turned from.here.site to.here.site a.apart) ∙ a.from_there);
+    to_there = rw (keeps to, sites) (found_changed to.here.site (site_apply origin position) (run a.events a.start).sites to keeps a.to_there);
+    apart = rw (keeps to) a.apart;
+    of_schema = (apply_steps origin position to).schema ∙ a.of_schema;
+  };
+  began = rw (keeps to) p.began;
+}
+  where
+    a : AreInARun from to
+    a = p.along
+
+    keeps : KeepsHere (site_apply origin position)
+    keeps x = (apply_steps origin position x).here
+
+    sites : (run (Apply to.here.site origin position ∷ a.events) a.start).sites ≡ at_site to.here.site (site_apply origin position) (run a.events a.start).sites
+    sites = rw p.began refl
+
+each_goes : (from to : SiteState) (origin : SiteName) (arrived : List Arrival) → Passing from to → Passing from (apply_each origin arrived to)
+each_goes from to origin [] p = p
+each_goes from to origin (one ∷ arrived) p = each_goes from (site_apply origin one.position to) origin arrived (position_goes from to origin one.position p)
+
+pub two_apply : TwoApply
+two_apply from to origin arrived a = (each_goes from (begun to) origin arrived (pass_begins from to a)).along
 
 pub two_pass : TwoPass
 two_pass from to a master =

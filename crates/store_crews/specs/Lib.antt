@@ -1,2 +1,3 @@
 -- The specs of this crate.
 pub mod Runs
+pub mod Turns

@@ -1,12 +1,16 @@
 -- Two sites that stand in a run of events.
 use Rattle.std.specs.Prelude.{◌≡◌, ℕ, true, false, List, [], Some, length, replicate, map, nat_lt}
 use Rattle.std.specs.List.{range_with_len}
+use Rattle.rep_values.specs.declared.name.SiteName.{SiteName}
 use Rattle.rep_schema.specs.declared.schema.Schema.{Schema}
 use Rattle.rep_calls.specs.declared.statement.Statement.{Statement}
 use Rattle.packet_code.specs.declared.packet.Packet.{Packet}
 use Rattle.local_txn.specs.declared.local.Here.{Here}
 use Rattle.deferred_queue.specs.Streams.{is_same_site}
+use Rattle.site_state.specs.declared.arrival.Arrival.{Arrival}
 use Rattle.site_state.specs.State.{SiteState, is_master_site}
+use Rattle.site_state.specs.Steps.{begun}
+use Rattle.site_state.specs.Passes.{apply_each}
 use Rattle.site_state.specs.Making.{new_site}
 use Rattle.site_state.specs.Commits.{site_commit}
 use Rattle.site_state.specs.Packets.{site_packet, site_accept}
@@ -50,6 +54,10 @@ TwoCommit = (from to : SiteState) (statements : List Statement) → AreInARun fr
 -- and after the packet of a position
 abbrev pub TwoDeliver : Type 0
 TwoDeliver = (from to : SiteState) (position : ℕ) (packet : Packet) → AreInARun from to → site_packet to.here.site position from ≡ Some packet → AreInARun from (site_accept packet to)
+
+-- and after a pass of the other site, or a front of one
+abbrev pub TwoApply : Type 0
+TwoApply = (from to : SiteState) (origin : SiteName) (arrived : List Arrival) → AreInARun from to → AreInARun from (apply_each origin arrived (begun to))
 
 -- then the other site can pass in any order
 abbrev pub TwoPass : Type 0

@@ -1,41 +1,79 @@
-//! Runs passes over tables that note what is put, and prints of each whether each row was put when it had to be while the
-//! appliers were held. Lines declare a schema, whose first two sites are taken, and each statement behind it is a block of the
-//! first one, whose packet comes to the second. A line `run APPLIERS TURNS` makes the second one's pass, by so many appliers,
-//! none of which is held for more than so many turns; what stands behind it is another case.
+//! What threads come to, as cases: numbers that threads add under a gate, and passes of crews over tables that note what is put.
+//!
+//! A line `add FIRST / NUMBER .. / NUMBER ..` is one gate. Its value begins with the first number, a thread of its own adds the
+//! numbers of each further part, and what the value tells in the end is printed.
+//!
+//! Lines declare a schema, whose first two sites are taken. Each statement behind it is a block of the first one, whose packet
+//! comes to the second. `* COUNT STATEMENT` is so many such blocks and `block COUNT STATEMENT` is one block of so many statements;
+//! in each a number from 1 on stands for `%`. What stands before a line `apply` the second site applies alone.
+//!
+//! A line `run APPLIERS TURNS` makes the second one's pass, by so many appliers. Of the first three blocks that it applies, those
+//! who come with the second and the third are held until both have come, none for more than so many turns. It prints whether they
+//! met, and whether rows were put when they had to be: none whose number begins with 1 before an applier came with the first
+//! block, one before one came with the third, and none whose number begins with 2 as long as the applier of the second was held.
+//!
+//! `fake APPLIERS TURNS` prints the same of so many threads that only tell that they work on the three blocks. The caller makes
+//! the pass, once behind their calls and once before them. What stands behind a line of these two is another case. An empty line
+//! and one that begins with `#` is printed as it is.
 #![tactic(auto)]
 
-ghost use Rattle.std.specs.Prelude.{◌+◌, ◌^◌, ◌<◌, ◌≤◌, IfOk, IfSome};
+ghost use Rattle.std.specs.Prelude.{◌+◌, ◌^◌, ◌<◌, IfOk};
 ghost use Rattle.event_laws.specs.Confluence.{CanPassInAnyOrder};
 
+mod adding;
+mod blocks;
+mod held;
 mod laws;
 mod noting;
 mod order;
 mod pair;
 mod pass;
+mod pretence;
+mod sums;
+mod tally;
 mod told;
 
 use case_lines::CaseStop;
+use held::Held;
 use noting::{NotingTables, Puts};
 use order::Order;
-use pass::mark_after_pass;
+use pass::{Maker, mark_after_pass};
 use rep_values::SiteName;
 use site_core::Site;
 use std::alloc::{AllocError, Global};
 use std::sync::{Arc, Wait};
 use std::thread::Threads;
+use sums::sum_line;
 use told::Told;
 
-/// The appliers, 1 to 8, and the turns of `run APPLIERS TURNS`.
-fn crew_of(line: &str) -> Option<(u32, u64)>
-    ensures { IfSome result (λ crew. (1 ≤ crew.0) × (crew.0 ≤ 8)) }
-{
-    let (appliers, turns) = line.strip_prefix("run ")?.split_once(' ')?;
-    let appliers = appliers.parse::<u32>().ok()?;
-    let turns = turns.parse::<u64>().ok()?;
-    if appliers < 1 || appliers > 8 {
-        return None;
+/// What a line is.
+#[derive(Drop)]
+enum Form<'a> {
+    Remark,
+    Add(&'a str),
+    Run(Held),
+    Fake(Held),
+    Told,
+}
+
+/// The form of a line by its first word.
+fn form_by<'a>(kind: &str, words: &'a str) -> Option<Form<'a>> {
+    match kind {
+        "add" => Some(Form::Add(words)),
+        "run" => Some(Form::Run(Held::read(words)?)),
+        "fake" => Some(Form::Fake(Held::read(words)?)),
+        _ => None,
     }
-    Some((appliers, turns))
+}
+
+fn form_of(line: &str) -> Form<'_> {
+    if line.is_empty() || line.starts_with('#') {
+        return Form::Remark;
+    }
+    match line.split_once(' ') {
+        Some((kind, words)) => form_by(kind, words).unwrap_or(Form::Told),
+        None => Form::Told,
+    }
 }
 
 /// The site that makes the pass, and the one whose blocks it applies.
@@ -56,31 +94,52 @@ fn outcome<R: Threads + Wait + Sync>(
     rt: &R,
     alloc: Global,
     told: &Told,
-    crew: (u32, u64),
-) -> Result<String, CaseStop>
-    requires { (1 ≤ crew.0) × (crew.0 ≤ 8) }
-{
-    let (appliers, turns) = crew;
-    let order = Order::new(Arc::new(alloc, Puts::new())?, turns);
-    let (site, origin) = receiver(alloc, told, order.puts()?)?;
+    held: Held,
+    maker: Maker,
+) -> Result<String, CaseStop> {
+    let order = Order::new(Arc::new(alloc, Puts::new())?, held.turns, told.first());
+    let receiver = receiver(alloc, told, order.puts()?)?;
     order.begin();
-    let low = mark_after_pass(rt, alloc, site, &origin, appliers, &order)?;
+    let low = mark_after_pass(rt, alloc, maker, receiver, held, &order)?;
     let how = order.word();
     Ok(format!(in alloc; "low {low}\n{how}")?)
 }
 
-/// What is printed of a pass, or why there was none.
-fn report<R: Threads + Wait + Sync>(
+/// What is printed, or that there was no case.
+fn report(alloc: Global, told: Result<String, CaseStop>) -> Result<String, AllocError> {
+    match told {
+        Ok(told) => Ok(told),
+        Err(CaseStop::NoCase) => format!(in alloc; "no case"),
+        Err(CaseStop::Memory) => Err(AllocError),
+    }
+}
+
+/// A line and what it comes to.
+fn answered(
+    alloc: Global,
+    line: &str,
+    told: Result<String, CaseStop>,
+) -> Result<Option<String>, AllocError> {
+    let report = report(alloc, told)?;
+    Ok(Some(format!(in alloc; "{line}\n{report}")?))
+}
+
+/// What is printed of passes beside appliers that only tell of work.
+fn fake_outcomes<R: Threads + Wait + Sync>(
     rt: &R,
     alloc: Global,
     told: &Told,
-    crew: (u32, u64),
-) -> Result<String, AllocError>
-    requires { (1 ≤ crew.0) × (crew.0 ≤ 8) }
-{
-    match outcome(rt, alloc, told, crew) {
-        Ok(outcome) => Ok(outcome),
-        Err(CaseStop::NoCase) => format!(in alloc; "no case"),
+    held: Held,
+) -> Result<String, CaseStop> {
+    let before = outcome(rt, alloc, told, held, Maker::CallsBefore)?;
+    let behind = outcome(rt, alloc, told, held, Maker::CallsBehind)?;
+    Ok(format!(in alloc; "pass behind the calls\n{before}\npass before the calls\n{behind}")?)
+}
+
+fn take_told(alloc: Global, told: &mut Told, line: &str) -> Result<Option<String>, AllocError> {
+    match told.take_line(alloc, line) {
+        Ok(()) => Ok(None),
+        Err(CaseStop::NoCase) => Ok(Some(format!(in alloc; "no case")?)),
         Err(CaseStop::Memory) => Err(AllocError),
     }
 }
@@ -92,15 +151,18 @@ fn answer<R: Threads + Wait + Sync>(
     told: &mut Told,
     line: &str,
 ) -> Result<Option<String>, AllocError> {
-    if let Some(crew) = crew_of(line) {
-        let report = report(rt, alloc, told, crew)?;
-        *told = Told::new(alloc);
-        return Ok(Some(format!(in alloc; "{line}\n{report}")?));
+    match form_of(line) {
+        Form::Remark => Ok(Some(format!(in alloc; "{line}")?)),
+        Form::Add(parts) => answered(alloc, line, sum_line(rt, alloc, parts)),
+        Form::Run(held) => answered(alloc, line, outcome(rt, alloc, told, held, Maker::Crew)),
+        Form::Fake(held) => answered(alloc, line, fake_outcomes(rt, alloc, told, held)),
+        Form::Told => take_told(alloc, told, line),
     }
-    match told.take_line(alloc, line) {
-        Ok(()) => Ok(None),
-        Err(_) => Ok(Some(format!(in alloc; "no case")?)),
-    }
+}
+
+/// Whether another case begins behind a line.
+fn ends_case(line: &str) -> bool {
+    matches!(form_of(line), Form::Run(_) | Form::Fake(_))
 }
 
 fn tell(rt: &HostRuntime, answer: Option<String>) -> anyhow::Result<()> {
@@ -114,7 +176,11 @@ fn main(rt: HostRuntime) -> anyhow::Result<()> {
     let alloc = rt.alloc();
     let mut told = Told::new(alloc);
     for line in rt.lines(alloc) {
-        tell(&rt, answer(&rt, alloc, &mut told, &line?)?)?;
+        let line = line?;
+        tell(&rt, answer(&rt, alloc, &mut told, &line)?)?;
+        if ends_case(&line) {
+            told = Told::new(alloc);
+        }
     }
     Ok(())
 }

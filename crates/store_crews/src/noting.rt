@@ -9,17 +9,33 @@ use std::alloc::Global;
 use std::sync::Arc;
 use std::sync::atomic::{AtomicU64, Ordering};
 
-/// One bit for each row that was put, by its key.
+/// One bit for each row that was put, by the digit that its number begins with.
 #[derive(Drop)]
 pub struct Puts {
     bits: AtomicU64,
 }
 
-/// The bit of a row by the number that it begins with.
+/// The digit that a number begins with, where it is above 0.
+fn first_digit(number: i64) -> i64 {
+    let mut digit = number;
+    for _ in 0..18 {
+        if digit < 10 {
+            break;
+        }
+        digit /= 10;
+    }
+    digit
+}
+
+/// The bit of a row.
 fn bit_of(values: &[Value]) -> u64 {
-    match values.first() {
-        Some(Value::Num(1)) => 2,
-        Some(Value::Num(2)) => 4,
+    let digit = match values.first() {
+        Some(Value::Num(number)) => first_digit(*number),
+        Some(Value::Words(_)) | None => 0,
+    };
+    match digit {
+        1 => 2,
+        2 => 4,
         _ => 1,
     }
 }
@@ -37,12 +53,12 @@ impl Puts {
         self.bits.store(0, Ordering::SeqCst);
     }
 
-    /// Whether row 1 was put.
+    /// Whether a row whose number begins with 1 was put.
     pub fn has_first(&self) -> bool {
         self.bits.load(Ordering::SeqCst) & 2 != 0
     }
 
-    /// Whether row 2 was put.
+    /// Whether a row whose number begins with 2 was put.
     pub fn has_second(&self) -> bool {
         self.bits.load(Ordering::SeqCst) & 4 != 0
     }

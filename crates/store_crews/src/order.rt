@@ -17,22 +17,24 @@ const LATE: u64 = 4;
 
 const EARLY: u64 = 8;
 
-/// Holds the appliers that work on positions 2 and 3 until both do, each for at most so many turns.
+/// Holds the appliers that work on the second and the third of three positions until both do, each for at most so many turns.
 #[derive(Drop)]
 pub struct Order {
     puts: Arc<Puts>,
     turns: u64,
+    first: u64,
     // A bit for each of the two positions that an applier came with, one where an applier was held in vain, and one where a row
     // was put too early, or not yet.
     came: AtomicU64,
 }
 
 impl Order {
-    /// Nobody came yet.
-    pub fn new(puts: Arc<Puts>, turns: u64) -> Order {
+    /// Nobody came yet. The first of the three positions is given.
+    pub fn new(puts: Arc<Puts>, turns: u64, first: u64) -> Order {
         Order {
             puts,
             turns,
+            first,
             came: AtomicU64::new(0),
         }
     }
@@ -47,9 +49,17 @@ impl Order {
         self.puts.clear();
     }
 
-    /// Whether both came, and neither was held in vain, and each row was put when it had to be.
+    /// The first of the three positions.
+    pub fn first(&self) -> u64 {
+        self.first
+    }
+
+    /// Whether a row was put too early, or not yet; and else whether both came, and neither was held in vain.
     pub fn word(&self) -> &'static str {
-        if self.came.load(Ordering::SeqCst) == BOTH {
+        let came = self.came.load(Ordering::SeqCst);
+        if came & EARLY != 0 {
+            "rows out of step"
+        } else if came == BOTH {
             "side by side"
         } else {
             "one after another"
@@ -70,14 +80,14 @@ impl Order {
         self.add(LATE);
     }
 
-    // Row 1 wasn't put before.
+    // No row of the first block was put before.
     fn work_on_first(&self) {
         if self.puts.has_first() {
             self.add(EARLY);
         }
     }
 
-    // Row 2 isn't put as long as the applier is held.
+    // No row of the second one is put as long as the applier is held.
     fn work_on_second(&self) {
         self.add(SECOND);
         self.wait_for_both();
@@ -86,7 +96,7 @@ impl Order {
         }
     }
 
-    // Row 1 was put before.
+    // A row of the first one was put before.
     fn work_on_third(&self) {
         if !self.puts.has_first() {
             self.add(EARLY);
@@ -98,11 +108,11 @@ impl Order {
 
 impl Watch for Order {
     fn working(&self, _applier: u32, position: u64) {
-        match position {
-            1 => self.work_on_first(),
-            2 => self.work_on_second(),
-            3 => self.work_on_third(),
-            _ => {}
+        match position.checked_sub(self.first) {
+            Some(0) => self.work_on_first(),
+            Some(1) => self.work_on_second(),
+            Some(2) => self.work_on_third(),
+            Some(_) | None => {}
         }
     }
 }

@@ -7,6 +7,7 @@ ghost use Rattle.rep_schema.specs.Sites.{senders_of, destinations_of};
 ghost use Rattle.site_state.specs.State.{is_master_site};
 ghost use Rattle.store_crews.specs.Runs.{AreInARun, opened};
 
+use crate::blocks::Block;
 use crate::laws::two_sites_run;
 use crate::noting::{NotingTables, Puts};
 use case_lines::CaseStop;
@@ -151,11 +152,27 @@ impl Pair {
         Ok(())
     }
 
-    /// Each statement is a block of the site that writes, whose packet comes to the other one.
-    pub fn run(&mut self, alloc: Global, statements: &[Statement]) -> Result<(), CaseStop> {
-        for place in 0..statements.len() {
-            self.commit(alloc, &statements[place..place + 1])?;
+    /// The other site passes for a sender.
+    fn apply(&mut self, alloc: Global, origin: &SiteName) -> Result<(), CaseStop> {
+        if self.to.moment() == u64::MAX {
+            return Err(CaseStop::NoCase);
+        }
+        two_sites_run();
+        match self.to.apply_pass(alloc, origin) {
+            Ok(_) => Ok(()),
+            Err(_) => Err(CaseStop::Memory),
+        }
+    }
+
+    /// The site that writes commits each block, and its packet comes to the other one, which passes once it has so many.
+    pub fn run(&mut self, alloc: Global, blocks: &[Block], applied: usize) -> Result<(), CaseStop> {
+        let origin = *self.from.name();
+        for place in 0..blocks.len() {
+            self.commit(alloc, &blocks[place].statements)?;
             self.deliver(alloc, place as u64 + 1)?;
+            if place + 1 == applied {
+                self.apply(alloc, &origin)?;
+            }
         }
         Ok(())
     }

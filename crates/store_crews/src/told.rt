@@ -1,22 +1,23 @@
 //! What the input declares, and the blocks that it has.
 ghost use Rattle.rep_schema.specs.Shape.{HasShape};
 
+use crate::blocks::{Block, block_of, numbered, repeated};
 use crate::noting::Puts;
 use crate::pair::Pair;
-use case_lines::{CaseStop, Words, declare, read_statement};
-use rep_calls::Statement;
+use case_lines::{CaseStop, Words, declare};
 use rep_schema::Schema;
 use rep_values::{ApplyError, Refusal, SiteName};
-use script_lex::{Token, lex};
+use script_lex::lex;
 use std::alloc::Global;
 use std::marker::Model;
 use std::sync::Arc;
 
-/// A schema, and statements, each of which is a block.
+/// A schema, and blocks, of which the first so many are applied before the pass of the case.
 #[derive(Drop)]
 pub struct Told {
     schema: Schema,
-    blocks: Vec<Statement>,
+    blocks: Vec<Block>,
+    applied: usize,
 }
 
 impl Model for Told {
@@ -52,27 +53,62 @@ impl Told {
         Told {
             schema: Schema::empty(alloc),
             blocks: Vec::new(alloc),
+            applied: 0,
         }
     }
 
-    /// Takes in the declaration or the statement that these words are.
-    fn take(&mut self, alloc: Global, tokens: &[Token]) -> Result<(), CaseStop> {
-        let mut words = Words::of(tokens);
-        match words.word()? {
-            b"insert" | b"update" | b"delete" => self.add_block(alloc, &mut Words::of(tokens)),
-            _ => add_declaration(alloc, &mut self.schema, &mut Words::of(tokens)),
-        }
+    /// The first position that isn't applied before.
+    pub fn first(&self) -> u64 {
+        (self.applied as u64).saturating_add(1)
     }
 
-    fn add_block(&mut self, alloc: Global, words: &mut Words) -> Result<(), CaseStop> {
-        self.blocks.push(read_statement(alloc, words)?)?;
+    /// A block of so many statements, in each of which its number stands for `%`.
+    fn add_block(&mut self, alloc: Global, count: u64, line: &str) -> Result<(), CaseStop> {
+        self.blocks.push(block_of(alloc, count, line)?)?;
         Ok(())
     }
 
-    /// Takes in a declaration or a statement.
-    pub fn take_line(&mut self, alloc: Global, line: &str) -> Result<(), CaseStop> {
+    fn add_declared(&mut self, alloc: Global, line: &str) -> Result<(), CaseStop> {
         let tokens = lex(alloc, line.as_bytes())?;
-        self.take(alloc, tokens.as_slice())
+        add_declaration(alloc, &mut self.schema, &mut Words::of(tokens.as_slice()))
+    }
+
+    /// `* COUNT STATEMENT`: so many blocks, in each of which its number stands for `%`.
+    fn add_blocks(&mut self, alloc: Global, words: &str) -> Result<(), CaseStop> {
+        let Some((count, line)) = repeated(words) else {
+            return Err(CaseStop::NoCase);
+        };
+        for number in 1..=count {
+            let statement = numbered(alloc, number, line)?;
+            self.add_block(alloc, 1, statement.as_str())?;
+        }
+        Ok(())
+    }
+
+    /// `block COUNT STATEMENT`: a block of so many statements.
+    fn add_long_block(&mut self, alloc: Global, words: &str) -> Result<(), CaseStop> {
+        match repeated(words) {
+            Some((count, line)) => self.add_block(alloc, count, line),
+            None => Err(CaseStop::NoCase),
+        }
+    }
+
+    /// What was told by now is applied before the pass of the case.
+    fn apply(&mut self) -> Result<(), CaseStop> {
+        self.applied = self.blocks.len();
+        Ok(())
+    }
+
+    /// Takes in a declaration, a statement, `* COUNT STATEMENT`, `block COUNT STATEMENT` or `apply`.
+    pub fn take_line(&mut self, alloc: Global, line: &str) -> Result<(), CaseStop> {
+        let (kind, words) = line.split_once(' ').unwrap_or((line, ""));
+        match kind {
+            "insert" | "update" | "delete" => self.add_block(alloc, 1, line),
+            "*" => self.add_blocks(alloc, words),
+            "block" => self.add_long_block(alloc, words),
+            "apply" => self.apply(),
+            _ => self.add_declared(alloc, line),
+        }
     }
 
     /// The names of the first two sites.
@@ -87,7 +123,7 @@ impl Told {
             return Err(CaseStop::NoCase);
         };
         let mut pair = Pair::open(alloc, &self.schema, names, puts)?;
-        pair.run(alloc, &self.blocks)?;
+        pair.run(alloc, &self.blocks, self.applied)?;
         Ok(pair)
     }
 }

@@ -1,7 +1,7 @@
 use Rattle.std.proofs.Common.{rules, All, subst}
 use Rattle.std.proofs.lemmas.List.Elements.{All-tail}
 use Rattle.site_gate.specs.Passes.{IsPassOf}
-use Rattle.gate_cases.proofs.adding.added.Goals as goal
+use Rattle.store_crews.proofs.adding.added.Goals as goal
 
 pub loop-other-preserved : goal.loop-other-preserved
 loop-other-preserved g c =

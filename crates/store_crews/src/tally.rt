@@ -1,6 +1,6 @@
 //! A total with all that was added to it.
 ghost use Rattle.std.specs.Prelude.{◌≡◌, ◌+◌, ◌^◌, ◌<◌, ◌++◌, [], ◌∷◌, ℕ, sum, length, vec_len};
-ghost use Rattle.gate_cases.specs.Turns.{turns_of};
+ghost use Rattle.store_crews.specs.Turns.{turns_of};
 
 use site_gate::Turns;
 use std::alloc::Global;

@@ -1,7 +1,7 @@
 use Rattle.std.proofs.Common.{◌≡◌, All}
 use Rattle.std.specs.Vec.Iter.{into_iter_items}
 use Rattle.site_gate.specs.Passes.{IsPassOf, opening_of}
-use Rattle.gate_cases.proofs.adding.added.Given as goal
+use Rattle.store_crews.proofs.adding.added.Given as goal
 
 abbrev pub invariant-loop-numbers : goal.invariant-loop-numbers
 invariant-loop-numbers g l = record {
