@@ -2,5 +2,6 @@
 pub mod Selecting
 pub mod SettledJournals
 pub mod SettledSites
+pub mod Waited
 mod SortedEntries
 mod WorkedJournals

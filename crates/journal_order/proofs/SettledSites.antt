@@ -38,7 +38,7 @@ use Rattle.journal_order.proofs.SettledJournals.{AllByRecursion-IsPermutation, a
 -- ---- entries over a journal, one after the other
 
 -- entries over a journal: the oldest goes on first
-reversed_over : (e : Entry) (es journal : List Entry) → reverse (e ∷ es) ++ journal ≡ reverse es ++ e ∷ journal
+pub reversed_over : (e : Entry) (es journal : List Entry) → reverse (e ∷ es) ++ journal ≡ reverse es ++ e ∷ journal
 reversed_over e es journal = ap (λ l. l ++ journal) (reverse_onto es e []) ∙ append_assoc (reverse es) (e ∷ []) journal
 
 -- the error that stands at a position after one entry more
@@ -168,7 +168,8 @@ ordered : (schema : Schema) (es : List Entry) → AreInOrder schema es → Order
 ordered schema [] order = tt
 ordered schema (e ∷ es) order = (order.0, ordered schema es order.1)
 
-rises : (es : List Entry) → IsRising by_position es → Rises position_of es
+-- entries that rise by position have positions that rise
+pub rises : (es : List Entry) → IsRising by_position es → Rises position_of es
 rises [] rising = tt
 rises (e ∷ es) rising = (AllByRecursion-weaker _ _ (λ (f : Entry). cmp_less (position_of e) (position_of f)) es rising.0, rises es rising.1)
 

@@ -1,4 +1,4 @@
-//! A journal's newest entries in rising order of position, and that a site stays as it was.
+//! The order of a journal: which of two positions comes first, and its newest entries in rising order of position.
 #![tactic(auto)]
 
 mod laws;

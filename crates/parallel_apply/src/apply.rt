@@ -4,7 +4,7 @@ ghost use Rattle.rep_laws.specs.Commuting.{IsSound};
 ghost use Rattle.site_state.specs.State.{is_master_site, arrivals};
 ghost use Rattle.site_state.specs.Steps.{begun};
 ghost use Rattle.site_state.specs.Passes.{site_pass};
-ghost use Rattle.event_laws.specs.Marks.{IsWellNumbered};
+ghost use Rattle.journal_order.specs.Waited.{IsWellNumbered};
 ghost use Rattle.event_laws.specs.Confluence.{CanPassInAnyOrder};
 ghost use Rattle.site_gate.specs.Passes.{IsPassOf};
 ghost use Rattle.parallel_apply.specs.Crews.{IsPartlyApplied};

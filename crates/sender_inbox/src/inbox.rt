@@ -6,6 +6,7 @@ ghost use Rattle.origin_marks.specs.Marks.{finished, IsLowWater};
 ghost use Rattle.site_state.specs.State.{beside};
 ghost use Rattle.site_state.specs.Arrivals.{NamesOthers};
 ghost use Rattle.site_state.specs.Making.{new_sender};
+ghost use Rattle.site_state.specs.Joining.{with_first};
 ghost use Rattle.site_state.specs.Packets.{with_arrival};
 ghost use Rattle.site_state.specs.Ready.{covered_at};
 ghost use Rattle.sender_inbox.specs.Incoming.{seen_in, IsFirstAbove, IsInbox};
@@ -75,6 +76,14 @@ impl Inbox {
         ensures { result ≡ self.now.sender.first }
     {
         self.first
+    }
+
+    /// Sets the sender's queue count from which it is seen, where this site begins with rows that hold so much of its queue.
+    pub fn set_first(&mut self, number: u64)
+        ensures sender { self.new.sender ≡ with_first number self.old.sender }
+        ensures marked { self.new.marked ≡ self.old.marked }
+    {
+        self.first = number;
     }
 
     /// How many positions arrived.

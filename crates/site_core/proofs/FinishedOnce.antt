@@ -18,7 +18,7 @@ use Rattle.site_state.specs.Streams.{count_of}
 use Rattle.site_state.specs.Steps.{count_where, is_empty, is_open}
 use Rattle.journal_order.specs.Settling.{IsFinishedOnce, StaysWithMasters}
 use Rattle.site_core.specs.Applying.{onward_of, entry_by, onward_past}
-use Rattle.site_core.proofs.ChangedInbox.{Finishes}
+use Rattle.journal_steps.proofs.ChangedInbox.{Finishes}
 use Rattle.site_core.proofs.Onward.{onward_is}
 
 none_counted : (test : Entry → Bool) (es : List Entry) → list_any test es ≡ false → count_where test es ≡ 0

@@ -23,7 +23,7 @@ use Rattle.txn_apply.specs.declared.stop.ApplyStop.{ApplyStop}
 use Rattle.txn_apply.specs.declared.stop.ApplyStop.TheVariants.{Failed, Memory}
 use Rattle.txn_apply.specs.Stops.{StopsAs}
 use Rattle.txn_effects.specs.Transactions.{Failure, txn_effect, tables_by, numbers_by}
-use Rattle.deferred_queue.specs.Streams.{is_same_site, at_position, unpurged, last_position}
+use Rattle.deferred_queue.specs.Streams.{Deferred, is_same_site, at_position, unpurged, last_position}
 use Rattle.deferred_queue.specs.Streams as outgoing
 use Rattle.origin_marks.specs.Marks as marks
 use Rattle.packet_code.specs.declared.packet.Packet.{Packet}
@@ -40,13 +40,14 @@ use Rattle.site_state.specs.declared.entry.Entry.TheVariants.{Local, Done, Execu
 use Rattle.site_state.specs.declared.arrival.Arrival.{Arrival}
 use Rattle.site_state.specs.declared.answers.Why.TheVariants as why
 use Rattle.site_state.specs.declared.answers.Accepted.TheVariants as accepted
-use Rattle.site_state.specs.State.{SenderState, SiteState, sender_of, at_sender, beside, arrived_at, destination_of, at_destination}
+use Rattle.site_state.specs.State.{SenderState, SiteState, sender_of, at_sender, beside, arrived_at, destination_of, at_destination, opened_in}
 use Rattle.site_state.specs.Arrivals.{NamesOthers}
 use Rattle.site_state.specs.Journal.{finished, error_at}
 use Rattle.site_state.specs.Contents.{content_of, tables_of, txn_of, changes_by}
 use Rattle.site_state.specs.Streams.{with_one, queue_of, count_of, stream_to}
 use Rattle.site_state.specs.Pasts.{past_of, pasts_of}
 use Rattle.site_state.specs.Packets.{past_in, with_arrival, acknowledged, is_known_past, is_foreign, site_packet, site_accept, accept_answer}
+use Rattle.site_state.specs.Joining.{opened_at, site_open}
 use Rattle.site_state.specs.Notes.{logged_in, touched_in}
 use Rattle.site_state.specs.Notes.{noted as noted_at}
 use Rattle.site_state.specs.Ready.{stale_of}
@@ -60,24 +61,28 @@ use Rattle.site_state.specs.DeclaredSites.{IsDeclared}
 use Rattle.site_state.specs.Fits.{EntryHas, FinishedHaveArrived, SiteFits}
 use Rattle.site_state.proofs.Stepping.{Steps, arrived_has, error_found, commit_steps, apply_steps, execute_steps, drop_steps}
 use Rattle.site_state.proofs.Pasts.{arrived_at-put, finished_have_arrived, pasts_after-put}
-use Rattle.site_state.proofs.Deferring.{length-deferred_in}
+use Rattle.site_state.proofs.Deferring.{length-deferred_in, stream_to-closed}
 use Rattle.site_state.proofs.PastLimits.{ArePasts-pasts_after}
 use Rattle.rep_laws.specs.Packets.{FittingTransactionsArePlain}
+use Rattle.journal_order.specs.Waited.{HaveWaited}
+use Rattle.journal_order.proofs.Waited.{have_waited, HaveWaited-put}
 use Rattle.site_state.proofs.DeclaredSites.{sites_in, sites_in-at_destination, steps_names, accept_names, still_declared}
 use Rattle.site_state.proofs.FittingSites.{commit_fits, apply_fits, execute_fits, drop_fits, accept_fits}
 use Rattle.site_state.proofs.FittingSites as fitting
 use Rattle.sender_inbox.specs.Incoming.{Incoming, by_position}
 use Rattle.site_notes.specs.Noted.{NotesState}
 use Rattle.site_outbox.specs.Outgoing.{Outgoing, Keeps}
-use Rattle.site_core.specs.Keeping.{senders_in, sender_in, inbox_of, state_of, IsSized, Follows, Holds}
+use Rattle.journal_steps.specs.Inboxes.{senders_in, sender_in, inbox_of, Follows}
+use Rattle.site_core.specs.Keeping.{state_of, IsSized, Holds}
 use Rattle.site_core.specs.Noting.{IsNoted}
-use Rattle.site_core.specs.Applying.{goes_on, onward_of, entry_by, error_by, with_error, onward_past, refusal_of}
-use Rattle.site_core.proofs.StandingErrors.{StandApart, HasCome, lists_by, errors-added, errors-removed, error_in-lists, error_at-finished, error_at-unfinished, count-added, count-removed, errors-arrival, list_of-sender}
+use Rattle.journal_steps.specs.Steps.{with_error}
+use Rattle.site_core.specs.Applying.{goes_on, onward_of, entry_by, error_by, onward_past, refusal_of}
+use Rattle.journal_steps.proofs.StandingErrors.{StandApart, HasCome, lists_by, errors-added, errors-removed, error_in-lists, error_at-finished, error_at-unfinished, count-added, count-removed, errors-arrival, list_of-sender}
 use Rattle.site_core.proofs.Apart.{NamesApart, senders_apart, senders_stand_apart, destinations_apart, destinations_stand_apart}
-use Rattle.site_core.proofs.SenderInboxes.{sender_of-inboxes, found_inbox}
+use Rattle.journal_steps.proofs.SenderInboxes.{sender_of-inboxes, found_inbox}
 use Rattle.site_core.proofs.Reading.{stale_none, sender_is, stale_finished, stale_absent, finished_is}
 use Rattle.site_core.proofs.Sending.{last_is, no_packet, packet_is, sent_has}
-use Rattle.site_core.proofs.ChangedInbox.{is_from, inbox_of-place, inbox_of-none, senders_in-same, senders_in-changed, Finishes, follow_same, follow_finished}
+use Rattle.journal_steps.proofs.ChangedInbox.{is_from, inbox_of-place, inbox_of-none, senders_in-same, senders_in-changed, Finishes, follow_same, follow_finished}
 use Rattle.site_core.proofs.FinishedOnce.{once_more, no_onward, entry_stays}
 use Rattle.site_core.proofs.NotedRows.{nothing_logged, nothing_touched, apart_noted}
 use Rattle.site_core.proofs.Onward.{onward_is, went_is, pasts_with, sized_changes}
@@ -87,12 +92,14 @@ pub record StillHolds (x y : SiteState) : Type 0 where
   pub fits : SiteFits y
   pub declared : IsDeclared y.schema y
   pub arrived : FinishedHaveArrived y.journal y.senders
+  pub waited : HaveWaited y.senders y.journal
 
-pub still_holds : (x y : SiteState) → Steps x y → SiteFits y → IsDeclared x.schema x → FinishedHaveArrived x.journal x.senders → StillHolds x y
-still_holds x y s fits declared arrived = record {
+pub still_holds : (x y : SiteState) → Steps x y → SiteFits y → IsDeclared x.schema x → FinishedHaveArrived x.journal x.senders → HaveWaited x.senders x.journal → StillHolds x y
+still_holds x y s fits declared arrived waited = record {
   fits = fits;
   declared = subst (λ (schema : Schema). IsDeclared schema y) (sym s.schema) (still_declared x.schema x y (steps_names x y s) declared);
   arrived = rw (s.journals.journal, s.senders) (finished_have_arrived x s.journals.entry s.journals.follows arrived);
+  waited = rw (s.journals.journal, s.senders) (have_waited x s.journals.entry s.journals.follows waited);
 }
 
 module _ (schema : Schema) (here : Here) (base : List Rows) (journal : List Entry) (inboxes : List Incoming) (out : Outgoing) (notes : NotesState) (stamps : Stamps) (moment : ℕ)
@@ -123,7 +130,7 @@ module _ (schema : Schema) (here : Here) (base : List Rows) (journal : List Entr
         → length txn.calls ≤ 1000 → Keeps schema (past_of x ∷ pasts_of x) (txn ∷ queue_of x) out' → length (in_order lists) ≤ room'
         → Holds (state_of schema here base (Local n txn ∷ journal) inboxes out' notes' block.stamps (moment + 1)) rows' numbers inboxes out' lists room'
     commit_holds rows' room' made applies few keeps droppable =
-        let still = still_holds x _ (commit_steps statements x) (commit_fits statements x h.fits) h.declared h.arrived in
+        let still = still_holds x _ (commit_steps statements x) (commit_fits statements x h.fits) h.declared h.arrived h.waited in
         let after = subst (StillHolds x) (sym commit_state) still in
         record {
           based = h.based;
@@ -132,6 +139,7 @@ module _ (schema : Schema) (here : Here) (base : List Rows) (journal : List Entr
           declared = after.declared;
           arrived = after.arrived;
           once = h.once;
+          waited = after.waited;
           stays = (tt, h.stays);
           apart = apart_noted schema (moment + 1) block.changes notes notes' noted h.apart;
           tables_are = made ∙ ap (λ (r : Result Effect Failure). tables_by schema r rows) (sym applies) ∙ rw (← h.tables_are, ← h.numbers_are) refl;
@@ -215,7 +223,7 @@ module _ (schema : Schema) (here : Here) (base : List Rows) (journal : List Entr
         → AllByRecursion (Follows (entry ∷ journal)) inboxes' → length (in_order lists') ≤ room'
         → Holds (state_of schema here base (entry ∷ journal) inboxes' out' notes' stamps moment) rows' numbers' inboxes' out' lists' room'
     apply_holds rows' numbers' lists' room' rows_are numbers_are lists_are few rising keeps follow droppable =
-        let still = still_holds x _ (apply_steps origin position x) (apply_fits origin position x h.fits) h.declared h.arrived in
+        let still = still_holds x _ (apply_steps origin position x) (apply_fits origin position x h.fits) h.declared h.arrived h.waited in
         let after = subst (StillHolds x) (sym apply_state) still in
         record {
           based = h.based;
@@ -224,6 +232,7 @@ module _ (schema : Schema) (here : Here) (base : List Rows) (journal : List Entr
           declared = after.declared;
           arrived = after.arrived;
           once = once_more entry origin position journal entry_finishes unfinished h.once;
+          waited = after.waited;
           stays = (entry_stays origin x past past_is a count count_is effect, h.stays);
           apart = apart_noted schema moment (changes_by effect) notes notes' noted h.apart;
           tables_are = rows_are ∙ tables effect effect_is;
@@ -333,7 +342,7 @@ module _ (schema : Schema) (here : Here) (base : List Rows) (journal : List Entr
           → length (in_order lists) ≤ room' + 1
           → Holds (state_of schema here base (executed ∷ journal) inboxes out' notes' stamps (moment + 1)) rows' numbers' inboxes out' (removed origin position lists) room'
       execute_holds rows' numbers' room' rows_are numbers_are few keeps enough =
-          let still = still_holds x _ (execute_steps origin position x) (execute_fits origin position x h.fits) h.declared h.arrived in
+          let still = still_holds x _ (execute_steps origin position x) (execute_fits origin position x h.fits) h.declared h.arrived h.waited in
           let after = subst (StillHolds x) (sym execute_state) still in
           let now : txn_effect schema origin e.txn (tables_of x) (content_of x).numbers ≡ Ok done = rw (← h.tables_are, ← h.numbers_are) gives in
           record {
@@ -347,6 +356,7 @@ module _ (schema : Schema) (here : Here) (base : List Rows) (journal : List Entr
             declared = after.declared;
             arrived = after.arrived;
             once = h.once;
+            waited = after.waited;
             stays = (no_onward origin x past past_is count count_is done.changes, h.stays);
             apart = apart_noted schema (moment + 1) done.changes notes notes' noted h.apart;
             tables_are = rows_are ∙ rw (now, ← h.tables_are) refl;
@@ -393,7 +403,7 @@ module _ (schema : Schema) (here : Here) (base : List Rows) (journal : List Entr
     pub drop_holds : (room' : ℕ) → length (in_order lists) ≤ room' + 1
         → Holds (state_of schema here base (Dropped origin position ∷ journal) inboxes out notes stamps (moment + 1)) rows numbers inboxes out (removed origin position lists) room'
     drop_holds room' enough =
-        let still = still_holds x _ (drop_steps origin position x) (drop_fits origin position x h.fits) h.declared h.arrived in
+        let still = still_holds x _ (drop_steps origin position x) (drop_fits origin position x h.fits) h.declared h.arrived h.waited in
         let after = subst (StillHolds x) (sym drop_state) still in
         record {
           based = h.based;
@@ -402,6 +412,7 @@ module _ (schema : Schema) (here : Here) (base : List Rows) (journal : List Entr
           declared = after.declared;
           arrived = after.arrived;
           once = h.once;
+          waited = after.waited;
           stays = (tt, h.stays);
           apart = h.apart;
           tables_are = h.tables_are;
@@ -442,6 +453,7 @@ module _ (schema : Schema) (here : Here) (base : List Rows) (journal : List Entr
     declared = record { is_master = h.declared.is_master; senders = rw senders h.declared.senders; destinations = sites ∙ h.declared.destinations };
     arrived = rw senders h.arrived;
     once = h.once;
+    waited = rw senders h.waited;
     stays = h.stays;
     apart = rw snapshots h.apart;
     tables_are = h.tables_are;
@@ -501,6 +513,7 @@ module _ (schema : Schema) (here : Here) (base : List Rows) (journal : List Entr
             declared = rw accept_state names;
             arrived = rw senders (λ origin p f. arrived_at-put origin from p arrival x.senders (h.arrived origin p f));
             once = h.once;
+            waited = rw senders (HaveWaited-put from arrival x.senders journal h.arrived none h.waited);
             stays = h.stays;
             apart = h.apart;
             tables_are = h.tables_are;
@@ -648,6 +661,23 @@ module _ (schema : Schema) (here : Here) (base : List Rows) (journal : List Entr
       pub mark_holds : Keeps schema (pasts_of x) (queue_of x) out' → Holds (state_of schema here base journal inboxes out' notes stamps moment) rows numbers inboxes out' lists room
       mark_holds keeps = same_holds inboxes out' notes stamps moment room refl h.follow refl
           (ap sites_in changed ∙ sites_in-at_destination (acknowledged mark) (λ d. refl) from out.destinations) keeps h.droppable
+
+  -- ---- a stream that is opened
+
+  module _ (to : SiteName) where
+    -- where it isn't open nothing was queued for it
+    pub closed_is_empty : opened_in (destination_of to out.destinations) ≡ None → last_position to out.deferred ≡ 0
+    closed_is_empty none =
+        ap (λ (deferred : List Deferred). last_position to deferred) h.keeps.queue
+        ∙ ap length (stream_to-closed schema to out.destinations out.purged (pasts_of x) (queue_of x) destinations_are_apart none)
+
+    module _ (out' : Outgoing) (changed : out'.destinations ≡ at_destination to (opened_at (length out.deferred)) out.destinations) where
+      pub open_state : out'.purged ≡ out.purged → state_of schema here base journal inboxes out' notes stamps moment ≡ site_open to x
+      open_state gone = rw (changed, gone, count_is) refl
+
+      pub open_holds : Keeps schema (pasts_of x) (queue_of x) out' → Holds (state_of schema here base journal inboxes out' notes stamps moment) rows numbers inboxes out' lists room
+      open_holds keeps = same_holds inboxes out' notes stamps moment room refl h.follow refl
+          (ap sites_in changed ∙ sites_in-at_destination (opened_at (length out.deferred)) (λ d. refl) to out.destinations) keeps h.droppable
 
   -- ---- a position that is ready
 

@@ -1,10 +1,7 @@
 -- The lemmas of this crate, from the bottom up.
 pub mod Taking
-pub mod SenderInboxes
 pub mod SeenMasters
-pub mod StandingErrors
 pub mod Apart
-pub mod ChangedInbox
 pub mod NewSite
 pub mod Reading
 pub mod Foreign
@@ -15,6 +12,7 @@ pub mod FewChanges
 pub mod Installing
 pub mod FinishedOnce
 pub mod Holding
+pub mod FirstNumbers
 pub mod Passing
 pub mod Beginning
 pub mod SettledSite

@@ -20,8 +20,9 @@ use Rattle.site_notes.specs.Noted.{NotesState}
 use Rattle.site_state.proofs.DeclaredSites.{origins, sites_in}
 use Rattle.sender_inbox.specs.Incoming.{Incoming}
 use Rattle.site_outbox.specs.Outgoing.{Outgoing, Keeps}
-use Rattle.site_core.specs.Keeping.{senders_in, state_of, Follows, Holds}
-use Rattle.site_core.proofs.StandingErrors.{lists_by}
+use Rattle.journal_steps.specs.Inboxes.{senders_in, Follows}
+use Rattle.site_core.specs.Keeping.{state_of, Holds}
+use Rattle.journal_steps.proofs.StandingErrors.{lists_by}
 use Rattle.site_core.proofs.Apart.{NamesApart, destinations_stand_apart}
 
 none_arrived : (P : Txn → Type 0) (names : List SiteName) → SendersHave P (map new_sender names)
@@ -64,6 +65,7 @@ new_holds schema here rows base inboxes out notes snapshots numbers lists room k
   declared = record { is_master = master; senders = rw senders (origins-new (senders_of schema here.site)); destinations = rw destinations (sites_in-new schema (destinations_of schema here.site)) };
   arrived = λ origin p is. absurd (cc is);
   once = λ origin p. omega arith;
+  waited = tt;
   stays = tt;
   apart = rw shows apart;
   tables_are = sym same;

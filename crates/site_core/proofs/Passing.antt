@@ -23,7 +23,7 @@ use Rattle.site_state.specs.Passes.{effect_here, finished_by, applied_unless, si
 use Rattle.site_state.proofs.LowWater.{low_water-below}
 use Rattle.site_state.proofs.Stepping.{apply_steps}
 use Rattle.sender_inbox.specs.Incoming.{IsFirstAbove}
-use Rattle.site_core.specs.Applying.{done_by, errors_by}
+use Rattle.journal_steps.specs.Steps.{done_by, errors_by}
 use Rattle.site_refresh.proofs.Taking.{take_found}
 
 -- ---- one position

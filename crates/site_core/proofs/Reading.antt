@@ -16,9 +16,10 @@ use Rattle.site_state.specs.Pasts.{past_of}
 use Rattle.site_state.specs.Ready.{covered_at, covered, is_due, stale_of}
 use Rattle.sender_inbox.specs.Incoming.{Incoming, by_position}
 use Rattle.site_outbox.specs.Outgoing.{Outgoing}
-use Rattle.site_core.specs.Keeping.{senders_in, inbox_of, Follows, Holds}
+use Rattle.journal_steps.specs.Inboxes.{senders_in, inbox_of, Follows}
+use Rattle.site_core.specs.Keeping.{Holds}
 use Rattle.site_core.specs.Seen.{past_from}
-use Rattle.site_core.proofs.SenderInboxes.{sender_of-inboxes, found_inbox, finished_found, mark_found, low_water-found, unfinished_none, low_water-none}
+use Rattle.journal_steps.proofs.SenderInboxes.{sender_of-inboxes, found_inbox, finished_found, mark_found, low_water-found, unfinished_none, low_water-none}
 use Rattle.site_core.proofs.SeenMasters.{past_from-follows}
 
 module _ (x : SiteState) (rows : List Rows) (numbers : Numbers) (inboxes : List Incoming) (out : Outgoing) (lists : List ErrorList) (room : ℕ) (h : Holds x rows numbers inboxes out lists room) (senders : x.senders ≡ senders_in inboxes) where
@@ -35,6 +36,9 @@ module _ (x : SiteState) (rows : List Rows) (numbers : Numbers) (inboxes : List 
 
       pub mark_none : 0 ≡ low_water origin x.journal
       mark_none = sym (low_water-none x.journal x.senders h.arrived origin no_sender)
+
+      pub finished_none : (position : ℕ) → false ≡ finished origin x.journal position
+      finished_none position = sym (unfinished_none x.journal x.senders h.arrived origin no_sender position)
 
       pub covered_none : 0 ≡ covered origin x
       covered_none = rw (no_sender, ← mark_none) refl

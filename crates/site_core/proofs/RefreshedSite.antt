@@ -58,6 +58,7 @@ module _ (schema : Schema) (here : Here) (base : List Rows) (journal : List Entr
       declared = record { is_master = h.declared.is_master; senders = h.declared.senders; destinations = h.declared.destinations };
       arrived = h.arrived;
       once = h.once;
+      waited = ((λ origin p q a here there from_one less up_to. absurd (cc here)), h.waited);
       stays = (tt, h.stays);
       apart = apart_renewed master_moment notes.snapshots notes'.snapshots shows h.apart;
       tables_are = refl;

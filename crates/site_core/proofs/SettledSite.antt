@@ -22,7 +22,9 @@ use Rattle.site_outbox.specs.Outgoing.{Outgoing}
 use Rattle.journal_order.specs.Settling.{StaysWithMasters, IsSettleable, IsSettled, IsOneSite}
 use Rattle.journal_order.proofs.SettledJournals.{AllByRecursion-settled, IsFinishedOnce-settled}
 use Rattle.journal_order.proofs.SettledSites.{settling_changes_no_more, SiteFits-settled}
-use Rattle.site_core.specs.Keeping.{state_of, IsSized, Follows, error_list, Holds}
+use Rattle.journal_order.proofs.Waited.{HaveWaited-settled}
+use Rattle.journal_steps.specs.Inboxes.{Follows, error_list}
+use Rattle.site_core.specs.Keeping.{state_of, IsSized, Holds}
 use Rattle.site_core.specs.Ordering.{IsSettledSite}
 
 module _ (journal journal' : List Entry) where
@@ -64,6 +66,7 @@ module _ (schema : Schema) (here : Here) (base : List Rows) (journal : List Entr
       declared = record { is_master = h.declared.is_master; senders = h.declared.senders; destinations = h.declared.destinations };
       arrived = λ o p f. h.arrived o p (one.finished_alike o p ∙ f);
       once = IsFinishedOnce-settled place journal journal' settled h.once;
+      waited = HaveWaited-settled x.senders place journal journal' settled h.waited;
       stays = AllByRecursion-settled (StaysWithMasters schema) place journal journal' settled h.stays;
       apart = h.apart;
       tables_are = h.tables_are ∙ ap (λ (c : Content). c.tables) one.content;

@@ -11,11 +11,8 @@ use Rattle.txn_effects.specs.Transactions.{Failure}
 use Rattle.txn_apply.specs.declared.stop.ApplyStop.{ApplyStop}
 use Rattle.txn_apply.specs.declared.stop.ApplyStop.TheVariants.{Failed, Memory}
 use Rattle.error_queue.specs.declared.entry.ErrorEntry.{ErrorEntry}
-use Rattle.error_queue.specs.ErrorLists.{ErrorList, added}
 use Rattle.site_state.specs.declared.entry.Entry.{Entry}
 use Rattle.site_state.specs.declared.entry.Entry.TheVariants.{Done, Error}
-use Rattle.site_state.specs.declared.answers.Applied.{Applied}
-use Rattle.site_state.specs.declared.answers.Applied.TheVariants as applied
 use Rattle.site_state.specs.declared.arrival.Arrival.{Arrival}
 use Rattle.site_state.specs.State.{SiteState, is_master_site}
 use Rattle.site_state.specs.Pasts.{past_of}
@@ -47,23 +44,7 @@ sends_on origin x = x.here.is_master && not (is_master_site x.schema origin) && 
 abbrev pub onward_past : SiteName → SiteState → Option (List Past)
 onward_past origin x = cond (sends_on origin x) (Some (past_of x)) None
 
--- the errors with one more, where there is one
-abbrev pub with_error : Option ErrorEntry → List ErrorList → List ErrorList
-with_error None lists = lists
-with_error (Some e) lists = added e lists
-
 -- why an error isn't executed whose transaction stops so
 abbrev pub refusal_of : ApplyStop → Refusal
 refusal_of (Failed call error) = refusal.StillFails error
 refusal_of Memory = refusal.Memory
-
--- how many transactions are done, and how many in error, by what became of a position
-abbrev pub done_by : Applied → ℕ
-done_by applied.Done = 1
-done_by (applied.Error error) = 0
-done_by (applied.Stale why) = 0
-
-abbrev pub errors_by : Applied → ℕ
-errors_by applied.Done = 0
-errors_by (applied.Error error) = 1
-errors_by (applied.Stale why) = 0

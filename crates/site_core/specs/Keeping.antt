@@ -1,39 +1,26 @@
 -- What the fields of a site mean, and that what it keeps beside its state is what the state says.
-use Rattle.std.specs.Prelude.{◌≡◌, ℕ, ◌≤◌, List, length, map, Option}
-use Rattle.std.specs.List.{find, AllByRecursion}
-use Rattle.rep_values.specs.declared.name.SiteName.{SiteName}
+use Rattle.std.specs.Prelude.{◌≡◌, ℕ, ◌≤◌, List, length, map}
+use Rattle.std.specs.List.{AllByRecursion}
 use Rattle.rep_schema.specs.declared.schema.Schema.{Schema}
 use Rattle.rep_schema.specs.Tables.{Rows, AreTables}
 use Rattle.rep_calls.specs.declared.call.Txn.{Txn}
 use Rattle.unique_resolve.specs.Numbers.{Numbers}
-use Rattle.deferred_queue.specs.Streams.{is_same_site}
 use Rattle.local_txn.specs.declared.local.Here.{Here}
 use Rattle.local_txn.specs.declared.local.Stamps.{Stamps}
-use Rattle.origin_marks.specs.Marks as marks
 use Rattle.error_queue.specs.ErrorLists.{ErrorList, in_order}
 use Rattle.site_state.specs.declared.entry.Entry.{Entry}
-use Rattle.site_state.specs.State.{SenderState, SiteState}
-use Rattle.site_state.specs.Journal.{finished}
+use Rattle.site_state.specs.State.{SiteState}
 use Rattle.site_state.specs.Contents.{content_of, tables_of}
 use Rattle.site_state.specs.Streams.{queue_of}
 use Rattle.site_state.specs.Pasts.{pasts_of}
-use Rattle.site_state.specs.Errors.{errors_from}
 use Rattle.site_state.specs.DeclaredSites.{IsDeclared}
 use Rattle.site_state.specs.Fits.{EntryHas, SendersHave, FinishedHaveArrived, AreApart, SiteFits}
 use Rattle.site_notes.specs.Noted.{NotesState}
 use Rattle.sender_inbox.specs.Incoming.{Incoming}
 use Rattle.site_outbox.specs.Outgoing.{Outgoing, Keeps}
+use Rattle.journal_steps.specs.Inboxes.{senders_in, Follows, error_list}
 use Rattle.journal_order.specs.Settling.{IsFinishedOnce, StaysWithMasters}
-
-abbrev pub senders_in : List Incoming → List SenderState
-senders_in inboxes = map (λ (i : Incoming). i.sender) inboxes
-
--- the inbox of a sender
-abbrev pub inbox_of : SiteName → List Incoming → Option Incoming
-inbox_of origin inboxes = find (λ (i : Incoming). is_same_site i.sender.origin origin) inboxes
-
-abbrev pub sender_in : Incoming → SenderState
-sender_in i = i.sender
+use Rattle.journal_order.specs.Waited.{HaveWaited}
 
 -- the site that the fields mean
 abbrev pub state_of : Schema → Here → List Rows → List Entry → List Incoming → Outgoing → NotesState → Stamps → ℕ → SiteState
@@ -62,16 +49,9 @@ pub record AreSized (x : SiteState) : Type 0 where
   pub arrived : SendersHave IsSized x.senders
   pub journal : AllByRecursion (EntryHas IsSized) x.journal
 
--- an inbox has the positions as finished that a journal finishes
-abbrev pub Follows : List Entry → Incoming → Type 0
-Follows journal i = (position : ℕ) → marks.finished i.marked position ≡ finished i.sender.origin journal position
-
--- the errors of a sender that stand
-abbrev pub error_list : List Entry → SenderState → ErrorList
-error_list journal s = record { origin = s.origin; entries = errors_from journal s }
-
--- what a site keeps: base rows that are tables, at most one snapshot of a table, and beside its state the tables and counters of its store, its inboxes, its
--- outbox, its error queue, and so much room in its journal that each error can be dropped
+-- what a site keeps: base rows that are tables, at most one snapshot of a table, positions that are finished once and have
+-- waited for earlier ones, and beside its state the tables and counters of its store, its inboxes, its outbox, its error
+-- queue, and so much room in its journal that each error can be dropped
 pub record Holds (x : SiteState) (rows : List Rows) (numbers : Numbers) (inboxes : List Incoming) (out : Outgoing) (lists : List ErrorList) (room : ℕ) : Type 0 where
   pub based : AreTables x.schema x.base
   pub fits : SiteFits x
@@ -79,6 +59,7 @@ pub record Holds (x : SiteState) (rows : List Rows) (numbers : Numbers) (inboxes
   pub declared : IsDeclared x.schema x
   pub arrived : FinishedHaveArrived x.journal x.senders
   pub once : IsFinishedOnce x.journal
+  pub waited : HaveWaited x.senders x.journal
   pub stays : AllByRecursion (StaysWithMasters x.schema) x.journal
   pub apart : AreApart x.snapshots
   pub tables_are : rows ≡ tables_of x

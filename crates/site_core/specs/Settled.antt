@@ -8,18 +8,13 @@ use Rattle.rep_calls.specs.declared.past.Past.{Past}
 use Rattle.unique_resolve.specs.Numbers.{Numbers}
 use Rattle.txn_effects.specs.Calls.{Effect}
 use Rattle.txn_effects.specs.Transactions.{Failure, tables_by, numbers_by}
-use Rattle.error_queue.specs.declared.entry.ErrorEntry.{ErrorEntry}
-use Rattle.site_state.specs.declared.entry.Entry.{Entry}
-use Rattle.site_state.specs.declared.entry.Entry.TheVariants as entry
-use Rattle.site_state.specs.declared.answers.Applied.{Applied}
-use Rattle.site_state.specs.declared.answers.Applied.TheVariants as applied
 use Rattle.site_state.specs.Contents.{txn_of, changes_by}
 use Rattle.site_state.specs.Streams.{with_one}
 use Rattle.site_state.specs.Packets.{past_in}
 use Rattle.site_notes.specs.Noted.{NotesState}
 use Rattle.site_outbox.specs.Outgoing.{Outgoing, Keeps}
-use Rattle.site_core.specs.declared.settled.Settled.{Settled}
-use Rattle.site_core.specs.declared.settled.Settled.TheVariants.{Done, Failed}
+use Rattle.journal_steps.specs.declared.steps.Settled.{Settled}
+use Rattle.journal_steps.specs.declared.steps.Settled.TheVariants.{Done, Failed}
 use Rattle.site_core.specs.Applying.{goes_on, onward_of}
 use Rattle.site_core.specs.Noting.{IsNoted}
 
@@ -27,19 +22,6 @@ use Rattle.site_core.specs.Noting.{IsNoted}
 abbrev pub settled_by : Option (List Past) → ℕ → Result Effect Failure → Settled
 settled_by past count (Ok effect) = Done (onward_of past effect.changes count)
 settled_by past count (Err failure) = Failed failure.call failure.error
-
--- the entry of its position, the answer, and the error that stands then
-abbrev pub entry_of : SiteName → ℕ → Txn → Settled → Entry
-entry_of origin position txn (Done onward) = entry.Done origin position onward txn
-entry_of origin position txn (Failed call error) = entry.Error origin position call error txn
-
-abbrev pub answer_of : Settled → Applied
-answer_of (Done onward) = applied.Done
-answer_of (Failed call error) = applied.Error error
-
-abbrev pub error_of : SiteName → ℕ → Txn → Settled → Option ErrorEntry
-error_of origin position txn (Done onward) = None
-error_of origin position txn (Failed call error) = Some (record { origin = origin; position = position; call = call; error = error; txn = txn })
 
 -- what of a site a transaction from elsewhere changes
 pub record Parts : Type 0 where

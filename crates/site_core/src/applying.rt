@@ -21,8 +21,8 @@ ghost use Rattle.site_core.specs.Applying.{goes_on, onward_of, entry_by, error_b
 ghost use Rattle.site_core.specs.Noting.{IsNoted};
 ghost use Rattle.site_core.specs.Settled.{settled_by, AreAsBefore, AreChanged};
 
-use crate::settled::{Settled, Step, step_of};
 use conflict_detect::txn_of;
+use journal_steps::{Settled, Step, step_of};
 use rep_calls::{Past, Txn};
 use rep_lists::{Items, NoMemory};
 use rep_schema::{Change, Changes, RowStore, Schema, holds_tables};

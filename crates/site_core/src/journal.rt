@@ -1,52 +1,12 @@
-//! The room that a site takes before it changes: in its journal, in its error queue, in its inboxes, and at its notes.
-ghost use Rattle.std.specs.Prelude.{◌≡◌, ◌+◌, ◌≤◌, length, None, IfSome, OnOk};
-ghost use Rattle.error_queue.specs.ErrorLists.{IsOrigin, error_in, in_order};
-ghost use Rattle.site_core.specs.Applying.{with_error};
+//! The room that a site takes before it notes changed rows.
+ghost use Rattle.std.specs.Prelude.{◌≡◌, ◌+◌, ◌≤◌, length, OnOk};
+ghost use Rattle.error_queue.specs.ErrorLists.{in_order};
 
-use error_queue::{ErrorEntry, Errors};
+use error_queue::Errors;
+use journal_steps::reserve_beside;
 use rep_lists::{NoMemory, RoomyList};
-use sender_inbox::Inbox;
 use site_notes::Notes;
 use site_state::Entry;
-
-/// Takes room in a journal for so many entries beside those that drop the errors that stand.
-pub(crate) fn reserve_beside(
-    journal: &mut RoomyList<Entry>,
-    errors: &Errors,
-    entries: usize,
-) -> Result<(), NoMemory>
-    ensures ok { OnOk result (length (in_order errors.now.lists) + entries ≤ journal.new.spare) }
-    ensures items { journal.new.items ≡ journal.old.items }
-    ensures spare { journal.old.spare ≤ journal.new.spare }
-{
-    let Some(room) = (errors.len() as usize).checked_add(entries) else {
-        return Err(NoMemory);
-    };
-    journal.reserve(room)?;
-    Ok(())
-}
-
-/// Takes the room that a position of a sender needs: in the journal for its entry, and for one that drops its error, beside
-/// those that drop the errors that stand; in the error queue for its error; and in the sender's inbox.
-pub(crate) fn reserve_position(
-    journal: &mut RoomyList<Entry>,
-    errors: &mut Errors,
-    inbox: &mut Inbox,
-) -> Result<(), NoMemory>
-    ensures journal { OnOk result (length (in_order errors.old.lists) + 2 ≤ journal.new.spare) }
-    ensures errors { OnOk result (1 ≤ errors.new.spare) }
-    ensures inbox { OnOk result (1 ≤ inbox.new.marked.room) }
-    ensures items { journal.new.items ≡ journal.old.items }
-    ensures spare { journal.old.spare ≤ journal.new.spare }
-    ensures lists { errors.new.lists ≡ errors.old.lists }
-    ensures sender { inbox.new.sender ≡ inbox.old.sender }
-    ensures finished { inbox.new.marked.edges ≡ inbox.old.marked.edges }
-{
-    reserve_beside(journal, errors, 2)?;
-    errors.reserve()?;
-    inbox.reserve()?;
-    Ok(())
-}
 
 /// Takes room in a journal for one entry beside those that drop the errors that stand, and to note so many changed rows.
 pub(crate) fn reserve_noting(
@@ -65,16 +25,4 @@ pub(crate) fn reserve_noting(
     reserve_beside(journal, errors, 1)?;
     notes.reserve(changes)?;
     Ok(())
-}
-
-/// Adds an error, where there is one, for which there is room.
-pub(crate) fn add_error(errors: &mut Errors, error: Option<ErrorEntry>)
-    requires origin { IfSome error (λ e. IsOrigin errors.old.lists e.origin) }
-    requires absent { IfSome error (λ e. error_in e.origin e.position errors.old.lists ≡ None) }
-    requires room { 1 ≤ errors.old.spare }
-    ensures { errors.new.lists ≡ with_error error errors.old.lists }
-{
-    if let Some(error) = error {
-        errors.add(error);
-    }
 }

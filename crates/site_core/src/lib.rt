@@ -4,11 +4,9 @@
 
 mod applying;
 mod committing;
-mod inboxes;
 mod journal;
 mod laws;
 mod seen;
-mod settled;
 mod site;
 
 pub use laws::outcomes_hold_where_rows_are_as_they_were;

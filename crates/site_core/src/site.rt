@@ -10,9 +10,12 @@ ghost use Rattle.site_state.specs.Errors.{errors_of};
 ghost use Rattle.site_state.specs.Making.{new_log, new_site, tables_in};
 ghost use Rattle.site_state.specs.Steps.{begun};
 ghost use Rattle.site_state.specs.Fits.{IsKeyed, AreWithin, AreApart, SiteFits};
+ghost use Rattle.journal_order.specs.Settling.{IsFinishedOnce};
+ghost use Rattle.journal_order.specs.Waited.{FinishesEarlierFirst};
 
 mod commit;
 mod errors;
+mod joining;
 mod noting;
 mod passes;
 mod ready;
@@ -22,9 +25,9 @@ mod send;
 mod settle;
 mod work;
 
-use crate::inboxes::from_senders;
 use deferred_queue::Queue;
 use error_queue::Errors;
+use journal_steps::from_senders;
 use local_txn::{Here, Stamps};
 use rep_lists::{Items, NoMemory, RoomyList};
 use rep_schema::{RowStore, TableSet};
@@ -133,9 +136,13 @@ impl<R: RowStore> Site<R> {
         })
     }
 
-    /// Tables are tables, and each transaction at the site fits the schema.
+    /// Tables are tables, and each transaction at the site fits the schema. Each position of each sender is finished at most
+    /// once, and of two positions of a sender that share a token the earlier first, where what arrived from it is well
+    /// numbered.
     pub fn laws(&self)
-        ensures { SiteFits self.now }
+        ensures fits { SiteFits self.now }
+        ensures once { IsFinishedOnce self.now.journal }
+        ensures order { FinishesEarlierFirst self.now }
     {
         let _store = &self.store;
     }

@@ -85,7 +85,7 @@ outlets_apart (o ∷ os) ms apart =
 
 -- ---- a mark
 
-none_changes : (site : SiteName) (change : DestinationState → DestinationState) (ds : List DestinationState) → destination_of site ds ≡ None → at_destination site change ds ≡ ds
+pub none_changes : (site : SiteName) (change : DestinationState → DestinationState) (ds : List DestinationState) → destination_of site ds ≡ None → at_destination site change ds ≡ ds
 none_changes site change [] none = refl
 none_changes site change (d ∷ ds) none = go (is_same_site d.site site) none (none_changes site change ds)
   where

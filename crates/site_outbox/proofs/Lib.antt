@@ -3,3 +3,4 @@ pub mod Joined
 pub mod Noting
 pub mod Places
 pub mod Kept
+pub mod Opening

@@ -6,6 +6,7 @@ use Rattle.rep_schema.specs.declared.schema.Schema.{Schema}
 use Rattle.deferred_queue.specs.Streams.{Mark, is_same_site, acked_by}
 use Rattle.site_state.specs.State.{DestinationState}
 use Rattle.site_state.specs.Making.{is_late_master}
+use Rattle.site_state.specs.Joining.{opened_from}
 use Rattle.site_outbox.specs.declared.outlet.Outlet.{Outlet}
 
 -- how far the first of these has acknowledged
@@ -34,6 +35,10 @@ mark_of d = record { site = d.site; acked = d.acked }
 -- it is open at first, unless it is a late master
 abbrev pub new_outlet : Schema → SiteName → Outlet
 new_outlet schema site = record { site = site; opened = cond (is_late_master schema site) None (Some 0) }
+
+-- it is open from a count on, where it is to a site and wasn't open before
+abbrev pub outlet_opened : SiteName → ℕ → Outlet → Outlet
+outlet_opened site count o = record { site = o.site; opened = cond (is_same_site o.site site) (opened_from o.opened count) o.opened }
 
 -- no two of these are to the same site
 abbrev pub OutletsApart : List Outlet → Type 0

@@ -1,5 +1,5 @@
 //! The queue of a site with its destinations.
-ghost use Rattle.std.specs.Prelude.{◌≡◌, ◌+◌, ◌-◌, ◌<◌, ◌≤◌, max, [], ◌∷◌, List, length, map, is_some, Some, IfOk, IfSome, OnOk, OnErr};
+ghost use Rattle.std.specs.Prelude.{◌≡◌, ◌+◌, ◌-◌, ◌<◌, ◌≤◌, max, [], ◌∷◌, List, length, map, is_some, Some, None, IfOk, IfSome, OnOk, OnErr};
 ghost use Rattle.std.specs.Option.{option_map};
 ghost use Rattle.std.specs.List.{list_any};
 ghost use Rattle.rep_schema.specs.declared.schema.Schema.{Schema};
@@ -9,9 +9,10 @@ ghost use Rattle.rep_calls.specs.declared.past.Past.{Past};
 ghost use Rattle.conflict_detect.specs.Fits.{TxnFits};
 ghost use Rattle.conflict_detect.specs.KeysNamed.{HasKeys};
 ghost use Rattle.deferred_queue.specs.Streams.{at_position, stream_to, unpurged, last_position};
-ghost use Rattle.site_state.specs.State.{destination_of, at_destination};
+ghost use Rattle.site_state.specs.State.{destination_of, at_destination, opened_in};
 ghost use Rattle.site_state.specs.Steps.{is_open};
 ghost use Rattle.site_state.specs.Packets.{acknowledged};
+ghost use Rattle.site_state.specs.Joining.{opened_at};
 ghost use Rattle.site_state.specs.Purges.{acknowledged_by_all};
 ghost use Rattle.site_state.specs.Deferrals.{StandApart};
 ghost use Rattle.site_state.specs.Making.{new_destination};
@@ -19,7 +20,7 @@ ghost use Rattle.site_outbox.specs.Outgoing.{Keeps};
 ghost use Rattle.site_outbox.specs.Outlets.{mark_of};
 
 use crate::outlet::Outlet;
-use crate::outlets::{acknowledged_by_all, has_open, is_among, new_each, note_each};
+use crate::outlets::{acknowledged_by_all, has_open, is_among, new_each, note_each, open_each};
 use deferred_queue::{Queue, Sent};
 use dependency_index::{Index, tokens_of};
 use rep_calls::{Past, Txn};
@@ -129,6 +130,19 @@ impl Outbox {
         self.queue.entry(to, position)
     }
 
+    /// Opens the stream to a destination: it gets each transaction that is queued from now on. Where it is open already, or the
+    /// site is no destination, nothing changes. It takes no memory.
+    pub fn open(&mut self, site: &SiteName)
+        requires empty { opened_in (destination_of site.now self.old.destinations) ≡ None → last_position site.now self.old.deferred ≡ 0 }
+        ensures destinations { self.new.destinations ≡ at_destination site.now (opened_at (length self.old.deferred)) self.old.destinations }
+        ensures deferred { self.new.deferred ≡ self.old.deferred }
+        ensures keeps { (schema : Schema) (pasts : List (List Past)) (txns : List Txn) → Keeps schema pasts txns self.old → Keeps schema pasts txns self.new }
+        ensures purged { self.new.purged ≡ self.old.purged }
+    {
+        let count = self.count;
+        open_each(&mut self.outlets, site, count);
+    }
+
     /// Takes in a mark. One that is lower than an earlier mark changes nothing. It takes no memory.
     pub fn acknowledge(&mut self, site: &SiteName, mark: u64)
         requires { mark ≤ last_position site.now self.old.deferred }
@@ -158,6 +172,13 @@ impl Outbox {
         ensures { result ≡ last_position to.now self.now.deferred }
     {
         self.queue.last(to)
+    }
+
+    /// How many transactions were queued so far, purged ones among them.
+    pub fn count(&self) -> u64
+        ensures { result ≡ length self.now.deferred }
+    {
+        self.count
     }
 
     /// Whether a site is a destination.

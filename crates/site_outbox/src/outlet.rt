@@ -5,7 +5,7 @@ ghost use Rattle.dependency_index.specs.Dependencies.{room_for};
 ghost use Rattle.deferred_queue.specs.Streams.{is_same_site, acked_by};
 ghost use Rattle.site_state.specs.Packets.{count_opened};
 ghost use Rattle.site_state.specs.Purges.{acknowledged_by};
-ghost use Rattle.site_outbox.specs.Outlets.{new_outlet};
+ghost use Rattle.site_outbox.specs.Outlets.{new_outlet, outlet_opened};
 ghost use Rattle.site_outbox.specs.Noting.{TokenStreams, AreNoted, Waits, placed, after_one};
 
 use deferred_queue::{Destination, Queue};
@@ -46,6 +46,18 @@ impl Outlet {
         ensures { result ≡ is_some self.now.opened }
     {
         self.opened.is_some()
+    }
+
+    /// Opens it from a count on, where it is to a site and isn't open yet.
+    pub(crate) fn open(&mut self, site: &SiteName, count: u64)
+        ensures { self.new ≡ outlet_opened site.now count self.old }
+    {
+        if !self.is_to(site) {
+            return;
+        }
+        if let None = self.opened {
+            self.opened = Some(count);
+        }
     }
 
     /// Notes a transaction's tokens at the next position of the stream, and answers the destination; None where it isn't

@@ -4,7 +4,7 @@ ghost use Rattle.std.specs.List.{AllByRecursion, list_any};
 ghost use Rattle.deferred_queue.specs.Streams.{is_same_site, acked_by};
 ghost use Rattle.site_state.specs.Packets.{count_opened};
 ghost use Rattle.site_state.specs.Purges.{acknowledged_by_all};
-ghost use Rattle.site_outbox.specs.Outlets.{new_outlet, with_mark, OutletsApart};
+ghost use Rattle.site_outbox.specs.Outlets.{new_outlet, outlet_opened, with_mark, OutletsApart};
 ghost use Rattle.site_outbox.specs.Noting.{TokenStreams, AreNoted, Waits, Notes};
 
 use crate::outlet::Outlet;
@@ -42,6 +42,15 @@ pub(crate) fn has_open(outlets: &[Outlet]) -> bool
     ensures { result ≡ list_any (λ o. is_some o.opened) outlets.now }
 {
     outlets.iter().any(|outlet| outlet.is_open())
+}
+
+/// Opens those to a site from a count on, where they aren't open yet.
+pub(crate) fn open_each(outlets: &mut [Outlet], site: &SiteName, count: u64)
+    ensures { outlets.new ≡ map (outlet_opened site.now count) outlets.old }
+{
+    for outlet in outlets.iter_mut() {
+        outlet.open(site, count);
+    }
 }
 
 /// Notes a transaction's tokens at the next position of the stream to each outlet that is open, and lists these

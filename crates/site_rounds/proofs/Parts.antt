@@ -1,5 +1,5 @@
 -- Passes in parts, one after the other: as events, what they count, and what they leave as it is.
-use Rattle.std.proofs.Common.{◌≡◌, ℕ, suc, ◌+◌, ◌≤◌, List, [], ◌∷◌, ◌++◌, length, map, Bool, true, false, cond, refl, sym, ap, ◌∙◌, subst, arith}
+use Rattle.std.proofs.Common.{◌≡◌, ℕ, zero, suc, ◌+◌, ◌≤◌, List, [], ◌∷◌, ◌++◌, length, map, Bool, true, false, cond, refl, sym, ap, ◌∙◌, subst, arith}
 use Rattle.std.specs.Prelude.{◌||◌, not}
 use Rattle.rep_values.specs.declared.name.SiteName.{SiteName}
 use Rattle.rep_schema.specs.declared.schema.Schema.{Schema}
@@ -17,6 +17,7 @@ use Rattle.event_laws.specs.Core.{Core, site_of, at_site}
 use Rattle.event_laws.specs.Events.{is_master_in, applied_where, happens}
 use Rattle.event_laws.specs.Events as event
 use Rattle.event_laws.specs.Confluence.{applied_in_turn, CanPassInAnyOrder}
+use Rattle.world_state.specs.Rounds.{has_ready, passed_where_ready, round, rounds, sender_names, arrived_count, site_settle}
 use Rattle.world_laws.proofs.Finding.{at_twice}
 use Rattle.world_laws.proofs.SiteSteps.{Runs, runs_behind, SiteRuns, then_runs, same_does, does_runs}
 use Rattle.world_laws.proofs.RoundsEnd.{pass_goes}
@@ -78,6 +79,27 @@ apply_each-in_turn origin (a ∷ arrived) x = apply_each-in_turn origin arrived 
 
 partly_pass : (origin : SiteName) (x : SiteState) → PartlySettled x (site_pass origin x)
 partly_pass origin x = partly_part origin (positions_of (arrivals origin x)) x (site_pass origin x) (apply_each-in_turn origin (arrivals origin x) (begun x))
+
+partly_where_ready : (origin : SiteName) (x : SiteState) → PartlySettled x (passed_where_ready origin x)
+partly_where_ready origin x = go (has_ready origin x)
+  where
+    go : (b : Bool) → PartlySettled x (cond b (site_pass origin x) x)
+    go true = partly_pass origin x
+    go false = partly_same x
+
+partly_round : (origins : List SiteName) (x : SiteState) → PartlySettled x (round origins x)
+partly_round [] x = partly_same x
+partly_round (origin ∷ origins) x = partly_then x (passed_where_ready origin x) (round origins (passed_where_ready origin x)) (partly_where_ready origin x) (partly_round origins (passed_where_ready origin x))
+
+partly_rounds : (n : ℕ) (origins : List SiteName) (x : SiteState) → PartlySettled x (rounds n origins x)
+partly_rounds zero origins x = partly_same x
+partly_rounds (suc n) origins x = partly_then x (round origins x) (rounds n origins (round origins x)) (partly_round origins x) (partly_rounds n origins (round origins x))
+
+-- all passes that a receiver makes
+pub partly_settle : (origin : SiteName) (x : SiteState) → PartlySettled x (site_settle origin x)
+partly_settle origin x =
+    let y : SiteState = site_pass origin x in
+    partly_then x y (site_settle origin x) (partly_pass origin x) (partly_rounds (arrived_count y.senders) (sender_names y.senders) y)
 
 -- ---- counts
 

@@ -9,14 +9,13 @@ ghost use Rattle.site_state.specs.Ready.{stale_of, first_ready};
 ghost use Rattle.site_state.specs.Steps.{begun};
 ghost use Rattle.site_state.specs.Passes.{site_apply, apply_answer, apply_each, site_pass, pass_answer, is_done, is_error, added_count};
 ghost use Rattle.sender_inbox.specs.Incoming.{by_position, IsFirstAbove};
-ghost use Rattle.site_core.specs.Applying.{onward_past, done_by, errors_by};
+ghost use Rattle.journal_steps.specs.Steps.{done_by, errors_by};
+ghost use Rattle.site_core.specs.Applying.{onward_past};
 ghost use Rattle.site_core.specs.Working.{EndsHere};
 
 use super::Site;
 use crate::applying::apply_arrival;
-use crate::inboxes::{inbox_from, place_from};
-use crate::journal::{add_error, reserve_position};
-use crate::settled::Step;
+use journal_steps::{Step, add_error, counted, inbox_from, place_from, reserve_position};
 use rep_calls::Past;
 use rep_lists::{Items, NoMemory};
 use rep_schema::RowStore;
@@ -25,25 +24,6 @@ use schema_sites::is_master_site;
 use site_state::{Applied, PassCount};
 use std::alloc::Global;
 use txn_work::Ending;
-
-/// The count with what became of one position more.
-fn counted(count: PassCount, applied: &Applied) -> PassCount
-    requires { count.done + count.errors + 1 < 2 ^ 64 }
-    ensures done { result.done ≡ count.done + done_by applied.now }
-    ensures errors { result.errors ≡ count.errors + errors_by applied.now }
-{
-    match applied {
-        Applied::Done => PassCount {
-            done: count.done + 1,
-            errors: count.errors,
-        },
-        Applied::Error(_) => PassCount {
-            done: count.done,
-            errors: count.errors + 1,
-        },
-        Applied::Stale(_) => count,
-    }
-}
 
 impl<R: RowStore> Site<R> {
     /// What the site had seen, where it sends on what came from an origin; else None.

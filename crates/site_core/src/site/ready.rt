@@ -7,8 +7,8 @@ ghost use Rattle.site_state.specs.Ready.{covered, is_covered, is_due, stale_of};
 ghost use Rattle.site_state.specs.Pasts.{past_of};
 
 use super::Site;
-use crate::inboxes::{inbox_from, origin_at};
 use crate::seen::past_seen;
+use journal_steps::{inbox_from, origin_at};
 use rep_calls::Past;
 use rep_lists::{Items, NoMemory};
 use rep_schema::RowStore;

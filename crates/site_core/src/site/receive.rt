@@ -10,8 +10,8 @@ ghost use Rattle.site_state.specs.Packets.{is_known_past, is_foreign, site_accep
 ghost use Rattle.site_core.specs.Keeping.{IsSized};
 
 use super::Site;
-use crate::inboxes::{inbox_from, place_from};
 use conflict_detect::fits;
+use journal_steps::{inbox_from, place_from};
 use packet_code::Packet;
 use rep_calls::{Past, Txn};
 use rep_lists::{Items, NoMemory};

@@ -6,8 +6,8 @@ ghost use Rattle.site_state.specs.Refreshes.{rows_shown, site_refresh, refresh_f
 ghost use Rattle.site_refresh.specs.Refreshing.{OthersAreShown, AreGivenFor, pending_count};
 
 use super::Site;
-use crate::journal::reserve_beside;
 use fast_refresh::MasterView;
+use journal_steps::reserve_beside;
 use rep_lists::NoMemory;
 use rep_schema::{RowStore, holds_tables};
 use site_notes::Notes;

@@ -7,8 +7,8 @@ ghost use Rattle.site_state.specs.Passes.{site_apply, apply_answer};
 ghost use Rattle.site_core.specs.Working.{has_unique, IsWorkOf, EndsHere};
 
 use super::Site;
-use crate::inboxes::inbox_from;
 use dependency_index::has_unique_token;
+use journal_steps::inbox_from;
 use rep_lists::NoMemory;
 use rep_schema::RowStore;
 use rep_values::SiteName;

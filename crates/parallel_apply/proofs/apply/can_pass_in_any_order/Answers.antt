@@ -7,8 +7,8 @@ returns g c =
     record {
       sound = c.requires.sound;
       master = c.requires.master;
-      content = c.laws.ensures.content;
-      fits = arrivals_fit x.schema c.args.origin.now x.senders c.laws.ensures.senders;
+      content = c.laws.ensures.fits.content;
+      fits = arrivals_fit x.schema c.args.origin.now x.senders c.laws.ensures.fits.senders;
       passes = c.arrivals_can_pass.ensures;
       numbered = c.requires.numbered;
     }

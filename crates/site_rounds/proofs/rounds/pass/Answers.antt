@@ -10,4 +10,4 @@ returns-in_err-site-clause-err g c =
     rw (p.1, p.2) (partly_part c.args.origin.now part.0 c.args.site c.in_err-site.field-0.0.0 part.1)
 
 pub returns-clause-passes : goal.returns-clause-passes
-returns-clause-passes g c = passes_made c.args.origin.now c.args.site c.in_ok-site.site c.in_ok-site.count c.in_ok-site.ensures.0 c.in_ok-site.ensures.1 c.laws.ensures.content c.requires.masters
+returns-clause-passes g c = passes_made c.args.origin.now c.args.site c.in_ok-site.site c.in_ok-site.count c.in_ok-site.ensures.0 c.in_ok-site.ensures.1 c.laws.ensures.fits.content c.requires.masters

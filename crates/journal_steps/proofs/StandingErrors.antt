@@ -26,7 +26,7 @@ use Rattle.site_state.specs.Packets.{with_arrival}
 use Rattle.site_state.specs.Errors as state
 use Rattle.site_state.specs.Fits.{FinishedHaveArrived}
 use Rattle.sender_inbox.specs.Incoming.{by_position}
-use Rattle.site_core.specs.Keeping.{error_list}
+use Rattle.journal_steps.specs.Inboxes.{error_list}
 
 -- ---- what stands for a position
 

@@ -5,7 +5,7 @@ ghost use Rattle.deferred_queue.specs.Streams.{is_same_site};
 ghost use Rattle.origin_marks.specs.Marks.{finished};
 ghost use Rattle.error_queue.specs.ErrorLists.{no_errors};
 ghost use Rattle.site_state.specs.Making.{new_sender};
-ghost use Rattle.site_core.specs.Keeping.{senders_in, inbox_of};
+ghost use Rattle.journal_steps.specs.Inboxes.{senders_in, inbox_of};
 
 use error_queue::Errors;
 use rep_lists::NoMemory;
@@ -26,10 +26,7 @@ fn new_inboxes(alloc: Global, senders: &[SiteName]) -> Result<Vec<Inbox>, NoMemo
 }
 
 /// What a site has of these senders when nothing has happened: an inbox for each, and no error.
-pub(crate) fn from_senders(
-    alloc: Global,
-    senders: &[SiteName],
-) -> Result<(Vec<Inbox>, Errors), NoMemory>
+pub fn from_senders(alloc: Global, senders: &[SiteName]) -> Result<(Vec<Inbox>, Errors), NoMemory>
     ensures senders { IfOk result (λ made. senders_in made.0.items ≡ map new_sender senders.now) }
     ensures unfinished { IfOk result (λ made. AllByRecursion (λ i. (p : ℕ) → finished i.marked p ≡ false) made.0.items) }
     ensures errors { IfOk result (λ made. made.1.lists ≡ map no_errors senders.now) }
@@ -40,21 +37,21 @@ pub(crate) fn from_senders(
 }
 
 /// The inbox of a sender; None exactly where the site is no sender.
-pub(crate) fn inbox_from<'a>(inboxes: &'a [Inbox], origin: &SiteName) -> Option<&'a Inbox>
+pub fn inbox_from<'a>(inboxes: &'a [Inbox], origin: &SiteName) -> Option<&'a Inbox>
     ensures { option_copied result ≡ inbox_of origin.now inboxes.now }
 {
     inboxes.iter().find(|inbox| inbox.is_from(origin))
 }
 
 /// The place of the inbox of a sender.
-pub(crate) fn place_from(inboxes: &[Inbox], origin: &SiteName) -> Option<usize>
+pub fn place_from(inboxes: &[Inbox], origin: &SiteName) -> Option<usize>
     ensures { result ≡ position (λ i. is_same_site i.sender.origin origin.now) inboxes.now }
 {
     inboxes.iter().position(|inbox| inbox.is_from(origin))
 }
 
 /// The sender of the inbox at a place.
-pub(crate) fn origin_at(inboxes: &[Inbox], place: usize) -> Option<&SiteName>
+pub fn origin_at(inboxes: &[Inbox], place: usize) -> Option<&SiteName>
     ensures { option_copied result ≡ slice_get (map (λ i. i.sender.origin) inboxes.now) place }
 {
     match inboxes.get(place) {

@@ -3,8 +3,8 @@ use Rattle.std.proofs.Common.{◌≡◌, ℕ, map, false, take}
 use Rattle.std.specs.List.{AllByRecursion}
 use Rattle.origin_marks.specs.Marks.{finished}
 use Rattle.site_state.specs.Making.{new_sender}
-use Rattle.site_core.specs.Keeping.{senders_in}
-use Rattle.site_core.proofs.inboxes.new_inboxes.Given as goal
+use Rattle.journal_steps.specs.Inboxes.{senders_in}
+use Rattle.journal_steps.proofs.inboxes.new_inboxes.Given as goal
 
 abbrev pub invariant-loop-sender : goal.invariant-loop-sender
 invariant-loop-sender l = record {

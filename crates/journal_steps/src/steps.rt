@@ -1,17 +1,17 @@
-//! What becomes of a transaction that another site sent, and what its position adds to the site.
-ghost use Rattle.std.specs.Prelude.{◌≡◌, Some, None};
+//! What becomes of a transaction that another site sent, what its position adds to the site, and how a pass counts it.
+ghost use Rattle.std.specs.Prelude.{◌≡◌, ◌+◌, ◌<◌, ◌^◌, Some, None};
 ghost use Rattle.site_state.specs.declared.entry.Entry.TheVariants as entry;
 ghost use Rattle.site_state.specs.declared.answers.Applied.TheVariants as applied;
-ghost use Rattle.site_core.specs.Settled.{entry_of, answer_of, error_of};
+ghost use Rattle.journal_steps.specs.Steps.{entry_of, answer_of, error_of, done_by, errors_by};
 
 use error_queue::ErrorEntry;
 use rep_calls::Txn;
 use rep_values::{ApplyError, SiteName};
-use site_state::{Applied, Entry};
+use site_state::{Applied, Entry, PassCount};
 
 /// What becomes of a transaction.
 #[derive(Drop)]
-pub(crate) enum Settled {
+pub enum Settled {
     /// It is done, and its changed rows were queued onward under a number, 0 where they weren't.
     Done { onward: u64 },
     /// Its first call that fails, from 1, and why.
@@ -20,10 +20,10 @@ pub(crate) enum Settled {
 
 /// What a position adds to a site: its entry, its answer, and its error where it has one.
 #[derive(Drop)]
-pub(crate) struct Step {
-    pub(crate) entry: Entry,
-    pub(crate) answer: Applied,
-    pub(crate) error: Option<ErrorEntry>,
+pub struct Step {
+    pub entry: Entry,
+    pub answer: Applied,
+    pub error: Option<ErrorEntry>,
 }
 
 /// What the position of a transaction adds that is done.
@@ -78,13 +78,7 @@ fn failed_step(
 
 /// What a position of an origin adds whose transaction is settled so. Of the transaction one copy is for the journal, and one
 /// for the error queue.
-pub(crate) fn step_of(
-    origin: &SiteName,
-    position: u64,
-    settled: &Settled,
-    txn: Txn,
-    kept: Txn,
-) -> Step
+pub fn step_of(origin: &SiteName, position: u64, settled: &Settled, txn: Txn, kept: Txn) -> Step
     ensures entry { result.entry ≡ entry_of origin.now position txn settled.now }
     ensures answer { result.answer ≡ answer_of settled.now }
     ensures error { result.error ≡ error_of origin.now position kept settled.now }
@@ -92,5 +86,24 @@ pub(crate) fn step_of(
     match settled {
         Settled::Done { onward } => done_step(origin, position, *onward, txn),
         Settled::Failed { call, error } => failed_step(origin, position, *call, error, txn, kept),
+    }
+}
+
+/// The count with what became of one position more.
+pub fn counted(count: PassCount, applied: &Applied) -> PassCount
+    requires { count.done + count.errors + 1 < 2 ^ 64 }
+    ensures done { result.done ≡ count.done + done_by applied.now }
+    ensures errors { result.errors ≡ count.errors + errors_by applied.now }
+{
+    match applied {
+        Applied::Done => PassCount {
+            done: count.done + 1,
+            errors: count.errors,
+        },
+        Applied::Error(_) => PassCount {
+            done: count.done,
+            errors: count.errors + 1,
+        },
+        Applied::Stale(_) => count,
     }
 }

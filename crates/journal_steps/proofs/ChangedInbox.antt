@@ -13,8 +13,8 @@ use Rattle.site_state.specs.declared.entry.Entry.{Entry}
 use Rattle.site_state.specs.State.{SenderState, sender_of, at_sender}
 use Rattle.site_state.specs.Journal.{is_position, finishes, finished}
 use Rattle.sender_inbox.specs.Incoming.{Incoming}
-use Rattle.site_core.specs.Keeping.{senders_in, inbox_of, Follows}
-use Rattle.site_core.proofs.StandingErrors.{StandApart}
+use Rattle.journal_steps.specs.Inboxes.{senders_in, inbox_of, Follows}
+use Rattle.journal_steps.proofs.StandingErrors.{StandApart}
 
 -- an inbox is that of a sender
 abbrev pub is_from : SiteName → Incoming → Bool

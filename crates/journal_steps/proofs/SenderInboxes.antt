@@ -16,7 +16,7 @@ use Rattle.site_state.specs.Pasts.{greatest_finished, seen_of}
 use Rattle.site_state.specs.Fits.{FinishedHaveArrived}
 use Rattle.site_state.proofs.LowWater.{low_water-is}
 use Rattle.sender_inbox.specs.Incoming.{Incoming, greatest_where, seen_in}
-use Rattle.site_core.specs.Keeping.{senders_in, inbox_of, sender_in, Follows}
+use Rattle.journal_steps.specs.Inboxes.{senders_in, inbox_of, sender_in, Follows}
 
 -- the sender of a name is that of the inbox of a name
 pub sender_of-inboxes : (origin : SiteName) (inboxes : List Incoming) → sender_of origin (senders_in inboxes) ≡ option_map sender_in (inbox_of origin inboxes)

@@ -1,0 +1,4 @@
+-- The lemmas of this crate, from the bottom up.
+pub mod SenderInboxes
+pub mod StandingErrors
+pub mod ChangedInbox
