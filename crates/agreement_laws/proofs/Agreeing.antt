@@ -1,19 +1,17 @@
 -- Whatever happened, masters that are quiet agree, if they ever agreed where they were quiet.
-use Rattle.std.proofs.Common.{◌≡◌, ◌≢◌, ℕ, ◌+◌, ◌<◌, ◌≤◌, List, [], ◌∷◌, ◌++◌, length, map, Bool, true, false, Some, None, pos, refl, sym, ap, ◌∙◌, subst, inl, inr, arith, append-nil}
+use Rattle.std.proofs.Common.{◌≡◌, ◌≢◌, ℕ, ◌+◌, ◌<◌, ◌≤◌, List, [], ◌∷◌, ◌++◌, length, Bool, true, false, Some, None, pos, refl, sym, ap, ◌∙◌, subst, inl, inr, arith, append-nil}
 use Rattle.std.specs.Prelude.{ℤ, ◌||◌, ◌⊎◌, Option}
 use Rattle.std.specs.List.{AllByRecursion, list_any}
 use Rattle.std.specs.declared.cmp.Ordering.TheVariants.{Equal}
 use mathlib.Core.Bool.{true≢false}
-use Rattle.std.proofs.lemmas.List.{map-append}
 use Rattle.rep_values.specs.declared.name.SiteName.{SiteName}
 use Rattle.rep_values.specs.declared.value.Value.TheVariants.{Num, Words}
 use Rattle.rep_values.specs.Order.{key_cmp}
 use Rattle.rep_schema.specs.declared.schema.Schema.{Schema}
 use Rattle.rep_schema.specs.Tables.{Cells, Rows, columns_of, find_row, rows_of, AreTables}
-use Rattle.rep_schema.specs.Groups.{group_columns_of, values_at}
+use Rattle.rep_schema.specs.Groups.{group_columns_of}
 use Rattle.schema_rules.specs.declared.forms.Form.TheVariants as form
 use Rattle.rep_calls.specs.declared.call.Call.{Call}
-use Rattle.rep_calls.specs.declared.call.Part.{Part}
 use Rattle.rep_calls.specs.declared.call.Txn.{Txn}
 use Rattle.resolve_methods.specs.Ranks.{site_level_of}
 use Rattle.packet_code.specs.declared.packet.Packet.{Packet}
@@ -36,17 +34,16 @@ use Rattle.event_laws.proofs.DeclaredSites.{IsSiteOf}
 use Rattle.event_laws.proofs.Meeting.{SiteMeets, MeetsAt}
 use Rattle.event_laws.proofs.OrderLaws.{earlier_comes_first}
 use Rattle.event_laws.proofs.FittingSites.{every_site_fits}
+use Rattle.event_laws.proofs.Waiting.{AreMet, run_met}
 use Rattle.convergence_laws.specs.GroupForms.{form_at, value_of, level_alone, wins}
-use Rattle.convergence_laws.specs.Joins.{parts_for, parts_in, inserts_for}
-use Rattle.convergence_laws.specs.Collections.{Then, Among, TellApart}
+use Rattle.convergence_laws.specs.Joins.{parts_in}
+use Rattle.convergence_laws.specs.Collections.{Then, TellApart}
 use Rattle.convergence_laws.proofs.AnyOrder.{reordered_back}
-use Rattle.agreement_laws.specs.Pairs.{made_by, made_in, calls_in, pair_in}
+use Rattle.agreement_laws.specs.Pairs.{calls_in, pair_in}
 use Rattle.agreement_laws.specs.Agreement.{drops_of_master, NothingWasDroppedSince, MastersAgree, QuietMastersAgree, QuietMastersAgreeAgain}
-use Rattle.agreement_laws.proofs.Counting.{among_left, among_right, among_either}
 use Rattle.agreement_laws.proofs.Turns.{Cause, Now, Late, Becomes, Stays, Turns, Joins, happens_becomes}
 use Rattle.agreement_laws.proofs.SitesAt.{Each, turns_here, at_none}
 use Rattle.agreement_laws.proofs.Reordering.{calls_reordered, above}
-use Rattle.agreement_laws.proofs.MetSites.{AreMet, run_met}
 use Rattle.agreement_laws.proofs.Applied.{IsShaped, none_shaped, error_finished}
 use Rattle.agreement_laws.proofs.Told.{IsOwnValue, AreTold, told_calls, Known}
 use Rattle.agreement_laws.proofs.PairsTell.{Lower, of_schema, known, run_told, made_own, own_same}
@@ -55,6 +52,7 @@ use Rattle.agreement_laws.proofs.Facts.{some_there, is_named, Facts, declared_ma
 use Rattle.agreement_laws.proofs.Between.{run-append}
 use Rattle.agreement_laws.proofs.Since.{IsSince, becomes_kept, since_now, becomes_since}
 use Rattle.agreement_laws.proofs.Ties.{master_named, sender_named, same_level, has_level, tie_first, pair_split}
+use Rattle.agreement_laws.proofs.Rooted.{Among-parts_in}
 use Rattle.agreement_laws.proofs.Histories.{History}
 use Rattle.agreement_laws.proofs.QuietPieces.{quiet_pieces, quiet_since}
 use Rattle.agreement_laws.proofs.QuietMasters.{becomes_shaped, Family, turned_by, joined_family, first_family}
@@ -112,7 +110,7 @@ module _ (lower : Lower) (schema : Schema) (start : Core) (is : IsFitStart schem
   met_after events = run_met schema start events is.start meshed
 
   -- what a site does came from a declared one
-  senders_named : (events : List Event) (name : SiteName) (x : SiteState) → site_of name (sites_after events) ≡ Some x → (origin : SiteName) (position number : ℕ) (txn : Txn) (e : Entry) → Cause x origin position number txn e → is_named schema origin ≡ true
+  pub senders_named : (events : List Event) (name : SiteName) (x : SiteState) → site_of name (sites_after events) ≡ Some x → (origin : SiteName) (position number : ℕ) (txn : Txn) (e : Entry) → Cause x origin position number txn e → is_named schema origin ≡ true
   senders_named events name x found origin position number txn e cause =
       let meets : SiteMeets (sites_after events) name x = subst (MeetsAt (sites_after events) name) found ((met_after events).meets.each name) in
       let declared = (found_all (IsSiteOf schema) name (sites_after events) x (met_after events).sites_of found).declared in
@@ -126,7 +124,8 @@ module _ (lower : Lower) (schema : Schema) (start : Core) (is : IsFitStart schem
   shaped_after [] = λ name x found. rw (found_all (IsNewSite schema) name start.sites x is.start.sites found).journal none_shaped
   shaped_after (e ∷ es) = becomes_shaped (sites_after es) (sites_after (e ∷ es)) (happens_becomes e (run es start)) (shaped_after es)
 
-  facts_after : (events : List Event) → Facts schema is.sound lower.decides (sites_after events) (run events start).sent
+  -- what is known of the sites after events
+  pub facts_after : (events : List Event) → Facts schema is.sound lower.decides (sites_after events) (run events start).sent
   facts_after events = record {
     met = met_after events;
     shaped = shaped_after events;
@@ -190,34 +189,26 @@ module _ (lower : Lower) (schema : Schema) (start : Core) (is : IsFitStart schem
     abbrev IsOwn : Cells → Type 0
     IsOwn v = IsOwnValue (is_named schema) schema (sites_after events) table key group v
 
-    part_made : (calls : List Call) (v : Cells) → Among v (map (λ (part : Part). part.new) (parts_in table key group calls)) → Among v (made_in schema table key group calls)
-    part_made [] v among = absurd among
-    part_made (c ∷ cs) v among = elim (among_either v (map (λ (part : Part). part.new) (parts_for table key group c)) (map (λ (part : Part). part.new) (parts_in table key group cs))
-        (subst (Among v) (map-append (λ (part : Part). part.new) (parts_for table key group c) (parts_in table key group cs)) among)) [
-          | inl here ↦ among_left v (made_by schema table key group c) (made_in schema table key group cs)
-              (among_right v (map (values_at places) (inserts_for schema table key c)) (map (λ (part : Part). part.new) (parts_for table key group c)) here)
-          | inr later ↦ among_right v (made_by schema table key group c) (made_in schema table key group cs) (part_made cs v later)
-        ]
-
     -- the number and the site of own values
-    record IsStamped (v : Cells) : Type 0 where
-      number : ℕ
-      above : 0 < number
-      site : SiteName
-      named : is_named schema site ≡ true
-      pair : pair_in places stamp own v ≡ Num (pos number) ∷ Words site.0 ∷ []
+    pub record IsStamped (v : Cells) : Type 0 where
+      pub number : ℕ
+      pub above : 0 < number
+      pub site : SiteName
+      pub named : is_named schema site ≡ true
+      pub pair : pair_in places stamp own v ≡ Num (pos number) ∷ Words site.0 ∷ []
 
-    stamped : (v : Cells) → IsOwn v → IsStamped v
+    pub stamped : (v : Cells) → IsOwn v → IsStamped v
     stamped v o =
         let m = made_own (is_named schema) lower schema start is senders_named events table group stamp own key convergent has v o in
         record { number = m.0; above = m.2; site = o.site.here.site; named = o.passes; pair = m.1 }
 
-    tied_numbers : (v w : Cells) (n m : ℤ) → value_of places v stamp ≡ Some (Num n) → value_of places w stamp ≡ Some (Num m) → wins schema places (form.Latest stamp own) v w ≡ Equal
+    pub tied_numbers : (v w : Cells) (n m : ℤ) → value_of places v stamp ≡ Some (Num n) → value_of places w stamp ≡ Some (Num m) → wins schema places (form.Latest stamp own) v w ≡ Equal
         → (n ≡ m) × (key_cmp (level_alone (site_level_of schema (value_of places v own))) (level_alone (site_level_of schema (value_of places w own))) ≡ Equal)
     tied_numbers v w n m at at_too tie =
         tie_first n m (level_alone (site_level_of schema (value_of places v own))) (level_alone (site_level_of schema (value_of places w own))) (rw (at, at_too) at tie)
 
-    own_tie : (v w : Cells) → IsOwn v → IsOwn w → wins schema places (form.Latest stamp own) v w ≡ Equal → v ≡ w
+    -- two of them that tie are the same
+    pub own_tie : (v w : Cells) → IsOwn v → IsOwn w → wins schema places (form.Latest stamp own) v w ≡ Equal → v ≡ w
     own_tie v w a b tie =
         let s = stamped v a in
         let t = stamped w b in
@@ -235,7 +226,7 @@ module _ (lower : Lower) (schema : Schema) (start : Core) (is : IsFitStart schem
 
     tell_apart : (calls : List Call) → AreTold (is_named schema) schema (sites_after events) calls → TellApart schema places (form.Latest stamp own) (new_values (parts_in table key group calls))
     tell_apart calls told v w one other tie =
-        own_tie v w (told table group stamp own key v convergent has (part_made calls v one)) (told table group stamp own key w convergent has (part_made calls w other)) tie
+        own_tie v w (told table group stamp own key v convergent has (Among-parts_in schema table key group calls v one)) (told table group stamp own key w convergent has (Among-parts_in schema table key group calls w other)) tie
 
 -- ---- agreement
 

@@ -1,5 +1,5 @@
 -- Counting in lists, and elements of them.
-use Rattle.std.proofs.Common.{◌≡◌, suc, ◌+◌, ◌≤◌, Bool, true, false, cond, List, [], ◌∷◌, ◌++◌, length, refl, sym, ◌∙◌, inl, inr, arith}
+use Rattle.std.proofs.Common.{◌≡◌, suc, ◌+◌, ◌≤◌, Bool, true, false, cond, List, [], ◌∷◌, ◌++◌, length, map, refl, sym, ap, ◌∙◌, inl, inr, arith}
 use Rattle.std.specs.Prelude.{◌⊎◌}
 use mathlib.Core.Bool.{true≢false}
 use Rattle.site_state.specs.Steps.{count_where}
@@ -54,6 +54,11 @@ among_left x (z ∷ zs) ys (inr among) = inr (among_left x zs ys among)
 pub among_right : {X : Type 0} (x : X) (xs ys : List X) → Among x ys → Among x (xs ++ ys)
 among_right x [] ys among = among
 among_right x (z ∷ zs) ys among = inr (among_right x zs ys among)
+
+pub among_map : {X Y : Type 0} (f : X → Y) (x : X) (xs : List X) → Among x xs → Among (f x) (map f xs)
+among_map f x [] among = absurd among
+among_map f x (y ∷ ys) (inl same) = inl (ap f same)
+among_map f x (y ∷ ys) (inr among) = inr (among_map f x ys among)
 
 pub among_either : {X : Type 0} (x : X) (xs ys : List X) → Among x (xs ++ ys) → Among x xs ⊎ Among x ys
 among_either x [] ys among = inr among

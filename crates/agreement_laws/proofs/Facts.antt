@@ -12,8 +12,8 @@ use Rattle.event_laws.specs.Core.{site_of}
 use Rattle.event_laws.specs.Orders.{IsInOrder}
 use Rattle.event_laws.proofs.Sites.{found_all, found_name}
 use Rattle.event_laws.proofs.DeclaredSites.{IsSiteOf}
+use Rattle.event_laws.proofs.Waiting.{AreMet}
 use Rattle.convergence_laws.proofs.Moves.{DecisionLaws}
-use Rattle.agreement_laws.proofs.MetSites.{AreMet}
 use Rattle.agreement_laws.proofs.Applied.{IsShaped}
 use Rattle.agreement_laws.proofs.Told.{QueueIsTold}
 

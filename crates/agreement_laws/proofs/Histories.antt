@@ -46,15 +46,13 @@ use Rattle.convergence_laws.proofs.RowsCome.{Came, came_on}
 use Rattle.convergence_laws.proofs.CallsCome.{row_in, txn_comes}
 use Rattle.convergence_laws.proofs.OnwardComes.{onward_comes}
 use Rattle.convergence_laws.proofs.SameRows.{reordered_behind, reordered_middle, inserts_in-append, parts_in-append}
-use Rattle.agreement_laws.specs.Pairs.{made_in, calls_in, own_calls}
-use Rattle.agreement_laws.proofs.Counting.{among_right}
-use Rattle.agreement_laws.proofs.OwnPairs.{made_in-append}
+use Rattle.agreement_laws.specs.Pairs.{calls_in}
 use Rattle.agreement_laws.proofs.Reordering.{reordered_as, chosen, chosen-same, chosen-more, above, above-more}
 use Rattle.agreement_laws.proofs.Turns.{Turn, Same, Own, Did, Left, Renewed, Frame, Cause, Now, Late, IsLeft}
 use Rattle.agreement_laws.proofs.SitesAt.{turn_frame}
-use Rattle.agreement_laws.proofs.MetSites.{IsOpenTo, masters_open}
+use Rattle.agreement_laws.proofs.OpenMasters.{IsOpenTo, masters_open}
 use Rattle.agreement_laws.proofs.Applied.{is_applied, IsShaped, IsSettled, error_finished, taken_not_applied}
-use Rattle.agreement_laws.proofs.Told.{TxnIsTold, told_later, all_told_later, sent_has, IsSentBy, cause_sent, queue-did, queue-left, Known, done_sound, QueuesTold, turn_queues, onward_told}
+use Rattle.agreement_laws.proofs.Told.{TxnIsTold, all_told_later, IsSentBy, cause_sent, queue-did, queue-left, Known, own_told, done_told, done_sound, QueuesTold, turn_queues, onward_told}
 use Rattle.agreement_laws.proofs.Families.{masters_of, StandApart-masters, Among-masters, Are-masters, joined_same, joined_more, queue_in, count_for, count_in, has_number, piece_of, pieces_of, sent_number, finished_sent, arrived_among, open_any}
 use Rattle.agreement_laws.proofs.Facts.{some_there, is_named, Facts, declared_master}
 use Rattle.agreement_laws.proofs.Since.{IsSince}
@@ -420,13 +418,7 @@ module _ (schema : Schema) (sound : IsSound schema) (decides : DecisionLaws) (fi
             let effect : Effect = record { changes = block.changes; numbers = (content_of x).numbers } in
             let gives : effect_on schema name txn (content_of x) ≡ Ok effect =
             subst (λ (s : Schema). effect_on s name txn (content_of x) ≡ Ok effect) known.of_schema (subst (λ (o : SiteName). effect_on x.schema o txn (content_of x) ≡ Ok effect) own_name (known.fits.blocks statements block is)) in
-            let told : TxnIsTold (is_named schema) schema others txn = λ table group stamp own key v convergent has among. record {
-              name = name;
-              site = y;
-              found = known.found_later;
-              among = rw (journal, made_in-append schema table key group (own_calls x.journal) (map (call_of x.schema) block.changes)) (among_right v (made_in schema table key group (own_calls x.journal)) (made_in schema table key group (map (call_of x.schema) block.changes)) among);
-              passes = rw own_later (named master);
-            } in
+            let told : TxnIsTold (is_named schema) schema others txn = own_told (is_named schema) schema sound decides sites others name x y known (named master) number txn f.here journal in
             one_piece extra h txn (comes name txn effect (record { fits = fits.0; keeps = keeps.0 }) gives (content_of_own number txn base journal)) told
             (pieces_queued txn (rw (f.schema, f.here, base, journal) refl) (λ n named p. rw journal refl))
 
@@ -443,11 +435,8 @@ module _ (schema : Schema) (sound : IsSound schema) (decides : DecisionLaws) (fi
             content : content_of y ≡ content_after schema origin txn (content_of x)
             content = content_did origin position (onward_number origin effect.changes x) txn e cause base journal
 
-            sent_one : IsSentBy sites name origin position txn
-            sent_one = cause_sent sites name origin position (onward_number origin effect.changes x) txn x e known.holds known.order cause
-
             told : TxnIsTold (is_named schema) schema others txn
-            told = told_later (is_named schema) schema sites others txn.calls known.later (sent_has (TxnIsTold (is_named schema) schema sites) name position sent_one.sender txn (facts.told origin sent_one.sender sent_one.found (rw (found_name origin sites sent_one.sender sent_one.found) (known.senders origin position (onward_number origin effect.changes x) txn e cause))) sent_one.at)
+            told = done_told (is_named schema) schema sound decides sites others name x y known facts.told e origin position (onward_number origin effect.changes x) txn cause
 
             onward : Txn
             onward = txn_of schema effect.changes

@@ -13,7 +13,7 @@ pub mod PairsTell
 pub mod Reordering
 pub mod Applied
 pub mod SameRows
-pub mod MetSites
+pub mod OpenMasters
 pub mod Families
 pub mod Facts
 pub mod Since
@@ -21,5 +21,7 @@ pub mod Histories
 pub mod QuietPieces
 pub mod QuietMasters
 pub mod Ties
+pub mod Rooted
 pub mod Agreeing
+pub mod LatestApart
 mod WorkedAgreement

@@ -17,17 +17,17 @@ use Rattle.local_txn.specs.Convergent.{is_convergent}
 use Rattle.site_state.specs.declared.entry.Entry.{Entry}
 use Rattle.site_state.specs.State.{SiteState, is_master_site}
 use Rattle.site_state.specs.Contents.{journal_content, tables_of}
-use Rattle.site_state.specs.Making.{master_here}
 use Rattle.site_state.specs.Streams.{queue_of, count_of}
-use Rattle.site_state.specs.Joining.{site_open, site_copy}
+use Rattle.site_state.specs.Joining.{site_open}
 use Rattle.site_state.specs.Packets.{count_opened}
 use Rattle.site_state.proofs.Destinations.{opened_in-other}
 use Rattle.event_laws.specs.Core.{site_of, at_site}
-use Rattle.event_laws.specs.Joins.{queue_counts, copied, may_join, with_joined}
+use Rattle.event_laws.specs.Joins.{copied, may_join, with_joined}
 use Rattle.event_laws.specs.Quiet.{are_quiet}
 use Rattle.event_laws.proofs.Sites.{found_name, found_or, site_of-joined, found_changed, found_other}
-use Rattle.event_laws.proofs.NewSites.{copied_is_new, copied_here, open_to_each_keeps}
+use Rattle.event_laws.proofs.NewSites.{copied_is_new, copied_here}
 use Rattle.event_laws.proofs.DeclaredSites.{joins_from_master}
+use Rattle.event_laws.proofs.Waiting.{AreMet}
 use Rattle.convergence_laws.specs.Collections.{IsReordered}
 use Rattle.convergence_laws.proofs.Moves.{DecisionLaws}
 use Rattle.convergence_laws.proofs.RowsCome.{Came, came_not}
@@ -36,8 +36,7 @@ use Rattle.agreement_laws.specs.Pairs.{calls_in}
 use Rattle.convergence_laws.specs.Joins.{parts_in, inserts_in}
 use Rattle.agreement_laws.proofs.Reordering.{reordered_as, chosen, chosen-same, above}
 use Rattle.agreement_laws.proofs.Turns.{Turn, Becomes, Stays, Turns, Joins}
-use Rattle.agreement_laws.proofs.SitesAt.{Each, turns_here, Entered, Nothing, One, turn_enters, found_opened, WasJoined, Old, New, was_joined, at_each, joined_each}
-use Rattle.agreement_laws.proofs.MetSites.{AreMet}
+use Rattle.agreement_laws.proofs.SitesAt.{Each, turns_here, Entered, Nothing, One, turn_enters, found_opened, copied_base, WasJoined, Old, New, was_joined, at_each, joined_each}
 use Rattle.agreement_laws.proofs.Applied.{IsShaped, shaped_more, none_shaped}
 use Rattle.agreement_laws.proofs.Told.{TxnIsTold, all_told_later, Known, becomes_more}
 use Rattle.agreement_laws.proofs.Families.{masters_of, Are-masters, joined_by, joined_same, queue_in, count_for, count_in, has_number, piece_of, piece_empty}
@@ -141,11 +140,8 @@ module _ (schema : Schema) (sound : IsSound schema) (decides : DecisionLaws) (fi
     new_name : new.here.site ≡ site
     new_name = ap (λ h. h.site) (copied_here sites source site)
 
-    new_base : new.base ≡ tables_of source
-    new_base = open_to_each_keeps (λ (y : SiteState). y.base ≡ tables_of source) (λ s y is. is) sites (site_copy source (master_here source.schema site) (queue_counts sites)) refl
-
     new_tables : tables_of new ≡ tables_of source
-    new_tables = ap (λ j. (journal_content new.schema new.here.site new.base j).tables) (copied_is_new sites source site).journal ∙ new_base
+    new_tables = ap (λ j. (journal_content new.schema new.here.site new.base j).tables) (copied_is_new sites source site).journal ∙ copied_base sites source site
 
     -- who isn't there yet has nothing
     absent_piece : (x : SiteState) (m : SiteName) → site_of m sites ≡ None → piece_of (least m) x m (site_of m joins) ≡ []

@@ -34,7 +34,7 @@ use Rattle.event_laws.proofs.Meeting.{SiteMeets, MeetsAt}
 use Rattle.convergence_laws.proofs.Moves.{DecisionLaws}
 use Rattle.convergence_laws.proofs.ConvergentRows.{both_hold}
 use Rattle.agreement_laws.proofs.Reordering.{chosen, chosen-same, above}
-use Rattle.agreement_laws.proofs.MetSites.{masters_open}
+use Rattle.agreement_laws.proofs.OpenMasters.{masters_open}
 use Rattle.agreement_laws.proofs.Applied.{is_applied, IsSettled, error_finished}
 use Rattle.agreement_laws.proofs.Families.{masters_of, Are-masters, joined_by, joined_same, queue_in, count_for, count_in, has_number, piece_of, pieces_of}
 use Rattle.agreement_laws.proofs.Facts.{Facts, declared_master}

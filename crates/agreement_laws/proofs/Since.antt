@@ -26,6 +26,7 @@ use Rattle.event_laws.specs.Joins.{copied, with_joined, may_join}
 use Rattle.event_laws.specs.Marks.{journal_in}
 use Rattle.event_laws.proofs.NewSites.{copied_is_new, copied_here}
 use Rattle.event_laws.proofs.DeclaredSites.{joins_late}
+use Rattle.event_laws.proofs.Waiting.{AreMet}
 use Rattle.convergence_laws.proofs.Moves.{DecisionLaws}
 use Rattle.agreement_laws.specs.Agreement.{drops_of_master, NothingWasDroppedSince}
 use Rattle.agreement_laws.proofs.Turns.{Turn, Same, Own, Did, Left, Renewed, Becomes, Stays, Turns, Joins}
@@ -33,7 +34,7 @@ use Rattle.agreement_laws.proofs.SitesAt.{IsThere, is_there, WasThere, was_there
 use Rattle.agreement_laws.proofs.Growing.{HaveAll, becomes_all, now_all}
 use Rattle.agreement_laws.proofs.Applied.{is_applied, IsSettled, settled_more, applied_more}
 use Rattle.agreement_laws.proofs.Told.{queue-did, queue-left}
-use Rattle.agreement_laws.proofs.MetSites.{AreMet, masters_open}
+use Rattle.agreement_laws.proofs.OpenMasters.{masters_open}
 use Rattle.agreement_laws.proofs.Families.{count_for, count_in, finished_sent, sent_number}
 use Rattle.agreement_laws.proofs.Facts.{Facts, declared_master}
 

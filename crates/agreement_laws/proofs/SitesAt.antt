@@ -1,17 +1,18 @@
 -- What holds of each site that is found by a name, where one of them changes or one joins.
 use Rattle.std.proofs.Common.{◌≡◌, ℕ, List, [], ◌∷◌, Bool, true, false, cond, Some, None, refl, sym, ◌∙◌, ap, subst}
 use Rattle.std.specs.Prelude.{Option}
-use mathlib.Core.Bool.{true≢false}
 use Rattle.std.specs.Option.{option_map}
 use Rattle.rep_values.specs.declared.name.SiteName.{SiteName}
 use Rattle.deferred_queue.specs.Streams.{is_same_site}
 use Rattle.deferred_queue.proofs.Sites.{is_same_site-true, is_same_site-refl}
 use Rattle.site_state.specs.State.{SiteState}
-use Rattle.site_state.specs.Joining.{site_open}
+use Rattle.site_state.specs.Contents.{tables_of}
+use Rattle.site_state.specs.Making.{master_here}
+use Rattle.site_state.specs.Joining.{site_open, site_copy}
 use Rattle.event_laws.specs.Core.{site_of, at_site}
-use Rattle.event_laws.specs.Joins.{copied, with_joined}
+use Rattle.event_laws.specs.Joins.{queue_counts, copied, with_joined}
 use Rattle.event_laws.proofs.Sites.{KeepsHere, at_split, found_changed, found_other, found_or, site_of-joined, found_all}
-use Rattle.event_laws.proofs.NewSites.{copied_here}
+use Rattle.event_laws.proofs.NewSites.{open_to_each_keeps, copied_here}
 use Rattle.site_state.specs.declared.entry.Entry.{Entry}
 use Rattle.site_state.specs.declared.entry.Entry.TheVariants.{Local, Refreshed}
 use Rattle.site_state.proofs.Stepping.{MayFollow}
@@ -66,6 +67,10 @@ found_opened sites source site name x absent found =
 pub found_joined : (sites : List SiteState) (source : SiteState) (site : SiteName) → site_of site sites ≡ None → site_of site (with_joined sites source site) ≡ Some (copied sites source site)
 found_joined sites source site absent =
     site_of-joined site (site_open site) sites (copied sites source site) (λ x. refl) ∙ (rw (ap (λ h. h.site) (copied_here sites source site), is_same_site-refl site, absent) refl)
+
+-- its base rows are the tables of the one that it copies
+pub copied_base : (sites : List SiteState) (source : SiteState) (site : SiteName) → (copied sites source site).base ≡ tables_of source
+copied_base sites source site = open_to_each_keeps (λ (x : SiteState). x.base ≡ tables_of source) (λ s x is. is) sites (site_copy source (master_here source.schema site) (queue_counts sites)) refl
 
 -- where no site has the name nothing changes
 pub at_none : (name : SiteName) (change : SiteState → SiteState) (sites : List SiteState) → site_of name sites ≡ None → at_site name change sites ≡ sites

@@ -93,9 +93,10 @@ pub record HasMore (others : List SiteState) (name : SiteName) (x : SiteState) :
 abbrev pub HaveMore : List SiteState → List SiteState → Type 0
 HaveMore sites others = (name : SiteName) (x : SiteState) → site_of name sites ≡ Some x → HasMore others name x
 
-pub told_later : (test : SiteName → Bool) (schema : Schema) (sites others : List SiteState) (calls : List Call) → HaveMore sites others → AreTold test schema sites calls → AreTold test schema others calls
-told_later test schema sites others calls later told table group stamp own key v convergent has among =
-    let t = told table group stamp own key v convergent has among in
+-- what a site made it made later
+pub own_later : (test : SiteName → Bool) (schema : Schema) (sites others : List SiteState) (table : ℕ) (key : Cells) (group : ℕ) (v : Cells) → HaveMore sites others
+    → IsOwnValue test schema sites table key group v → IsOwnValue test schema others table key group v
+own_later test schema sites others table key group v later t =
     let more = later t.name t.site t.found in
     record {
       name = t.name;
@@ -104,6 +105,10 @@ told_later test schema sites others calls later told table group stamp own key v
       among = rw (more.own, made_in-append schema table key group (own_calls t.site.journal) more.more) (among_left v (made_in schema table key group (own_calls t.site.journal)) (made_in schema table key group more.more) t.among);
       passes = rw more.here t.passes;
     }
+
+pub told_later : (test : SiteName → Bool) (schema : Schema) (sites others : List SiteState) (calls : List Call) → HaveMore sites others → AreTold test schema sites calls → AreTold test schema others calls
+told_later test schema sites others calls later told table group stamp own key v convergent has among =
+    own_later test schema sites others table key group v later (told table group stamp own key v convergent has among)
 
 pub all_told_later : (test : SiteName → Bool) (schema : Schema) (sites others : List SiteState) (txns : List Txn) → HaveMore sites others → AllByRecursion (TxnIsTold test schema sites) txns → AllByRecursion (TxnIsTold test schema others) txns
 all_told_later test schema sites others [] later all = tt
@@ -157,7 +162,7 @@ followed sites to origin position txn before follows = go (site_of origin sites)
     go (Some o) there follows = record { sender = o; found = there; at = follows.sent }
 
 -- so has the sender of an error
-error_sent : (sites : List SiteState) (to origin : SiteName) (position : ℕ) (journal : List Entry) (e : ErrorEntry) → IsInOrder sites to journal → error_at origin position journal ≡ Some e → IsSentBy sites to origin position e.txn
+pub error_sent : (sites : List SiteState) (to origin : SiteName) (position : ℕ) (journal : List Entry) (e : ErrorEntry) → IsInOrder sites to journal → error_at origin position journal ≡ Some e → IsSentBy sites to origin position e.txn
 error_sent sites to origin position [] e order found = cc
 error_sent sites to origin position (Local number txn ∷ es) e order found = error_sent sites to origin position es e order.1 found
 error_sent sites to origin position (Done o p onward txn ∷ es) e order found = error_sent sites to origin position es e order.1 found
@@ -225,6 +230,24 @@ module _ (test : SiteName → Bool) (schema : Schema) (sound : IsSound schema) (
     pub later : HaveMore sites others
     pub senders : (origin : SiteName) (position number : ℕ) (txn : Txn) (e : Entry) → Cause x origin position number txn e → test origin ≡ true
 
+  -- a site tells all that it makes
+  pub own_told : (sites others : List SiteState) (name : SiteName) (x y : SiteState) → Known sites others name x y → test name ≡ true → (number : ℕ) (txn : Txn) → y.here ≡ x.here
+      → y.journal ≡ Local number txn ∷ x.journal → TxnIsTold test schema others txn
+  own_told sites others name x y known passes number txn here journal table group stamp own key v convergent has among = record {
+    name = name;
+    site = y;
+    found = known.found_later;
+    among = rw (journal, made_in-append schema table key group (own_calls x.journal) txn.calls) (among_right v (made_in schema table key group (own_calls x.journal)) (made_in schema table key group txn.calls) among);
+    passes = rw (here, found_name name sites x known.found) passes;
+  }
+
+  -- what a site does is told where queues are
+  pub done_told : (sites others : List SiteState) (name : SiteName) (x y : SiteState) → Known sites others name x y → Each (λ u. test u.here.site ≡ true → QueueIsTold sites u) sites
+      → (e : Entry) (origin : SiteName) (position number : ℕ) (txn : Txn) → Cause x origin position number txn e → TxnIsTold test schema others txn
+  done_told sites others name x y known all e origin position number txn cause =
+      let sent = cause_sent sites name origin position number txn x e known.holds known.order cause in
+      told_later test schema sites others txn.calls known.later (sent_has (TxnIsTold test schema sites) name position sent.sender txn (all origin sent.sender sent.found (rw (found_name origin sites sent.sender sent.found) (known.senders origin position number txn e cause))) sent.at)
+
   -- a transaction that is done is sound
   pub done_sound : (sites others : List SiteState) (name : SiteName) (x y : SiteState) → Known sites others name x y → (e : Entry) (origin : SiteName) (position number : ℕ) (txn : Txn) → Cause x origin position number txn e
       → y.journal ≡ e ∷ x.journal → y.schema ≡ x.schema → IsSoundTxn schema txn
@@ -265,17 +288,10 @@ module _ (test : SiteName → Bool) (schema : Schema) (sound : IsSound schema) (
     queues = true;
     txn = txn_of x.schema block.changes;
     queue = rw (f.schema, f.here, base, journal) refl;
-    told = λ table group stamp own key v convergent has among. record {
-      name = name;
-      site = y;
-      found = known.found_later;
-      among = rw (journal, made_in-append schema table key group (own_calls x.journal) (map (call_of x.schema) block.changes)) (among_right v (made_in schema table key group (own_calls x.journal)) (made_in schema table key group (map (call_of x.schema) block.changes)) among);
-      passes = rw (f.here, found_name name sites x known.found) passes;
-    };
+    told = own_told sites others name x y known passes number (txn_of x.schema block.changes) f.here journal;
   }
   turn_queues sites others name x y known passes all (Did f base e origin position txn effect cause gives journal last) =
-      let sent = cause_sent sites name origin position _ txn x e known.holds known.order cause in
-      let told : TxnIsTold test schema others txn = told_later test schema sites others txn.calls known.later (sent_has (TxnIsTold test schema sites) name position sent.sender txn (all origin sent.sender sent.found (rw (found_name origin sites sent.sender sent.found) (known.senders origin position _ txn e cause))) sent.at) in
+      let told : TxnIsTold test schema others txn = done_told sites others name x y known all e origin position (onward_number origin effect.changes x) txn cause in
       let onward : AreTold test schema others (map (call_of schema) effect.changes) =
       onward_told others origin txn (content_of x) effect (subst (λ (s : Schema). IsContent s (content_of x)) known.of_schema known.fits.content) (done_sound sites others name x y known e origin position _ txn cause journal f.schema)
       (subst (λ (s : Schema). effect_on s origin txn (content_of x) ≡ Ok effect) known.of_schema gives) told in

@@ -1,6 +1,7 @@
 //! Laws of agreement. A function calls the laws that its own stands on, and does nothing else.
 ghost use Rattle.agreement_laws.specs.Agreement.{QuietMastersAgree, QuietMastersAgreeAgain};
 ghost use Rattle.agreement_laws.specs.Between.{GroupsAreJoinedBetween};
+ghost use Rattle.agreement_laws.specs.Latest.{LatestValuesTellApart};
 ghost use Rattle.agreement_laws.specs.Pairs.{PairsAreMadeOnce, PairsTellValues};
 
 use convergence_laws::groups_are_joined_since;
@@ -17,6 +18,18 @@ pub fn pairs_are_made_once()
 /// And in all that masters queue, what came from snapshot sites among it, one pair stands for one list of values.
 pub fn pairs_tell_values()
     ensures { PairsTellValues }
+{
+    move_is_added();
+    greatest_stays();
+    least_stays();
+    greater_rank_stays();
+    stamps_of_a_block_rise();
+}
+
+/// At each master, whatever happens, the latest values of a row tell apart, what snapshot sites made on the way among them: those
+/// of one stamp and level are the same, so that one of them is the greatest.
+pub fn latest_values_tell_apart()
+    ensures { LatestValuesTellApart }
 {
     move_is_added();
     greatest_stays();

@@ -4,6 +4,6 @@
 mod laws;
 
 pub use laws::{
-    groups_are_joined_between, pairs_are_made_once, pairs_tell_values, quiet_masters_agree,
-    quiet_masters_agree_again,
+    groups_are_joined_between, latest_values_tell_apart, pairs_are_made_once, pairs_tell_values,
+    quiet_masters_agree, quiet_masters_agree_again,
 };

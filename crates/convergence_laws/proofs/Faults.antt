@@ -1,7 +1,7 @@
 -- How a call on a convergent table can fail.
-use Rattle.std.proofs.Common.{◌≡◌, ℕ, Bool, true, false, cond, List, [], ◌∷◌, Some, None, Ok, Err, refl, sym, ap, ◌∙◌, subst, inl, inr}
+use Rattle.std.proofs.Common.{◌≡◌, ◌≢◌, ℕ, ◌<◌, Bool, true, false, cond, List, [], ◌∷◌, map, Some, None, Ok, Err, refl, sym, ap, ◌∙◌, subst, inl, inr, arith}
 use mathlib.Core.Bool.{true≢false}
-use Rattle.std.specs.Prelude.{ℤ, Option, Result, ◌⊎◌, ◌&&◌, ◌||◌, not, int_lt, slice_get, is_some, ◌+ℤ◌}
+use Rattle.std.specs.Prelude.{Option, Result, ◌⊎◌, ◌&&◌, ◌||◌, not, int_lt, slice_get, is_some, ◌+ℤ◌}
 use Rattle.std.specs.List.{AllByRecursion}
 use Rattle.rep_values.specs.declared.name.SiteName.{SiteName}
 use Rattle.rep_values.specs.declared.refusal.ApplyError.{ApplyError}
@@ -42,8 +42,10 @@ use Rattle.rep_laws.proofs.SettledFree.{settlement_of-free}
 use Rattle.convergence_laws.specs.GroupForms.{form_at, PartKeepsForm, KeepsForms}
 use Rattle.convergence_laws.specs.Collections.{Among}
 use Rattle.convergence_laws.specs.Faults.{Tells, ConvergentCallsFailSo}
+use Rattle.convergence_laws.proofs.GroupColumns.{Rise, Rise-increasing}
 use Rattle.convergence_laws.proofs.FormShapes.{passes, IsShaped-form_at}
-use Rattle.convergence_laws.proofs.Moves.{DecisionLaws}
+use Rattle.convergence_laws.proofs.Moves.{DecisionLaws, latest_has_no_range}
+use Rattle.convergence_laws.proofs.RowsCome.{part_apart}
 use Rattle.convergence_laws.proofs.ConvergentRows.{no_length, StandsAlone-convergent}
 
 result_then-Err : {A B E : Type 0} (first : Result A E) (following : A → Result B E) (e : E) → result_then first following ≡ Err e → (first ≡ Err e) ⊎ ((a : A) × (first ≡ Ok a) × (following a ≡ Err e))
@@ -64,66 +66,85 @@ unchecked schema sound table convergent row = go (slice_get schema.tables table)
         let none = no_length entry.checks (tested entry.convergent (is_unchecked entry) is (passes (λ (t : TableEntry). not t.convergent || is_unchecked t) schema.tables table entry ((IsSound-unbroken schema).1 sound.unbroken).unchecked at)) in
         rw (at, none) refl
 
-module _ (schema : Schema) (sound : IsSound schema) (decides : DecisionLaws) (table : ℕ) where
-  -- a part fails where a number leaves its range, or where latest values tie
-  abbrev PartTells : Part → ApplyError → Type 0
-  PartTells part e = (e ≡ error.ValueRange) ⊎ ((name : List ℕ) × (e ≡ error.UpdateConflict name) × (stamp : ℕ) × (site : ℕ) × (form_at schema table part.group ≡ Some (form.Latest stamp site)))
+-- what is among parts whose groups are above one is of another group
+above_differs : (group : ℕ) (parts : List Part) (part : Part) → AllByRecursion (λ g. group < g) (map (λ (p : Part). p.group) parts) → Among part parts → group ≢ part.group
+above_differs group [] part above among = absurd among
+above_differs group (p ∷ ps) part above (inl same) = differs (subst (λ (q : Part). group < q.group) same above.0)
+  where
+    differs : group < part.group → group ≢ part.group
+    differs less = λ e. omega (arith, less, e)
+above_differs group (p ∷ ps) part above (inr later) = above_differs group ps part above.1 later
+
+module _ (schema : Schema) (sound : IsSound schema) (decides : DecisionLaws) (table : ℕ) (convergent : is_convergent schema table ≡ true) where
+  -- a part fails over a row where it moves a sum out of the range of numbers, or where latest values tie
+  abbrev PartTells : Part → Cells → ApplyError → Type 0
+  PartTells part row e =
+      ((e ≡ error.ValueRange) × (form_at schema table part.group ≡ Some form.Sum) × (is_in_range (group_number schema table part.group row +ℤ move_of part) ≡ false))
+      ⊎ ((name : List ℕ) × (e ≡ error.UpdateConflict name) × (stamp : ℕ) × (site : ℕ) × (form_at schema table part.group ≡ Some (form.Latest stamp site)))
 
   module _ (part : Part) (row : Cells) (e : ApplyError) (part_fits : PartFits schema table part) (fits : RowFits (columns_of schema table) row) where
     abbrev left_by : Decision → Result Cells ApplyError
     left_by d = values_by d (group_name schema table part.group) part.new (group_values schema table part.group row)
 
-    decided : (f : Form) → form_at schema table part.group ≡ Some f → left_by (decision_of schema table part row) ≡ Err e → PartTells part e
+    decided : (f : Form) → form_at schema table part.group ≡ Some f → left_by (decision_of schema table part row) ≡ Err e → PartTells part row e
     decided form.Sum has gives =
         let shape = IsShaped-form_at schema sound table part.group form.Sum has in
         let adds = decides.adds schema table shape.0 part row shape.1 (HasGroupValues-PartFits schema table part part_fits) fits in
-        go (group_number schema table part.group row +ℤ move_of part) (is_in_range (group_number schema table part.group row +ℤ move_of part)) (rw adds at gives)
+        go (is_in_range (group_number schema table part.group row +ℤ move_of part)) refl (rw adds at gives)
       where
-        go : (z : ℤ) (b : Bool) → left_by (cond b (TakeNumber z) Range) ≡ Err e → PartTells part e
-        go z true is = cc
-        go z false is = inl (cc)
+        go : (b : Bool) → is_in_range (group_number schema table part.group row +ℤ move_of part) ≡ b → left_by (cond b (TakeNumber (group_number schema table part.group row +ℤ move_of part)) Range) ≡ Err e
+            → PartTells part row e
+        go true at is = cc
+        go false at is = inl (cc, has, at)
     decided (form.Greatest c) has gives =
         go (int_lt (group_number schema table part.group row) (number_in part.new))
         (rw (decides.greatest schema table c part row (IsShaped-form_at schema sound table part.group (form.Greatest c) has) (HasGroupValues-PartFits schema table part part_fits) fits) at gives)
       where
-        go : (b : Bool) → left_by (cond b TakeNew Keep) ≡ Err e → PartTells part e
+        go : (b : Bool) → left_by (cond b TakeNew Keep) ≡ Err e → PartTells part row e
         go true is = cc
         go false is = cc
     decided (form.Least c) has gives =
         go (int_lt (number_in part.new) (group_number schema table part.group row))
         (rw (decides.least schema table c part row (IsShaped-form_at schema sound table part.group (form.Least c) has) (HasGroupValues-PartFits schema table part part_fits) fits) at gives)
       where
-        go : (b : Bool) → left_by (cond b TakeNew Keep) ≡ Err e → PartTells part e
+        go : (b : Bool) → left_by (cond b TakeNew Keep) ≡ Err e → PartTells part row e
         go true is = cc
         go false is = cc
-    decided (form.Latest stamp site) has gives = go (decision_of schema table part row) gives
+    decided (form.Latest stamp site) has gives = go (decision_of schema table part row) refl gives
       where
-        go : (d : Decision) → left_by d ≡ Err e → PartTells part e
-        go TakeNew is = cc
-        go (TakeNumber n) is = cc
-        go Keep is = cc
-        go Undecided is = inr (group_name schema table part.group, cc, stamp, site, has)
-        go Range is = inl (cc)
+        go : (d : Decision) → decision_of schema table part row ≡ d → left_by d ≡ Err e → PartTells part row e
+        go TakeNew at is = cc
+        go (TakeNumber n) at is = cc
+        go Keep at is = cc
+        go Undecided at is = inr (group_name schema table part.group, cc, stamp, site, has)
+        go Range at is = absurd (latest_has_no_range schema sound decides table part row part_fits fits stamp site has at)
 
-    part_tells : PartKeepsForm schema table part → settled_part schema table part row ≡ Err e → PartTells part e
+    part_tells : PartKeepsForm schema table part → settled_part schema table part row ≡ Err e → PartTells part row e
     part_tells keeps gives = elim (result_then-Err (settled_values schema table part row) (λ values. Ok (with_group_values schema table part.group values row)) e gives) [
       | inl fails ↦ go (is_matched schema table row part) fails
       | inr done ↦ let wrong = done.2 in cc
     ]
       where
-        go : (b : Bool) → cond b (Ok part.new) (left_by (decision_of schema table part row)) ≡ Err e → PartTells part e
+        go : (b : Bool) → cond b (Ok part.new) (left_by (decision_of schema table part row)) ≡ Err e → PartTells part row e
         go true is = cc
         go false is = decided keeps.kind keeps.has is
 
-  -- so do the parts of an update
-  parts_tell : (parts : List Part) (row : Cells) (e : ApplyError) → AllByRecursion (PartFits schema table) parts → AllByRecursion (PartKeepsForm schema table) parts → RowFits (columns_of schema table) row
-      → settled_parts schema table parts row ≡ Err e → (part : Part) × Among part parts × PartTells part e
-  parts_tell [] row e fit keep fits gives = cc
-  parts_tell (part ∷ parts) row e fit keep fits gives = elim (result_then-Err (settled_part schema table part row) (settled_parts schema table parts) e gives) [
+  -- what a part tells over the row that a part of another group left, it tells over the row before
+  told_before : (first part : Part) (row after : Cells) (e : ApplyError) → PartFits schema table first → first.group ≢ part.group → settled_part schema table first row ≡ Ok after → PartTells part after e
+      → PartTells part row e
+  told_before first part row after e fits differ settles (inl range) =
+      inl (range.0, range.1, subst (λ (values : Cells). is_in_range (number_in values +ℤ move_of part) ≡ false) (part_apart schema sound decides table part.group convergent form.Sum range.1 first row after fits differ settles) range.2)
+  told_before first part row after e fits differ settles (inr tie) = inr tie
+
+  -- so do the parts of an update, whose groups rise
+  parts_tell : (parts : List Part) (row : Cells) (e : ApplyError) → AllByRecursion (PartFits schema table) parts → AllByRecursion (PartKeepsForm schema table) parts → Rise (map (λ (part : Part). part.group) parts)
+      → RowFits (columns_of schema table) row → settled_parts schema table parts row ≡ Err e → (part : Part) × Among part parts × PartTells part row e
+  parts_tell [] row e fit keep rise fits gives = cc
+  parts_tell (part ∷ parts) row e fit keep rise fits gives = elim (result_then-Err (settled_part schema table part row) (settled_parts schema table parts) e gives) [
     | inl fails ↦ (part, inl refl, part_tells part row e fit.0 fits keep.0 fails)
     | inr done ↦
-        let rest = parts_tell parts done.0 e fit.1 keep.1 (RowFits-settled_part schema table sound.shape part row done.0 fit.0 fits done.1) done.2 in
-        (rest.0, inr rest.1, rest.2)
+        let rest = parts_tell parts done.0 e fit.1 keep.1 rise.1 (RowFits-settled_part schema table sound.shape part row done.0 fit.0 fits done.1) done.2 in
+        (rest.0, inr rest.1, told_before part rest.0 row done.0 e fit.0 (above_differs part.group parts rest.0 rise.0 rest.1) done.1 rest.2)
   ]
 
 module _ (schema : Schema) (sound : IsSound schema) (decides : DecisionLaws) (tables : List Rows) (numbers : Numbers) (origin : SiteName) (are : AreTables schema tables) where
@@ -157,14 +178,14 @@ module _ (schema : Schema) (sound : IsSound schema) (decides : DecisionLaws) (ta
   row_tells (Update table key parts) None e was fits keeps convergent gives = let is : error.NoRow ≡ e = cc in subst (Tells schema (Update table key parts) None) is refl
   row_tells (Update table key parts) (Some found) e was fits keeps convergent gives =
       elim (result_then-Err (settled_parts schema table parts found) (λ row. settled_effect schema table (settlement_of schema tables numbers origin table false row) (Some found)) e gives) [
-        | inl fails ↦ by (parts_tell schema sound decides table parts found e fits.content.parts_fit (keeps convergent)
+        | inl fails ↦ by (parts_tell schema sound decides table convergent parts found e fits.content.parts_fit (keeps convergent) (Rise-increasing (map (λ (part : Part). part.group) parts) fits.content.rise)
             (found_row (columns_of schema table) key found (rows_of tables table) (sym was) (RowFits (columns_of schema table)) (are.each table fits.table).fit) fails)
         | inr done ↦ let wrong = (alone_fails table convergent false done.0 (Some found) e done.2).0 in cc
       ]
     where
-      by : (part : Part) × Among part parts × PartTells schema sound decides table part e → Tells schema (Update table key parts) (Some found) e
+      by : (part : Part) × Among part parts × PartTells schema sound decides table convergent part found e → Tells schema (Update table key parts) (Some found) e
       by told = elim told.2 [
-        | inl range ↦ subst (Tells schema (Update table key parts) (Some found)) (sym range) tt
+        | inl range ↦ subst (Tells schema (Update table key parts) (Some found)) (sym range.0) (record { part = told.0; among = told.1; sum = range.1; row = found; there = refl; leaves = range.2 })
         | inr tie ↦ subst (Tells schema (Update table key parts) (Some found)) (sym tie.1) (record { part = told.0; among = told.1; stamp = tie.2; site = tie.3; latest = tie.4 })
       ]
   row_tells (Delete table row) before e was fits keeps convergent gives = absurd (true≢false (sym convergent ∙ keeps))

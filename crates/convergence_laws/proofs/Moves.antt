@@ -311,6 +311,14 @@ module _ (schema : Schema) (sound : IsSound schema) (decides : DecisionLaws) (ta
       go (TakeNumber n) e = absurd (true≢false (sym plain ∙ ap takes_or_keeps e))
       go Range e = absurd (true≢false (sym plain ∙ ap takes_or_keeps e))
 
+  -- so no number leaves its range there
+  pub latest_has_no_range : (stamp site : ℕ) → form_at schema table part.group ≡ Some (form.Latest stamp site) → decision_of schema table part row ≡ Range → ⊥
+  latest_has_no_range stamp site has range =
+      none (subst (Ruled schema columns (form.Latest stamp site) part.new now) range (ruled_latest stamp site has (IsShaped-form_at schema sound table part.group (form.Latest stamp site) has)))
+    where
+      none : Ruled schema columns (form.Latest stamp site) part.new now Range → ⊥
+      none ruled = elim ruled [ ]
+
   -- ---- what is settled
 
   -- the values that a part leaves, of new ones that take the place where they match

@@ -56,7 +56,7 @@ module _ (schema : Schema) (sound : IsSound schema) (decides : DecisionLaws) (ta
         order a b differ = grind (arith, differ)
 
     -- a part of another group leaves the values
-    part_apart : (part : Part) (row after : Cells) → PartFits schema table part → part.group ≢ group → settled_part schema table part row ≡ Ok after → values_at places after ≡ values_at places row
+    pub part_apart : (part : Part) (row after : Cells) → PartFits schema table part → part.group ≢ group → settled_part schema table part row ≡ Ok after → values_at places after ≡ values_at places row
     part_apart part row after fits differ gives =
         let settled = result_then-Ok (settled_values schema table part row) (λ values. Ok (with_group_values schema table part.group values row)) after gives in
         let is : with_group_values schema table part.group settled.0 row ≡ after = cc (settled.2) in

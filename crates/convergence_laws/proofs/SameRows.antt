@@ -71,11 +71,11 @@ inserts_in-append schema table key [] others = refl
 inserts_in-append schema table key (c ∷ cs) others = ap (λ rs. inserts_for schema table key c ++ rs) (inserts_in-append schema table key cs others)
     ∙ sym (append_assoc (inserts_for schema table key c) (inserts_in schema table key cs) (inserts_in schema table key others))
 
-applied_parts-all : (table : ℕ) (key : Cells) (group : ℕ) (journal : List Entry) → applied_parts table key group journal ≡ parts_in table key group (all_applied journal)
+pub applied_parts-all : (table : ℕ) (key : Cells) (group : ℕ) (journal : List Entry) → applied_parts table key group journal ≡ parts_in table key group (all_applied journal)
 applied_parts-all table key group [] = refl
 applied_parts-all table key group (e ∷ es) = ap (λ ps. ps ++ parts_in table key group (calls_applied e)) (applied_parts-all table key group es) ∙ sym (parts_in-append table key group (all_applied es) (calls_applied e))
 
-applied_inserts-all : (schema : Schema) (table : ℕ) (key : Cells) (journal : List Entry) → applied_inserts schema table key journal ≡ inserts_in schema table key (all_applied journal)
+pub applied_inserts-all : (schema : Schema) (table : ℕ) (key : Cells) (journal : List Entry) → applied_inserts schema table key journal ≡ inserts_in schema table key (all_applied journal)
 applied_inserts-all schema table key [] = refl
 applied_inserts-all schema table key (e ∷ es) = ap (λ rs. rs ++ inserts_in schema table key (calls_applied e)) (applied_inserts-all schema table key es) ∙ sym (inserts_in-append schema table key (all_applied es) (calls_applied e))
 

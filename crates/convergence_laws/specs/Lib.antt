@@ -7,3 +7,4 @@ pub mod Laws
 pub mod Agreement
 pub mod Faults
 pub mod Onward
+pub mod Beginning

@@ -88,7 +88,7 @@ pub fn same_calls_give_same_rows()
 }
 
 /// A call on a convergent table fails only where there is no row, where there is one already and one is inserted, where latest
-/// values tie, or where a number leaves its range.
+/// values tie, or where a number of the row and what a part adds to it leave ±10^15.
 pub fn convergent_calls_fail_so()
     ensures { ConvergentCallsFailSo }
 {

@@ -28,7 +28,7 @@ use Rattle.site_state.specs.Pasts.{greatest_finished, seen_of, with_seen, past_a
 use Rattle.site_state.specs.Ready.{is_covered, stale_of, is_ready}
 use Rattle.site_state.specs.Notes.{noted}
 use Rattle.site_state.specs.Steps.{begun, journalled}
-use Rattle.site_state.specs.Passes.{effect_here, finished_by, applied_unless, site_apply, apply_each}
+use Rattle.site_state.specs.Passes.{effect_here, applied_unless, site_apply, apply_each}
 use Rattle.site_state.proofs.LowWater.{low_water-below, low_water-greatest}
 use Rattle.site_state.proofs.Stepping.{arrived_has}
 use Rattle.event_laws.specs.Events.{run}
@@ -40,7 +40,7 @@ use Rattle.event_laws.proofs.FittingSites.{every_site_fits}
 use Rattle.event_laws.proofs.Passing.{every_site_can_pass}
 use Rattle.event_laws.proofs.PassLaws.{apply_finishes, after_one, past_same, and_both, found_holds, passes_leave_nothing_ready}
 use Rattle.event_laws.proofs.AnyOrder.{marked, IsNext, AreNext, all_marked, NoneNext, Applies, state, entries, OneCome, one_comes}
-use Rattle.event_laws.proofs.MasterArrivals.{Told, told, entry_by, entry_here, told_with, IsReadyAt, ready_at, at_ready, finished_by-master, queue_of-master, pasts_of-master, told-master, finishes-entry, Either, either_first}
+use Rattle.event_laws.proofs.MasterArrivals.{Told, told, entry_by, entry_here, told_with, IsReadyAt, ready_at, at_ready, site_apply-ready, finished_by-master, queue_of-master, pasts_of-master, told-master, finishes-entry, Either, either_first}
 
 -- ---- any list of ready positions
 
@@ -147,13 +147,10 @@ module _ (origin : SiteName) (start : SiteState) (is : CanPassInAnyOrder origin 
   becomes a x = noted (changes_by (effect_here origin a x)) (journalled (entry_by origin a (effect_here origin a x)) x)
 
   applied_becomes : (p : ℕ) (x : SiteState) → Within x → (at : IsReadyAt origin p x) → site_apply origin p x ≡ becomes at.arrival x
-  applied_becomes p x within at = whole ∙ finished_by-master origin at.arrival x master (effect_here origin at.arrival x)
+  applied_becomes p x within at = site_apply-ready origin p x at ∙ finished_by-master origin at.arrival x master (effect_here origin at.arrival x)
     where
       master : is_master_site x.schema origin ≡ true
       master = ap (λ (s : Schema). is_master_site s origin) (schema_same x within) ∙ is.master
-
-      whole : site_apply origin p x ≡ finished_by origin at.arrival (effect_here origin at.arrival x) x
-      whole = rw (at.unfinished, at.there, at.due) refl
 
   within_applied : (p : ℕ) (x : SiteState) → Within x → IsReadyAt origin p x → Within (site_apply origin p x)
   within_applied p x within at = record {

@@ -1,6 +1,7 @@
 -- What an event does to the sites and to what was sent, in a few kinds.
 use Rattle.std.proofs.Common.{◌≡◌, ℕ, List, [], ◌∷◌, Bool, true, false, cond, Some, None, refl}
-use Rattle.std.specs.Prelude.{◌&&◌, not, Option, slice_get}
+use Rattle.std.specs.Prelude.{not, Option, slice_get}
+use Rattle.std.proofs.lemmas.Bool.{not-true}
 use Rattle.rep_values.specs.declared.name.SiteName.{SiteName}
 use Rattle.packet_code.specs.declared.packet.Packet.{Packet}
 use Rattle.site_state.specs.State.{SiteState}
@@ -11,13 +12,18 @@ use Rattle.site_state.specs.Refreshes.{rows_shown, site_refresh}
 use Rattle.site_state.proofs.Stepping.{Steps, clock_steps, begun_steps, purge_log_steps, commit_steps, apply_steps, execute_steps, drop_steps}
 use Rattle.event_laws.specs.Core.{Core, site_of, at_site}
 use Rattle.event_laws.specs.Joins.{may_join, with_joined, joined_by, joined}
-use Rattle.event_laws.specs.Events.{Event, Commit, SetClock, Send, SendMark, Deliver, Begin, Apply, Execute, Drop, Purge, PurgeLog, Refresh, Join, with_packet, packet_from, mark_from, receiver, delivered, may_apply, applied_where, master_of, is_all_acked, refreshed_from, found_site, refreshed, happens, run}
+use Rattle.event_laws.specs.Events.{Event, Commit, SetClock, Send, SendMark, Deliver, Begin, Apply, Execute, Drop, Purge, PurgeLog, Refresh, Join, with_packet, packet_from, mark_from, receiver, delivered, may_apply, applied_where, master_of, refreshed_from, found_site, refreshed, happens, run}
 
 -- a site that is no master, as a refresh leaves it
 pub data IsRefreshed (sites : List SiteState) (x : SiteState) : SiteState → Type 0 where
   Not : IsRefreshed sites x x
   From : (master : SiteState) → found_site sites (master_of x.schema x.here.site) ≡ Some master → x.here.is_master ≡ false
       → IsRefreshed sites x (site_refresh (rows_shown (tables_of master) x.snapshots) master.moment x)
+
+-- what is declared of it stays
+pub here-IsRefreshed : (sites : List SiteState) (x y : SiteState) → IsRefreshed sites x y → y.here ≡ x.here
+here-IsRefreshed sites x _ Not = refl
+here-IsRefreshed sites x _ (From master found plain) = refl
 
 -- what becomes of the sites and of what was sent
 pub data Becomes (sites : List SiteState) (sent : List Packet) : List SiteState → List Packet → Type 0 where
@@ -31,22 +37,18 @@ pub data Becomes (sites : List SiteState) (sent : List Packet) : List SiteState 
   Joins : (site from : SiteName) (source : SiteState) → site_of site sites ≡ None → site_of from sites ≡ Some source → may_join sites source site ≡ true
       → Becomes sites sent (with_joined sites source site) sent
 
-no_master : (a b : Bool) → (not a && b) ≡ true → a ≡ false
-no_master true b is = cc
-no_master false b is = refl
-
 -- a refresh leaves such a site
 pub refreshed_is : (sites : List SiteState) (x : SiteState) → IsRefreshed sites x (refreshed sites x)
 refreshed_is sites x = go (found_site sites (master_of x.schema x.here.site)) refl
   where
-    by : (master : SiteState) → found_site sites (master_of x.schema x.here.site) ≡ Some master → (b : Bool) → (not x.here.is_master && is_all_acked x) ≡ b
+    by : (master : SiteState) → found_site sites (master_of x.schema x.here.site) ≡ Some master → (b : Bool) → not x.here.is_master ≡ b
         → IsRefreshed sites x (cond b (site_refresh (rows_shown (tables_of master) x.snapshots) master.moment x) x)
-    by master found true is = From master found (no_master x.here.is_master (is_all_acked x) is)
+    by master found true is = From master found (not-true x.here.is_master is)
     by master found false is = Not
 
     go : (o : Option SiteState) → found_site sites (master_of x.schema x.here.site) ≡ o → IsRefreshed sites x (refreshed_from o x)
     go None found = Not
-    go (Some master) found = by master found (not x.here.is_master && is_all_acked x) refl
+    go (Some master) found = by master found (not x.here.is_master) refl
 
 delivered_becomes : (sites : List SiteState) (sent : List Packet) (which : ℕ) → Becomes sites sent (delivered (slice_get sent which) sites) sent
 delivered_becomes sites sent which = go (slice_get sent which) refl

@@ -1,5 +1,6 @@
 -- The lemmas of this crate, from the bottom up.
 pub mod Sites
+pub mod Runs
 pub mod Happening
 pub mod NewSites
 pub mod Holding
@@ -12,13 +13,14 @@ pub mod Passing
 pub mod Meeting
 pub mod JoinedMeets
 pub mod Waiting
+pub mod WaitingCounts
 pub mod QueryTables
 pub mod FittingSites
 pub mod AnyOrder
 pub mod NotesInAnyOrder
 pub mod MasterArrivals
 pub mod Confluence
-mod WorkedRuns
+pub mod WorkedRuns
 mod WorkedDeliveries
 mod WorkedOrders
 mod WorkedErrors

@@ -25,7 +25,7 @@ use Rattle.site_state.specs.Pasts.{pasts_of}
 use Rattle.site_state.specs.Ready.{is_due, stale_found, is_ready}
 use Rattle.site_state.specs.Notes.{logged_in, touched_in, noted}
 use Rattle.site_state.specs.Steps.{is_empty, is_open, journalled, onward_number}
-use Rattle.site_state.specs.Passes.{effect_here, finished_by}
+use Rattle.site_state.specs.Passes.{effect_here, finished_by, site_apply}
 use Rattle.site_state.proofs.Stepping.{is_position-true}
 use Rattle.event_laws.proofs.NotesInAnyOrder.{logs_either, snapshots_either, logs_unchanged, snapshots_unchanged}
 
@@ -201,6 +201,10 @@ ready_at origin p x ready = go (finished origin x.journal p) refl (arrived_at or
 
 pub at_ready : (origin : SiteName) (p : ℕ) (x : SiteState) → IsReadyAt origin p x → is_ready origin p x ≡ true
 at_ready origin p x at = rw (at.unfinished, at.there, at.due) refl
+
+-- what applying it leaves is what its arrival does
+pub site_apply-ready : (origin : SiteName) (p : ℕ) (x : SiteState) (at : IsReadyAt origin p x) → site_apply origin p x ≡ finished_by origin at.arrival (effect_here origin at.arrival x) x
+site_apply-ready origin p x at = rw (at.unfinished, at.there, at.due) refl
 
 -- nothing goes onward of what came from a master
 onward-master : (origin : SiteName) (changes : List Change) (x : SiteState) → is_master_site x.schema origin ≡ true → onward_number origin changes x ≡ 0

@@ -1,7 +1,7 @@
 -- Positions are finished once, and in an order that keeps dependencies, in every run.
 use Rattle.std.proofs.Common.{◌≡◌, ℕ, ◌+◌, ◌<◌, ◌≤◌, List, [], ◌∷◌, length, Bool, true, false, cond, Some, None, refl, sym, ap, ◌∙◌, arith, subst}
-use Rattle.std.specs.Prelude.{◌≢◌, ◌||◌, ◌&&◌, Option, IfSome, option_map, nat_le}
-use Rattle.std.specs.List.{list_any, list_all}
+use Rattle.std.specs.Prelude.{◌≢◌, ◌||◌, Option, IfSome, option_map}
+use Rattle.std.specs.List.{list_any}
 use Rattle.std.proofs.lemmas.Bool.Decides.{nat_tests}
 use Rattle.rep_values.specs.declared.name.SiteName.{SiteName}
 use Rattle.rep_schema.specs.declared.schema.Schema.{Schema}
@@ -17,7 +17,6 @@ use Rattle.site_state.specs.declared.arrival.Arrival.{Arrival}
 use Rattle.site_state.specs.State.{SiteState, arrived_at}
 use Rattle.site_state.specs.Journal.{finishes, settles, is_position, low_water, error_at}
 use Rattle.site_state.specs.Streams.{stream_to, shares}
-use Rattle.site_state.specs.Ready.{is_due, is_covered}
 use Rattle.site_state.specs.Steps.{count_where}
 use Rattle.site_state.specs.Packets.{arrived_by, taken_unless, is_foreign, site_accept}
 use Rattle.site_state.specs.Purges.{site_purge}
@@ -26,6 +25,7 @@ use Rattle.site_state.proofs.LowWater.{low_water-below}
 use Rattle.site_state.proofs.Growing.{IsFront, at_position-append, at_position-older, dep_at-covers}
 use Rattle.site_state.proofs.Stepping.{MayFollow, IsTaken, with_entry, Journals, no_entry, one_entry, steps_later, Later, IsSent, stream_to-later, arrived_has, is_position-true}
 use Rattle.site_state.proofs.Changing.{accept_later, purge_later}
+use Rattle.journal_order.proofs.Waited.{due_dep}
 use Rattle.event_laws.specs.Core.{Core, site_of, at_site}
 use Rattle.event_laws.specs.Joins.{copied, with_joined}
 use Rattle.event_laws.specs.Events.{Event, receiver, run}
@@ -125,16 +125,6 @@ entry_later xs ys site (Refreshed moment) before later follows = tt
 order_later : (xs ys : List SiteState) (site : SiteName) (es : List Entry) → AllLater xs ys → IsInOrder xs site es → IsInOrder ys site es
 order_later xs ys site [] later order = tt
 order_later xs ys site (e ∷ es) later order = (entry_later xs ys site e es later order.0, order_later xs ys site es later order.1)
-
-and_left : (b c : Bool) → (b && c) ≡ true → b ≡ true
-and_left true c is = refl
-and_left false c is = cc
-
--- what is due depends on what is finished
-due_dep : (origin : SiteName) (x : SiteState) (a : Arrival) → is_due origin x a ≡ true → a.dep ≤ low_water origin x.journal
-due_dep origin x a due =
-    let within : nat_le a.dep (low_water origin x.journal) ≡ true = and_left (nat_le a.dep (low_water origin x.journal)) (list_all (is_covered x) a.past) due in
-    grind (arith, nat_tests)
 
 arrival_follows : (site : SiteName) (x y : SiteState) (origin : SiteName) (a : Arrival) (position : ℕ) (txn : Txn) → a.position ≡ position → a.txn ≡ txn → a.dep ≤ low_water origin x.journal
     → IsSent y site a.number a.position a.dep a.txn → FollowsEarlier y site origin position txn x.journal

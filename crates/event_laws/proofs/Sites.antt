@@ -62,6 +62,25 @@ found_other name other change sites keeps differ =
     at_split (λ (o : Option SiteState). o ≡ site_of other sites) name other change sites keeps
     (λ same. absurd (true≢false (sym (is_same_site-refl name) ∙ ap (is_same_site name) same ∙ differ))) refl
 
+-- a change of it that is none changes nothing
+pub at_same : (name : SiteName) (change : SiteState → SiteState) (xs : List SiteState) → ((x : SiteState) → change x ≡ x) → at_site name change xs ≡ xs
+at_same name change [] same = refl
+at_same name change (x ∷ xs) same = go (is_same_site x.here.site name) (at_same name change xs same)
+  where
+    go : (b : Bool) → at_site name change xs ≡ xs → cond b (change x ∷ xs) (x ∷ at_site name change xs) ≡ x ∷ xs
+    go true later = ap (λ (y : SiteState). y ∷ xs) (same x)
+    go false later = ap (λ (ys : List SiteState). x ∷ ys) later
+
+-- one change of it and then another
+pub at_twice : (name : SiteName) (f g : SiteState → SiteState) (xs : List SiteState) → KeepsHere f → at_site name g (at_site name f xs) ≡ at_site name (λ x. g (f x)) xs
+at_twice name f g [] keeps = refl
+at_twice name f g (x ∷ xs) keeps = go (is_same_site x.here.site name) refl (at_twice name f g xs keeps)
+  where
+    go : (b : Bool) → is_same_site x.here.site name ≡ b → at_site name g (at_site name f xs) ≡ at_site name (λ x. g (f x)) xs
+        → at_site name g (cond b (f x ∷ xs) (x ∷ at_site name f xs)) ≡ cond b (g (f x) ∷ xs) (x ∷ at_site name (λ x. g (f x)) xs)
+    go true is later = rw (same_test f keeps x name, is) refl
+    go false is later = rw is (ap (λ (zs : List SiteState). x ∷ zs) later)
+
 abbrev pub found_or : Option SiteState → Option SiteState → Option SiteState
 found_or other None = other
 found_or other (Some x) = Some x

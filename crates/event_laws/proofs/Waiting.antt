@@ -206,11 +206,11 @@ onward_there site x y p t on there = go (opened_of site x) refl
 -- ---- what holds after every event, and how it queues
 
 -- what is known of the sites and of what was sent
-record AreMet (schema : Schema) (sites : List SiteState) (sent : List Packet) : Type 0 where
-  sites_of : AllByRecursion (IsSiteOf schema) sites
-  holds : Holds sites sent
-  meets : Meets sites sent
-  closed : AbsentAreClosed schema sites
+pub record AreMet (schema : Schema) (sites : List SiteState) (sent : List Packet) : Type 0 where
+  pub sites_of : AllByRecursion (IsSiteOf schema) sites
+  pub holds : Holds sites sent
+  pub meets : Meets sites sent
+  pub closed : AbsentAreClosed schema sites
 
 module _ (schema : Schema) (shape : HasShape schema) where
   -- sites that add at most one transaction each
@@ -378,7 +378,7 @@ abbrev AreFinished : SiteName → SiteState → SiteName → Option SiteState �
 AreFinished site x origin None = Unit {0}
 AreFinished site x origin (Some o) = (p : ℕ) (t : Txn) → at_position p (stream_to site o) ≡ Some t → finished origin x.journal p ≡ true
 
-first_of_sender : (sites : List SiteState) (site origin : SiteName) (ss : List SenderState) (s : SenderState) → AllByRecursion (λ (s : SenderState). IsFirst (site_of s.origin sites) site s.first) ss
+pub first_of_sender : (sites : List SiteState) (site origin : SiteName) (ss : List SenderState) (s : SenderState) → AllByRecursion (λ (s : SenderState). IsFirst (site_of s.origin sites) site s.first) ss
     → sender_of origin ss ≡ Some s → IsFirst (site_of origin sites) site s.first
 first_of_sender sites site origin [] s firsts found = absurd (cc found)
 first_of_sender sites site origin (y ∷ ys) s firsts found = go (is_same_site y.origin origin) refl (first_of_sender sites site origin ys s firsts.1) found
@@ -390,7 +390,7 @@ first_of_sender sites site origin (y ∷ ys) s firsts found = go (is_same_site y
     go false own later found = later found
 
 -- what holds of each arrival with its sender's name holds of one that is found
-arrival_holds : (P : SiteName → Arrival → Type 0) (origin : SiteName) (p : ℕ) (ss : List SenderState) (a : Arrival) → EachArrival (λ s. P s.origin) ss → arrived_at origin p ss ≡ Some a → P origin a
+pub arrival_holds : (P : SiteName → Arrival → Type 0) (origin : SiteName) (p : ℕ) (ss : List SenderState) (a : Arrival) → EachArrival (λ s. P s.origin) ss → arrived_at origin p ss ≡ Some a → P origin a
 arrival_holds P origin p [] a all found = absurd (cc found)
 arrival_holds P origin p (s ∷ ss) a all found = by (is_same_site s.origin origin) refl (arrival_holds P origin p ss a all.1) found
   where
@@ -630,6 +630,10 @@ module _ (schema : Schema) (shape : HasShape schema) (site : SiteName) (x : Site
       go : (o : Option Arrival) → arrived_at origin p x.senders ≡ o → o ≢ None → finished origin x.journal p ≡ true
       go None at some = absurd (some refl)
       go (Some a) at some = by a (arrived_has origin p x a at) (site_of origin f.sites) (arrived_was_sent f.sites site origin x.senders p a held.senders at) (all origin)
+
+-- what holds of the sites and packets after every list of events
+pub run_met : (schema : Schema) (start : Core) (events : List Event) → IsStart schema start → AreMeshed schema start.sites → AreMet schema (run events start).sites (run events start).sent
+run_met schema start events is meshed = run_keeps (AreMet schema) (becomes_met schema meshed.declared.shape) events start (start_met schema start is meshed)
 
 pub nothing_waits_for_ever : NothingWaitsForEver
 nothing_waits_for_ever schema start events is meshed site x found delivered finish_nothing =

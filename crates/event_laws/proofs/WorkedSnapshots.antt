@@ -168,9 +168,10 @@ nothing_is_pending_then = refl
 abbrev at_snapshot_site : Core
 at_snapshot_site = then_run (Commit s (set_column (codes "Q") 2 21 ∷ []) ∷ []) start_zone_1
 
-no_refresh_before_it_is_acknowledged : journal_at s (then_run (Refresh s ∷ []) at_snapshot_site) ≡ journal_at s at_snapshot_site
+-- a refresh shows the master's rows all the same
+masters_rows_before_it_is_acknowledged : rows_at s (then_run (Refresh s ∷ []) at_snapshot_site) ≡ (zone_row 1 1 10 ∷ zone_row 2 1 20 ∷ []) ∷ []
 unfolding group_columns_of
-no_refresh_before_it_is_acknowledged = refl
+masters_rows_before_it_is_acknowledged = refl
 
 abbrev acknowledged : Core
 acknowledged = then_run (pushed s a (1 ∷ [])) at_snapshot_site

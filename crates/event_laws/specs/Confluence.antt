@@ -19,11 +19,11 @@ use Rattle.site_state.specs.Ready.{is_ready}
 use Rattle.site_state.specs.Steps.{begun}
 use Rattle.site_state.specs.Passes.{site_apply, site_pass}
 use Rattle.site_state.specs.Errors.{errors_of}
+use Rattle.journal_order.specs.Waited.{IsWellNumbered}
 use Rattle.event_laws.specs.Core.{Core, site_of}
 use Rattle.event_laws.specs.Events.{Event, run}
 use Rattle.event_laws.specs.Declared.{AreDeclared}
 use Rattle.event_laws.specs.Fitting.{IsFitStart}
-use Rattle.event_laws.specs.Marks.{IsWellNumbered}
 
 -- positions of a sender are applied, one after the other
 abbrev pub applied_in_turn : SiteName → List ℕ → SiteState → SiteState

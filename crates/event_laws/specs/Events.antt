@@ -1,5 +1,5 @@
 -- What may happen next, and whole runs.
-use Rattle.std.specs.Prelude.{ℕ, ◌==◌, ◌&&◌, ◌||◌, Bool, true, false, not, cond, List, [], ◌∷◌, length, slice_get, Option, Some, None}
+use Rattle.std.specs.Prelude.{ℕ, ◌==◌, ◌||◌, Bool, true, false, not, cond, List, [], ◌∷◌, length, slice_get, Option, Some, None}
 use Rattle.std.specs.List.{list_all}
 use Rattle.std.specs.Option.{option_and_then}
 use Rattle.rep_values.specs.declared.name.SiteName.{SiteName}
@@ -97,14 +97,14 @@ is_all_acked x = list_all (has_acked_all x) x.destinations
 
 abbrev pub refreshed_from : Option SiteState → SiteState → SiteState
 refreshed_from None x = x
-refreshed_from (Some master) x = cond (not x.here.is_master && is_all_acked x) (site_refresh (rows_shown (tables_of master) x.snapshots) master.moment x) x
+refreshed_from (Some master) x = cond (not x.here.is_master) (site_refresh (rows_shown (tables_of master) x.snapshots) master.moment x) x
 
 -- where the master of a site is there
 abbrev pub found_site : List SiteState → Option SiteName → Option SiteState
 found_site sites None = None
 found_site sites (Some name) = site_of name sites
 
--- a snapshot site whose transactions are all acknowledged gets what its queries pick of its master's tables now
+-- a snapshot site gets what its queries pick of its master's tables now
 abbrev pub refreshed : List SiteState → SiteState → SiteState
 refreshed sites x = refreshed_from (found_site sites (master_of x.schema x.here.site)) x
 
@@ -119,7 +119,7 @@ begun_after site (Some x) names = without_found (master_of x.schema site) names
 
 -- ---- events
 
--- what is there after an event; one that can't happen changes nothing
+-- what is there after an event; one that can't happen changes no site, and nothing is sent
 abbrev pub happens : Event → Core → Core
 happens (Commit site statements) w = record w { sites = at_site site (site_commit statements) w.sites }
 happens (SetClock site clock) w = record w { sites = at_site site (site_clock clock) w.sites }

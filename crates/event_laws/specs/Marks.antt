@@ -1,13 +1,10 @@
 -- What acknowledged marks, purges and dependency numbers rest on.
 use Rattle.std.specs.Prelude.{◌≡◌, ℕ, ◌<◌, ◌≤◌, ◌-◌, true, List, [], Option, Some, None}
-use Rattle.rep_lists.specs.Rising.{find_at}
 use Rattle.rep_values.specs.declared.name.SiteName.{SiteName}
-use Rattle.rep_schema.specs.declared.schema.Schema.{Schema}
 use Rattle.site_state.specs.declared.entry.Entry.{Entry}
-use Rattle.site_state.specs.declared.arrival.Arrival.{Arrival}
-use Rattle.site_state.specs.State.{SiteState, beside, arrivals, opened_of, acked_of}
+use Rattle.site_state.specs.State.{SiteState, arrivals, opened_of, acked_of}
 use Rattle.site_state.specs.Journal.{finished, low_water}
-use Rattle.site_state.specs.Streams.{shares}
+use Rattle.journal_order.specs.Waited.{IsWellNumbered}
 use Rattle.event_laws.specs.Core.{site_of}
 
 abbrev pub journal_in : Option SiteState → List Entry
@@ -31,12 +28,6 @@ abbrev pub PurgedIsFinished : List SiteState → Type 0
 PurgedIsFinished sites = (origin site : SiteName) (x : SiteState) (opened number : ℕ) → site_of origin sites ≡ Some x → opened_of site x ≡ Some opened
     → opened < number → number ≤ x.purged → finished origin (journal_in (site_of site sites)) (number - opened) ≡ true
 
--- arrivals are well numbered: of two whose transactions share a token, the later one's dependency number is at least the
--- earlier position
-abbrev pub IsWellNumbered : Schema → List Arrival → Type 0
-IsWellNumbered schema arrived = (p q : ℕ) (a b : Arrival) → find_at (beside p) arrived ≡ Some a → find_at (beside q) arrived ≡ Some b
-    → p < q → shares schema b.txn a.txn ≡ true → p ≤ b.dep
-
--- so are those from every sender at every site
+-- what arrived from every sender at every site is well numbered
 abbrev pub AreWellNumbered : List SiteState → Type 0
 AreWellNumbered sites = (site origin : SiteName) (x : SiteState) → site_of site sites ≡ Some x → IsWellNumbered x.schema (arrivals origin x)

@@ -40,15 +40,16 @@ use Rattle.event_laws.specs.Core.{Core, site_of}
 use Rattle.event_laws.specs.Events.{Event}
 use Rattle.event_laws.specs.Fitting.{IsFitStart}
 use Rattle.event_laws.specs.Waiting.{AreMeshed}
+use Rattle.convergence_laws.specs.Beginning.{BaseRowsAreFilled}
 use Rattle.convergence_laws.specs.GroupForms.{form_at, value_of, KeepsForms}
-use Rattle.convergence_laws.specs.Journals.{AreMade}
+use Rattle.convergence_laws.specs.Journals.{IsSoundTxn, AreMade}
 use Rattle.convergence_laws.proofs.EventsKeepForms.{KeepsIn}
 use Rattle.event_laws.proofs.Sites.{all_at_place}
 use Rattle.convergence_laws.specs.Laws.{BlocksKeepForms}
 use Rattle.convergence_laws.proofs.Moves.{DecisionLaws}
 use Rattle.convergence_laws.proofs.RowsCome.{parts_move}
 use Rattle.convergence_laws.proofs.CallsCome.{is_row-same, calls_come}
-use Rattle.excuse_laws.specs.Excuses.{NoRowIsMissing, is_on_convergent, is_row_tie_or_range, is_row_or_range, IsExcusedOn, BaseRowsAreFilled, BeginAlike}
+use Rattle.excuse_laws.specs.Excuses.{NoRowIsMissing, RangeIsLeftBySum, is_on_convergent, is_row_tie_or_range, is_row_or_range, IsExcusedOn, BeginAlike}
 use Rattle.excuse_laws.specs.Laws.{ErrorsAreExcused}
 use Rattle.excuse_laws.proofs.Signs.{Sign, signs_in, signs_in-append, signs_of}
 use Rattle.excuse_laws.proofs.Signing.{IsSettled, SettledBy}
@@ -56,6 +57,7 @@ use Rattle.excuse_laws.proofs.Moving.{ComesFrom}
 use Rattle.excuse_laws.proofs.SignsStep.{IsWell}
 use Rattle.site_state.specs.Steps.{count_where}
 use Rattle.excuse_laws.proofs.MissingRows.{missing_here}
+use Rattle.excuse_laws.proofs.LeftRanges.{fails_there, range_left_here}
 use Rattle.excuse_laws.proofs.Unmixed.{all_convergent}
 use Rattle.excuse_laws.proofs.Running.{sites_after, keeps, well_after, FailuresAreSo, failures_after}
 use Rattle.excuse_laws.proofs.Inserting.{Behind, behind, txn_sound, unmixed_sent, fails_convergent, made_once, not_there, made_behind, no_key_is_taken}
@@ -367,7 +369,10 @@ errors_excused : (schema : Schema) (decides : DecisionLaws) (rises : StampsOfABl
     → FailuresAreSo schema decides rises blocks start is meshed (IsExcusedOn schema)
 errors_excused schema decides rises blocks start is meshed alike events x o position txn failure x_found master comes gives on = record {
   kind = go failure.error refl (no_key_is_taken schema decides rises blocks start is meshed events x o position txn failure x_found master comes gives alike.shared on).kind;
-  missing = λ no_row call found. missing no_row call found (each call found);
+  call = failing.0;
+  there = failing.1;
+  missing = λ no_row. missing no_row failing.0 failing.1 (each failing.0 failing.1);
+  leaves = λ range. left range failing.0 failing.1 (each failing.0 failing.1);
 }
   where
     go : (why : ApplyError) → failure.error ≡ why → is_row_tie_or_range why ≡ true → is_row_or_range why ≡ true
@@ -381,10 +386,26 @@ errors_excused schema decides rises blocks start is meshed alike events x o posi
     keep : KeepsIn schema x
     keep = keeps schema decides rises blocks start is meshed events x.here.site x x_found
 
+    are : AreTables schema x.base
+    are = subst (λ (s : Schema). AreTables s x.base) keep.same (keep.keeps.base master)
+
+    made : AreMade schema x.here.site x.base x.journal
+    made = subst (λ (s : Schema). AreMade s x.here.site x.base x.journal) keep.same (keep.keeps.made master)
+
+    sound_txn : IsSoundTxn schema txn
+    sound_txn = txn_sound schema decides rises blocks start is meshed events x o position txn failure x_found master comes gives
+
+    here : effect_on schema o.here.site txn (journal_content schema x.here.site x.base x.journal) ≡ Err failure
+    here = subst (λ (s : Schema). effect_on schema o.here.site txn (journal_content s x.here.site x.base x.journal) ≡ Err failure) keep.same gives
+
+    failing : (call : Call) × (slice_get txn.calls (failure.call - 1) ≡ Some call)
+    failing = fails_there schema is.sound decides x.here.site x.base x.journal are made o.here.site txn sound_txn failure here
+
     missing : NoRowIsMissing schema x.base x.journal failure.call failure.error txn
-    missing = missing_here schema is.sound decides x.here.site x.base x.journal (subst (λ (s : Schema). AreTables s x.base) keep.same (keep.keeps.base master)) (subst (λ (s : Schema). AreMade s x.here.site x.base x.journal) keep.same (keep.keeps.made master))
-        o.here.site txn (txn_sound schema decides rises blocks start is meshed events x o position txn failure x_found master comes gives) failure
-        (subst (λ (s : Schema). effect_on schema o.here.site txn (journal_content s x.here.site x.base x.journal) ≡ Err failure) keep.same gives)
+    missing = missing_here schema is.sound decides x.here.site x.base x.journal are made o.here.site txn sound_txn failure here
+
+    left : RangeIsLeftBySum schema x.base x.journal failure.call failure.error txn
+    left = range_left_here schema is.sound decides x.here.site x.base x.journal are made o.here.site txn sound_txn failure here
 
     each : (call : Call) → slice_get txn.calls (failure.call - 1) ≡ Some call → is_convergent schema (table_of call) ≡ true
     each call found = all_at_place (λ (c : Call). is_convergent schema (table_of c) ≡ true) txn.calls (failure.call - 1) call

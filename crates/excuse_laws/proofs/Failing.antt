@@ -1,7 +1,8 @@
 -- Where a transaction fails: the calls before the one that fails succeeded, and so did the journal behind them.
-use Rattle.std.proofs.Common.{◌≡◌, ℕ, suc, ◌+◌, ◌-◌, List, [], ◌∷◌, ◌++◌, length, Some, Ok, Err, refl, sym, ap, ◌∙◌, subst, arith}
+use Rattle.std.proofs.Common.{◌≡◌, ℕ, suc, ◌+◌, ◌-◌, List, [], ◌∷◌, ◌++◌, length, take, Some, Ok, Err, refl, sym, ap, ◌∙◌, subst, arith}
 use Rattle.std.specs.Prelude.{Result, slice_get}
 use Rattle.std.specs.List.{AllByRecursion}
+use Rattle.std.proofs.lemmas.List.{take_at}
 use Rattle.rep_values.specs.declared.name.SiteName.{SiteName}
 use Rattle.rep_values.specs.declared.refusal.ApplyError.{ApplyError}
 use Rattle.rep_schema.specs.declared.schema.Schema.{Schema}
@@ -107,13 +108,22 @@ module _ (schema : Schema) (sound : IsSound schema) (origin : SiteName) where
           one_more : (n m : ℕ) → n + 1 + m ≡ n + suc m
           one_more n m = omega arith
 
--- the call that fails is the one of its number
-pub call_found : (schema : Schema) (origin : SiteName) (calls : List Call) (tables : List Rows) (numbers : Numbers) (failure : Failure) (call : Call)
-    → (f : FailsBehind schema origin 1 calls tables numbers failure) → slice_get calls (failure.call - 1) ≡ Some call → f.call ≡ call
-call_found schema origin calls tables numbers failure call f found =
-    let place : failure.call - 1 ≡ length f.done = rw f.counted (from_one (length f.done)) in
-    let both : Some f.call ≡ Some call = sym (found_behind f.done f.call f.rest) ∙ sym (ap (λ cs. slice_get cs (length f.done)) f.whole) ∙ ap (slice_get calls) (sym place) ∙ found in
-    cc
-  where
-    from_one : (n : ℕ) → 1 + n - 1 ≡ n
-    from_one n = omega arith
+module _ (schema : Schema) (origin : SiteName) (calls : List Call) (tables : List Rows) (numbers : Numbers) (failure : Failure) where
+  -- the place of the call that fails is behind the calls before it
+  place_is : (f : FailsBehind schema origin 1 calls tables numbers failure) → failure.call - 1 ≡ length f.done
+  place_is f = rw f.counted (from_one (length f.done))
+    where
+      from_one : (n : ℕ) → 1 + n - 1 ≡ n
+      from_one n = omega arith
+
+  -- these are the ones in front of its place
+  pub calls_before : (f : FailsBehind schema origin 1 calls tables numbers failure) → take (failure.call - 1) calls ≡ f.done
+  calls_before f = ap (take (failure.call - 1)) f.whole ∙ take_at f.done (f.call ∷ f.rest) (failure.call - 1) (sym (place_is f))
+
+  -- it is there
+  pub call_there : (f : FailsBehind schema origin 1 calls tables numbers failure) → slice_get calls (failure.call - 1) ≡ Some f.call
+  call_there f = ap (slice_get calls) (place_is f) ∙ ap (λ cs. slice_get cs (length f.done)) f.whole ∙ found_behind f.done f.call f.rest
+
+  -- and it is the one of its number
+  pub call_found : (call : Call) (f : FailsBehind schema origin 1 calls tables numbers failure) → slice_get calls (failure.call - 1) ≡ Some call → f.call ≡ call
+  call_found call f found = let both : Some f.call ≡ Some call = sym (call_there f) ∙ found in cc

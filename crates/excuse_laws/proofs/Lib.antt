@@ -1,6 +1,7 @@
 -- The lemmas of this crate, from the bottom up.
 pub mod Failing
 pub mod MissingRows
+pub mod LeftRanges
 pub mod Signs
 pub mod Signing
 pub mod Moving

@@ -57,14 +57,15 @@ find_named name (e ∷ es) s found = go (is_site name e) refl found (find_named 
     go false is found later = later found
 
 -- a site to which another sends
-record SentTo (schema : Schema) (site to : SiteName) : Type 0 where
-  from : SiteEntry
-  from_found : site_named schema site ≡ Some from
-  entry : SiteEntry
-  named : entry.name ≡ to
-  sends : sends_to from entry ≡ true
+pub record SentTo (schema : Schema) (site to : SiteName) : Type 0 where
+  pub from : SiteEntry
+  pub from_found : site_named schema site ≡ Some from
+  pub entry : SiteEntry
+  pub named : entry.name ≡ to
+  pub sends : sends_to from entry ≡ true
 
-sent_to : (schema : Schema) (x : SiteState) → IsDeclared schema x → (to : SiteName) → opened_of to x ≢ None → SentTo schema x.here.site to
+-- what is open to another site sends to it
+pub sent_to : (schema : Schema) (x : SiteState) → IsDeclared schema x → (to : SiteName) → opened_of to x ≢ None → SentTo schema x.here.site to
 sent_to schema x declared to is = go (site_named schema x.here.site) refl (ap (λ (names : List SiteName). is_among names to) (sym declared.destinations) ∙ open_among to x.destinations is)
   where
     go : (from : Option SiteEntry) → site_named schema x.here.site ≡ from → is_among (names_of (destinations_from schema.sites from)) to ≡ true → SentTo schema x.here.site to

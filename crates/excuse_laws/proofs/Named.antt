@@ -30,6 +30,7 @@ use Rattle.event_laws.specs.Fitting.{IsFitStart, StartsFit}
 use Rattle.event_laws.specs.Waiting.{AreMeshed}
 use Rattle.event_laws.proofs.Sites.{found_all}
 use Rattle.event_laws.proofs.DeclaredSites.{IsSiteOf}
+use Rattle.convergence_laws.specs.Beginning.{BaseRowsAreFilled}
 use Rattle.convergence_laws.specs.GroupForms.{form_at, value_of}
 use Rattle.convergence_laws.specs.Journals.{IsSoundTxn}
 use Rattle.convergence_laws.specs.Laws.{BlocksKeepForms}
@@ -38,7 +39,6 @@ use Rattle.convergence_laws.proofs.FormShapes.{IsShaped-form_at}
 use Rattle.convergence_laws.proofs.Moves.{DecisionLaws, within_row}
 use Rattle.convergence_laws.proofs.ConvergentRows.{StandsAlone-convergent}
 use Rattle.convergence_laws.proofs.CallsCome.{txn_comes}
-use Rattle.excuse_laws.specs.Excuses.{BaseRowsAreFilled}
 use Rattle.excuse_laws.proofs.Signs.{signs_of}
 use Rattle.excuse_laws.proofs.Signing.{none_found}
 use Rattle.excuse_laws.proofs.Moving.{ComesFrom}

@@ -66,7 +66,7 @@ both_sound schema (t ∷ ts) fit keep = (record { fits = fit.0; keeps = keep.0 }
 -- ---- errors of a journal
 
 -- with an entry that is no error
-plain_so : (Says : OfFailures) (entry : Option Entry) (journal : List Entry) → NoError entry → ErrorsAreSo Says journal → ErrorsAreSo Says (with_entry entry journal)
+pub plain_so : (Says : OfFailures) (entry : Option Entry) (journal : List Entry) → NoError entry → ErrorsAreSo Says journal → ErrorsAreSo Says (with_entry entry journal)
 plain_so Says None journal plain so = so
 plain_so Says (Some (Local number txn)) journal plain so = (tt, so)
 plain_so Says (Some (Done origin position onward txn)) journal plain so = (tt, so)
@@ -116,7 +116,8 @@ module _ (schema : Schema) (decides : DecisionLaws) (rises : StampsOfABlockRise)
     order = order_after events;
   }
 
-  turns : (e : Event) (events : List Event) → Turns (sites_after events) (sites_after (e ∷ events))
+  -- what an event does to the sites
+  pub turns : (e : Event) (events : List Event) → Turns (sites_after events) (sites_after (e ∷ events))
   turns e events = happens_turns rises e (run events start) (held_after events)
 
   -- ---- nobody is open to a late master that isn't there

@@ -1,6 +1,6 @@
--- Worked errors on a convergent table: one of a row that never was there, and two of rows that were.
-use Rattle.std.specs.Prelude.{◌≡◌, refl, ℕ, codes, pos, true, false, List, [], ◌∷◌, Some, None}
-use Rattle.std.proofs.Common.{subst}
+-- Worked errors on a convergent table: one of a row that never was there, two of rows that were, and sums that leave the range.
+use Rattle.std.specs.Prelude.{◌≡◌, ◌+ℤ◌, refl, ℕ, codes, pos, true, false, List, [], ◌∷◌, Some, None}
+use Rattle.std.proofs.Common.{subst, inl}
 use Rattle.rep_values.specs.declared.name.SiteName.{SiteName}
 use Rattle.rep_values.specs.declared.value.Value.TheVariants.{Words}
 use Rattle.rep_values.specs.declared.refusal.ApplyError.TheVariants as error
@@ -9,13 +9,18 @@ use Rattle.rep_schema.specs.declared.schema.SiteEntry.{SiteEntry}
 use Rattle.rep_schema.specs.declared.schema.Kind.TheVariants as kind
 use Rattle.rep_schema.specs.declared.schema.Method.TheVariants as method
 use Rattle.rep_schema.specs.Tables.{Cells, Rows}
+use Rattle.rep_schema.specs.Fitting.{is_in_range}
+use Rattle.rep_schema.specs.Groups.{group_columns_of}
 use Rattle.schema_rules.specs.Rules.{broken_rule}
+use Rattle.rep_calls.specs.declared.call.Part.{Part}
 use Rattle.rep_calls.specs.declared.call.Call.{Call}
 use Rattle.rep_calls.specs.declared.call.Call.TheVariants.{Insert, Update}
+use Rattle.resolve_methods.specs.SequenceLaws.{group_number, move_of, sum_of_moves}
 use Rattle.site_state.specs.declared.entry.Entry.{Entry}
 use Rattle.site_state.specs.declared.entry.Entry.TheVariants as entry
 use Rattle.site_state.proofs.WorkedSites.{a, b, n, number_column, of_calls}
-use Rattle.excuse_laws.specs.Excuses.{ErrorsAreSo, IsMissing, NoRowIsMissing, is_on_convergent, is_row_or_range, is_row_tie_or_range}
+use Rattle.convergence_laws.specs.Joins.{applied_parts}
+use Rattle.excuse_laws.specs.Excuses.{ErrorsAreSo, IsMissing, NoRowIsMissing, SumLeavesRange, is_on_convergent, is_row_or_range, is_row_tie_or_range}
 
 -- ---- a table of HOME and ID, with a number that is summed up
 
@@ -84,6 +89,38 @@ not_excused so = inserted_is_not_missing (so.0 refl adds refl refl)
 -- it is a base row: not excused
 base_row_is_not_missing : IsMissing schema ((row ∷ []) ∷ []) [] adds → ⊥
 base_row_is_not_missing missing = absurd (cc missing.base_row)
+
+-- ---- A's row has 999999999999990, and each site adds 9 to it
+
+abbrev full_row : Cells
+full_row = Words a.0 ∷ n 1 ∷ n 999999999999990 ∷ []
+
+abbrev full : List Rows
+full = (full_row ∷ []) ∷ []
+
+abbrev nine : Part
+nine = record { group = 0; old = n 999999999999990 ∷ []; new = n 999999999999999 ∷ [] }
+
+abbrev adds_nine : Call
+adds_nine = Update 0 key (nine ∷ [])
+
+abbrev added_nine : List Entry
+added_nine = entry.Local 1 (of_calls (adds_nine ∷ [])) ∷ []
+
+-- A's own stays in range
+first_stays : is_in_range ((group_number schema 0 0 full_row +ℤ sum_of_moves (applied_parts 0 key 0 [])) +ℤ move_of nine) ≡ true
+unfolding group_columns_of
+first_stays = refl
+
+-- behind it B's leaves the range
+second_leaves : SumLeavesRange schema full added_nine [] adds_nine
+unfolding group_columns_of
+second_leaves = record { part = nine; among = inl refl; sum = refl; first = full_row; begins = refl; leaves = refl }
+
+-- so does the second of one transaction
+later_leaves : SumLeavesRange schema full [] (adds_nine ∷ []) adds_nine
+unfolding group_columns_of
+later_leaves = record { part = nine; among = inl refl; sum = refl; first = full_row; begins = refl; leaves = refl }
 
 -- ---- kinds of errors
 

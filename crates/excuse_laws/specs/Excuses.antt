@@ -1,18 +1,18 @@
 -- What excuses an error of a transaction on a convergent table.
-use Rattle.std.specs.Prelude.{◌≡◌, ℕ, ◌-◌, Bool, true, false, List, [], ◌∷◌, None, Some, Err, pos, slice_get}
+use Rattle.std.specs.Prelude.{◌≡◌, ◌+ℤ◌, ℕ, ◌-◌, Bool, true, false, List, [], ◌∷◌, ◌++◌, take, None, Some, Err, slice_get}
 use Rattle.std.specs.List.{list_any}
 use Rattle.rep_values.specs.declared.name.SiteName.{SiteName}
 use Rattle.rep_values.specs.declared.refusal.ApplyError.{ApplyError}
 use Rattle.rep_values.specs.declared.refusal.ApplyError.TheVariants as error
-use Rattle.rep_values.specs.declared.value.Value.TheVariants.{Num, Words}
 use Rattle.rep_schema.specs.declared.schema.Schema.{Schema}
-use Rattle.rep_schema.specs.declared.schema.SiteEntry.{SiteEntry}
 use Rattle.rep_schema.specs.Tables.{Cells, Rows, columns_of, find_row, rows_of}
-use Rattle.rep_schema.specs.Sites.{first_master}
+use Rattle.rep_schema.specs.Fitting.{is_in_range}
 use Rattle.schema_rules.specs.declared.forms.Form.TheVariants as form
 use Rattle.rep_calls.specs.declared.call.Call.{Call}
+use Rattle.rep_calls.specs.declared.call.Part.{Part}
 use Rattle.rep_calls.specs.declared.call.Txn.{Txn}
 use Rattle.conflict_detect.specs.Fits.{table_of}
+use Rattle.resolve_methods.specs.SequenceLaws.{group_number, move_of, sum_of_moves}
 use Rattle.txn_effects.specs.Calls.{key_named}
 use Rattle.txn_effects.specs.Transactions.{Failure}
 use Rattle.local_txn.specs.Convergent.{is_convergent}
@@ -23,9 +23,11 @@ use Rattle.site_state.specs.State.{SiteState}
 use Rattle.site_state.specs.Journal.{error_at}
 use Rattle.site_state.specs.Errors.{effect_of_error}
 use Rattle.event_laws.specs.Core.{site_of}
-use Rattle.convergence_laws.specs.Faults.{ChangesLatest}
+use Rattle.convergence_laws.specs.Beginning.{BaseRowsAreFilled}
+use Rattle.convergence_laws.specs.Collections.{Among}
+use Rattle.convergence_laws.specs.Faults.{parts_of, ChangesLatest}
 use Rattle.convergence_laws.specs.GroupForms.{form_at}
-use Rattle.convergence_laws.specs.Joins.{applied_inserts}
+use Rattle.convergence_laws.specs.Joins.{parts_in, inserts_in, applied_parts, applied_inserts, first_row}
 
 -- ---- each error of a site
 
@@ -63,6 +65,24 @@ abbrev pub NoRowIsMissing : Schema → List Rows → OfFailures
 NoRowIsMissing schema base behind number why txn = why ≡ error.NoRow → (call : Call) → slice_get txn.calls (number - 1) ≡ Some call
     → is_convergent schema (table_of call) ≡ true → IsMissing schema base behind call
 
+-- one of a call's parts is of a group that is summed up, and takes the row's number out of range: the first number, with all that
+-- the journal and the earlier calls of the transaction moved it by
+pub record SumLeavesRange (schema : Schema) (base : List Rows) (journal : List Entry) (earlier : List Call) (call : Call) : Type 0 where
+  pub part : Part
+  pub among : Among part (parts_of call)
+  pub sum : form_at schema (table_of call) part.group ≡ Some form.Sum
+  pub first : Cells
+  pub begins : first_row (find_row (columns_of schema (table_of call)) (key_named schema call) (rows_of base (table_of call)))
+      (applied_inserts schema (table_of call) (key_named schema call) journal ++ inserts_in schema (table_of call) (key_named schema call) earlier) ≡ Some first
+  pub leaves : is_in_range ((group_number schema (table_of call) part.group first
+      +ℤ sum_of_moves (applied_parts (table_of call) (key_named schema call) part.group journal
+      ++ parts_in (table_of call) (key_named schema call) part.group earlier)) +ℤ move_of part) ≡ false
+
+-- where a number leaves its range at a call on a convergent table, a sum does
+abbrev pub RangeIsLeftBySum : Schema → List Rows → OfFailures
+RangeIsLeftBySum schema base behind number why txn = why ≡ error.ValueRange → (call : Call) → slice_get txn.calls (number - 1) ≡ Some call
+    → is_convergent schema (table_of call) ≡ true → SumLeavesRange schema base behind (take (number - 1) txn.calls) call
+
 -- some call is on a convergent table
 abbrev pub is_on_convergent : Schema → Txn → Bool
 is_on_convergent schema txn = list_any (λ (call : Call). is_convergent schema (table_of call)) txn.calls
@@ -76,10 +96,14 @@ is_row_or_range (error.UniqueConflict constraint) = false
 is_row_or_range error.ValueRange = true
 is_row_or_range (error.CheckFailed check) = false
 
--- a failure is excused by the base rows and by the journal behind it: the row is missing, or a range is left
+-- a failure at a call is excused by the base rows and by the journal behind it: the row is missing, or a sum leaves the range of
+-- numbers
 pub record IsExcused (schema : Schema) (base : List Rows) (journal : List Entry) (number : ℕ) (why : ApplyError) (txn : Txn) : Type 0 where
   pub kind : is_row_or_range why ≡ true
-  pub missing : why ≡ error.NoRow → (call : Call) → slice_get txn.calls (number - 1) ≡ Some call → IsMissing schema base journal call
+  pub call : Call
+  pub there : slice_get txn.calls (number - 1) ≡ Some call
+  pub missing : why ≡ error.NoRow → IsMissing schema base journal call
+  pub leaves : why ≡ error.ValueRange → SumLeavesRange schema base journal (take (number - 1) txn.calls) call
 
 -- so it is with a transaction on convergent tables
 abbrev pub IsExcusedOn : Schema → List Rows → OfFailures
@@ -110,20 +134,6 @@ abbrev pub MastersShareKeys : Schema → List SiteState → Type 0
 MastersShareKeys schema sites = (site other : SiteName) (x y : SiteState) (table : ℕ) (key : Cells) → site_of site sites ≡ Some x → site_of other sites ≡ Some y
     → x.here.is_master ≡ true → y.here.is_master ≡ true → is_convergent schema table ≡ true
     → find_row (columns_of schema table) key (rows_of y.base table) ≡ None → find_row (columns_of schema table) key (rows_of x.base table) ≡ None
-
--- a row has stamp 0 and the first master's name where a site fills in a stamp and its name
-pub record IsFirstFilled (schema : Schema) (row : Cells) (stamp_column site_column : ℕ) : Type 0 where
-  pub first : SiteEntry
-  pub is_first : first_master schema ≡ Some first
-  pub stamp : slice_get row stamp_column ≡ Some (Num (pos 0))
-  pub name : slice_get row site_column ≡ Some (Words first.name.0)
-
--- so has each base row of a master in the groups whose latest values stay
-abbrev pub BaseRowsAreFilled : Schema → List SiteState → Type 0
-BaseRowsAreFilled schema sites = (site : SiteName) (x : SiteState) (table : ℕ) (key row : Cells) (group stamp_column site_column : ℕ)
-    → site_of site sites ≡ Some x → x.here.is_master ≡ true → is_convergent schema table ≡ true
-    → find_row (columns_of schema table) key (rows_of x.base table) ≡ Some row
-    → form_at schema table group ≡ Some (form.Latest stamp_column site_column) → IsFirstFilled schema row stamp_column site_column
 
 -- where masters begin: they share the keys of their base rows, and these are filled in as the first master would
 pub record BeginAlike (schema : Schema) (sites : List SiteState) : Type 0 where

@@ -27,8 +27,8 @@ pub fn keys_are_never_taken()
     stamps_of_a_block_rise();
 }
 
-/// Whatever happens, each error of a transaction on convergent tables is a row that was never there or a number that leaves its
-/// range, at each master; and so is each execution that is refused.
+/// Whatever happens, each error of a transaction on convergent tables is a row that was never there or a sum that leaves ±10^15,
+/// at each master; and so is each execution that is refused. A sum is the first number with all that was applied.
 pub fn errors_are_excused()
     ensures { ErrorsAreExcused }
 {

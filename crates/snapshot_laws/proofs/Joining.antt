@@ -17,6 +17,10 @@ use Rattle.snapshot_laws.proofs.Moves.{all_weaker, KeepsUp, AllKeepUp, master_mo
 use Rattle.snapshot_laws.proofs.Calls.{open_quiet}
 use Rattle.snapshot_laws.proofs.Keeping.{HaveTables, KeepUpWith, SiteKeepsUp, KeepsUpAt, SitesKeepUp, master_in, found_keeps_up}
 
+-- one that joins has no snapshots
+pub snapshots-copied : (sites : List SiteState) (source : SiteState) (site : SiteName) → (copied sites source site).snapshots ≡ []
+snapshots-copied sites source site = open_to_each_keeps (λ x. x.snapshots ≡ []) (λ s x is. is) sites (site_copy source (master_here source.schema site) (queue_counts sites)) refl
+
 module _ (schema : Schema) (sites : List SiteState) (begun : List SiteName) (have : HaveTables schema sites) (all : SitesKeepUp schema sites begun) where
   module _ (site : SiteName) (source : SiteState) where
     abbrev new : SiteState
@@ -24,10 +28,6 @@ module _ (schema : Schema) (sites : List SiteState) (begun : List SiteName) (hav
 
     abbrev ys : List SiteState
     ys = with_joined sites source site
-
-    -- the one that joins has no snapshots
-    no_snapshots : new.snapshots ≡ []
-    no_snapshots = open_to_each_keeps (λ x. x.snapshots ≡ []) (λ s x is. is) sites (site_copy source (master_here source.schema site) (queue_counts sites)) refl
 
     none_keep_up : (o : Option SiteState) (x : SiteState) → x.snapshots ≡ [] → KeepUpWith schema begun o x
     none_keep_up None x none = none
@@ -51,7 +51,7 @@ module _ (schema : Schema) (sites : List SiteState) (begun : List SiteName) (hav
     with_joined_keeps_up name = rw (site_of-joined name (site_open site) sites new (λ y. refl)) (go (site_of name sites) refl)
       where
         fresh : (b : Bool) → KeepsUpAt schema ys begun (cond b (Some new) None)
-        fresh true = record { apart = subst AreApart (sym no_snapshots) tt; snapshots = none_keep_up (master_in schema ys new) new no_snapshots }
+        fresh true = record { apart = subst AreApart (sym (snapshots-copied sites source site)) tt; snapshots = none_keep_up (master_in schema ys new) new (snapshots-copied sites source site) }
         fresh false = tt
 
         go : (o : Option SiteState) → site_of name sites ≡ o → KeepsUpAt schema ys begun (found_or (site_of name (new ∷ [])) (option_map (site_open site) o))

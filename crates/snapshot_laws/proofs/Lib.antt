@@ -14,5 +14,6 @@ pub mod Starting
 pub mod Events
 pub mod SnapshotLaws
 pub mod LogLaws
+pub mod RisingKeys
 mod WorkedSnapshots
 mod WorkedStarts

@@ -18,6 +18,7 @@ use Rattle.event_laws.proofs.Happening.{IsRefreshed, refreshed_is}
 use Rattle.event_laws.proofs.Happening as happening
 use Rattle.event_laws.proofs.DeclaredSites.{refreshed_names}
 use Rattle.site_state.specs.Fits.{AreApart}
+use Rattle.snapshot_laws.specs.Refreshed.{IsQueried, RefreshedTablesAreTheQueries}
 use Rattle.snapshot_laws.proofs.QueriedRows.{find_row-query_rows}
 use Rattle.snapshot_laws.proofs.Moves.{all_map, all_weaker, KeepsUp, AllKeepUp}
 use Rattle.snapshot_laws.proofs.Keeping.{HaveTables, master_in, Keeps}
@@ -43,6 +44,21 @@ module _ (shows : List Rows) where
         (all_weaker (λ (t : Snapshot). t.table < length tables) (λ (t : Snapshot). t.table < length (set tables s.table (query_rows s.query (rows_of shows s.table)))) ss
         (λ t less. rw (length-set tables s.table (query_rows s.query (rows_of shows s.table))) less) within.1),
   )
+
+-- where each snapshot's table is there it is what its query picks
+pub all_queried : (x : SiteState) (master : List Rows) (moment : ℕ) → AreApart x.snapshots → AllByRecursion (λ (s : Snapshot). s.table < length (tables_of x)) x.snapshots
+    → AllByRecursion (IsQueried master moment (tables_of (site_refresh (rows_shown master x.snapshots) moment x))) (map (renewed moment) x.snapshots)
+all_queried x master moment apart within = all_map
+    (λ (s : Snapshot). rows_of (with_tables (rows_shown master x.snapshots) (tables_of x)) s.table ≡ query_rows s.query (rows_of master s.table))
+    (IsQueried master moment (tables_of (site_refresh (rows_shown master x.snapshots) moment x))) (renewed moment) x.snapshots
+    (λ s rows. record { rows = rows; mark = refl; touched = refl }) (rows_are_shown master x.snapshots (tables_of x) apart within)
+
+pub refreshed_tables_are_the_queries : RefreshedTablesAreTheQueries
+refreshed_tables_are_the_queries x master moment number within apart = record {
+  queried = all_queried x master moment apart
+      (all_weaker (λ (s : Snapshot). s.table < length x.schema.tables) (λ (s : Snapshot). s.table < length (tables_of x)) x.snapshots (λ s less. subst (λ n. s.table < n) (sym number) less) within);
+  others = λ table none. rows_of-elsewhere master x.snapshots (tables_of x) table none;
+}
 
 apart_renewed : (moment : ℕ) (ss : List Snapshot) → AreApart ss → AreApart (map (renewed moment) ss)
 apart_renewed moment [] apart = tt

@@ -1,6 +1,6 @@
 -- The laws of snapshots.
 use Rattle.std.proofs.Common.{◌≡◌, ℕ, ◌≤◌, List, [], ◌∷◌, map, Bool, true, false, cond, not, Some, refl, sym, ap, ◌∙◌, arith, subst}
-use Rattle.std.specs.Prelude.{◌&&◌, Option, nat_lt}
+use Rattle.std.specs.Prelude.{Option, nat_lt}
 use Rattle.std.specs.List.{AllByRecursion}
 use Rattle.std.proofs.lemmas.Bool.Decides.{nat_tests}
 use Rattle.rep_values.specs.declared.name.SiteName.{SiteName}
@@ -13,9 +13,9 @@ use Rattle.snapshot_query.specs.Queries.{query_rows}
 use Rattle.site_state.specs.State.{SiteState}
 use Rattle.site_state.specs.Contents.{tables_of}
 use Rattle.site_state.specs.Notes.{pending_keys, purged_of, is_too_young}
-use Rattle.site_state.specs.Refreshes.{rows_shown, with_tables, renewed, site_refresh}
+use Rattle.site_state.specs.Refreshes.{rows_shown, renewed, site_refresh}
 use Rattle.event_laws.specs.Core.{Core, site_of, at_site}
-use Rattle.event_laws.specs.Events.{Event, master_of, found_site, is_all_acked, refreshed_from, refreshed, run}
+use Rattle.event_laws.specs.Events.{Event, master_of, found_site, refreshed_from, refreshed, run}
 use Rattle.fast_refresh.specs.Showing.{ShowsOthers}
 use Rattle.site_state.specs.Fits.{AreApart}
 use Rattle.snapshot_laws.specs.Pending.{rows_from_keys, pending_table, pending_rows}
@@ -23,9 +23,9 @@ use Rattle.snapshot_laws.specs.Starts.{master_at, IsSnapshotStart}
 use Rattle.snapshot_laws.specs.Laws.{OthersAreShown, OtherKeysAreTheMasters, FastIsComplete, ShowsTheMaster, RefreshedIsTheQuery}
 use Rattle.snapshot_laws.proofs.Keys.{has_key-with_keys, told}
 use Rattle.snapshot_laws.proofs.QueriedRows.{rows_from_keys-query}
-use Rattle.snapshot_laws.proofs.Moves.{all_map, all_weaker, KeepsUp, AllKeepUp}
+use Rattle.snapshot_laws.proofs.Moves.{all_weaker, KeepsUp, AllKeepUp}
 use Rattle.snapshot_laws.proofs.Keeping.{site_of-at_site, KeepUpWith, SiteKeepsUp, master_in, found_keeps_up}
-use Rattle.snapshot_laws.proofs.Refreshing.{rows_are_shown, masters_tables, within_tables, refreshed_here}
+use Rattle.snapshot_laws.proofs.Refreshing.{all_queried, masters_tables, within_tables, refreshed_here}
 use Rattle.snapshot_laws.proofs.RunsFit.{SitesFit, run_fits}
 use Rattle.snapshot_laws.proofs.Events.{run_keeps_up}
 
@@ -60,11 +60,7 @@ module _ (schema : Schema) (begun : List SiteName) (m x : SiteState) where
   -- after a refresh its table is what its query picks
   refreshed_all : AreTables schema (tables_of x) → AreApart x.snapshots → AllKeepUp schema begun m x x.snapshots
       → AllByRecursion (ShowsTheMaster m (site_refresh (rows_shown (tables_of m) x.snapshots) m.moment x)) (map (renewed m.moment) x.snapshots)
-  refreshed_all are apart up = all_map
-      (λ (s : Snapshot). rows_of (with_tables (rows_shown (tables_of m) x.snapshots) (tables_of x)) s.table ≡ query_rows s.query (rows_of (tables_of m) s.table))
-      (ShowsTheMaster m (site_refresh (rows_shown (tables_of m) x.snapshots) m.moment x)) (renewed m.moment) x.snapshots
-      (λ s rows. record { rows = rows; mark = refl; touched = refl })
-      (rows_are_shown (tables_of m) x.snapshots (tables_of x) apart (within_tables schema begun m x (tables_of x) are x.snapshots up))
+  refreshed_all are apart up = all_queried x (tables_of m) m.moment apart (within_tables schema begun m x (tables_of x) are x.snapshots up)
 
 -- ---- a site of a run and its master
 
@@ -98,12 +94,8 @@ module _ (schema : Schema) (start : Core) (events : List Event) (is : IsSnapshot
 
     -- ---- after a refresh
 
-    made : x.here.is_master ≡ false → is_all_acked x ≡ true → refreshed w.sites x ≡ site_refresh (rows_shown (tables_of m) x.snapshots) m.moment x
-    made no_master acked = ap (λ (o : Option SiteState). refreshed_from o x) at_m ∙ ap (λ (b : Bool). cond b (site_refresh (rows_shown (tables_of m) x.snapshots) m.moment x) x) (may x.here.is_master (is_all_acked x) no_master acked)
-      where
-        may : (a b : Bool) → a ≡ false → b ≡ true → (not a && b) ≡ true
-        may true b not_a is_b = absurd (cc not_a)
-        may false b not_a is_b = is_b
+    made : x.here.is_master ≡ false → refreshed w.sites x ≡ site_refresh (rows_shown (tables_of m) x.snapshots) m.moment x
+    made no_master = ap (λ (o : Option SiteState). refreshed_from o x) at_m ∙ ap (λ (b : Bool). cond b (site_refresh (rows_shown (tables_of m) x.snapshots) m.moment x) x) (ap not no_master)
 
     own_name : is_same_site site site ≡ true
     own_name = named w.sites at_x
@@ -119,10 +111,10 @@ module _ (schema : Schema) (start : Core) (events : List Event) (is : IsSnapshot
     found : site_of site (at_site site (refreshed w.sites) w.sites) ≡ Some (refreshed w.sites x)
     found = site_of-at_site site site (refreshed w.sites) w.sites (refreshed_here w.sites) ∙ rw (own_name, at_x) refl
 
-    shows : (y : SiteState) → x.here.is_master ≡ false → is_all_acked x ≡ true → site_of site (at_site site (refreshed w.sites) w.sites) ≡ Some y → AllByRecursion (ShowsTheMaster m y) y.snapshots
-    shows y no_master acked at_y =
+    shows : (y : SiteState) → x.here.is_master ≡ false → site_of site (at_site site (refreshed w.sites) w.sites) ≡ Some y → AllByRecursion (ShowsTheMaster m y) y.snapshots
+    shows y no_master at_y =
         let comes : refreshed w.sites x ≡ y = cc (sym found ∙ at_y) in
-        subst (λ (z : SiteState). AllByRecursion (ShowsTheMaster m z) z.snapshots) (sym (made no_master acked) ∙ comes)
+        subst (λ (z : SiteState). AllByRecursion (ShowsTheMaster m z) z.snapshots) (sym (made no_master) ∙ comes)
         (refreshed_all schema w.begun m x (fit.have site x at_x) held.apart up)
 
 pub other_keys_are_the_masters : OtherKeysAreTheMasters
@@ -132,4 +124,4 @@ pub fast_is_complete : FastIsComplete
 fast_is_complete schema start events is site x m at_x at_m = complete schema start events is site x m at_x at_m
 
 pub refreshed_is_the_query : RefreshedIsTheQuery
-refreshed_is_the_query schema start events is site x m y at_x at_m no_master acked at_y = shows schema start events is site x m at_x at_m y no_master acked at_y
+refreshed_is_the_query schema start events is site x m y at_x at_m no_master at_y = shows schema start events is site x m at_x at_m y no_master at_y

@@ -1,20 +1,22 @@
 -- What snapshots show of their masters, whatever happens.
-use Rattle.std.specs.Prelude.{◌≡◌, true, false, List, [], ◌∷◌, Some}
+use Rattle.std.specs.Prelude.{◌≡◌, false, List, ◌∷◌, Some}
 use Rattle.std.specs.List.{AllByRecursion}
+use Rattle.rep_lists.specs.Rising.{IsRising}
 use Rattle.rep_values.specs.declared.name.SiteName.{SiteName}
+use Rattle.rep_values.specs.Order.{key_cmp}
 use Rattle.rep_schema.specs.declared.schema.Schema.{Schema}
 use Rattle.rep_schema.specs.Tables.{columns_of, rows_of}
 use Rattle.snapshot_query.specs.declared.snapshot.Snapshot.{Snapshot}
-use Rattle.snapshot_query.specs.Queries.{query_rows}
-use Rattle.site_state.specs.State.{SiteState}
+use Rattle.site_state.specs.State.{LogState, SiteState}
 use Rattle.site_state.specs.Contents.{tables_of}
 use Rattle.site_state.specs.Notes.{pending_keys, is_too_young}
 use Rattle.site_state.specs.Refreshes.{rows_shown}
 use Rattle.event_laws.specs.Core.{Core, site_of}
-use Rattle.event_laws.specs.Events.{Event, Refresh, is_all_acked, run}
+use Rattle.event_laws.specs.Events.{Event, Refresh, run}
 use Rattle.fast_refresh.specs.Showing.{ShowsOthers}
 use Rattle.snapshot_laws.specs.Pending.{pending_rows}
 use Rattle.snapshot_laws.specs.Starts.{master_at, IsSnapshotStart}
+use Rattle.snapshot_laws.specs.Refreshed.{IsQueried}
 
 -- so it is with every master and each site that has snapshots of it, after every list of events
 abbrev pub WithEveryMaster : (SiteState → SiteState → Type 0) → Type 0
@@ -35,13 +37,22 @@ abbrev pub FastIsComplete : Type 0
 FastIsComplete = WithEveryMaster (λ m x. AllByRecursion (λ (s : Snapshot). is_too_young m.logs s ≡ false) x.snapshots → pending_rows m x ≡ rows_shown (tables_of m) x.snapshots)
 
 -- a snapshot's table is the query of the master's table, its mark is the master's moment, and nothing is touched
-pub record ShowsTheMaster (m y : SiteState) (s : Snapshot) : Type 0 where
-  pub rows : rows_of (tables_of y) s.table ≡ query_rows s.query (rows_of (tables_of m) s.table)
-  pub mark : s.mark ≡ m.moment
-  pub touched : s.touched ≡ []
+abbrev pub ShowsTheMaster : SiteState → SiteState → Snapshot → Type 0
+ShowsTheMaster m y s = IsQueried (tables_of m) m.moment (tables_of y) s
 
--- so it is after every refresh of a snapshot site whose transactions are all acknowledged
+-- so it is after every refresh of a snapshot site
 abbrev pub RefreshedIsTheQuery : Type 0
 RefreshedIsTheQuery = (schema : Schema) (start : Core) (events : List Event) → IsSnapshotStart schema start → (site : SiteName) (x m y : SiteState)
-    → site_of site (run events start).sites ≡ Some x → master_at (run events start).sites x ≡ Some m → x.here.is_master ≡ false → is_all_acked x ≡ true
+    → site_of site (run events start).sites ≡ Some x → master_at (run events start).sites x ≡ Some m → x.here.is_master ≡ false
     → site_of site (run (Refresh site ∷ events) start).sites ≡ Some y → AllByRecursion (ShowsTheMaster m y) y.snapshots
+
+-- the keys that a snapshot's site has changed since its last refresh rise, and so do those that are pending by whatever logs: each
+-- comes once
+pub record KeysRise (s : Snapshot) : Type 0 where
+  pub touched : IsRising key_cmp s.touched
+  pub pending : (logs : List LogState) → IsRising key_cmp (pending_keys logs s)
+
+-- so it is with each snapshot of every site, after every list of events
+abbrev pub SnapshotKeysRise : Type 0
+SnapshotKeysRise = (schema : Schema) (start : Core) (events : List Event) → IsSnapshotStart schema start → (site : SiteName) (x : SiteState)
+    → site_of site (run events start).sites ≡ Some x → AllByRecursion KeysRise x.snapshots

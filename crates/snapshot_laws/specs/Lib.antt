@@ -1,5 +1,6 @@
 -- The definitions of this crate.
 pub mod Pending
 pub mod Starts
+pub mod Refreshed
 pub mod Laws
 pub mod Logs

@@ -1,6 +1,8 @@
 -- Where runs with snapshots begin.
-use Rattle.std.specs.Prelude.{◌≡◌, ◌≤◌, true, List, [], ◌∷◌, Option, Some, None, is_some}
+use Rattle.std.specs.Prelude.{◌≡◌, ◌≤◌, true, List, [], Option, Some, None, is_some}
 use Rattle.std.specs.List.{AllByRecursion}
+use Rattle.rep_lists.specs.Rising.{IsRising}
+use Rattle.rep_values.specs.Order.{key_cmp}
 use Rattle.rep_schema.specs.declared.schema.Schema.{Schema}
 use Rattle.rep_schema.specs.Tables.{rows_of}
 use Rattle.snapshot_query.specs.declared.snapshot.Snapshot.{Snapshot}
@@ -16,12 +18,14 @@ use Rattle.event_laws.specs.Fitting.{IsFitStart}
 abbrev pub master_at : List SiteState → SiteState → Option SiteState
 master_at sites x = found_site sites (master_of x.schema x.here.site)
 
--- a snapshot as it is made: its master is a master and has a log of its table, and its rows are the query of the master's
+-- a snapshot as it is made: its master is a master and has a log of its table, its rows are the query of the master's, and the
+-- keys that its site has touched rise, if there are any
 pub record StartsShown (m x : SiteState) (s : Snapshot) : Type 0 where
   pub master : m.here.is_master ≡ true
   pub logged : is_some (log_of s.table m.logs) ≡ true
   pub below : s.mark ≤ m.moment
   pub rows : rows_of x.base s.table ≡ query_rows s.query (rows_of m.base s.table)
+  pub touched : IsRising key_cmp s.touched
 
 -- and its master is there
 abbrev pub StartsFrom : Option SiteState → SiteState → Snapshot → Type 0

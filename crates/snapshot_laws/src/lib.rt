@@ -5,4 +5,5 @@ mod laws;
 
 pub use laws::{
     fast_is_complete, noted_are_above_purged, other_keys_are_the_masters, refreshed_is_the_query,
+    refreshed_tables_are_the_queries, snapshot_keys_rise,
 };

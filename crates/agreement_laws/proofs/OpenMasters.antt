@@ -1,4 +1,4 @@
--- After every list of events the sites are as declared, what arrived was sent, and streams meet.
+-- Each master sends to each other one, and is open to it.
 use Rattle.std.proofs.Common.{◌≡◌, ◌≢◌, ℕ, ◌≤◌, List, [], ◌∷◌, map, Bool, true, false, cond, Some, None, refl, sym, ap, ◌∙◌, subst}
 use Rattle.std.specs.Prelude.{◌||◌, ◌&&◌, Option, is_none, filter}
 use Rattle.std.specs.List.{AllByRecursion, list_any, find}
@@ -11,83 +11,15 @@ use Rattle.rep_schema.specs.Sites.{addresses, sends_to, names_of, senders_of}
 use Rattle.deferred_queue.specs.Streams.{is_same_site}
 use Rattle.deferred_queue.proofs.Sites.{is_same_site-true}
 use Rattle.packet_code.specs.declared.packet.Packet.{Packet}
-use Rattle.site_state.specs.declared.arrival.Arrival.{Arrival}
 use Rattle.site_state.specs.State.{SenderState, SiteState, is_master_site, is_among, opened_of}
 use Rattle.site_state.specs.Streams.{count_of}
 use Rattle.site_state.proofs.SchemaSites.{AreApart, are_apart, any_found}
-use Rattle.event_laws.specs.Core.{Core, site_of}
-use Rattle.event_laws.specs.Events.{Event, run}
-use Rattle.event_laws.specs.Starts.{IsStart}
-use Rattle.event_laws.specs.Waiting.{IsFirst, AreFirsts, AbsentAreClosed, AreMeshed}
-use Rattle.event_laws.proofs.Sites.{found_all, found_name, all_at_place}
-use Rattle.event_laws.proofs.Happening.{Becomes, run_keeps}
-use Rattle.event_laws.proofs.Happening as happening
-use Rattle.event_laws.proofs.NewSites.{start_is_new}
-use Rattle.event_laws.proofs.Holding.{Holds}
-use Rattle.event_laws.proofs.MarkLaws.{becomes_holds, start_holds}
-use Rattle.event_laws.proofs.DeclaredSites.{IsSiteOf, becomes_sites_of, start_sites_of}
-use Rattle.event_laws.proofs.Meeting.{PacketPast, EachArrival, SiteMeets, MeetsAt, Meets, at_adds, at_meets, steps_meet, accept_meets, purge_meets, refreshed_meets, sends_meet, marks_meet, still_closed}
-use Rattle.event_laws.proofs.JoinedMeets.{joined_meets, joined_closed}
-
--- ---- every run
-
-pub record AreMet (schema : Schema) (sites : List SiteState) (sent : List Packet) : Type 0 where
-  pub sites_of : AllByRecursion (IsSiteOf schema) sites
-  pub holds : Holds sites sent
-  pub meets : Meets sites sent
-  pub closed : AbsentAreClosed schema sites
-
-module _ (schema : Schema) (shape : HasShape schema) where
-  becomes_meets : (xs : List SiteState) (sent : List Packet) (ys : List SiteState) (more : List Packet) → Becomes xs sent ys more → AreMet schema xs sent → Meets ys more
-  becomes_meets xs sent _ _ happening.Stays met = met.meets
-  becomes_meets xs sent _ _ (happening.Journalled name change steps) met = at_meets xs sent name change (steps_meet xs name change steps) met.meets
-  becomes_meets xs sent _ _ (happening.Sends from to position) met = sends_meet xs sent from to position met.meets
-  becomes_meets xs sent _ _ (happening.Marks from to) met = marks_meet xs sent from to met.meets
-  becomes_meets xs sent _ _ (happening.Delivers packet which is) met = at_meets xs sent _ _ (accept_meets xs packet (all_at_place (PacketPast xs) sent which packet met.meets.packets is)) met.meets
-  becomes_meets xs sent _ _ (happening.Purges name) met = at_meets xs sent name _ (purge_meets xs name) met.meets
-  becomes_meets xs sent _ _ (happening.Refreshes name change refreshed) met = at_meets xs sent name change (refreshed_meets xs name change refreshed) met.meets
-  becomes_meets xs sent _ _ (happening.Joins site from source absent found may) met = joined_meets schema shape xs source site from absent found may met.sites_of met.closed sent met.meets
-
-  becomes_closed : (xs : List SiteState) (sent : List Packet) (ys : List SiteState) (more : List Packet) → Becomes xs sent ys more → AreMet schema xs sent → AbsentAreClosed schema ys
-  becomes_closed xs sent _ _ happening.Stays met = met.closed
-  becomes_closed xs sent _ _ (happening.Journalled name change steps) met = still_closed schema xs _ (at_adds xs name change (steps_meet xs name change steps) met.meets.each) met.closed
-  becomes_closed xs sent _ _ (happening.Sends from to position) met = met.closed
-  becomes_closed xs sent _ _ (happening.Marks from to) met = met.closed
-  becomes_closed xs sent _ _ (happening.Delivers packet which is) met = still_closed schema xs _ (at_adds xs _ _ (accept_meets xs packet (all_at_place (PacketPast xs) sent which packet met.meets.packets is)) met.meets.each) met.closed
-  becomes_closed xs sent _ _ (happening.Purges name) met = still_closed schema xs _ (at_adds xs name _ (purge_meets xs name) met.meets.each) met.closed
-  becomes_closed xs sent _ _ (happening.Refreshes name change refreshed) met = still_closed schema xs _ (at_adds xs name change (refreshed_meets xs name change refreshed) met.meets.each) met.closed
-  becomes_closed xs sent _ _ (happening.Joins site from source absent found may) met = joined_closed schema shape xs source site from absent found may met.sites_of met.closed
-
-  becomes_met : (xs : List SiteState) (sent : List Packet) (ys : List SiteState) (more : List Packet) → Becomes xs sent ys more → AreMet schema xs sent → AreMet schema ys more
-  becomes_met xs sent ys more becomes met = record {
-    sites_of = becomes_sites_of schema xs sent ys more becomes met.sites_of;
-    holds = becomes_holds xs sent ys more becomes met.holds;
-    meets = becomes_meets xs sent ys more becomes met;
-    closed = becomes_closed xs sent ys more becomes met;
-  }
-
-nothing_arrived : (P : SenderState → Arrival → Type 0) (ss : List SenderState) → AllByRecursion (λ (s : SenderState). s.arrived ≡ []) ss → EachArrival P ss
-nothing_arrived P [] none = tt
-nothing_arrived P (s ∷ ss) none = (rw none.0 tt, nothing_arrived P ss none.1)
-
-start_met : (schema : Schema) (start : Core) → IsStart schema start → AreMeshed schema start.sites → AreMet schema start.sites start.sent
-start_met schema start is meshed = record {
-  sites_of = start_sites_of schema start.sites is.sites meshed.declared.each;
-  holds = start_holds schema start is;
-  meets = record { packets = rw is.sent tt; each = λ site. each site (meshed.streams site) };
-  closed = meshed.closed;
-}
-  where
-    each : (site : SiteName) → AreFirsts start.sites site (site_of site start.sites) → MeetsAt start.sites site (site_of site start.sites)
-    each site firsts = start_is_new schema (λ o. AreFirsts start.sites site o → MeetsAt start.sites site o) start.sites site (λ firsts. tt) (λ x new firsts. record {
-      arrived = λ origin p done. absurd (cc (done, new.journal));
-      known = nothing_arrived _ x.senders new.arrived;
-      pasts = nothing_arrived _ x.senders new.arrived;
-      firsts = firsts;
-    }) is.sites firsts
-
-pub run_met : (schema : Schema) (start : Core) (events : List Event) → IsStart schema start → AreMeshed schema start.sites → AreMet schema (run events start).sites (run events start).sent
-run_met schema start events is meshed = run_keeps (AreMet schema) (becomes_met schema meshed.declared.shape) events start (start_met schema start is meshed)
+use Rattle.event_laws.specs.Core.{site_of}
+use Rattle.event_laws.specs.Waiting.{IsFirst}
+use Rattle.event_laws.proofs.Sites.{found_all, found_name}
+use Rattle.event_laws.proofs.DeclaredSites.{IsSiteOf}
+use Rattle.event_laws.proofs.Meeting.{SiteMeets, MeetsAt}
+use Rattle.event_laws.proofs.Waiting.{AreMet}
 
 -- ---- masters send to each other
 
