@@ -8,16 +8,21 @@ use Rattle.site_state.specs.Contents.{tables_of}
 use Rattle.event_laws.specs.Core.{site_of}
 use Rattle.event_laws.specs.Events.{run}
 use Rattle.event_laws.specs.Quiet.{are_quiet}
-use Rattle.event_laws.proofs.Sites.{found_all}
+use Rattle.site_state.specs.Making.{is_late_master}
+use Rattle.event_laws.proofs.Sites.{found_all, found_name}
 use Rattle.event_laws.proofs.MarkLaws.{IsOfSchema, run_schema}
 use Rattle.convergence_laws.specs.Laws.{AreJoined, AreJoinedSince, GroupsAreJoined, GroupsAreJoinedSince}
+use Rattle.convergence_laws.specs.Agreement.{LatestTellApart}
 use Rattle.agreement_laws.specs.Agreement.{drops_of_master, NothingWasDropped, MastersAgree, QuietMastersAgree}
+use Rattle.agreement_laws.specs.Latest.{LatestValuesTellApart}
 use Rattle.excuse_laws.specs.Excuses.{ErrorsAreSo, RefusalsAreSo, IsExcusedOn}
 use Rattle.excuse_laws.specs.Laws.{ErrorsAreExcused}
+use Rattle.causal_laws.specs.LostInserts.{NoRowIsOfALostInsert}
+use Rattle.causal_laws.specs.Laws.{MissingRowsAreOfInsertsInError}
 use Rattle.world_state.specs.World.{WorldState}
 use Rattle.snapshot_worlds.specs.Reached.{DeclaresSoFar, Goes}
 use Rattle.snapshot_worlds.proofs.Scripts.{snapshots_hold_of}
-use Rattle.convergent_worlds.specs.Convergence.{MastersAgreeWhenQuiet, EachErrorIsExcused, EachGroupIsJoined, EachGroupIsJoinedSince}
+use Rattle.convergent_worlds.specs.Convergence.{MastersAgreeWhenQuiet, EachErrorIsExcused, EachMissingRowIsLost, EachGroupIsJoined, EachGroupIsJoinedSince, EachHasGreatest}
 use Rattle.convergent_worlds.specs.Reached.{GoesOnAlike, IsOfConvergence, Declaring, Going}
 
 -- in Setup no site is there
@@ -49,11 +54,20 @@ module _ (w : WorldState) (a : GoesOnAlike w) where
   excused law site x found master = subst (λ (s : Schema). ErrorsAreSo (IsExcusedOn s x.base) x.journal × RefusalsAreSo (IsExcusedOn s x.base) x) (here site x found)
       (law a.schema a.start a.leads.events a.fit a.meshed a.alike.keys site x (in_run site x found) master)
 
+  lost : MissingRowsAreOfInsertsInError → EachMissingRowIsLost w
+  lost law site x found master early =
+      subst (λ (s : Schema). ErrorsAreSo (NoRowIsOfALostInsert s (λ table key. false)) x.journal × RefusalsAreSo (NoRowIsOfALostInsert s (λ table key. false)) x) (here site x found)
+      (law a.schema a.start a.leads.events a.fit a.meshed a.alike.shared site x (in_run site x found) master
+      (ap (is_late_master a.schema) (sym (found_name site w.sites x found)) ∙ ap (λ (s : Schema). is_late_master s x.here.site) (here site x found) ∙ early))
+
   joined : GroupsAreJoined → EachGroupIsJoined w
   joined law site x found master = subst (λ (s : Schema). AreJoined s x.base x.journal (tables_of x)) (here site x found) (law a.schema a.start a.leads.events a.fit site x (in_run site x found) master)
 
   since : GroupsAreJoinedSince → EachGroupIsJoinedSince w
   since law site x found master = subst (λ (s : Schema). AreJoinedSince s x.here.site x.base x.journal) (here site x found) (law a.schema a.start a.leads.events a.fit site x (in_run site x found) master)
+
+  greatest : LatestValuesTellApart → EachHasGreatest w
+  greatest law site x found master = subst (λ (s : Schema). LatestTellApart s x.base x.journal) (here site x found) (law a.schema a.start a.leads.events a.fit a.meshed a.alike.keys.filled site x (in_run site x found) master)
 
 -- ---- in Setup and behind it
 
@@ -65,6 +79,10 @@ pub excused_of : ErrorsAreExcused → (w : WorldState) → IsOfConvergence w →
 excused_of law w (Declaring so_far) site x found = absurd (no_site w so_far site x found)
 excused_of law w (Going a) site x found = excused w a law site x found
 
+pub lost_of : MissingRowsAreOfInsertsInError → (w : WorldState) → IsOfConvergence w → EachMissingRowIsLost w
+lost_of law w (Declaring so_far) site x found = absurd (no_site w so_far site x found)
+lost_of law w (Going a) site x found = lost w a law site x found
+
 pub joined_of : GroupsAreJoined → (w : WorldState) → IsOfConvergence w → EachGroupIsJoined w
 joined_of law w (Declaring so_far) site x found = absurd (no_site w so_far site x found)
 joined_of law w (Going a) site x found = joined w a law site x found
@@ -72,3 +90,7 @@ joined_of law w (Going a) site x found = joined w a law site x found
 pub since_of : GroupsAreJoinedSince → (w : WorldState) → IsOfConvergence w → EachGroupIsJoinedSince w
 since_of law w (Declaring so_far) site x found = absurd (no_site w so_far site x found)
 since_of law w (Going a) site x found = since w a law site x found
+
+pub greatest_of : LatestValuesTellApart → (w : WorldState) → IsOfConvergence w → EachHasGreatest w
+greatest_of law w (Declaring so_far) site x found = absurd (no_site w so_far site x found)
+greatest_of law w (Going a) site x found = greatest w a law site x found

@@ -4,6 +4,7 @@ mod MadeMasters
 pub mod Beginning
 mod SetupEnds
 mod Holding
+mod Histories
 pub mod Scripts
 pub mod Worlds
 mod WorkedConvergence

@@ -1,11 +1,13 @@
 -- The world of every script is one of which the laws of convergence hold.
-use Rattle.std.proofs.Common.{◌≡◌, ℕ, suc, List, [], ◌∷◌, ◌++◌, sym, subst}
+use Rattle.std.proofs.Common.{◌≡◌, ℕ, suc, List, [], ◌∷◌, ◌++◌, refl, sym, ◌∙◌, subst}
 use Rattle.std.specs.List.{AllByRecursion}
 use Rattle.event_laws.specs.Core.{Core}
 use Rattle.event_laws.specs.Events.{run}
 use Rattle.convergence_laws.specs.Laws.{GroupsAreJoined, GroupsAreJoinedSince}
-use Rattle.agreement_laws.specs.Agreement.{QuietMastersAgree}
+use Rattle.agreement_laws.specs.Agreement.{QuietMastersAgree, QuietMastersAgreeAgain}
+use Rattle.agreement_laws.specs.Latest.{LatestValuesTellApart}
 use Rattle.excuse_laws.specs.Laws.{ErrorsAreExcused}
+use Rattle.causal_laws.specs.Laws.{MissingRowsAreOfInsertsInError, MissingRowsAreOfLostInserts}
 use Rattle.script_parse.specs.declared.command.Command.{Command}
 use Rattle.script_parse.specs.Named.{NamesColumn}
 use Rattle.world_state.specs.World.{WorldState, first_world}
@@ -21,20 +23,23 @@ use Rattle.snapshot_worlds.specs.WellDeclared.{DeclaresWell}
 use Rattle.snapshot_worlds.specs.Starts.{start_of}
 use Rattle.snapshot_worlds.specs.Worlds.{InWorlds, InScripts}
 use Rattle.snapshot_worlds.specs.Reached.{GoesOn, IsOfSnapshots, Declares, Goes}
-use Rattle.snapshot_worlds.proofs.Scripts.{goes_on, step_goes_on, made_goes_on, step_of_snapshots, first_of_snapshots}
+use Rattle.snapshot_worlds.proofs.Staying.{step_schema}
+use Rattle.snapshot_worlds.proofs.Scripts.{goes_on, made_goes_on, step_of_snapshots, first_of_snapshots}
 use Rattle.convergent_worlds.specs.Convergence.{ConvergenceHolds}
 use Rattle.convergent_worlds.specs.Reached.{GoesOnAlike, IsOfConvergence, Declaring, Going}
 use Rattle.convergent_worlds.proofs.Beginning.{made_worlds_begin_alike}
 use Rattle.convergent_worlds.proofs.SetupEnds.{ends_setup, declares_well}
-use Rattle.convergent_worlds.proofs.Holding.{agree_of, excused_of, joined_of, since_of}
+use Rattle.convergent_worlds.proofs.Holding.{agree_of, excused_of, lost_of, joined_of, since_of, greatest_of}
+use Rattle.convergent_worlds.proofs.Histories.{again_of, history_of}
 
 -- ---- behind Setup
 
--- events that lead on from a world lead on from its start
-leads_on : (old new : WorldState) → GoesOn new → ((v : Core) → Simulates old v → Leads new v) → GoesOnAlike old → GoesOnAlike new
-leads_on old new g leads a = let b = leads (run a.leads.events a.start) a.leads.simulates in record {
-  goes = g;
+-- where events lead on and the schema stays, a world goes on alike
+pub goes_on_alike : (old new : WorldState) → new.schema ≡ old.schema → ((v : Core) → Simulates old v → Leads new v) → GoesOnAlike old → GoesOnAlike new
+goes_on_alike old new same leads a = let b = leads (run a.leads.events a.start) a.leads.simulates in record {
+  goes = goes_on old new same leads a.goes;
   schema = a.schema;
+  of_schema = a.of_schema ∙ sym same;
   start = a.start;
   fit = a.fit;
   meshed = a.meshed;
@@ -42,12 +47,8 @@ leads_on old new g leads a = let b = leads (run a.leads.events a.start) a.leads.
   leads = record { events = b.events ++ a.leads.events; simulates = subst (Simulates new) (sym (run-append b.events a.leads.events a.start)) b.simulates };
 }
 
--- where events lead on and the schema stays, a world goes on alike
-pub goes_on_alike : (old new : WorldState) → new.schema ≡ old.schema → ((v : Core) → Simulates old v → Leads new v) → GoesOnAlike old → GoesOnAlike new
-goes_on_alike old new same leads a = leads_on old new (goes_on old new same leads a.goes) leads a
-
 pub step_goes_on_alike : (number : ℕ) (c : Command) (w : WorldState) → GoesOnAlike w → GoesOnAlike (world_step number c w)
-step_goes_on_alike number c w a = leads_on w (world_step number c w) (step_goes_on number c w a.goes) (λ v s. steps_are_events number c w v s) a
+step_goes_on_alike number c w a = goes_on_alike w (world_step number c w) (step_schema number c w a.leads.simulates.behind) (λ v s. steps_are_events number c w v s) a
 
 steps_go_on_alike : (number : ℕ) (lines : List Command) (w : WorldState) → GoesOnAlike w → GoesOnAlike (world_steps number lines w)
 steps_go_on_alike number [] w a = a
@@ -58,6 +59,7 @@ pub made_goes_on_alike : (w : WorldState) → DeclaresWell w → GoesOnAlike (wo
 made_goes_on_alike w well = record {
   goes = made_goes_on w well;
   schema = w.schema;
+  of_schema = refl;
   start = start_of (world_made w);
   fit = made_fit_start w well.sound;
   meshed = made_meshed w well.sound.sound.shape;
@@ -104,5 +106,16 @@ in_scripts Holds law lines named = law (script_world lines) (script_is lines nam
 pub in_worlds : (Holds : WorldState → Type 0) → ((w : WorldState) → IsOfConvergence w → Holds w) → InWorlds Holds
 in_worlds Holds law w well number lines = law (world_steps number lines (world_made w)) (Going (steps_go_on_alike number lines (world_made w) (made_goes_on_alike w well)))
 
-pub convergence_holds_of : QuietMastersAgree → ErrorsAreExcused → GroupsAreJoined → GroupsAreJoinedSince → (w : WorldState) → IsOfConvergence w → ConvergenceHolds w
-convergence_holds_of agree excused joined since w is = record { agree = agree_of agree w is; excused = excused_of excused w is; joined = joined_of joined w is; since = since_of since w is }
+pub convergence_holds_of : QuietMastersAgree → QuietMastersAgreeAgain → ErrorsAreExcused → MissingRowsAreOfInsertsInError → MissingRowsAreOfLostInserts → GroupsAreJoined → GroupsAreJoinedSince
+    → LatestValuesTellApart
+    → (w : WorldState) → IsOfConvergence w → ConvergenceHolds w
+convergence_holds_of agree again excused lost lost_before joined since greatest w is = record {
+  agree = agree_of agree w is;
+  excused = excused_of excused w is;
+  lost = lost_of lost w is;
+  again = again_of again w is;
+  history = history_of again lost_before w is;
+  joined = joined_of joined w is;
+  since = since_of since w is;
+  greatest = greatest_of greatest w is;
+}

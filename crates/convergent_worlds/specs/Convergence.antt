@@ -1,14 +1,19 @@
--- What holds of the sites of every world: which masters agree, what excuses an error, and what the groups of rows are.
-use Rattle.std.specs.Prelude.{◌≡◌, true, Some}
+-- What holds of the sites of every world: which masters agree, what excuses an error, which rows are missing, and what the
+-- groups of rows are.
+use Rattle.std.specs.Prelude.{◌≡◌, true, false, Some}
 use Rattle.rep_values.specs.declared.name.SiteName.{SiteName}
 use Rattle.site_state.specs.State.{SiteState}
 use Rattle.site_state.specs.Contents.{tables_of}
+use Rattle.site_state.specs.Making.{is_late_master}
 use Rattle.event_laws.specs.Core.{site_of}
 use Rattle.event_laws.specs.Quiet.{are_quiet}
 use Rattle.convergence_laws.specs.Laws.{AreJoined, AreJoinedSince}
+use Rattle.convergence_laws.specs.Agreement.{LatestTellApart}
 use Rattle.agreement_laws.specs.Agreement.{NothingWasDropped, MastersAgree}
 use Rattle.excuse_laws.specs.Excuses.{ErrorsAreSo, RefusalsAreSo, IsExcusedOn}
 use Rattle.world_state.specs.World.{WorldState}
+use Rattle.world_state.specs.Phases.{is_setup}
+use Rattle.convergent_worlds.specs.Histories.{MastersAgreeAgain, MissesLostRows, HasHistory}
 
 -- where all masters of a world are quiet and no error of a master's transaction was dropped, they agree
 abbrev pub MastersAgreeWhenQuiet : WorldState → Type 0
@@ -39,9 +44,28 @@ HasJoinsSince w x = AreJoinedSince w.schema x.here.site x.base x.journal
 abbrev pub EachGroupIsJoinedSince : WorldState → Type 0
 EachGroupIsJoinedSince w = AtEachMaster HasJoinsSince w
 
+-- at a master that was there from the start the insert of a missing row of a convergent table is in error there or was dropped
+-- there
+abbrev pub LosesInserts : WorldState → SiteState → Type 0
+LosesInserts w x = is_late_master w.schema x.here.site ≡ false → MissesLostRows w.schema (λ table key. false) x
+
+abbrev pub EachMissingRowIsLost : WorldState → Type 0
+EachMissingRowIsLost w = AtEachMaster LosesInserts w
+
+-- the latest values of a row, its first ones and those of all parts applied there, tell apart: one of them is the greatest
+abbrev pub HasGreatest : WorldState → SiteState → Type 0
+HasGreatest w x = LatestTellApart w.schema x.base x.journal
+
+abbrev pub EachHasGreatest : WorldState → Type 0
+EachHasGreatest w = AtEachMaster HasGreatest w
+
 -- all of it
 pub record ConvergenceHolds (w : WorldState) : Type 0 where
   pub agree : MastersAgreeWhenQuiet w
   pub excused : EachErrorIsExcused w
+  pub lost : EachMissingRowIsLost w
+  pub again : MastersAgreeAgain w
+  pub history : is_setup w.phase ≡ false → HasHistory w
   pub joined : EachGroupIsJoined w
   pub since : EachGroupIsJoinedSince w
+  pub greatest : EachHasGreatest w

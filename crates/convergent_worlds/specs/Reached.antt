@@ -1,31 +1,27 @@
 -- What the type of a world keeps so that the laws of convergence hold of it.
+use Rattle.std.specs.Prelude.{◌≡◌}
 use Rattle.rep_schema.specs.declared.schema.Schema.{Schema}
 use Rattle.event_laws.specs.Core.{Core}
 use Rattle.event_laws.specs.Fitting.{IsFitStart}
 use Rattle.event_laws.specs.Waiting.{AreMeshed}
-use Rattle.agreement_laws.specs.Beginning.{BeginAlike}
-use Rattle.excuse_laws.specs.Excuses as excuses
 use Rattle.world_state.specs.World.{WorldState}
 use Rattle.world_state.specs.Making.{world_made}
 use Rattle.world_laws.specs.Simulation.{Leads}
 use Rattle.snapshot_worlds.specs.WellDeclared.{DeclaresWell}
 use Rattle.snapshot_worlds.specs.Starts.{start_of}
 use Rattle.snapshot_worlds.specs.Reached.{DeclaresSoFar, GoesOn}
+use Rattle.convergent_worlds.specs.Beginning.{MastersBeginAlike}
 use Rattle.convergent_worlds.specs.Convergence.{ConvergenceHolds}
 
--- masters begin alike, as the law of agreement asks it and as the law of errors does
-pub record MastersBeginAlike (schema : Schema) (start : Core) : Type 0 where
-  pub rows : BeginAlike schema start
-  pub keys : excuses.BeginAlike schema start.sites
-
--- so they do where Setup's end makes them
+-- masters begin alike where Setup's end makes them
 abbrev pub MadeWorldsBeginAlike : Type 0
 MadeWorldsBeginAlike = (w : WorldState) → DeclaresWell w → MastersBeginAlike w.schema (start_of (world_made w))
 
--- the laws of snapshots go on to hold of a world, and events lead to it from sites of a schema where masters begin alike
+-- the laws of snapshots go on to hold of a world, and events lead to it from sites of its schema where masters begin alike
 pub record GoesOnAlike (w : WorldState) : Type 0 where
   pub goes : GoesOn w
   pub schema : Schema
+  pub of_schema : schema ≡ w.schema
   pub start : Core
   pub fit : IsFitStart schema start
   pub meshed : AreMeshed schema start.sites

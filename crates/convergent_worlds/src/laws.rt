@@ -1,9 +1,10 @@
 //! Laws over all scripts. A function calls the laws over events that its own stands on, and does nothing else.
 ghost use Rattle.snapshot_worlds.specs.Worlds.{InScripts, InWorlds};
-ghost use Rattle.convergent_worlds.specs.Convergence.{ConvergenceHolds, EachErrorIsExcused, EachGroupIsJoined, EachGroupIsJoinedSince, MastersAgreeWhenQuiet};
+ghost use Rattle.convergent_worlds.specs.Convergence.{ConvergenceHolds, EachErrorIsExcused, EachGroupIsJoined, EachGroupIsJoinedSince, EachHasGreatest, MastersAgreeWhenQuiet};
 ghost use Rattle.convergent_worlds.specs.Reached.{HoldsOfConvergence, MadeWorldsBeginAlike};
 
-use agreement_laws::quiet_masters_agree;
+use agreement_laws::{latest_values_tell_apart, quiet_masters_agree, quiet_masters_agree_again};
+use causal_laws::{missing_rows_are_of_inserts_in_error, missing_rows_are_of_lost_inserts};
 use convergence_laws::{groups_are_joined, groups_are_joined_since};
 use excuse_laws::errors_are_excused;
 
@@ -21,8 +22,8 @@ pub fn quiet_masters_of_worlds_agree()
     quiet_masters_agree();
 }
 
-/// At each master of every world an error of a transaction on convergent tables is of a row that was never there, or of a
-/// number that leaves its range; and so is an execution that is refused.
+/// At each master of every world an error of a transaction on convergent tables is of a row that was never there, or of a sum
+/// that leaves ±10^15; and so is an execution that is refused.
 pub fn errors_of_worlds_are_excused()
     ensures scripts { InScripts EachErrorIsExcused }
     ensures worlds { InWorlds EachErrorIsExcused }
@@ -42,14 +43,32 @@ pub fn groups_of_worlds_are_joined()
     groups_are_joined_since();
 }
 
-/// All of this holds of every world.
+/// At each master of every world the latest values of a row tell apart: those of one stamp and level are the same, so that one of
+/// them is the greatest.
+pub fn latest_values_of_worlds_tell_apart()
+    ensures scripts { InScripts EachHasGreatest }
+    ensures worlds { InWorlds EachHasGreatest }
+{
+    latest_values_tell_apart();
+}
+
+/// All of this holds of every world, and more. At a master that was there from the start the insert of a missing row is in error
+/// or was dropped there. Where masters are quiet and agree, they agree again behind whatever lines, where they are quiet then
+/// and no error of a master's transaction was dropped since. And behind Setup a world has a history: events lead to it from a
+/// start with masters alike. Since each moment of these at which masters were quiet and agreed it is as with lines; and at
+/// each master, a joined one too, a missing row's insert is in error or was dropped there, or it was dropped before the master
+/// joined.
 pub fn convergence_holds()
     ensures scripts { InScripts ConvergenceHolds }
     ensures worlds { InWorlds ConvergenceHolds }
     ensures kept { HoldsOfConvergence }
 {
     quiet_masters_agree();
+    quiet_masters_agree_again();
     errors_are_excused();
+    missing_rows_are_of_inserts_in_error();
+    missing_rows_are_of_lost_inserts();
     groups_are_joined();
     groups_are_joined_since();
+    latest_values_tell_apart();
 }

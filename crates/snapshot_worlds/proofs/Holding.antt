@@ -1,12 +1,12 @@
 -- What holds of the sites of a world that goes on from where the laws of snapshots begin, and of a refresh there.
-use Rattle.std.proofs.Common.{◌≡◌, ◌<◌, List, [], ◌∷◌, length, map, true, false, Some, None, refl, sym, ap, ◌∙◌, subst}
+use Rattle.std.proofs.Common.{◌≡◌, ◌<◌, List, [], ◌∷◌, length, map, false, Some, None, refl, sym, ap, ◌∙◌, subst}
 use Rattle.std.specs.Prelude.{Option}
 use Rattle.std.specs.List.{AllByRecursion}
 use Rattle.rep_values.specs.declared.name.SiteName.{SiteName}
 use Rattle.rep_values.specs.declared.refusal.Refusal.{Refusal}
 use Rattle.rep_values.specs.declared.refusal.Refusal.TheVariants as refusal
 use Rattle.rep_values.specs.RefusalSteps.{refused, first_refusal, known}
-use Rattle.rep_values.proofs.RefusalSteps.{or_then-None, refused-None, refused_not-None}
+use Rattle.rep_values.proofs.RefusalSteps.{or_then-None, refused-None}
 use Rattle.rep_schema.specs.declared.schema.Schema.{Schema}
 use Rattle.rep_schema.specs.Shape.{HasShape}
 use Rattle.rep_schema.specs.Tables.{columns_of, rows_of, IsTable, AreTables}
@@ -19,7 +19,7 @@ use Rattle.site_state.specs.Notes.{pending_keys, purged_of, is_too_young}
 use Rattle.site_state.specs.Refreshes.{rows_shown, renewed}
 use Rattle.site_state.specs.Fits.{AreWithin}
 use Rattle.event_laws.specs.Core.{Core, site_of, at_site}
-use Rattle.event_laws.specs.Events.{Event, master_of, found_site, is_all_acked, refreshed, run}
+use Rattle.event_laws.specs.Events.{Event, master_of, found_site, refreshed, run}
 use Rattle.event_laws.specs.Starts.{IsStart}
 use Rattle.event_laws.specs.Declared.{AreDeclared}
 use Rattle.event_laws.proofs.Sites.{found_name, found_all}
@@ -39,14 +39,15 @@ use Rattle.snapshot_laws.proofs.Refreshing.{refreshed_here}
 use Rattle.snapshot_laws.proofs.RunsFit.{SitesFit, run_fits}
 use Rattle.snapshot_laws.proofs.Events.{run_keeps_up}
 use Rattle.snapshot_laws.proofs.SnapshotLaws.{other_keys_are_the_masters, refreshed_is_the_query}
+use Rattle.snapshot_laws.proofs.RisingKeys.{snapshot_keys_rise}
 use Rattle.snapshot_laws.proofs.LogLaws.{noted_are_above_purged}
 use Rattle.world_state.specs.World.{WorldState}
 use Rattle.world_state.specs.Phases.{behind_setup_step}
-use Rattle.world_state.specs.Refusals.{waiting_count, young_step, refresh_steps, world_refusal}
+use Rattle.world_state.specs.Refusals.{young_step, refresh_steps, world_refusal}
 use Rattle.world_state.specs.Steps.{step_by}
 use Rattle.world_laws.proofs.Finding.{of_at, of_other}
 use Rattle.world_laws.proofs.UnrefusedLines.{refreshed-made}
-use Rattle.snapshot_worlds.specs.Sites.{master_in, OthersAreShown, CanRefreshFrom, EachCanRefresh, EachIsNotedSince, EachIsOfSchema, SnapshotsHold}
+use Rattle.snapshot_worlds.specs.Sites.{master_in, OthersAreShown, CanRefreshFrom, EachCanRefresh, EachKeyComesOnce, EachIsNotedSince, EachIsOfSchema, SnapshotsHold}
 use Rattle.snapshot_worlds.specs.Refreshes.{ShowsItsMaster, RefreshesShowTheQuery}
 use Rattle.snapshot_worlds.specs.Reached.{GoesOn}
 use Rattle.snapshot_worlds.proofs.Each.{all_both}
@@ -63,13 +64,12 @@ none_young logs (s ∷ ss) none =
 run_sites_of : (schema : Schema) (start : Core) (events : List Event) → IsStart schema start → AreDeclared schema start.sites → AllByRecursion (IsSiteOf schema) (run events start).sites
 run_sites_of schema start events is declared = run_keeps (λ xs sent. AllByRecursion (IsSiteOf schema) xs) (becomes_sites_of schema) events start (start_sites_of schema start.sites is.sites declared.each)
 
--- a refresh that isn't refused is of a site whose transactions are all acknowledged, from a master that is there
+-- a refresh that isn't refused is of a site that is there, from a master that is there
 record MayRefresh (site : SiteName) (w : WorldState) : Type 0 where
   here : SiteState
   found : site_of site w.sites ≡ Some here
   master : SiteState
   served : master_in site w ≡ Some master
-  acked : is_all_acked here ≡ true
 
 may_refresh : (site : SiteName) (mode : Refresh) (w : WorldState) → world_refusal (command.Refresh site mode) w ≡ None → MayRefresh site w
 may_refresh site mode w passes = go (site_of site w.sites) refl (master_in site w) refl (or_then-None (behind_setup_step w) _ passes).1
@@ -82,7 +82,6 @@ may_refresh site mode w passes = go (site_of site w.sites) refl (master_in site 
       found = found;
       master = m;
       served = served;
-      acked = refused_not-None (is_all_acked x) (refusal.QueueNotEmpty (waiting_count x)) (or_then-None _ _ (or_then-None _ _ none).1).0;
     }
 
 module _ (w : WorldState) (g : GoesOn w) where
@@ -178,13 +177,13 @@ module _ (w : WorldState) (g : GoesOn w) where
     abbrev y : SiteState
     y = refreshed w.sites x
 
-    shows : is_all_acked x ≡ true → AllByRecursion (ShowsTheMaster m y) y.snapshots
-    shows acked = refreshed_is_the_query w.schema g.start g.leads.events g.snapshots site x m y (there site x at_x) served isnt_master acked
+    shows : AllByRecursion (ShowsTheMaster m y) y.snapshots
+    shows = refreshed_is_the_query w.schema g.start g.leads.events g.snapshots site x m y (there site x at_x) served isnt_master
         (ap (λ (xs : List SiteState). site_of site (at_site site (refreshed xs) xs)) (sym same) ∙ of_at site (refreshed w.sites) w.sites x (refreshed_here w.sites) at_x)
 
-    kept : is_all_acked x ≡ true → y.snapshots ≡ map (renewed m.moment) x.snapshots
-    kept acked = ap (λ (z : SiteState). z.snapshots) (refreshed-made w.sites x m
-        (ap (λ (s : Schema). found_site w.sites (master_of s x.here.site)) x_is ∙ ap (λ (n : SiteName). found_site w.sites (master_of w.schema n)) named_here ∙ at_m) isnt_master acked)
+    kept : y.snapshots ≡ map (renewed m.moment) x.snapshots
+    kept = ap (λ (z : SiteState). z.snapshots) (refreshed-made w.sites x m
+        (ap (λ (s : Schema). found_site w.sites (master_of s x.here.site)) x_is ∙ ap (λ (n : SiteName). found_site w.sites (master_of w.schema n)) named_here ∙ at_m) isnt_master)
 
     stays : found_site (at_site site (refreshed w.sites) w.sites) (master_of w.schema site) ≡ Some m
     stays = ap (found_site (at_site site (refreshed w.sites) w.sites)) named.of_site
@@ -195,11 +194,14 @@ module _ (w : WorldState) (g : GoesOn w) where
   pub each_can_refresh : EachCanRefresh w
   each_can_refresh site x m at_x at_m = can_refresh site x m at_x at_m
 
+  pub each_key_comes_once : EachKeyComesOnce w
+  each_key_comes_once site x at_x = snapshot_keys_rise w.schema g.start g.leads.events g.snapshots site x (there site x at_x)
+
   pub each_is_noted_since : EachIsNotedSince w
   each_is_noted_since site x at_x master = noted_are_above_purged w.schema g.start g.leads.events g.logs site x (there site x at_x) master
 
   pub holds : SnapshotsHold w
-  holds = record { schemas = of_schema; refreshes = each_can_refresh; logs = each_is_noted_since }
+  holds = record { schemas = of_schema; refreshes = each_can_refresh; keys = each_key_comes_once; logs = each_is_noted_since }
 
   pub refreshes_show : RefreshesShowTheQuery w
   refreshes_show number site mode passes = subst (λ (r : Option Refusal). ShowsItsMaster site w (step_by r number (command.Refresh site mode) w)) (sym passes) (record {
@@ -210,8 +212,8 @@ module _ (w : WorldState) (g : GoesOn w) where
     master = may.master;
     served = may.served;
     stays = stays site may.here may.master may.found may.served;
-    kept = kept site may.here may.master may.found may.served may.acked;
-    shows = shows site may.here may.master may.found may.served may.acked;
+    kept = kept site may.here may.master may.found may.served;
+    shows = shows site may.here may.master may.found may.served;
   })
     where
       may : MayRefresh site w

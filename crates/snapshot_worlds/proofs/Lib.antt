@@ -7,7 +7,7 @@ mod DeclaredSnapshots
 mod Logging
 pub mod Starting
 mod Holding
-mod Staying
+pub mod Staying
 mod Declaring
 pub mod Scripts
 mod WorkedSnapshots

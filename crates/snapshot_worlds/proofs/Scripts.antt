@@ -45,7 +45,7 @@ use Rattle.world_laws.proofs.Starting.{made_simulates, made_meshed}
 use Rattle.world_laws.proofs.Scripts.{HasShape-no_schema, step_of_script}
 use Rattle.snapshot_worlds.specs.WellDeclared.{AreDeclaredOnce, DeclaresWell, ScriptsDeclareWell}
 use Rattle.snapshot_worlds.specs.Starts.{start_of}
-use Rattle.snapshot_worlds.specs.Sites.{EachCanRefresh, EachIsNotedSince, SnapshotsHold}
+use Rattle.snapshot_worlds.specs.Sites.{EachCanRefresh, EachKeyComesOnce, EachIsNotedSince, SnapshotsHold}
 use Rattle.snapshot_worlds.specs.Refreshes.{RefreshesShowTheQuery}
 use Rattle.snapshot_worlds.specs.Worlds.{InWorlds, InScripts}
 use Rattle.snapshot_worlds.specs.Reached.{DeclaresSoFar, GoesOn, IsOfSnapshots, Declares, Goes}
@@ -231,6 +231,7 @@ pub snapshots_hold_of : (w : WorldState) → IsOfSnapshots w → SnapshotsHold w
 snapshots_hold_of w (Declares so_far) = record {
   schemas = λ site x found. absurd (no_site w so_far.setup site x found);
   refreshes = λ site x m found served. absurd (no_site w so_far.setup site x found);
+  keys = λ site x found. absurd (no_site w so_far.setup site x found);
   logs = λ site x found master. absurd (no_site w so_far.setup site x found);
 }
 snapshots_hold_of w (Goes g) = holds w g
@@ -258,6 +259,12 @@ can_refresh_in_scripts = in_scripts EachCanRefresh (λ w is. (snapshots_hold_of 
 
 pub can_refresh_in_worlds : InWorlds EachCanRefresh
 can_refresh_in_worlds = in_worlds EachCanRefresh (λ w is. (snapshots_hold_of w is).refreshes)
+
+pub keys_once_in_scripts : InScripts EachKeyComesOnce
+keys_once_in_scripts = in_scripts EachKeyComesOnce (λ w is. (snapshots_hold_of w is).keys)
+
+pub keys_once_in_worlds : InWorlds EachKeyComesOnce
+keys_once_in_worlds = in_worlds EachKeyComesOnce (λ w is. (snapshots_hold_of w is).keys)
 
 pub noted_since_in_scripts : InScripts EachIsNotedSince
 noted_since_in_scripts = in_scripts EachIsNotedSince (λ w is. (snapshots_hold_of w is).logs)

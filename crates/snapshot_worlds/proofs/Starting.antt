@@ -32,9 +32,9 @@ use Rattle.snapshot_worlds.proofs.Entries.{each_found, master_found, made_found}
 use Rattle.snapshot_worlds.proofs.DeclaredSnapshots.{each_at, each_has, apart_at}
 use Rattle.snapshot_worlds.proofs.Logging.{has_log}
 
--- a snapshot of one of so many tables that wasn't refreshed yet
+-- a snapshot of one of so many tables that wasn't refreshed yet, and of which no key was touched
 abbrev IsNew : ℕ → Snapshot → Type 0
-IsNew number s = (s.table < number) × (s.mark ≡ 0)
+IsNew number s = (s.table < number) × (s.mark ≡ 0) × (s.touched ≡ [])
 
 module _ (w : WorldState) (well : DeclaresWell w) where
   shape : HasShape w.schema
@@ -67,7 +67,7 @@ module _ (w : WorldState) (well : DeclaresWell w) where
     m = site_made w.schema rows w.snapshots master None
 
     new : AllByRecursion (IsNew (length w.schema.tables)) (snapshots_at w.snapshots site)
-    new = each_at (λ (d : DeclaredSnapshot). d.table < length w.schema.tables) (IsNew (length w.schema.tables)) w.snapshots site (λ d below. (below, refl)) well.sound.snapshots
+    new = each_at (λ (d : DeclaredSnapshot). d.table < length w.schema.tables) (IsNew (length w.schema.tables)) w.snapshots site (λ d below. (below, refl, refl)) well.sound.snapshots
 
     apart : AreApart (snapshots_at w.snapshots site)
     apart = apart_at w.snapshots site well.once
@@ -81,11 +81,13 @@ module _ (w : WorldState) (well : DeclaresWell w) where
     logged = all_both (IsNew (length w.schema.tables)) (λ (s : Snapshot). has_snapshot w.snapshots site s.table ≡ true) (λ (s : Snapshot). is_some (log_of s.table m.logs) ≡ true)
         (snapshots_at w.snapshots site) (λ s is has. has_log w.schema shape w.snapshots site master of_site s.table is.0 has) new (each_has w.snapshots site)
 
+    abbrev IsNewAndShown : Snapshot → Type 0
+    IsNewAndShown s = (rows_of x.base s.table ≡ query_rows s.query (rows_of rows s.table)) × (s.mark ≡ 0) × (s.touched ≡ [])
+
     starts_shown : AllByRecursion (StartsShown m x) (snapshots_at w.snapshots site)
-    starts_shown = all_both (λ (s : Snapshot). is_some (log_of s.table m.logs) ≡ true) (λ (s : Snapshot). (rows_of x.base s.table ≡ query_rows s.query (rows_of rows s.table)) × (s.mark ≡ 0)) (StartsShown m x)
-        (snapshots_at w.snapshots site) (λ s has both. record { master = refl; logged = has; below = rw both.1 (omega arith); rows = both.0 }) logged
-        (all_both (λ (s : Snapshot). rows_of x.base s.table ≡ query_rows s.query (rows_of rows s.table)) (IsNew (length w.schema.tables))
-        (λ (s : Snapshot). (rows_of x.base s.table ≡ query_rows s.query (rows_of rows s.table)) × (s.mark ≡ 0)) (snapshots_at w.snapshots site) (λ s rows is. (rows, is.1)) shown new)
+    starts_shown = all_both (λ (s : Snapshot). is_some (log_of s.table m.logs) ≡ true) IsNewAndShown (StartsShown m x)
+        (snapshots_at w.snapshots site) (λ s has all. record { master = refl; logged = has; below = rw all.1 (omega arith); rows = all.0; touched = rw all.2 tt }) logged
+        (all_both (λ (s : Snapshot). rows_of x.base s.table ≡ query_rows s.query (rows_of rows s.table)) (IsNew (length w.schema.tables)) IsNewAndShown (snapshots_at w.snapshots site) (λ s rows is. (rows, is.1, is.2)) shown new)
 
   starts_at : (site : SiteName) (master : Option SiteName) → master_of w.schema site ≡ master → StartsWithSnapshots sites (site_made w.schema rows w.snapshots site master)
   starts_at site None is = record { apart = tt; shown = tt }

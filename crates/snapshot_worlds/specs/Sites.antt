@@ -13,6 +13,7 @@ use Rattle.site_state.specs.Fits.{IsKeyed, AreApart, AreWithin}
 use Rattle.event_laws.specs.Core.{site_of}
 use Rattle.event_laws.specs.Events.{master_of, found_site}
 use Rattle.fast_refresh.specs.Showing.{ShowsOthers}
+use Rattle.snapshot_laws.specs.Laws.{KeysRise}
 use Rattle.snapshot_laws.specs.Logs.{AreNotedSince}
 use Rattle.world_state.specs.World.{WorldState}
 use Rattle.world_state.specs.Refusals.{young_step}
@@ -46,6 +47,11 @@ pub record CanRefreshFrom (m x : SiteState) : Type 0 where
 abbrev pub EachCanRefresh : WorldState → Type 0
 EachCanRefresh w = (site : SiteName) (x m : SiteState) → site_of site w.sites ≡ Some x → master_in site w ≡ Some m → CanRefreshFrom m x
 
+-- at each site of a world the keys that it changed since a snapshot's last refresh rise, and so do those that are pending: each
+-- comes once
+abbrev pub EachKeyComesOnce : WorldState → Type 0
+EachKeyComesOnce w = (site : SiteName) (x : SiteState) → site_of site w.sites ≡ Some x → AllByRecursion KeysRise x.snapshots
+
 -- ---- what the logs have
 
 -- at each master of a world a key was noted since its log was purged, and not behind the present moment
@@ -62,4 +68,5 @@ EachIsOfSchema w = (site : SiteName) (x : SiteState) → site_of site w.sites �
 pub record SnapshotsHold (w : WorldState) : Type 0 where
   pub schemas : EachIsOfSchema w
   pub refreshes : EachCanRefresh w
+  pub keys : EachKeyComesOnce w
   pub logs : EachIsNotedSince w

@@ -1,7 +1,7 @@
 //! Laws over all scripts. The functions are empty: their contracts are the laws.
 ghost use Rattle.snapshot_worlds.specs.WellDeclared.{ScriptsDeclareWell};
 ghost use Rattle.snapshot_worlds.specs.Starts.{MadeWorldsAreSnapshotStarts, MadeWorldsAreLogStarts};
-ghost use Rattle.snapshot_worlds.specs.Sites.{EachCanRefresh, EachIsNotedSince, SnapshotsHold};
+ghost use Rattle.snapshot_worlds.specs.Sites.{EachCanRefresh, EachIsNotedSince, EachKeyComesOnce, SnapshotsHold};
 ghost use Rattle.snapshot_worlds.specs.Refreshes.{RefreshesShowTheQuery};
 ghost use Rattle.snapshot_worlds.specs.Worlds.{InScripts, InWorlds};
 
@@ -21,6 +21,13 @@ pub fn made_worlds_are_starts()
 pub fn sites_of_worlds_can_refresh()
     ensures scripts { InScripts EachCanRefresh }
     ensures worlds { InWorlds EachCanRefresh }
+{}
+
+/// At each site of every world each pending key of a snapshot comes once, by whatever logs: they rise, and so do the keys that
+/// the site changed since the snapshot's last refresh.
+pub fn keys_of_worlds_come_once()
+    ensures scripts { InScripts EachKeyComesOnce }
+    ensures worlds { InWorlds EachKeyComesOnce }
 {}
 
 /// After a line that refreshes a site of a world, each of its snapshots is its query of the master's table of that moment,

@@ -4,6 +4,6 @@
 mod laws;
 
 pub use laws::{
-    logs_of_worlds_are_noted_since, made_worlds_are_starts, refreshes_show_the_query,
-    scripts_declare_well, sites_of_worlds_can_refresh, snapshots_hold,
+    keys_of_worlds_come_once, logs_of_worlds_are_noted_since, made_worlds_are_starts,
+    refreshes_show_the_query, scripts_declare_well, sites_of_worlds_can_refresh, snapshots_hold,
 };

@@ -7,6 +7,7 @@ use Rattle.local_txn.specs.declared.local.Here.{Here}
 use Rattle.site_state.specs.State.{SiteState}
 use Rattle.event_laws.specs.Core.{site_of, at_site}
 use Rattle.event_laws.proofs.Sites.{KeepsHere, at_split}
+pub use Rattle.event_laws.proofs.Sites.{at_twice}
 
 same_name : (f : SiteState → SiteState) → KeepsHere f → (x : SiteState) (name : SiteName) → is_same_site (f x).here.site name ≡ is_same_site x.here.site name
 same_name f keeps x name = ap (λ (h : Here). is_same_site h.site name) (keeps x)
@@ -29,16 +30,6 @@ at_found name f g (y ∷ ys) x found same = go (is_same_site y.here.site name) (
         → cond b (f y ∷ ys) (y ∷ at_site name f ys) ≡ cond b (g y ∷ ys) (y ∷ at_site name g ys)
     go true later found = let is : y ≡ x = cc found in rw (is, same) refl
     go false later found = ap (λ (zs : List SiteState). y ∷ zs) (later found same)
-
--- one change and then another
-pub at_twice : (name : SiteName) (f g : SiteState → SiteState) (xs : List SiteState) → KeepsHere f → at_site name g (at_site name f xs) ≡ at_site name (λ x. g (f x)) xs
-at_twice name f g [] keeps = refl
-at_twice name f g (x ∷ xs) keeps = go (is_same_site x.here.site name) refl (at_twice name f g xs keeps)
-  where
-    go : (b : Bool) → is_same_site x.here.site name ≡ b → at_site name g (at_site name f xs) ≡ at_site name (λ x. g (f x)) xs
-        → at_site name g (cond b (f x ∷ xs) (x ∷ at_site name f xs)) ≡ cond b (g (f x) ∷ xs) (x ∷ at_site name (λ x. g (f x)) xs)
-    go true is later = rw (same_name f keeps x name, is) refl
-    go false is later = rw is (ap (λ (zs : List SiteState). x ∷ zs) later)
 
 -- what is found after a change
 pub of_at : (name : SiteName) (f : SiteState → SiteState) (xs : List SiteState) (x : SiteState) → KeepsHere f → site_of name xs ≡ Some x → site_of name (at_site name f xs) ≡ Some (f x)

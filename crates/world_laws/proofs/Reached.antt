@@ -1,29 +1,25 @@
 -- What the type of a world keeps behind Setup, how each piece of a line keeps it, and what holds of it.
-use Rattle.std.proofs.Common.{◌≡◌, ℕ, List, [], ◌∷◌, ◌++◌, false, Some, refl, ap, ◌∙◌, sym, subst}
+use Rattle.std.proofs.Common.{◌≡◌, ℕ, List, [], ◌∷◌, ◌++◌, false, refl, ap, ◌∙◌, sym, subst}
 use Rattle.std.specs.List.{AllByRecursion}
 use mathlib.Core.Logic.{∥∥₁_elim, ∥∥₁_map}
 use Rattle.std.proofs.Math.Bridge.{le_prop}
 use Rattle.std.proofs.Math.Bool.{Bool-set}
-use Rattle.rep_values.specs.declared.name.SiteName.{SiteName}
 use Rattle.rep_schema.specs.Shape.{HasShape}
-use Rattle.site_state.specs.State.{SiteState}
-use Rattle.event_laws.specs.Core.{site_of}
 use Rattle.event_laws.specs.Events.{run}
 use Rattle.event_laws.specs.Marks.{MarksAreLow, PurgedIsFinished, AreWellNumbered}
 use Rattle.event_laws.specs.Orders.{AreFinishedOnce, AreSettledOnce}
-use Rattle.event_laws.specs.Waiting.{IsDelivered, PassesFinishNothing, NothingWaits}
 use Rattle.script_parse.specs.declared.command.Command.{Command}
 use Rattle.world_state.specs.World.{WorldState}
 use Rattle.world_state.specs.Making.{world_made}
 use Rattle.world_state.specs.Phases.{is_setup}
 use Rattle.world_state.specs.Steps.{world_step}
 use Rattle.world_laws.specs.Simulation.{Simulates, AreEvents}
-use Rattle.world_laws.specs.Worlds.{EachIsSent, AreFrom1, WorldHolds}
+use Rattle.world_laws.specs.Worlds.{EachIsSent, AreFrom1, EachWaitsForNothing, WorldHolds}
 use Rattle.world_laws.specs.Reached.{Reaches, IsReached}
 use Rattle.world_laws.proofs.SiteSteps.{run-append}
 use Rattle.world_laws.proofs.Pieces.{none_lead, steps_are_events}
 use Rattle.world_laws.proofs.Starting.{core_of, made_start, made_simulates, made_meshed}
-use Rattle.world_laws.proofs.WorldLaws.{world_holds, world_waits_for_nothing}
+use Rattle.world_laws.proofs.WorldLaws.{world_holds}
 
 -- a piece of a line keeps it
 pub reached_by : (change : WorldState → WorldState) → AreEvents change → (w : WorldState) → IsReached w → IsReached (change w)
@@ -55,7 +51,7 @@ made_reached w shape = ∣ record {
 -- ---- what holds of it
 
 holds_of : (w : WorldState) → Reaches w → WorldHolds w
-holds_of w r = world_holds w r.schema r.start r.is r.meshed.declared r.leads
+holds_of w r = world_holds w r.schema r.start r.is r.meshed r.leads
 
 pub reached_behind : (w : WorldState) → IsReached w → is_setup w.phase ≡ false
 reached_behind w reached = ∥∥₁_elim reached (Bool-set _ _) (λ r. r.leads.simulates.behind)
@@ -88,6 +84,5 @@ pub reached_from_1 : (w : WorldState) → IsReached w → AreFrom1 w.sites
 reached_from_1 w reached = λ site origin x found. ∥∥₁_elim reached (all_prop _ (λ a p q. le_prop p q) _) (λ r. (holds_of w r).from_1 site origin x found)
 
 -- nothing waits for ever
-pub reached_waits_for_nothing : (w : WorldState) → IsReached w → (site : SiteName) (x : SiteState) → site_of site w.sites ≡ Some x → IsDelivered w.sites site x → PassesFinishNothing x → NothingWaits x
-reached_waits_for_nothing w reached site x found delivered finish =
-    λ origin position there. ∥∥₁_elim reached (Bool-set _ _) (λ r. world_waits_for_nothing w r.schema r.start r.is r.meshed r.leads site x found delivered finish origin position there)
+pub reached_waits_for_nothing : (w : WorldState) → IsReached w → EachWaitsForNothing w.sites
+reached_waits_for_nothing w reached site x found delivered finish = λ origin position there. ∥∥₁_elim reached (Bool-set _ _) (λ r. (holds_of w r).waits site x found delivered finish origin position there)

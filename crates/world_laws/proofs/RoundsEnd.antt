@@ -1,10 +1,9 @@
 -- The rounds end: each round in which something is ready finishes a position that arrived.
 use Rattle.std.proofs.Common.{◌≡◌, ℕ, zero, suc, ◌+◌, ◌<◌, ◌≤◌, List, [], ◌∷◌, length, Bool, true, false, cond, Some, None, refl, sym, ap, ◌∙◌, arith, subst}
-use Rattle.std.specs.Prelude.{◌&&◌, ◌||◌, not, is_none, Option, Result, Ok, Err}
+use Rattle.std.specs.Prelude.{◌||◌, is_none, Option, Result, Ok, Err}
 use Rattle.std.specs.List.{list_any}
-use Rattle.std.specs.declared.cmp.Ordering.{Ordering}
-use Rattle.std.specs.declared.cmp.Ordering.TheVariants.{Less, Equal, Greater}
-use Rattle.rep_lists.specs.Rising.{find_at, found_here}
+use Rattle.std.proofs.lemmas.Bool.{or_left, or_right}
+use Rattle.rep_lists.specs.Rising.{find_at}
 use Rattle.rep_values.specs.declared.name.SiteName.{SiteName}
 use Rattle.deferred_queue.specs.Streams.{is_same_site}
 use Rattle.deferred_queue.proofs.Sites.{is_same_site-true}
@@ -19,82 +18,18 @@ use Rattle.site_state.specs.Journal.{finished, is_position}
 use Rattle.site_state.specs.Ready.{is_due, stale_found, stale_of, is_ready}
 use Rattle.site_state.specs.Steps.{begun, count_where}
 use Rattle.site_state.specs.Passes.{effect_here, finished_by, applied_unless, site_apply, apply_each, site_pass}
-use Rattle.site_state.proofs.Stepping.{with_entry, Steps, apply_steps, found_at}
-use Rattle.site_state.proofs.LowWater.{finished-append}
+use Rattle.site_state.proofs.Stepping.{Steps, apply_steps, found_at}
 use Rattle.event_laws.proofs.ErrorLaws.{is_position-own}
+use Rattle.event_laws.proofs.WaitingCounts.{is_waiting, waiting_count, FinishesMore, steps_finish_more, waiting_falls, is_new, waiting_less, found_any}
 use Rattle.world_state.specs.Rounds.{is_ready_here, has_ready, passed_where_ready, round, rounds, sender_names, arrived_count, site_rounds}
 use Rattle.world_laws.specs.Worlds.{NothingReady}
-
--- ---- how many positions wait
-
-abbrev is_waiting : SiteName → List Entry → Arrival → Bool
-is_waiting origin journal a = not (finished origin journal a.position)
-
-abbrev waiting : List Entry → List SenderState → ℕ
-waiting journal [] = 0
-waiting journal (s ∷ ss) = count_where (is_waiting s.origin journal) s.arrived + waiting journal ss
-
--- the later journal finishes what the earlier one does
-abbrev Finishes : List Entry → List Entry → Type 0
-Finishes before after = (origin : SiteName) (p : ℕ) → finished origin before p ≡ true → finished origin after p ≡ true
-
-fewer : {A : Type 0} (f g : A → Bool) (xs : List A) → ((a : A) → g a ≡ true → f a ≡ true) → count_where g xs ≤ count_where f xs
-fewer f g [] less = omega arith
-fewer f g (x ∷ xs) less = go (g x) refl (f x) refl (fewer f g xs less)
-  where
-    go : (b : Bool) → g x ≡ b → (c : Bool) → f x ≡ c → count_where g xs ≤ count_where f xs → cond b (count_where g xs + 1) (count_where g xs) ≤ cond c (count_where f xs + 1) (count_where f xs)
-    go true is true at later = omega (arith, later)
-    go true is false at later = absurd (cc (less x is, at))
-    go false is true at later = omega (arith, later)
-    go false is false at later = later
-
--- one of them is no longer so
-one_fewer : {A : Type 0} (f g : A → Bool) (xs : List A) → ((a : A) → g a ≡ true → f a ≡ true) → list_any (λ (a : A). f a && not (g a)) xs ≡ true → count_where g xs < count_where f xs
-one_fewer f g [] less some = absurd (cc some)
-one_fewer f g (x ∷ xs) less some = go (g x) refl (f x) refl some (fewer f g xs less) (one_fewer f g xs less)
-  where
-    go : (b : Bool) → g x ≡ b → (c : Bool) → f x ≡ c → ((c && not b) || list_any (λ a. f a && not (g a)) xs) ≡ true → count_where g xs ≤ count_where f xs
-        → (list_any (λ a. f a && not (g a)) xs ≡ true → count_where g xs < count_where f xs)
-        → cond b (count_where g xs + 1) (count_where g xs) < cond c (count_where f xs + 1) (count_where f xs)
-    go true is true at some rest later = omega (arith, later some)
-    go true is false at some rest later = absurd (cc (less x is, at))
-    go false is true at some rest later = omega (arith, rest)
-    go false is false at some rest later = later some
-
-waits_less : (origin : SiteName) (before after : List Entry) → Finishes before after → (a : Arrival) → is_waiting origin after a ≡ true → is_waiting origin before a ≡ true
-waits_less origin before after more a is = go (finished origin before a.position) refl (finished origin after a.position) refl is
-  where
-    go : (b : Bool) → finished origin before a.position ≡ b → (c : Bool) → finished origin after a.position ≡ c → not c ≡ true → not b ≡ true
-    go true was c now is = absurd (cc (more origin a.position was, now, is))
-    go false was c now is = refl
-
-waiting_falls : (before after : List Entry) (ss : List SenderState) → Finishes before after → waiting after ss ≤ waiting before ss
-waiting_falls before after [] more = omega arith
-waiting_falls before after (s ∷ ss) more = omega (arith, fewer (is_waiting s.origin before) (is_waiting s.origin after) s.arrived (waits_less s.origin before after more), waiting_falls before after ss more)
-
--- a position that waited and is finished
-abbrev is_new : SiteName → List Entry → List Entry → Arrival → Bool
-is_new origin before after a = is_waiting origin before a && not (is_waiting origin after a)
-
-waiting_less : (origin : SiteName) (before after : List Entry) (ss : List SenderState) → Finishes before after → list_any (is_new origin before after) (arrived_in (sender_of origin ss)) ≡ true → waiting after ss < waiting before ss
-waiting_less origin before after [] more some = absurd (cc some)
-waiting_less origin before after (s ∷ ss) more some = go (is_same_site s.origin origin) refl some (waiting_less origin before after ss more)
-  where
-    own : s.origin ≡ origin → list_any (is_new origin before after) s.arrived ≡ true → count_where (is_waiting s.origin after) s.arrived < count_where (is_waiting s.origin before) s.arrived
-    own same some = rw same (one_fewer (is_waiting origin before) (is_waiting origin after) s.arrived (waits_less origin before after more) some)
-
-    go : (b : Bool) → is_same_site s.origin origin ≡ b → list_any (is_new origin before after) (arrived_in (cond b (Some s) (sender_of origin ss))) ≡ true
-        → (list_any (is_new origin before after) (arrived_in (sender_of origin ss)) ≡ true → waiting after ss < waiting before ss)
-        → count_where (is_waiting s.origin after) s.arrived + waiting after ss < count_where (is_waiting s.origin before) s.arrived + waiting before ss
-    go true is some later = omega (arith, own (is_same_site-true s.origin origin is) some, waiting_falls before after ss more)
-    go false is some later = omega (arith, fewer (is_waiting s.origin before) (is_waiting s.origin after) s.arrived (waits_less s.origin before after more), later some)
 
 -- ---- a pass
 
 -- the senders are as before, and what was finished is
 pub record Goes (x y : SiteState) : Type 0 where
   pub senders : y.senders ≡ x.senders
-  pub more : Finishes x.journal y.journal
+  pub more : FinishesMore x.journal y.journal
 
 goes_refl : (x : SiteState) → Goes x x
 goes_refl x = record { senders = refl; more = λ o p is. is }
@@ -103,11 +38,7 @@ goes_then : (x y z : SiteState) → Goes x y → Goes y z → Goes x z
 goes_then x y z a b = record { senders = b.senders ∙ a.senders; more = λ o p is. b.more o p (a.more o p is) }
 
 steps_go : (x y : SiteState) → Steps x y → Goes x y
-steps_go x y s = record { senders = s.senders; more = λ o p is. rw s.journals.journal (go s.journals.entry o p is) }
-  where
-    go : (e : Option Entry) (o : SiteName) (p : ℕ) → finished o x.journal p ≡ true → finished o (with_entry e x.journal) p ≡ true
-    go None o p is = is
-    go (Some e) o p is = finished-append o (e ∷ []) x.journal p is
+steps_go x y s = record { senders = s.senders; more = steps_finish_more x y s }
 
 each_goes : (origin : SiteName) (arrived : List Arrival) (x : SiteState) → Goes x (apply_each origin arrived x)
 each_goes origin [] x = goes_refl x
@@ -131,14 +62,6 @@ ready_waits origin position x is = go (finished origin x.journal position) refl 
     go : (b : Bool) → finished origin x.journal position ≡ b → is_none (cond b (Some why.Finished) (stale_found origin x (arrived_at origin position x.senders))) ≡ true → b ≡ false
     go true at is = absurd (cc is)
     go false at is = refl
-
-or_left : (b c : Bool) → b ≡ true → (b || c) ≡ true
-or_left true c h = refl
-or_left false c h = cc
-
-or_right : (b c : Bool) → c ≡ true → (b || c) ≡ true
-or_right true c h = refl
-or_right false c h = h
 
 by_finishes : (origin : SiteName) (a : Arrival) (x : SiteState) (r : Result Effect Failure) → finished origin (finished_by origin a r x).journal a.position ≡ true
 by_finishes origin a x (Ok effect) = or_left (is_position origin a.position origin a.position) _ (is_position-own origin a.position a.position refl)
@@ -181,7 +104,7 @@ each_finishes origin (a ∷ arrived) x some = go (each_finishes origin arrived x
         (subst (λ (z : SiteState). list_any (is_new origin x.journal (apply_each origin arrived z).journal) arrived ≡ true) (sym (stale_same origin a.position x is)) (later some))
 
 -- so a pass for which something is ready lowers the count
-pass_lowers : (origin : SiteName) (x : SiteState) → has_ready origin x ≡ true → waiting (site_pass origin x).journal x.senders < waiting x.journal x.senders
+pass_lowers : (origin : SiteName) (x : SiteState) → has_ready origin x ≡ true → waiting_count (site_pass origin x).journal x.senders < waiting_count x.journal x.senders
 pass_lowers origin x is = waiting_less origin x.journal (site_pass origin x).journal x.senders (pass_goes origin x).more (each_finishes origin (arrivals origin x) (begun x) is)
 
 -- ---- rounds
@@ -204,12 +127,12 @@ rounds_go (suc n) os x = goes_then x (round os x) (rounds n os (round os x)) (ro
 abbrev any_ready : List SiteName → SiteState → Bool
 any_ready os x = list_any (λ o. has_ready o x) os
 
-round_lowers : (os : List SiteName) (x : SiteState) → any_ready os x ≡ true → waiting (round os x).journal x.senders < waiting x.journal x.senders
+round_lowers : (os : List SiteName) (x : SiteState) → any_ready os x ≡ true → waiting_count (round os x).journal x.senders < waiting_count x.journal x.senders
 round_lowers [] x some = absurd (cc some)
 round_lowers (o ∷ os) x some = go (has_ready o x) refl some (round_lowers os x)
   where
-    go : (b : Bool) → has_ready o x ≡ b → (b || any_ready os x) ≡ true → (any_ready os x ≡ true → waiting (round os x).journal x.senders < waiting x.journal x.senders)
-        → waiting (round os (cond b (site_pass o x) x)).journal x.senders < waiting x.journal x.senders
+    go : (b : Bool) → has_ready o x ≡ b → (b || any_ready os x) ≡ true → (any_ready os x ≡ true → waiting_count (round os x).journal x.senders < waiting_count x.journal x.senders)
+        → waiting_count (round os (cond b (site_pass o x) x)).journal x.senders < waiting_count x.journal x.senders
     go true is some later = omega (arith, pass_lowers o x is, waiting_falls (site_pass o x).journal (round os (site_pass o x)).journal x.senders (round_goes os (site_pass o x)).more)
     go false is some later = later some
 
@@ -227,7 +150,7 @@ rounds_same zero os x none = refl
 rounds_same (suc n) os x none = ap (rounds n os) (round_same os x none) ∙ rounds_same n os x none
 
 -- as many rounds as positions wait leave nothing ready
-rounds_end : (n : ℕ) (os : List SiteName) (x : SiteState) → waiting x.journal x.senders ≤ n → any_ready os (rounds n os x) ≡ false
+rounds_end : (n : ℕ) (os : List SiteName) (x : SiteState) → waiting_count x.journal x.senders ≤ n → any_ready os (rounds n os x) ≡ false
 rounds_end zero os x le = go (any_ready os x) refl
   where
     go : (b : Bool) → any_ready os x ≡ b → b ≡ false
@@ -235,10 +158,10 @@ rounds_end zero os x le = go (any_ready os x) refl
     go false is = refl
 rounds_end (suc n) os x le = go (any_ready os x) refl (rounds_end n os (round os x))
   where
-    less : any_ready os x ≡ true → waiting (round os x).journal (round os x).senders ≤ n
+    less : any_ready os x ≡ true → waiting_count (round os x).journal (round os x).senders ≤ n
     less is = rw (round_goes os x).senders (omega (arith, le, round_lowers os x is))
 
-    go : (b : Bool) → any_ready os x ≡ b → (waiting (round os x).journal (round os x).senders ≤ n → any_ready os (rounds n os (round os x)) ≡ false) → any_ready os (rounds n os (round os x)) ≡ false
+    go : (b : Bool) → any_ready os x ≡ b → (waiting_count (round os x).journal (round os x).senders ≤ n → any_ready os (rounds n os (round os x)) ≡ false) → any_ready os (rounds n os (round os x)) ≡ false
     go true is later = later (less is)
     go false is later = subst (λ (z : SiteState). any_ready os (rounds n os z) ≡ false) (sym (round_same os x is)) (ap (any_ready os) (rounds_same n os x is) ∙ is)
 
@@ -250,20 +173,11 @@ count_at_most f (x ∷ xs) = go (f x) (count_at_most f xs)
     go true le = omega (arith, le)
     go false le = omega (arith, le)
 
-waiting_at_most : (journal : List Entry) (ss : List SenderState) → waiting journal ss ≤ arrived_count ss
+waiting_at_most : (journal : List Entry) (ss : List SenderState) → waiting_count journal ss ≤ arrived_count ss
 waiting_at_most journal [] = omega arith
 waiting_at_most journal (s ∷ ss) = omega (arith, count_at_most (is_waiting s.origin journal) s.arrived, waiting_at_most journal ss)
 
 -- ---- nothing is ready
-
-found_any : (f : Arrival → Bool) (position : ℕ) (arrived : List Arrival) (a : Arrival) → find_at (beside position) arrived ≡ Some a → f a ≡ true → list_any f arrived ≡ true
-found_any f position [] a found is = absurd (cc found)
-found_any f position (b ∷ bs) a found is = go (beside position b) found (found_any f position bs a)
-  where
-    go : (o : Ordering) → found_here o b (find_at (beside position) bs) ≡ Some a → (find_at (beside position) bs ≡ Some a → f a ≡ true → list_any f bs ≡ true) → (f b || list_any f bs) ≡ true
-    go Less found later = or_right (f b) (list_any f bs) (later found is)
-    go Equal found later = let same : b ≡ a = cc found in or_left (f b) (list_any f bs) (rw same is)
-    go Greater found later = absurd (cc found)
 
 origin_any : (f : SiteName → Bool) (origin : SiteName) (position : ℕ) (ss : List SenderState) (a : Arrival) → arrived_at origin position ss ≡ Some a → f origin ≡ true → list_any f (sender_names ss) ≡ true
 origin_any f origin position [] a found is = absurd (cc found)

@@ -12,11 +12,9 @@ use Rattle.rep_schema.specs.Shape.{HasShape, no_schema}
 use Rattle.rep_schema.specs.Named.{table_place}
 use Rattle.rep_declare.specs.Refusals.{refusal_of}
 use Rattle.rep_declare.proofs.DeclaredShapes.{HasShape-declared}
-use Rattle.site_state.specs.State.{SiteState}
 use Rattle.site_state.proofs.SchemaSites.{own_is_no_sender}
 use Rattle.event_laws.specs.Core.{Core, site_of}
 use Rattle.event_laws.specs.Events.{run}
-use Rattle.event_laws.specs.Waiting.{IsDelivered, PassesFinishNothing, NothingWaits}
 use Rattle.world_state.specs.declared.phase.Phase.{Phase}
 use Rattle.world_state.specs.declared.phase.Phase.TheVariants as phase
 use Rattle.script_parse.specs.declared.command.Command.{Command}
@@ -37,7 +35,7 @@ use Rattle.world_laws.proofs.SiteSteps.{run-append}
 use Rattle.world_laws.proofs.Pieces.{none_lead, steps_are_events}
 use Rattle.world_laws.proofs.Pushes.{pushes_leave_nothing_ready}
 use Rattle.world_laws.proofs.Starting.{core_of, made_start, made_simulates, made_meshed}
-use Rattle.world_laws.proofs.WorldLaws.{holds_as_run, world_holds, world_waits_for_nothing}
+use Rattle.world_laws.proofs.WorldLaws.{holds_as_run, world_holds}
 use Rattle.world_laws.proofs.RefusedLines.{refused_leaves, refused_block}
 
 -- ---- nothing is declared
@@ -170,18 +168,15 @@ abbrev no_core : Core
 no_core = record { sites = []; sent = []; begun = [] }
 
 pub of_script_holds : (w : WorldState) → IsOfScript w → WorldHolds w
-of_script_holds w (InSetup in_setup) = holds_as_run w w.schema no_core [] (record { sites = tt; sent = refl }) (record { shape = in_setup.shape; each = tt }) in_setup.sites
-of_script_holds w (Behind r) = world_holds w r.schema r.start r.is r.meshed.declared r.leads
+of_script_holds w (InSetup in_setup) = holds_as_run w w.schema no_core [] (record { sites = tt; sent = refl })
+    (record { declared = record { shape = in_setup.shape; each = tt }; streams = λ site. tt; closed = λ site absent x found late none. cc }) in_setup.sites
+of_script_holds w (Behind r) = world_holds w r.schema r.start r.is r.meshed r.leads
 
 pub scripts_hold : ScriptsHold
 scripts_hold lines named = of_script_holds (script_world lines) (script_is lines named)
 
-of_script_waits : (w : WorldState) → IsOfScript w → (site : SiteName) (x : SiteState) → site_of site w.sites ≡ Some x → IsDelivered w.sites site x → PassesFinishNothing x → NothingWaits x
-of_script_waits w (InSetup in_setup) site x found delivered finish = let none : site_of site w.sites ≡ None = ap (site_of site) in_setup.sites in absurd (cc (none, found))
-of_script_waits w (Behind r) site x found delivered finish = world_waits_for_nothing w r.schema r.start r.is r.meshed r.leads site x found delivered finish
-
 pub nothing_waits_in_scripts : NothingWaitsInScripts
-nothing_waits_in_scripts lines named site x found delivered finish = of_script_waits (script_world lines) (script_is lines named) site x found delivered finish
+nothing_waits_in_scripts lines named = (scripts_hold lines named).waits
 
 -- a push that isn't refused is to another site
 reported_push_to_another : (from to : SiteName) (count : Option ℕ) (w : WorldState) → HasShape w.schema → world_refusal (command.Push from to count) w ≡ None → from ≢ to

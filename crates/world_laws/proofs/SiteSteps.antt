@@ -3,7 +3,6 @@ use Rattle.std.proofs.Common.{◌≡◌, ℕ, zero, suc, List, [], ◌∷◌, �
 use Rattle.std.specs.Prelude.{◌||◌, not, take, Option}
 use Rattle.std.specs.List.{AllByRecursion}
 use Rattle.rep_values.specs.declared.name.SiteName.{SiteName}
-use Rattle.deferred_queue.specs.Streams.{is_same_site}
 use Rattle.deferred_queue.proofs.Sites.{is_same_site-refl}
 use Rattle.packet_code.specs.declared.packet.Packet.{Packet}
 use Rattle.site_state.specs.declared.arrival.Arrival.{Arrival}
@@ -15,16 +14,12 @@ use Rattle.site_state.proofs.Stepping.{apply_steps}
 use Rattle.event_laws.specs.Core.{Core, site_of, at_site}
 use Rattle.event_laws.specs.Events.{Event, delivered, is_master_in, applied_where, happens, run}
 use Rattle.event_laws.specs.Events as event
-use Rattle.event_laws.proofs.Sites.{KeepsHere}
+use Rattle.event_laws.proofs.Sites.{KeepsHere, at_same, at_twice}
+pub use Rattle.event_laws.proofs.Runs.{run-append}
 use Rattle.world_state.specs.Rounds.{has_ready, passed_where_ready, round, rounds, sender_names, arrived_count, site_rounds, site_settle}
 use Rattle.world_state.specs.Pushes.{taken_each}
 use Rattle.world_laws.specs.Simulation.{WasSent}
-use Rattle.world_laws.proofs.Finding.{at_none, at_found, at_twice, of_at}
-
--- events behind others are events behind what those lead to
-pub run-append : (es fs : List Event) (v : Core) → run (es ++ fs) v ≡ run es (run fs v)
-run-append [] fs v = refl
-run-append (e ∷ es) fs v = ap (happens e) (run-append es fs v)
+use Rattle.world_laws.proofs.Finding.{at_none, at_found, of_at}
 
 -- events lead to these sites, and send nothing
 pub record Runs (v : Core) (ys : List SiteState) : Type 0 where
@@ -39,14 +34,6 @@ runs_behind e v ys zs sent r same = record {
   sites = ap (λ (u : Core). u.sites) (run-append r.events (e ∷ []) v) ∙ r.sites ∙ same;
   sent = ap (λ (u : Core). u.sent) (run-append r.events (e ∷ []) v) ∙ r.sent ∙ sent;
 }
-
-at_same : (name : SiteName) (change : SiteState → SiteState) (xs : List SiteState) → ((x : SiteState) → change x ≡ x) → at_site name change xs ≡ xs
-at_same name change [] same = refl
-at_same name change (x ∷ xs) same = go (is_same_site x.here.site name) (at_same name change xs same)
-  where
-    go : (b : Bool) → at_site name change xs ≡ xs → cond b (change x ∷ xs) (x ∷ at_site name change xs) ≡ x ∷ xs
-    go true later = ap (λ (y : SiteState). y ∷ xs) (same x)
-    go false later = ap (λ (ys : List SiteState). x ∷ ys) later
 
 at_kept : (name : SiteName) (change : SiteState → SiteState) (xs : List SiteState) (x : SiteState) → site_of name xs ≡ Some x → change x ≡ x → at_site name change xs ≡ xs
 at_kept name change xs x found same = at_found name change (λ y. y) xs x found same ∙ at_same name (λ y. y) xs (λ y. refl)

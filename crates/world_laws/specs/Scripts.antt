@@ -6,14 +6,13 @@ use Rattle.rep_values.specs.declared.refusal.Refusal.{Refusal}
 use Rattle.rep_schema.specs.Shape.{HasShape}
 use Rattle.site_state.specs.State.{SiteState}
 use Rattle.event_laws.specs.Core.{site_of}
-use Rattle.event_laws.specs.Waiting.{IsDelivered, PassesFinishNothing, NothingWaits}
 use Rattle.script_parse.specs.declared.command.Command.{Command}
 use Rattle.script_parse.specs.declared.command.Command.TheVariants as command
 use Rattle.script_parse.specs.Named.{NamesColumn}
 use Rattle.world_state.specs.World.{WorldState, first_world}
 use Rattle.world_state.specs.Refusals.{world_refusal}
 use Rattle.world_state.specs.Steps.{world_step, world_steps}
-use Rattle.world_laws.specs.Worlds.{WorldHolds, NothingReady}
+use Rattle.world_laws.specs.Worlds.{EachWaitsForNothing, WorldHolds, NothingReady}
 
 -- the world after the lines of a script
 abbrev pub script_world : List Command → WorldState
@@ -23,10 +22,9 @@ script_world lines = world_steps 1 lines first_world
 abbrev pub ScriptsHold : Type 0
 ScriptsHold = (lines : List Command) → AllByRecursion NamesColumn lines → WorldHolds (script_world lines)
 
--- where all that was queued for a site has arrived there and a pass of any sender finishes nothing, nothing waits there
+-- so nothing waits for ever there
 abbrev pub NothingWaitsInScripts : Type 0
-NothingWaitsInScripts = (lines : List Command) → AllByRecursion NamesColumn lines → (site : SiteName) (x : SiteState)
-    → site_of site (script_world lines).sites ≡ Some x → IsDelivered (script_world lines).sites site x → PassesFinishNothing x → NothingWaits x
+NothingWaitsInScripts = (lines : List Command) → AllByRecursion NamesColumn lines → EachWaitsForNothing (script_world lines).sites
 
 -- once a push is reported no position of any sender is ready at the receiver
 abbrev pub ReportedPushesLeaveNothingReady : Type 0

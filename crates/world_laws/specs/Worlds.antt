@@ -31,6 +31,10 @@ EachIsSent sites = (from to : SiteName) (x : SiteState) (position : ℕ) → sit
 abbrev pub AreFrom1 : List SiteState → Type 0
 AreFrom1 sites = (site origin : SiteName) (x : SiteState) → site_of site sites ≡ Some x → AllByRecursion (λ (a : Arrival). 0 < a.position) (arrivals origin x)
 
+-- where all that was queued for a site has arrived there and a pass of any sender finishes nothing, nothing waits there
+abbrev pub EachWaitsForNothing : List SiteState → Type 0
+EachWaitsForNothing sites = (site : SiteName) (x : SiteState) → site_of site sites ≡ Some x → IsDelivered sites site x → PassesFinishNothing x → NothingWaits x
+
 -- the laws over events, of the sites of a world
 pub record WorldHolds (w : WorldState) : Type 0 where
   pub low : MarksAreLow w.sites
@@ -42,6 +46,7 @@ pub record WorldHolds (w : WorldState) : Type 0 where
   pub passes : EachCanPass w.sites
   pub packets : EachIsSent w.sites
   pub from_1 : AreFrom1 w.sites
+  pub waits : EachWaitsForNothing w.sites
 
 -- they hold of the world that Setup's end makes of a schema that has its shape, and of each that further lines make of it
 abbrev pub WorldsHold : Type 0
@@ -56,8 +61,6 @@ abbrev pub PushesLeaveNothingReady : Type 0
 PushesLeaveNothingReady = (from to : SiteName) (count : Option ℕ) (w : WorldState) (x : SiteState) → from ≢ to
     → site_of to (world_push from to count w).sites ≡ Some x → NothingReady x
 
--- where all that was queued for a site has arrived there and a pass of any sender finishes nothing, nothing waits there
+-- so nothing waits for ever in any of these worlds
 abbrev pub NothingWaitsInWorlds : Type 0
-NothingWaitsInWorlds = (w : WorldState) → HasShape w.schema → (number : ℕ) (lines : List Command) (site : SiteName) (x : SiteState)
-    → site_of site (world_steps number lines (world_made w)).sites ≡ Some x → IsDelivered (world_steps number lines (world_made w)).sites site x
-    → PassesFinishNothing x → NothingWaits x
+NothingWaitsInWorlds = (w : WorldState) → HasShape w.schema → (number : ℕ) (lines : List Command) → EachWaitsForNothing (world_steps number lines (world_made w)).sites
