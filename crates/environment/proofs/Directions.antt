@@ -1,11 +1,13 @@
--- Directions stay, whatever happens on them.
-use Rattle.std.proofs.Common.{◌≡◌, ◌≢◌, ℕ, List, [], ◌∷◌, Bool, true, false, cond, Some, None, refl, ◌∙◌}
-use Rattle.std.specs.Prelude.{Option, is_some}
+-- Directions stay, whatever happens on them; and what becomes of one of several.
+use Rattle.std.proofs.Common.{◌≡◌, ◌≢◌, ℕ, List, [], ◌∷◌, drop, Bool, true, false, cond, Some, None, refl, sym, ◌∙◌}
+use Rattle.std.specs.Prelude.{◌&&◌, Option, option_map, is_some}
 use Rattle.rep_values.specs.declared.name.SiteName.{SiteName}
+use Rattle.deferred_queue.specs.Streams.{is_same_site}
+use Rattle.deferred_queue.proofs.Sites.{is_same_site-true}
 use Rattle.packet_code.specs.declared.packet.Packet.{Packet}
 use Rattle.net_plan.specs.declared.fate.Fate.{Fate}
 use Rattle.net_plan.specs.declared.fate.Fate.TheVariants.{Pass, Lose, Twice, Late}
-use Rattle.net_plan.specs.Directions.{Direction, HasDirection, is_between, direction_of, at_direction, is_up, next_fate, with_packet, with_sent, released}
+use Rattle.net_plan.specs.Directions.{Direction, HasDirection, is_between, direction_of, at_direction, is_up, next_fate, with_packet, with_sent, released, delivered}
 use Rattle.event_laws.specs.Core.{site_of}
 use Rattle.event_laws.specs.Events.{packet_from, mark_from}
 use Rattle.world_state.specs.World.{WorldState}
@@ -46,10 +48,6 @@ stays old new stay from to has = go (direction_of from to old) (direction_of fro
     go (Some d) (Some e) has same = λ is. cc
     go (Some d) None has same = absurd (cc same)
 
--- so whichever direction changes, one that was there is there
-pub HasDirection-at : (a b from to : SiteName) (change : Direction → Direction) → KeepsEnds change → (net : List Direction) → HasDirection net from to → HasDirection (at_direction a b change net) from to
-HasDirection-at a b from to change keeps net = stays net (at_direction a b change net) (stay-at a b change keeps net) from to
-
 ends-with_packet : (fate : Fate) (packet : Packet) → KeepsEnds (with_packet fate packet)
 ends-with_packet Pass packet from to d = refl
 ends-with_packet Lose packet from to d = refl
@@ -57,7 +55,7 @@ ends-with_packet Twice packet from to d = refl
 ends-with_packet Late packet from to d = refl
 
 -- a packet that is sent is such a change
-pub ends-with_sent : (packet : Packet) → KeepsEnds (with_sent packet)
+ends-with_sent : (packet : Packet) → KeepsEnds (with_sent packet)
 ends-with_sent packet from to d = ends-with_packet (next_fate d.fates) packet from to d
 
 stay-sent_on : (packet : Option Packet) (from to : SiteName) (net : List Direction) → Stay net (sent_on packet from to net)
@@ -94,3 +92,70 @@ stay-answer from to w a b = go (is_up from to w.net)
 -- a push leaves each direction there
 pub stay-push : (from to : SiteName) (count : Option ℕ) (w : WorldState) → Stay w.net (world_push from to count w).net
 stay-push from to count w a b = stay-answer to from (world_settle from to (pushed_in from to count w)) a b ∙ stay-pushed_in from to count w a b
+
+-- ---- one direction of several
+
+ends_of : (from to : SiteName) (d : Direction) → is_between from to d ≡ true → (d.from ≡ from) × (d.to ≡ to)
+ends_of from to d is = go (is_same_site d.from from) (is_same_site d.to to) refl refl is
+  where
+    go : (b c : Bool) → is_same_site d.from from ≡ b → is_same_site d.to to ≡ c → (b && c) ≡ true → (d.from ≡ from) × (d.to ≡ to)
+    go true true one other is = (is_same_site-true d.from from one, is_same_site-true d.to to other)
+    go true false one other is = absurd (cc is)
+    go false c one other is = absurd (cc is)
+
+-- the direction from one site to another, where one direction changed: it, or another one as it was
+pub direction_of-at : (P : Option Direction → Type 0) (from to a b : SiteName) (change : Direction → Direction) → KeepsEnds change → (net : List Direction)
+    → (a ≡ from → b ≡ to → P (option_map change (direction_of a b net))) → P (direction_of a b net) → P (direction_of a b (at_direction from to change net))
+direction_of-at P from to a b change keeps [] own off = off
+direction_of-at P from to a b change keeps (d ∷ ds) own off = go (direction_of-at P from to a b change keeps ds) (is_between from to d) refl (is_between a b d) refl own off
+  where
+    Rest : Type 0
+    Rest = (a ≡ from → b ≡ to → P (option_map change (direction_of a b ds))) → P (direction_of a b ds) → P (direction_of a b (at_direction from to change ds))
+
+    changed : (c : Bool) → is_between from to d ≡ true → is_between a b d ≡ c
+        → (a ≡ from → b ≡ to → P (option_map change (cond c (Some d) (direction_of a b ds)))) → P (cond c (Some d) (direction_of a b ds))
+        → P (cond (is_between a b (change d)) (Some (change d)) (direction_of a b ds))
+    changed true is_one is_other own off =
+        let one = ends_of from to d is_one in
+        let other = ends_of a b d is_other in
+        rw (keeps a b d, is_other) (own (sym other.0 ∙ one.0) (sym other.1 ∙ one.1))
+    changed false is_one is_other own off = rw (keeps a b d, is_other) off
+
+    unchanged : (c : Bool) → Rest → (a ≡ from → b ≡ to → P (option_map change (cond c (Some d) (direction_of a b ds)))) → P (cond c (Some d) (direction_of a b ds))
+        → P (cond c (Some d) (direction_of a b (at_direction from to change ds)))
+    unchanged true rest own off = off
+    unchanged false rest own off = rest own off
+
+    go : Rest → (t : Bool) → is_between from to d ≡ t → (c : Bool) → is_between a b d ≡ c
+        → (a ≡ from → b ≡ to → P (option_map change (cond (is_between a b d) (Some d) (direction_of a b ds)))) → P (cond (is_between a b d) (Some d) (direction_of a b ds))
+        → P (direction_of a b (cond t (change d ∷ ds) (d ∷ at_direction from to change ds)))
+    go rest true is_one c is_other own off = changed c is_one is_other (λ e f. rw (← is_other) (own e f)) (rw (← is_other) off)
+    go rest false is_one c is_other own off = rw is_other (unchanged c rest (λ e f. rw (← is_other) (own e f)) (rw (← is_other) off))
+
+-- a change leaves the ends of a direction and whether it is up, and uses up so many fates
+pub record KeepsLink (used : ℕ) (change : Direction → Direction) : Type 0 where
+  pub ends : KeepsEnds change
+  pub up : (d : Direction) → (change d).up ≡ d.up
+  pub fates : (d : Direction) → (change d).fates ≡ drop used d.fates
+
+pub released_keeps_link : KeepsLink 0 released
+released_keeps_link = record { ends = λ a b d. refl; up = λ d. refl; fates = λ d. refl }
+
+pub delivered_keeps_link : KeepsLink 0 delivered
+delivered_keeps_link = record { ends = λ a b d. refl; up = λ d. refl; fates = λ d. refl }
+
+-- a packet that is sent uses up one
+pub sent_keeps_link : (packet : Packet) → KeepsLink 1 (with_sent packet)
+sent_keeps_link packet = record { ends = ends-with_sent packet; up = λ d. go_up (next_fate d.fates) d; fates = λ d. go_fates (next_fate d.fates) d }
+  where
+    go_up : (fate : Fate) (d : Direction) → (with_packet fate packet d).up ≡ d.up
+    go_up Pass d = refl
+    go_up Lose d = refl
+    go_up Twice d = refl
+    go_up Late d = refl
+
+    go_fates : (fate : Fate) (d : Direction) → drop 1 (with_packet fate packet d).fates ≡ drop 1 d.fates
+    go_fates Pass d = refl
+    go_fates Lose d = refl
+    go_fates Twice d = refl
+    go_fates Late d = refl

@@ -48,10 +48,9 @@ use Rattle.convergent_worlds.specs.Reached.{IsOfConvergence}
 use Rattle.convergent_worlds.proofs.Scripts.{step_of_convergence, first_of_convergence}
 use Rattle.environment.specs.Following.{IsBuilt}
 use Rattle.environment.specs.Doing.{IsShort, is_push}
-use Rattle.environment.specs.Known.{is_tried}
 use Rattle.environment.specs.Keeping.{LinesKeepBuilt}
 use Rattle.environment.proofs.Directions.{Stay, stay-at, stays, stay-push}
-use Rattle.environment.proofs.Following.{built_follows}
+use Rattle.environment.proofs.Following.{built_in_part}
 
 -- ---- lines that declare nothing and end no Setup
 
@@ -293,30 +292,31 @@ built_refused number c w r named told built = go (world_refusal c w) refl told
     go None met told = absurd (cc told)
     go (Some why) met told = built_kept w (world_refused c w) built (step_is number c w (Some why) named built met) (step_has number c w (Some why) named built met) kept
 
--- a push that isn't refused is behind Setup
-push_behind : (c : Command) (w : WorldState) → is_push c ≡ true → (is_tried c ≡ false → world_refusal c w ≡ None) → is_setup w.phase ≡ false
-push_behind (command.Push from to count) w is passes = behind_of w.phase (has_block w) (or_then-None (behind_setup_step w) _ (passes refl)).0
-push_behind command.Nothing w is passes = absurd (cc is)
-push_behind (command.Declare declaration) w is passes = absurd (cc is)
-push_behind (command.Snapshot site table tests) w is passes = absurd (cc is)
-push_behind (command.Row table values) w is passes = absurd (cc is)
-push_behind command.Resume w is passes = absurd (cc is)
-push_behind (command.Statement statement) w is passes = absurd (cc is)
-push_behind (command.Txn site) w is passes = absurd (cc is)
-push_behind command.Commit w is passes = absurd (cc is)
-push_behind command.Abandon w is passes = absurd (cc is)
-push_behind (command.Fates from to fates) w is passes = absurd (cc is)
-push_behind (command.ClearFates from to) w is passes = absurd (cc is)
-push_behind (command.Link from to word) w is passes = absurd (cc is)
-push_behind (command.Clock site time) w is passes = absurd (cc is)
-push_behind (command.Purge site) w is passes = absurd (cc is)
-push_behind (command.Execute site origin position) w is passes = absurd (cc is)
-push_behind (command.DropError site origin position) w is passes = absurd (cc is)
-push_behind (command.Refresh site how) w is passes = absurd (cc is)
-push_behind (command.PurgeLog master table) w is passes = absurd (cc is)
-push_behind command.Suspend w is passes = absurd (cc is)
-push_behind (command.Join site source) w is passes = absurd (cc is)
-push_behind (command.Show what site) w is passes = absurd (cc is)
+-- what is left of a push for which there was no memory
+built_pushed : (number : ℕ) (c : Command) (old new : WorldState) (r : Refused) → is_push c ≡ true → IsShort number c old new r → IsBuilt old → IsBuilt new
+built_pushed number (command.Push from to count) old new r is short built =
+    built_in_part from to old new (behind_of old.phase (has_block old) (or_then-None (behind_setup_step old) _ (short.passes refl)).0) built (short.pushed from to count refl)
+built_pushed number command.Nothing old new r is _ _ = absurd (cc is)
+built_pushed number (command.Declare declaration) old new r is _ _ = absurd (cc is)
+built_pushed number (command.Snapshot site table tests) old new r is _ _ = absurd (cc is)
+built_pushed number (command.Row table values) old new r is _ _ = absurd (cc is)
+built_pushed number command.Resume old new r is _ _ = absurd (cc is)
+built_pushed number (command.Statement statement) old new r is _ _ = absurd (cc is)
+built_pushed number (command.Txn site) old new r is _ _ = absurd (cc is)
+built_pushed number command.Commit old new r is _ _ = absurd (cc is)
+built_pushed number command.Abandon old new r is _ _ = absurd (cc is)
+built_pushed number (command.Fates from to fates) old new r is _ _ = absurd (cc is)
+built_pushed number (command.ClearFates from to) old new r is _ _ = absurd (cc is)
+built_pushed number (command.Link from to word) old new r is _ _ = absurd (cc is)
+built_pushed number (command.Clock site time) old new r is _ _ = absurd (cc is)
+built_pushed number (command.Purge site) old new r is _ _ = absurd (cc is)
+built_pushed number (command.Execute site origin position) old new r is _ _ = absurd (cc is)
+built_pushed number (command.DropError site origin position) old new r is _ _ = absurd (cc is)
+built_pushed number (command.Refresh site how) old new r is _ _ = absurd (cc is)
+built_pushed number (command.PurgeLog master table) old new r is _ _ = absurd (cc is)
+built_pushed number command.Suspend old new r is _ _ = absurd (cc is)
+built_pushed number (command.Join site source) old new r is _ _ = absurd (cc is)
+built_pushed number (command.Show what site) old new r is _ _ = absurd (cc is)
 
 -- what is left of a line for which there was no memory
 built_short : (number : ℕ) (c : Command) (old new : WorldState) (r : Refused) → IsShort number c old new r → IsBuilt old → IsBuilt new
@@ -324,7 +324,7 @@ built_short number c old new r short built = go (is_push c) refl
   where
     go : (b : Bool) → is_push c ≡ b → IsBuilt new
     go false is = subst IsBuilt (sym (short.kept is)) built
-    go true is = built_follows old new (push_behind c old is short.passes) built short.follows
+    go true is = built_pushed number c old new r is short built
 
 pub lines_keep_built : LinesKeepBuilt
 lines_keep_built number c old new (Ok sheet) form named does built = subst IsBuilt (sym does.world) (built_done number c old form named does.passes built)

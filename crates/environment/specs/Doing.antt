@@ -1,15 +1,17 @@
 -- What comes of a line.
-use Rattle.std.specs.Prelude.{◌≡◌, ◌⊎◌, ℕ, Bool, true, false, List, Some, None, Result, Ok, Err}
+use Rattle.std.specs.Prelude.{◌≡◌, ◌⊎◌, ℕ, Bool, true, false, List, Option, Some, None, Result, Ok, Err}
+use Rattle.rep_values.specs.declared.name.SiteName.{SiteName}
 use Rattle.rep_values.specs.declared.refusal.Refusal.{Refusal}
 use Rattle.rep_values.specs.declared.refusal.Refusal.TheVariants as refusal
 use Rattle.report_text.specs.Sheet.{Sheet}
 use Rattle.script_parse.specs.declared.command.Command.{Command}
 use Rattle.script_parse.specs.declared.command.Command.TheVariants as command
+use Rattle.script_parse.specs.declared.command.Command.TheVariants.{Push}
 use Rattle.world_state.specs.declared.refused.Refused.{Refused}
 use Rattle.world_state.specs.World.{WorldState}
 use Rattle.world_state.specs.Refusals.{world_refusal}
 use Rattle.world_state.specs.Steps.{world_done, world_refused, step_refused}
-use Rattle.environment.specs.Following.{Follows}
+use Rattle.environment.specs.Following.{PushesInPart}
 use Rattle.environment.specs.Known.{is_tried, known_refusal}
 use Rattle.environment.specs.Texts.{world_text}
 
@@ -51,7 +53,7 @@ pub record IsShort (number : ℕ) (command : Command) (old new : WorldState) (r 
   pub line : r.line ≡ number
   pub passes : is_tried command ≡ false → world_refusal command old ≡ None
   pub kept : is_push command ≡ false → new ≡ old
-  pub follows : Follows old new
+  pub pushed : (from to : SiteName) (count : Option ℕ) → command ≡ Push from to count → PushesInPart from to old new
 
 -- a line was refused
 pub record IsRefused (number : ℕ) (command : Command) (old new : WorldState) (r : Refused) : Type 0 where

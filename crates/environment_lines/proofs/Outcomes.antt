@@ -1,5 +1,5 @@
 -- What comes of a line where there is no memory, and what of one that had to be tried.
-use Rattle.std.proofs.Common.{◌≡◌, ◌-◌, ℕ, List, [], ◌∷◌, false, Some, None, refl, sym, ap, subst, ◌∙◌}
+use Rattle.std.proofs.Common.{◌≡◌, ◌-◌, ℕ, List, [], ◌∷◌, false, Some, None, refl, ap, ◌∙◌}
 use Rattle.std.specs.Prelude.{Option, slice_get}
 use Rattle.rep_values.specs.declared.name.SiteName.{SiteName}
 use Rattle.rep_values.specs.declared.name.TableName.{TableName}
@@ -22,24 +22,11 @@ use Rattle.world_state.specs.Phases.{block_step, setup_step}
 use Rattle.world_state.specs.Blocks.{is_commit, closed, stop_at_site, refusal_in, commit_stop, commit_refusal, commit_line, line_in}
 use Rattle.world_state.specs.Refusals.{world_refusal}
 use Rattle.world_state.specs.Steps.{told_by}
-use Rattle.world_laws.proofs.Pieces.{none_lead}
-use Rattle.environment.specs.Following.{Follows}
 use Rattle.environment.specs.Known.{is_tried, known_refusal}
 use Rattle.environment.specs.Doing.{IsShort, IsRefused}
+use Rattle.environment.proofs.Following.{in_part_none}
 
 -- ---- want of memory
-
--- nothing changed, so no events are wanted
-pub follows_same : (old new : WorldState) → new ≡ old → Follows old new
-follows_same old new same = subst (λ (w : WorldState). Follows old w) (sym same) (record {
-  leads = λ v s. none_lead old v s;
-  phase = refl;
-  schema = refl;
-  base = refl;
-  snapshots = refl;
-  block = refl;
-  directions = λ from to there. there;
-})
 
 -- there was no memory, and nothing changed
 pub is_short : (number : ℕ) (command : Command) (old new : WorldState) (r : Refused) → r ≡ record { line = number; refusal = refusal.Memory } → (is_tried command ≡ false → world_refusal command old ≡ None)
@@ -49,7 +36,7 @@ is_short number command old new r is passes same = record {
   line = ap (λ (r : Refused). r.line) is;
   passes = passes;
   kept = λ push. same;
-  follows = follows_same old new same;
+  pushed = λ from to count push. in_part_none from to old new same;
 }
 
 -- ---- lines that had to be tried

@@ -1,11 +1,11 @@
 -- A refresh that isn't refused: the site can be refreshed from its master, and is what the world's refresh makes of it.
-use Rattle.std.proofs.Common.{◌≡◌, ◌≢◌, ℕ, List, length, Bool, true, false, Some, None, refl, sym, ap, subst, ◌∙◌}
+use Rattle.std.proofs.Common.{◌≡◌, ◌≢◌, ℕ, List, length, Bool, false, Some, None, refl, sym, ap, subst, ◌∙◌}
 use Rattle.std.specs.Prelude.{◌||◌, not, slice_get, slice_set}
 use Rattle.std.proofs.lemmas.List.{length-set}
 use Rattle.rep_values.specs.declared.name.SiteName.{SiteName}
 use Rattle.rep_values.specs.declared.refusal.Refusal.TheVariants as refusal
 use Rattle.rep_values.specs.RefusalSteps.{refused, or_then, first_refusal, known}
-use Rattle.rep_values.proofs.RefusalSteps.{or_then-None, refused_not-None}
+use Rattle.rep_values.proofs.RefusalSteps.{or_then-None}
 use Rattle.rep_schema.specs.declared.schema.Schema.{Schema}
 use Rattle.script_parse.specs.declared.command.Refresh.{Refresh}
 use Rattle.script_parse.specs.declared.command.Command.TheVariants as command
@@ -49,9 +49,6 @@ module _ (w : WorldState) (built : IsBuilt w) (site : SiteName) (how : Refresh) 
   behind_link : (refused (not (is_all_acked x)) (refusal.QueueNotEmpty (waiting_count x)) ≡ None) × (or_then (log_step how m.logs x.snapshots) None ≡ None)
   behind_link = or_then-None _ _ (or_then-None _ _ steps).1
 
-  acked : is_all_acked x ≡ true
-  acked = refused_not-None (is_all_acked x) (refusal.QueueNotEmpty (waiting_count x)) behind_link.0
-
   reaches : log_step how m.logs x.snapshots ≡ None
   reaches = (or_then-None (log_step how m.logs x.snapshots) None behind_link.1).0
 
@@ -65,7 +62,7 @@ module _ (w : WorldState) (built : IsBuilt w) (site : SiteName) (how : Refresh) 
   refreshed_is : refreshed w.sites x ≡ refreshed_by m x
   refreshed_is = refreshed-made w.sites x m
       (ap (λ (s : Schema). found_site w.sites (master_of s x.here.site)) (hold.schemas site x at_x) ∙ ap (λ (n : SiteName). found_site w.sites (master_of w.schema n)) (found_name site w.sites x at_x) ∙ at_m)
-      can.no_master acked
+      can.no_master
 
   module _ (place there : ℕ) (at_place : slice_get w.sites place ≡ Some x) (at_there : slice_get w.sites there ≡ Some m) where
     two_places : place ≢ there

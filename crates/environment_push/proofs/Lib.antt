@@ -1,5 +1,5 @@
 -- The lemmas of this crate, from the bottom up.
-pub mod Steps
+pub mod Travelling
 pub mod Sending
 pub mod Delivering
 pub mod Settled

@@ -11,8 +11,8 @@ use Rattle.event_laws.proofs.Confluence.{every_site_can_pass_in_any_order}
 use Rattle.world_state.specs.World.{WorldState}
 use Rattle.world_state.specs.Phases.{is_setup}
 use Rattle.environment.specs.Reached.{IsOfConvergence, Declaring, Going, GoesOnAlike}
-use Rattle.environment.specs.Following.{Follows, IsBuilt}
-use Rattle.environment.proofs.Following.{built_follows}
+use Rattle.environment.specs.Following.{PushesInPart, IsBuilt}
+use Rattle.environment.proofs.Following.{built_in_part}
 use Rattle.environment_push.specs.Settling.{CanSettle}
 
 -- behind Setup, events lead here from where all fits
@@ -30,6 +30,7 @@ built_can : (w : WorldState) → is_setup w.phase ≡ false → IsOfConvergence 
 built_can w behind (Declaring so_far) name = absurd (cc (behind, so_far.setup.setup))
 built_can w behind (Going a) name = going_can w a name
 
--- so it is in what follows a world of the forms that are built
-pub can_settle : (w y : WorldState) → is_setup w.phase ≡ false → IsBuilt w → Follows w y → (name : SiteName) → CanSettle name y
-can_settle w y behind built follows name = built_can y (subst (λ p. is_setup p ≡ false) (sym follows.phase) behind) (built_follows w y behind built follows).of_convergence name
+-- so it is in what a push leaves of a world of the forms that are built
+pub can_settle : (from to : SiteName) (w y : WorldState) → is_setup w.phase ≡ false → IsBuilt w → PushesInPart from to w y → (name : SiteName) → CanSettle name y
+can_settle from to w y behind built part name =
+    built_can y (subst (λ p. is_setup p ≡ false) (sym part.beside.phase) behind) (built_in_part from to w y behind built part).of_convergence name

@@ -1,5 +1,5 @@
 -- What is sent, one position at a time.
-use Rattle.std.proofs.Common.{◌≡◌, ℕ, zero, suc, ◌+◌, ◌-◌, List, [], ◌∷◌, ◌++◌, length, Some, refl, sym, ap, ◌∙◌, arith, add-one, add-zero}
+use Rattle.std.proofs.Common.{◌≡◌, ℕ, zero, suc, ◌+◌, ◌-◌, List, [], ◌∷◌, ◌++◌, length, map, Some, refl, sym, ap, ◌∙◌, arith, add-one, add-zero}
 use Rattle.std.specs.Prelude.{Option}
 use Rattle.std.specs.List.{range_with_len}
 use Rattle.rep_values.specs.declared.name.SiteName.{SiteName}
@@ -11,6 +11,8 @@ use Rattle.site_state.proofs.Deferring.{acked_by-marks}
 use Rattle.world_state.specs.World.{WorldState}
 use Rattle.world_state.specs.Pushes.{world_send, world_send_each, at_most, positions_in}
 use Rattle.world_laws.proofs.Calling.{send_more}
+use Rattle.environment.specs.Following.{Send, steps_done, PushesInPart}
+use Rattle.environment.proofs.Following.{in_part}
 
 range_with_len-more : (a n : ℕ) → range_with_len a (suc n) ≡ range_with_len a n ++ (a + n) ∷ []
 range_with_len-more a zero = rw (add-zero a) refl
@@ -23,6 +25,14 @@ pub send_each-more : (from to : SiteName) (first sent position : ℕ) (w y : Wor
     → world_send from to position y ≡ world_send_each from to (range_with_len first (sent + 1)) w
 send_each-more from to first sent position w y is next =
     rw (is, next, add-one sent, range_with_len-more first sent) (sym (send_more from to (first + sent) (range_with_len first sent) w))
+
+sent_done : (from to : SiteName) (positions : List ℕ) (w : WorldState) → world_send_each from to positions w ≡ steps_done from to (map (λ (position : ℕ). Send position) positions) w
+sent_done from to [] w = refl
+sent_done from to (position ∷ more) w = sent_done from to more (world_send from to position w)
+
+-- to send some is a part of a push
+pub sent_in_part : (from to : SiteName) (positions : List ℕ) (w y : WorldState) → y ≡ world_send_each from to positions w → PushesInPart from to w y
+sent_in_part from to positions w y is = in_part from to (map (λ (position : ℕ). Send position) positions) w y (is ∙ sent_done from to positions w)
 
 -- the positions that aren't acknowledged, of a site that is there
 pub positions_in-there : (to : SiteName) (count : Option ℕ) (o : Option SiteState) (x : SiteState) (acked number : ℕ) → o ≡ Some x → acked ≡ acked_by to (marks_of x)

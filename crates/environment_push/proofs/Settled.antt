@@ -1,5 +1,5 @@
--- What a receiver tells of what it settled, and that what it does is events.
-use Rattle.std.proofs.Common.{◌≡◌, ℕ, zero, suc, ◌+◌, ◌-◌, ◌<◌, List, [], ◌∷◌, ◌++◌, length, take, Bool, true, false, cond, Option, Some, None, refl, sym, ap, ◌∙◌, arith, append_assoc, append-nil, get_or, set, subst, inl, inr}
+-- What a receiver tells of what it settled, and that what it does is a step of a push.
+use Rattle.std.proofs.Common.{◌≡◌, ℕ, zero, suc, ◌+◌, ◌-◌, ◌<◌, List, [], ◌∷◌, ◌++◌, length, take, Bool, true, false, cond, Option, Some, None, refl, sym, ap, ◌∙◌, arith, append_assoc, append-nil, get_or, set, inl, inr}
 use Rattle.std.specs.Prelude.{filter_map, flat_map}
 use Rattle.std.specs.List.{insert, remove}
 use Rattle.rep_values.specs.declared.name.SiteName.{SiteName}
@@ -18,16 +18,15 @@ use Rattle.world_state.specs.World.{WorldState}
 use Rattle.world_state.specs.Rounds.{site_settle}
 use Rattle.world_state.specs.Pushes.{world_settle}
 use Rattle.world_state.specs.PushAnswers.{count_in, entries_since, errors_in}
-use Rattle.world_laws.proofs.SiteSteps.{SiteRuns, settle_does}
 use Rattle.site_rounds.specs.NewErrors.{error_entry_text, new_errors}
-use Rattle.site_rounds.specs.Parts.{parts_done}
+use Rattle.site_rounds.specs.Parts.{PartlySettled, parts_done}
 use Rattle.site_rounds.proofs.Growing.{settle_grows, take-front, count_where-append}
-use Rattle.site_rounds.proofs.Parts.{parts_do}
+use Rattle.site_rounds.proofs.Parts.{partly_settle}
 use Rattle.environment.specs.Finding.{IsAt}
-use Rattle.environment.specs.Following.{Follows}
+use Rattle.environment.specs.Following.{Settle, PushesInPart}
 use Rattle.environment.specs.Texts.{new_error_text}
 use Rattle.environment.proofs.Written.{site_of-read, at_site-written}
-use Rattle.environment.proofs.Following.{follows_site}
+use Rattle.environment.proofs.Following.{in_part_one}
 use Rattle.environment_push.specs.Settling.{told_text, IsSettling}
 
 -- ---- no errors
@@ -120,13 +119,13 @@ module _ (origin name : SiteName) (w : WorldState) (place : ℕ) (found : IsAt n
         put ∙ ap (λ (rest : List SiteState). insert rest place y) taken ∙ insert-removed w.sites place y found.within
         ∙ at_site-written name w.sites w.sites place x refl found read change y is
 
-    put_follows : (change : SiteState → SiteState) → SiteRuns name change → y ≡ change x → Follows w (record w { sites = sites })
-    put_follows change does is = subst (λ (xs : List SiteState). Follows w (record w { sites = xs })) (sym (put_is change is)) (follows_site name change does w)
+    put_in_part : PartlySettled x y → PushesInPart origin name w (record w { sites = sites })
+    put_in_part parts = in_part_one origin name (Settle parts.0) w _ (ap (λ (xs : List SiteState). record w { sites = xs }) (put_is (parts_done parts.0) parts.1))
 
-    -- passes of the receiver are events
-    pub settling_follows : IsSettling origin x y → Follows w (record w { sites = sites })
-    settling_follows (inl parts) = put_follows (parts_done parts.0) (parts_do name parts.0) parts.1
-    settling_follows (inr is) = put_follows (site_settle origin) (settle_does name origin) is
+    -- its passes are a step of a push
+    pub settling_in_part : IsSettling origin x y → PushesInPart origin name w (record w { sites = sites })
+    settling_in_part (inl parts) = put_in_part parts
+    settling_in_part (inr is) = let parts = partly_settle origin x in put_in_part (parts.0, is ∙ parts.1)
 
     -- all of them settle what came
     pub settled_world : y ≡ site_settle origin x → record w { sites = sites } ≡ world_settle origin name w

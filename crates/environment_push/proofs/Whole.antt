@@ -1,5 +1,5 @@
 -- A push that isn't refused: its sites are there, with a direction each way, and what it does is the line's.
-use Rattle.std.proofs.Common.{◌≡◌, ℕ, List, ◌++◌, length, Bool, true, false, None, refl, ap, ◌∙◌}
+use Rattle.std.proofs.Common.{◌≡◌, ℕ, List, ◌++◌, length, Bool, true, false, None, refl, ap, ◌∙◌, subst}
 use Rattle.std.specs.Prelude.{Option, ◌&&◌, ◌||◌}
 use Rattle.rep_values.specs.declared.name.SiteName.{SiteName}
 use Rattle.rep_values.specs.declared.refusal.Refusal.TheVariants as refusal
@@ -12,7 +12,7 @@ use Rattle.world_state.specs.World.{WorldState, is_there, gets_from}
 use Rattle.world_state.specs.Phases.{is_setup, has_block, behind_setup_step}
 use Rattle.world_state.specs.Refusals.{are_there, has_sender, further_steps}
 use Rattle.world_state.specs.Pushes.{positions_above, pushed_in, world_push}
-use Rattle.environment.specs.Following.{Follows, IsBuilt}
+use Rattle.environment.specs.Following.{PushesInPart, IsBuilt}
 use Rattle.environment.specs.Known.{known_refusal}
 use Rattle.environment.specs.Texts.{pushed_text}
 use Rattle.environment.specs.Doing.{IsDone, IsShort}
@@ -57,9 +57,16 @@ module _ (from to : SiteName) (count : Option ℕ) (w : WorldState) where
     pub push_done : (number : ℕ) (new : WorldState) (bytes : List ℕ) → new ≡ world_push from to count w → bytes ≡ pushed_text from to count w → IsDone number (command.Push from to count) w new bytes
     push_done number new bytes world text = record { passes = passes; world = world; text = text }
 
+    -- what is pushed is what the line says
+    pushed_so : (new : WorldState) → PushesInPart from to w new → (a b : SiteName) (n : Option ℕ) → command.Push from to count ≡ command.Push a b n → PushesInPart a b w new
+    pushed_so new part a b n is =
+        let one : from ≡ a = cc is in
+        let other : to ≡ b = cc is in
+        subst (λ (name : SiteName). PushesInPart a name w new) other (subst (λ (name : SiteName). PushesInPart name to w new) one part)
+
     -- a push for which there was no memory
-    pub push_short : (number : ℕ) (new : WorldState) → Follows w new → IsShort number (command.Push from to count) w new (record { line = number; refusal = refusal.Memory })
-    push_short number new follows = record { memory = refl; line = refl; passes = λ untried. passes; kept = λ other. absurd (cc other); follows = follows }
+    pub push_short : (number : ℕ) (new : WorldState) → PushesInPart from to w new → IsShort number (command.Push from to count) w new (record { line = number; refusal = refusal.Memory })
+    push_short number new part = record { memory = refl; line = refl; passes = λ untried. passes; kept = λ other. absurd (cc other); pushed = pushed_so new part }
 
   -- what is told of a push
   pub told-pushed : (sent : ℕ) (old bytes : List ℕ) (y : WorldState) → y ≡ pushed_in from to count w → sent ≡ length (positions_above from to count w)

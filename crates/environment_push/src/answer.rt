@@ -1,10 +1,10 @@
 //! The mark that goes back.
-ghost use Rattle.std.specs.Prelude.{◌≡◌, IfOk, OnOk};
+ghost use Rattle.std.specs.Prelude.{◌≡◌, IfOk, OnOk, OnErr};
 ghost use Rattle.net_plan.specs.Directions.{HasDirection};
 ghost use Rattle.event_laws.specs.Core.{site_of};
 ghost use Rattle.event_laws.specs.Events.{mark_from};
 ghost use Rattle.world_state.specs.Pushes.{world_send_mark, world_bring_mark, world_answer};
-ghost use Rattle.environment.specs.Following.{Follows};
+ghost use Rattle.environment.specs.Following.{PushesInPart};
 
 use crate::deliver::deliver_all;
 use crate::send::{release, send_some};
@@ -41,7 +41,7 @@ fn send_mark(
 ) -> Result<(), NoMemory>
     requires { HasDirection environment.old.net from.now to.now }
     ensures ok { OnOk result (environment.new ≡ world_send_mark from.now to.now environment.old) }
-    ensures follows { Follows environment.old environment.new }
+    ensures err { OnErr result (environment.new ≡ environment.old) }
 {
     let packet = mark_of(&environment.sites, alloc, from, to)?;
     send_some(environment, alloc, from, to, packet)?;
@@ -57,7 +57,7 @@ fn bring_mark(
 ) -> Result<(), NoMemory>
     requires { HasDirection environment.old.net from.now to.now }
     ensures ok { OnOk result (environment.new ≡ world_bring_mark from.now to.now environment.old) }
-    ensures follows { Follows environment.old environment.new }
+    ensures part { PushesInPart to.now from.now environment.old environment.new }
 {
     release(environment, from, to)?;
     send_mark(environment, alloc, from, to)?;
@@ -74,7 +74,7 @@ pub(crate) fn answer(
 ) -> Result<(), NoMemory>
     requires { HasDirection environment.old.net from.now to.now }
     ensures ok { OnOk result (environment.new ≡ world_answer from.now to.now environment.old) }
-    ensures follows { Follows environment.old environment.new }
+    ensures part { PushesInPart to.now from.now environment.old environment.new }
 {
     let is_up = environment.net.is_up(from, to);
     if !is_up {

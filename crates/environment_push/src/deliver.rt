@@ -5,7 +5,7 @@ ghost use Rattle.net_plan.specs.Directions.{HasDirection, first_between};
 ghost use Rattle.site_state.specs.Packets.{site_accept};
 ghost use Rattle.event_laws.specs.Core.{at_site};
 ghost use Rattle.world_state.specs.Pushes.{world_take, world_deliver};
-ghost use Rattle.environment.specs.Following.{Follows};
+ghost use Rattle.environment_push.specs.Travelling.{Travels};
 
 use environment::{Environment, Site, place_of};
 use packet_code::Packet;
@@ -43,7 +43,7 @@ fn take(
     requires { HasDirection environment.old.net from.now to.now }
     ensures ok { OnOk result (environment.new ≡ world_take from.now to.now environment.old) }
     ensures some { IfOk result (λ some. some ≡ is_some (first_between from.now to.now environment.old.net)) }
-    ensures follows { Follows environment.old environment.new }
+    ensures travels { Travels from.now to.now environment.old environment.new }
 {
     let Some(sealed) = environment.net.deliver(from, to) else {
         return Ok(false);
@@ -62,7 +62,7 @@ pub(crate) fn deliver_all(
 ) -> Result<(), NoMemory>
     requires { HasDirection environment.old.net from.now to.now }
     ensures ok { OnOk result (environment.new ≡ world_deliver from.now to.now environment.old) }
-    ensures follows { Follows environment.old environment.new }
+    ensures travels { Travels from.now to.now environment.old environment.new }
 {
     'packets: loop {
         if !take(environment, alloc, from, to)? {

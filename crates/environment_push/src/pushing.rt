@@ -6,7 +6,7 @@ ghost use Rattle.script_parse.specs.declared.command.Command.TheVariants as Comm
 ghost use Rattle.world_state.specs.World.{is_there};
 ghost use Rattle.world_state.specs.Phases.{is_setup};
 ghost use Rattle.world_state.specs.Pushes.{positions_above, pushed_in, world_push};
-ghost use Rattle.environment.specs.Following.{Follows, IsBuilt};
+ghost use Rattle.environment.specs.Following.{PushesInPart, IsBuilt};
 ghost use Rattle.environment.specs.Known.{known_refusal};
 ghost use Rattle.environment.specs.Texts.{pushed_text};
 ghost use Rattle.environment.specs.Doing.{Does};
@@ -34,7 +34,7 @@ fn bring(
     requires { HasDirection environment.old.net from.now to.now }
     ensures ok { OnOk result (environment.new ≡ pushed_in from.now to.now count environment.old) }
     ensures sent { IfOk result (λ sent. sent ≡ length (positions_above from.now to.now count environment.old)) }
-    ensures follows { Follows environment.old environment.new }
+    ensures part { PushesInPart from.now to.now environment.old environment.new }
 {
     release(environment, from, to)?;
     let sent = send_above(environment, alloc, from, to, count)?;
@@ -61,7 +61,7 @@ fn push_in_room<P: Passing>(
     requires back { HasDirection environment.old.net to.now from.now }
     ensures ok { OnOk result (environment.new ≡ world_push from.now to.now count environment.old) }
     ensures text { OnOk result (lines.new.bytes ≡ lines.old.bytes ++ pushed_text from.now to.now count environment.old) }
-    ensures follows { Follows environment.old environment.new }
+    ensures part { PushesInPart from.now to.now environment.old environment.new }
 {
     let sent = bring(environment, alloc, from, to, count)?;
     let pushed = Pushed {
@@ -91,7 +91,7 @@ fn push_linked<P: Passing>(
     requires back { HasDirection environment.old.net to.now from.now }
     ensures ok { OnOk result (environment.new ≡ world_push from.now to.now count environment.old) }
     ensures text { IfOk result (λ lines. lines.bytes ≡ pushed_text from.now to.now count environment.old) }
-    ensures follows { Follows environment.old environment.new }
+    ensures part { PushesInPart from.now to.now environment.old environment.new }
 {
     // The room for the push's own line comes before anything changes.
     let mut lines = Lines::make(alloc);
@@ -103,7 +103,7 @@ fn push_linked<P: Passing>(
 /// Does the line of a push that isn't refused: what is held between the sites goes on the way, what the receiver hasn't
 /// acknowledged is sent, at most so many positions where a count is given, and the receiver takes all in, settles it and tells
 /// what came of it. Its mark goes back where that direction is up. Whoever makes the receiver's passes, the site is the same.
-/// Where there is no memory, the push may be done in part: what is left follows by events.
+/// Where there is no memory, some of this may be done, a packet on the way may be lost, and nothing else.
 pub fn push<P: Passing>(
     environment: &mut Environment,
     alloc: Global,

@@ -5,7 +5,7 @@ ghost use Rattle.net_plan.specs.Directions.{HasDirection};
 ghost use Rattle.event_laws.specs.Core.{site_of};
 ghost use Rattle.event_laws.specs.Events.{packet_from};
 ghost use Rattle.world_state.specs.Pushes.{at_most, sent_on, world_release, world_send, positions_in, positions_above, world_send_above};
-ghost use Rattle.environment.specs.Following.{Follows};
+ghost use Rattle.environment.specs.Following.{PushesInPart};
 
 use environment::{Environment, Site, place_of};
 use packet_code::Sealed;
@@ -22,7 +22,7 @@ pub(crate) fn release(
 ) -> Result<(), NoMemory>
     requires { HasDirection environment.old.net from.now to.now }
     ensures ok { OnOk result (environment.new ≡ world_release from.now to.now environment.old) }
-    ensures follows { Follows environment.old environment.new }
+    ensures err { OnErr result (environment.new ≡ environment.old) }
 {
     environment.net.release(from, to)?;
     Ok(())
@@ -74,7 +74,7 @@ fn send(
 ) -> Result<(), NoMemory>
     requires { HasDirection environment.old.net from.now to.now }
     ensures ok { OnOk result (environment.new ≡ world_send from.now to.now position environment.old) }
-    ensures follows { Follows environment.old environment.new }
+    ensures err { OnErr result (environment.new ≡ environment.old) }
 {
     let packet = packet_of(&environment.sites, alloc, from, to, position)?;
     send_some(environment, alloc, from, to, packet)?;
@@ -135,7 +135,7 @@ pub(crate) fn send_above(
     requires { HasDirection environment.old.net from.now to.now }
     ensures ok { OnOk result (environment.new ≡ world_send_above from.now to.now count environment.old) }
     ensures sent { IfOk result (λ sent. sent ≡ length (positions_above from.now to.now count environment.old)) }
-    ensures follows { Follows environment.old environment.new }
+    ensures part { PushesInPart from.now to.now environment.old environment.new }
 {
     let unsent = unsent_of(&environment.sites, from, to, count);
     for sent in 0..unsent.number {

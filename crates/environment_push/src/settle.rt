@@ -6,7 +6,7 @@ ghost use Rattle.event_laws.specs.Core.{site_of};
 ghost use Rattle.world_state.specs.World.{is_there};
 ghost use Rattle.world_state.specs.Rounds.{site_settle};
 ghost use Rattle.world_state.specs.Pushes.{world_settle};
-ghost use Rattle.environment.specs.Following.{Follows};
+ghost use Rattle.environment.specs.Following.{PushesInPart};
 ghost use Rattle.site_rounds.specs.Parts.{MastersCanPass};
 ghost use Rattle.environment_push.specs.Settling.{told_text, IsSettling, CanSettle};
 
@@ -83,7 +83,7 @@ pub(crate) fn settle_and_tell<P: Passing>(
     requires masters { CanSettle pushed.to environment.old }
     ensures ok { OnOk result (environment.new ≡ world_settle pushed.from pushed.to environment.old) }
     ensures text { OnOk result (lines.new.bytes ≡ lines.old.bytes ++ told_text pushed.from pushed.to pushed.sent (site_of pushed.to environment.old.sites)) }
-    ensures follows { Follows environment.old environment.new }
+    ensures part { PushesInPart pushed.from pushed.to environment.old environment.new }
 {
     let Some(place) = place_of(&environment.sites, &pushed.to) else {
         unreachable!()

@@ -2,14 +2,14 @@
 use Rattle.std.proofs.Common.{◌≡◌, length}
 use Rattle.net_plan.specs.Directions.{on_way_between}
 use Rattle.world_state.specs.Pushes.{world_deliver}
-use Rattle.environment.specs.Following.{Follows}
+use Rattle.environment_push.specs.Travelling.{Travels}
 use Rattle.environment_push.proofs.deliver.deliver_all.Given as goal
 
 -- to take in the others leads to what taking in all led to
 abbrev pub invariant-packets : goal.invariant-packets
 invariant-packets l = record {
   left : world_deliver l.from l.to l.environment ≡ world_deliver l.from l.to l.initial.environment;
-  follows : Follows l.initial.environment l.environment;
+  travels : Travels l.from l.to l.initial.environment l.environment;
 }
 
 -- each that is taken in is no longer on the way

@@ -21,4 +21,4 @@ pub returns-in-Ok : goal.returns-in-Ok
 returns-in-Ok g c = push_done c.args.from.now c.args.to.now c.args.count c.args.environment.now c.requires.passes c.args.line _ _ c.in-Ok.ensures.ok c.in-Ok.ensures.text
 
 pub returns-in-Err : goal.returns-in-Err
-returns-in-Err g c = inl (push_short c.args.from.now c.args.to.now c.args.count c.args.environment.now c.requires.passes c.args.line _ c.push_linked.ensures.follows)
+returns-in-Err g c = inl (push_short c.args.from.now c.args.to.now c.args.count c.args.environment.now c.requires.passes c.args.line _ c.push_linked.ensures.part)

@@ -2,7 +2,7 @@
 use Rattle.std.proofs.Common.{◌≡◌, true, sym, ap, ◌∙◌, subst}
 use Rattle.world_state.specs.World.{WorldState, is_there}
 use Rattle.world_state.specs.Pushes.{world_settle, world_answer}
-use Rattle.environment.proofs.Following.{follows_then}
+use Rattle.environment.proofs.Following.{in_part_then, in_part_linked}
 use Rattle.environment_push.proofs.Delivering.{pushed_there}
 use Rattle.environment_push.proofs.Masters.{can_settle}
 use Rattle.environment_push.proofs.Whole.{told-pushed}
@@ -14,16 +14,16 @@ settle_and_tell-requires-clause-there g c =
     subst (λ (w : WorldState). is_there w to ≡ true) (sym c.in_ok-sent.ensures.ok) (pushed_there c.args.from.now to to c.args.count c.args.environment.now c.requires.there)
 
 pub settle_and_tell-requires-clause-masters : goal.settle_and_tell-requires-clause-masters
-settle_and_tell-requires-clause-masters g c = can_settle _ _ c.requires.behind c.requires.built c.bring.ensures.follows c.args.to.now
+settle_and_tell-requires-clause-masters g c = can_settle _ _ _ _ c.requires.behind c.requires.built c.bring.ensures.part c.args.to.now
 
-pub returns-in_err-settle_and_tell-clause-follows : goal.returns-in_err-settle_and_tell-clause-follows
-returns-in_err-settle_and_tell-clause-follows g c = follows_then _ _ _ c.bring.ensures.follows c.settle_and_tell.ensures.follows
+pub returns-in_err-settle_and_tell-clause-part : goal.returns-in_err-settle_and_tell-clause-part
+returns-in_err-settle_and_tell-clause-part g c = in_part_then _ _ _ _ _ c.bring.ensures.part c.settle_and_tell.ensures.part
 
 pub answer-requires : goal.answer-requires
-answer-requires g c = c.settle_and_tell.ensures.follows.directions _ _ (c.bring.ensures.follows.directions _ _ c.requires.back)
+answer-requires g c = in_part_linked _ _ _ _ _ _ c.settle_and_tell.ensures.part (in_part_linked _ _ _ _ _ _ c.bring.ensures.part c.requires.back)
 
-pub returns-in_err-answer-clause-follows : goal.returns-in_err-answer-clause-follows
-returns-in_err-answer-clause-follows g c = follows_then _ _ _ c.bring.ensures.follows (follows_then _ _ _ c.settle_and_tell.ensures.follows c.answer.ensures.follows)
+pub returns-in_err-answer-clause-part : goal.returns-in_err-answer-clause-part
+returns-in_err-answer-clause-part g c = in_part_then _ _ _ _ _ c.bring.ensures.part (in_part_then _ _ _ _ _ c.settle_and_tell.ensures.part c.answer.ensures.part)
 
 pub returns-clause-ok : goal.returns-clause-ok
 returns-clause-ok g c =
@@ -35,5 +35,5 @@ pub returns-clause-text : goal.returns-clause-text
 returns-clause-text g c =
     told-pushed c.args.from.now c.args.to.now c.args.count c.args.environment.now c.in_ok-sent.sent _ _ _ c.in_ok-sent.ensures.ok c.in_ok-sent.ensures.sent c.in_ok-settle_and_tell.ensures.text
 
-pub returns-clause-follows : goal.returns-clause-follows
-returns-clause-follows g c = follows_then _ _ _ c.bring.ensures.follows (follows_then _ _ _ c.settle_and_tell.ensures.follows c.answer.ensures.follows)
+pub returns-clause-part : goal.returns-clause-part
+returns-clause-part g c = in_part_then _ _ _ _ _ c.bring.ensures.part (in_part_then _ _ _ _ _ c.settle_and_tell.ensures.part c.answer.ensures.part)

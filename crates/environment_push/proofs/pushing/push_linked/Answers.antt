@@ -1,11 +1,11 @@
 -- A push, with the room for its line.
-use Rattle.std.proofs.Common.{List, ℕ, ◌++◌, ap, ◌∙◌}
+use Rattle.std.proofs.Common.{List, ℕ, ◌++◌, refl, ap, ◌∙◌}
 use Rattle.environment.specs.Texts.{pushed_text}
-use Rattle.environment.proofs.Following.{follows_same}
+use Rattle.environment.proofs.Following.{in_part_none}
 use Rattle.environment_push.proofs.pushing.push_linked.Goals as goal
 
-pub returns-in_err-reserve-clause-follows : goal.returns-in_err-reserve-clause-follows
-returns-in_err-reserve-clause-follows g c = follows_same _
+pub returns-in_err-reserve-clause-part : goal.returns-in_err-reserve-clause-part
+returns-in_err-reserve-clause-part g c = in_part_none _ _ _ _ refl
 
 pub returns-clause-text : goal.returns-clause-text
 returns-clause-text g c =

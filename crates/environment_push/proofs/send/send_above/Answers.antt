@@ -1,28 +1,33 @@
 -- Sending position by position.
-use Rattle.std.proofs.Common.{refl, sym, ap, ◌∙◌}
-use Rattle.environment.proofs.Following.{follows_same, follows_then}
+use Rattle.std.proofs.Common.{◌+◌, refl, sym, ap, ◌∙◌}
 use Rattle.std.specs.Prelude.{length}
+use Rattle.std.specs.List.{range_with_len}
 use Rattle.std.proofs.lemmas.List.FromFn.{length-range_with_len}
 use Rattle.event_laws.specs.Core.{site_of}
 use Rattle.world_state.specs.World.{WorldState}
 use Rattle.world_state.specs.Pushes.{positions_in}
-use Rattle.environment_push.proofs.Sending.{send_each-more}
+use Rattle.environment.proofs.Following.{in_part_linked}
+use Rattle.environment_push.proofs.Sending.{send_each-more, sent_in_part}
 use Rattle.environment_push.proofs.send.send_above.Goals as goal
 
 pub loop-sent-init : goal.loop-sent-init
-loop-sent-init c = record { world = refl; follows = follows_same _ }
+loop-sent-init c = refl
 
 pub send-requires : goal.send-requires
-send-requires c = c.loop-sent.invariant.follows.directions _ _ c.requires
+send-requires c =
+    let from = c.args.from.now in
+    let to = c.args.to.now in
+    let w = c.args.environment.now in
+    let positions = range_with_len (c.unsent_of-unsent.result.acked + 1) c.loop-sent.sent in
+    in_part_linked from to from to w _ (sent_in_part from to positions w _ c.loop-sent.invariant) c.requires
 
-pub returns-in_err-send-clause-follows : goal.returns-in_err-send-clause-follows
-returns-in_err-send-clause-follows c = follows_then _ _ _ c.loop-sent.invariant.follows c.send.ensures.follows
+pub returns-in_err-send-clause-part : goal.returns-in_err-send-clause-part
+returns-in_err-send-clause-part c =
+    let positions = range_with_len (c.unsent_of-unsent.result.acked + 1) c.loop-sent.sent in
+    sent_in_part c.args.from.now c.args.to.now positions c.args.environment.now _ (c.in_err-send.ensures.err ∙ c.loop-sent.invariant)
 
 pub loop-sent-preserved : goal.loop-sent-preserved
-loop-sent-preserved c = record {
-  world = c.in_ok-send.ensures.ok ∙ send_each-more c.args.from.now c.args.to.now _ c.loop-sent.sent _ _ c.loop-sent.environment c.loop-sent.invariant.world refl;
-  follows = follows_then _ _ _ c.loop-sent.invariant.follows c.send.ensures.follows;
-}
+loop-sent-preserved c = c.in_ok-send.ensures.ok ∙ send_each-more c.args.from.now c.args.to.now _ c.loop-sent.sent _ _ c.loop-sent.environment c.loop-sent.invariant refl
 
 pub returns-clause-sent : goal.returns-clause-sent
 returns-clause-sent c =
@@ -30,3 +35,8 @@ returns-clause-sent c =
     let to = c.args.to.now in
     let sites = c.deref.ensures.value ∙ ap (λ (v : WorldState). v.sites) c.environment.view_is in
     sym (ap length (ap (λ xs. positions_in to c.args.count (site_of from xs)) (sym sites) ∙ c.unsent_of-unsent.ensures) ∙ length-range_with_len _ _)
+
+pub returns-clause-part : goal.returns-clause-part
+returns-clause-part c =
+    let positions = range_with_len (c.unsent_of-unsent.result.acked + 1) c.loop-sent.sent in
+    sent_in_part c.args.from.now c.args.to.now positions c.args.environment.now _ c.loop-sent.invariant

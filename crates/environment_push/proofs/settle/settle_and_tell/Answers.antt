@@ -1,6 +1,6 @@
 -- The receiver is taken out, settles what came, and is put in again.
 use Rattle.std.proofs.lemmas.Result.{on_ok_weaker}
-use Rattle.environment_push.proofs.Settled.{told-there, settling_follows, settled_world}
+use Rattle.environment_push.proofs.Settled.{told-there, settling_in_part, settled_world}
 use Rattle.environment_push.proofs.settle.settle_and_tell.Goals as goal
 
 pub returns-clause-ok : goal.returns-clause-ok
@@ -15,7 +15,7 @@ returns-clause-text g c =
     (told-there c.args.pushed.from c.args.pushed.to _ c.in-Some.place (rw c.deref.ensures.value at c.in-Some.ensures) c.remove-site.result c.remove-site.ensures.value c.args.pushed.to c.args.pushed.sent c.args.lines.now.bytes c.settle_site-site.new.lines.bytes)
     c.settle_site-site.ensures.text)
 
-pub returns-clause-follows : goal.returns-clause-follows
-returns-clause-follows g c =
+pub returns-clause-part : goal.returns-clause-part
+returns-clause-part g c =
     rw (← c.environment.view_is)
-    (settling_follows c.args.pushed.from c.args.pushed.to _ c.in-Some.place (rw c.deref.ensures.value at c.in-Some.ensures) c.remove-site.result c.remove-site.ensures.value _ _ _ c.remove-site.ensures.items c.put_back.ensures c.settle_site-site.ensures.settling)
+    (settling_in_part c.args.pushed.from c.args.pushed.to _ c.in-Some.place (rw c.deref.ensures.value at c.in-Some.ensures) c.remove-site.result c.remove-site.ensures.value _ _ _ c.remove-site.ensures.items c.put_back.ensures c.settle_site-site.ensures.settling)
