@@ -1,26 +1,17 @@
 //! The lines that a case prints.
 
-use crate::runs::{Ended, Faults, noted_run, run, with_line_ends, with_strokes};
-use crate::{sinks, sources};
-use script_drive::Status;
+use crate::runs::{Ended, Faults, is_whole, run, with_line_ends, with_strokes};
+use crate::{reads, sinks, sources};
 use std::alloc::{AllocError, Global};
 
 /// The most calls of which each fails in turn.
-const MOST_CALLS: u64 = 100;
+pub const MOST_CALLS: u64 = 100;
 
 fn ended_line(alloc: Global, what: &str, ended: &Ended) -> Result<String, AllocError> {
     let report = with_strokes(alloc, &ended.report)?;
     let status = ended.status;
     let code = status.code();
     format!(in alloc; "{what}: {status:?} {code} [{report}]")
-}
-
-/// Whether no fault ended the run.
-fn is_whole(ended: &Ended) -> bool {
-    match ended.status {
-        Status::Done | Status::Malformed => true,
-        Status::ReadFault | Status::WriteFault | Status::Memory | Status::Usage => false,
-    }
 }
 
 /// Adds what is told of a run with these faults, and answers whether no fault ended it.
@@ -33,7 +24,7 @@ fn add_run(
 ) -> Result<bool, AllocError> {
     let ended = run(alloc, script, faults)?;
     told.push(ended_line(alloc, what, &ended)?)?;
-    Ok(is_whole(&ended))
+    Ok(is_whole(ended.status))
 }
 
 /// `run SCRIPT`, in pieces of at most so many bytes.
@@ -140,21 +131,6 @@ fn equal_bytes(alloc: Global, count: u64, byte: u8) -> Result<Vec<String>, Alloc
     Ok(vec![in alloc; told]?)
 }
 
-fn read_line(alloc: Global, written: &[u8]) -> Result<String, AllocError> {
-    let written = with_strokes(alloc, written)?;
-    format!(in alloc; "read behind [{written}]")
-}
-
-/// What had been written at each read.
-fn asked_reads(alloc: Global, most: u64, script: &[u8]) -> Result<Vec<String>, AllocError> {
-    let reader = noted_run(alloc, script, most)?;
-    let mut told = Vec::new(alloc);
-    for note in &reader.notes {
-        told.push(read_line(alloc, note)?)?;
-    }
-    Ok(told)
-}
-
 fn no_case(alloc: Global) -> Result<Vec<String>, AllocError> {
     Ok(vec![in alloc; format!(in alloc; "no case")?]?)
 }
@@ -168,8 +144,10 @@ fn told_of_script(
 ) -> Result<Vec<String>, AllocError> {
     match kind {
         "run" => whole_run(alloc, most, script),
-        "asked" => asked_reads(alloc, most, script),
+        "asked" => reads::asked(alloc, most, script),
         "reads" => faulty_reads(alloc, most, script),
+        "counted-reads" => reads::counted(alloc, most, script),
+        "noted-reads" => reads::noted(alloc, most, script),
         "writes" => faulty_writes(alloc, most, script),
         "cuts" => cut_scripts(alloc, most, script),
         "bytes" => equal_bytes(alloc, most, script.first().copied().unwrap_or(b' ')),
@@ -200,9 +178,10 @@ fn told(alloc: Global, kind: &str, most: u64, text: &str) -> Result<Vec<String>,
     }
 }
 
-/// What a case prints: `run`, `asked`, `reads`, `writes` or `cuts`, the most bytes that a call moves, and a script; `bytes`,
-/// their number, and the byte; `source`, `reader` or `failing-source`, the most bytes that a read gives, and all bytes; `writer`
-/// or `offers`, the room, and pieces; `failing-sink`, the most bytes that a write takes, and pieces; or `sink` and pieces.
+/// What a case prints: `run`, `asked`, `reads`, `counted-reads`, `noted-reads`, `writes` or `cuts`, the most bytes that a call
+/// moves, and a script; `bytes`, their number, and the byte; `source`, `reader` or `failing-source`, the most bytes that a read
+/// gives, and all bytes; `writer` or `offers`, the room, and pieces; `failing-sink`, the most bytes that a write takes, and
+/// pieces; or `sink` and pieces.
 pub fn outcomes(alloc: Global, line: &str) -> Result<Vec<String>, AllocError> {
     let (kind, rest) = line.split_once(' ').unwrap_or((line, ""));
     if kind == "sink" {

@@ -1,12 +1,14 @@
 //! A runner of lines whose report is the script.
-ghost use Rattle.std.specs.Prelude.{[], ◌∷◌, ◌++◌, if◌then◌else◌, nat_eq};
-ghost use Rattle.std.specs.List.{starts_with};
-ghost use Rattle.rep_lines.specs.Lines.{newline};
-ghost use Rattle.rep_lines.specs.Runs.{goes, halts};
-ghost use Rattle.report_text.specs.Texts.{malformed_text};
+ghost use Rattle.std.specs.Prelude.{⊤};
+ghost use Rattle.rep_lines.specs.Told.{Tells};
+ghost use Rattle.script_drive.specs.Lines.{line_step};
+ghost use Rattle.script_drive.specs.Outcome.{Told};
+ghost use Rattle.script_drive.specs.Prompt.{ReadsPromptly};
+ghost use Rattle.drive_cases.specs.Repeats.{repeat_step};
 
+use rep_io::Sink;
 use report_text::Lines;
-use script_drive::LineRunner;
+use script_drive::{LineRunner, Reader, Status, drive};
 use script_lex::LineStop;
 use std::alloc::Global;
 
@@ -19,9 +21,15 @@ pub struct Repeat {
 impl LineRunner for Repeat {
     type State = u8;
 
+    type Choices = ();
+
     ghost state = { λ r. r.mark };
 
-    ghost step = { λ mark number line. if starts_with nat_eq line (mark ∷ []) then halts mark (malformed_text number 4) else goes mark (line ++ newline ∷ []) };
+    ghost step = { λ _ mark number line. repeat_step mark number line };
+
+    ghost allowed = { λ _ _. ⊤ };
+
+    ghost known = { λ _. ⊤ };
 
     fn run_line(&mut self, alloc: Global, _number: u32, line: &[u8]) -> Result<Lines, LineStop> {
         if line.starts_with(&[self.mark]) {
@@ -32,4 +40,18 @@ impl LineRunner for Repeat {
         lines.add(b"\n")?;
         Ok(lines)
     }
+}
+
+/// Runs a script whose lines are printed as they stand, through any reader.
+pub fn repeat_through<S, K: Sink, R: Reader<S, K>>(
+    alloc: Global,
+    mark: u8,
+    reader: &mut R,
+    source: &mut S,
+    sink: &mut K,
+) -> Status
+    ensures told { Tells (Told (line_step repeat_step) mark result) (R.left source.old) (R.left source.new) (K.taken sink.old) (K.taken sink.new) }
+    ensures prompt { ReadsPromptly (line_step repeat_step) mark result (R.reads reader.old) (R.reads reader.new) (R.left source.old) (K.taken sink.old) }
+{
+    drive(alloc, Repeat { mark }, reader, source, sink)
 }

@@ -1,10 +1,18 @@
 //! Runs of a script, with the reads and writes that fail.
+ghost use Rattle.std.specs.Prelude.{◌≡◌, [], map, All, IfOk};
+ghost use Rattle.script_drive.specs.Lines.{line_step};
+ghost use Rattle.script_drive.specs.Prompt.{IsPrompt, FaultIsLast};
+ghost use Rattle.drive_cases.specs.Notes.{asked_of};
+ghost use Rattle.drive_cases.specs.Repeats.{repeat_step};
 
 use crate::noting::Noting;
-use crate::repeat::Repeat;
-use rep_io::{BytesSink, FailingSink, FailingSource};
-use script_drive::{Status, Straight, drive};
+use crate::repeat::repeat_through;
+use rep_io::{BytesSink, Failed, FailingSink, FailingSource, Source};
+use script_drive::{Status, Straight};
 use std::alloc::{AllocError, Global};
+
+/// The most reads of what a run left.
+const MOST_READS: u64 = 1_000;
 
 /// How the calls of a run's source and sink are: how many bytes each moves at most, and which read and which write
 /// fails, counted from 1, or 0 for none.
@@ -43,7 +51,9 @@ impl Faults {
         }
     }
 
-    fn source(&self, alloc: Global, script: &[u8]) -> Result<FailingSource, AllocError> {
+    fn source(&self, alloc: Global, script: &[u8]) -> Result<FailingSource, AllocError>
+        ensures { IfOk result (λ source. source.bytes ≡ script.now) }
+    {
         let script = script.to_vec(alloc)?;
         let read = vec![in alloc; self.read]?;
         Ok(FailingSource::make(script, read, self.most.max(1)))
@@ -55,11 +65,28 @@ impl Faults {
     }
 }
 
-/// How a run ended, and what was written.
+/// How a run ended, what was written, and its source.
 #[derive(Drop)]
 pub struct Ended {
     pub status: Status,
     pub report: Vec<u8>,
+    pub source: FailingSource,
+}
+
+/// How a run ended whose reader noted its reads, that reader, and its source.
+#[derive(Drop)]
+pub struct Noted {
+    pub status: Status,
+    pub reader: Noting,
+    pub source: FailingSource,
+}
+
+/// Whether no fault ended a run.
+pub fn is_whole(status: Status) -> bool {
+    match status {
+        Status::Done | Status::Malformed => true,
+        Status::ReadFault | Status::WriteFault | Status::Memory | Status::Usage => false,
+    }
 }
 
 /// The bytes in which a stroke stands for the end of a line.
@@ -84,27 +111,49 @@ pub fn with_strokes(alloc: Global, bytes: &[u8]) -> Result<String, AllocError> {
 pub fn run(alloc: Global, script: &[u8], faults: Faults) -> Result<Ended, AllocError> {
     let mut source = faults.source(alloc, script)?;
     let mut sink = faults.sink(alloc)?;
-    let runner = Repeat { mark: b'!' };
-    let status = drive(alloc, runner, &mut Straight, &mut source, &mut sink);
+    let status = repeat_through(alloc, b'!', &mut Straight, &mut source, &mut sink);
     let report = sink.taken().to_vec(alloc)?;
-    Ok(Ended { status, report })
+    Ok(Ended {
+        status,
+        report,
+        source,
+    })
 }
 
-/// Runs a script of which a read gives so many bytes at most, and gives what its reader noted.
-pub fn noted_run(alloc: Global, script: &[u8], most: u64) -> Result<Noting, AllocError> {
-    let script = script.to_vec(alloc)?;
-    let mut source = FailingSource::make(script, Vec::new(alloc), most.max(1));
+/// Runs the same through a reader that notes its reads.
+pub fn noted_run(alloc: Global, script: &[u8], faults: Faults) -> Result<Noted, AllocError>
+    ensures prompt { IfOk result (λ run. All (IsPrompt (line_step repeat_step) 33 script.now []) (map asked_of run.reader.notes.items)) }
+    ensures last { IfOk result (λ run. FaultIsLast run.status (map asked_of run.reader.notes.items)) }
+{
+    let mut source = faults.source(alloc, script)?;
     let mut sink = BytesSink::make(alloc);
     let mut reader = Noting {
         alloc,
         notes: Vec::new(alloc),
         whole: true,
     };
-    let runner = Repeat { mark: b'!' };
-    drive(alloc, runner, &mut reader, &mut source, &mut sink);
+    let status = repeat_through(alloc, b'!', &mut reader, &mut source, &mut sink);
     if reader.whole {
-        Ok(reader)
+        Ok(Noted {
+            status,
+            reader,
+            source,
+        })
     } else {
         Err(AllocError)
     }
+}
+
+/// What a source still gives when its run has ended. Reads that fail are passed over.
+pub fn left_by(alloc: Global, source: &mut FailingSource) -> Result<Vec<u8>, AllocError> {
+    let mut left = Vec::new(alloc);
+    let mut piece = [0u8; 16];
+    for _ in 0..MOST_READS {
+        match source.read(&mut piece) {
+            Ok(0) => break,
+            Ok(count) => left.extend_from_slice(&piece[..count])?,
+            Err(Failed) => {}
+        }
+    }
+    Ok(left)
 }

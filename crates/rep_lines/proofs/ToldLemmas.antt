@@ -1,12 +1,12 @@
 -- From what a run did to what is told of it.
-use Rattle.std.proofs.Common.{◌≡◌, ◌≢◌, ℕ, List, [], ◌∷◌, ◌++◌, true, false, None, Some, refl, sym, ap, ◌∙◌, subst, append_assoc}
+use Rattle.std.proofs.Common.{◌≡◌, ◌≢◌, ◌≤◌, ℕ, List, [], ◌∷◌, ◌++◌, length, zero-le, true, false, None, Some, refl, sym, ap, ◌∙◌, subst, append_assoc, append-nil}
 use Rattle.std.specs.declared.option.Option.{Option}
 use Rattle.std.specs.Io.KnownBytes.{Consumes, Appends, IsAtEnd}
 use Rattle.std.proofs.KnownBytes.{Appends-trans}
 use Rattle.rep_lines.specs.Lines.{newline, last_line}
 use Rattle.rep_lines.specs.Runs.{Stepped}
 use Rattle.rep_lines.specs.Fed.{Standing, beginning, prints_from, stops_from, FedInto, EndsStoppedInto, EndsShortInto}
-use Rattle.rep_lines.specs.Told.{Tells, report, ReportsAll, ReportsStop, ReportsFront, ReportsRead}
+use Rattle.rep_lines.specs.Told.{Tells, report, IsRunning, ReadsToStop, ReportsAll, ReportsStop, ReportsFront, ReportsRead}
 use Rattle.rep_lines.proofs.FedLemmas.{fed_then}
 
 -- where both tell, the bytes read and written are those of the run
@@ -21,35 +21,45 @@ tells told (Some xs) (Some ys) (Some ks) (Some zs) read out took gave is script 
     let written : zs ≡ earlier ++ out = cc in
     (ys, out, refl, ap Some written, subst (λ s. told s ys out) all (is ys refl))
 
-at_end : (l : Option (List ℕ)) (rest : List ℕ) → IsAtEnd l → l ≡ Some rest → rest ≡ []
+-- at the end nothing is left
+pub at_end : (l : Option (List ℕ)) (rest : List ℕ) → IsAtEnd l → l ≡ Some rest → rest ≡ []
 at_end None rest end is = cc
 at_end (Some xs) rest end is = cc
 
 -- a last line is run as if its end stood there
-last_line-some : (line : List ℕ) → line ≢ [] → last_line line ≡ line ∷ []
+pub last_line-some : (line : List ℕ) → line ≢ [] → last_line line ≡ line ∷ []
 last_line-some [] some = absurd (some refl)
 last_line-some (b ∷ line) some = refl
 
-module _ {W : Type 0} (step : W → ℕ → List ℕ → Stepped W) (start : W) where
+module _ {W : Type 0} (step : W → ℕ → List ℕ → Stepped W) (start : W) (most : ℕ) where
   abbrev Ran : Option (List ℕ) → Option (List ℕ) → List ℕ → Standing W → Type 0
   Ran k k' read at = FedInto step k k' (beginning start) read at
 
+  -- all that was read was run
+  reads_whole : (read rest : List ℕ) → IsRunning step start read → ReadsToStop step start most (read ++ rest) rest
+  reads_whole read rest running = (read, [], ap (λ l. l ++ rest) (sym (append-nil read)), zero-le, running)
+
   -- nothing was written
-  pub tells_nothing : (l l' k : Option (List ℕ)) (read : List ℕ) → Consumes l l' read → Appends k k [] → Tells (ReportsFront step start) l l' k k
-  tells_nothing l l' k read took gave = tells (ReportsFront step start) l l' k k read [] took gave (λ rest is. (report step start (read ++ rest), refl))
+  pub tells_nothing : (l k : Option (List ℕ)) → Consumes l l [] → Appends k k [] → Tells (ReportsFront step start most) l l k k
+  tells_nothing l k took gave =
+      tells (ReportsFront step start most) l l k k [] [] took gave (λ rest is. ((report step start rest, refl), reads_whole [] rest refl))
 
   -- a read failed behind these bytes
   pub tells_read : (l l' k k' : Option (List ℕ)) (read : List ℕ) (at : Standing W) → Consumes l l' read → Ran k k' read at → Tells (ReportsRead step start) l l' k k'
   tells_read l l' k k' read at took ran = tells (ReportsRead step start) l l' k k' read ran.0 took ran.1
-      (λ rest is. let t = fed_then step (beginning start) read ran.0 at rest ran.2 in ((prints_from step at rest, t.0), (read, refl, ran.2.prints)))
+      (λ rest is. let t = fed_then step (beginning start) read ran.0 at rest ran.2 in ((prints_from step at rest, t.0), (read, refl, ran.2.prints, ran.2.running)))
 
-  -- a line of these bytes ended the run
-  pub tells_stop : (l l' k k' : Option (List ℕ)) (read : List ℕ) → Consumes l l' read → EndsStoppedInto step k k' (beginning start) read → Tells (ReportsStop step start) l l' k k'
-  tells_stop l l' k k' read took ends = tells (ReportsStop step start) l l' k k' read ends.0 took ends.1 (λ rest is. ends.2 rest)
+  -- a line of these bytes ended the run, and it stands within the last piece of them
+  pub tells_stop : (l l' k k' : Option (List ℕ)) (read last : List ℕ) → Consumes l l' (read ++ last) → length last ≤ most → IsRunning step start read
+      → EndsStoppedInto step k k' (beginning start) (read ++ last) → Tells (ReportsStop step start most) l l' k k'
+  tells_stop l l' k k' read last took few running ends = tells (ReportsStop step start most) l l' k k' (read ++ last) ends.0 took ends.1
+      (λ rest is. let e = ends.2 rest in (e.0, e.1, (read, last, refl, few, running)))
 
   -- the run ended within these bytes, and only a front was written
-  pub tells_front : (l l' k k' : Option (List ℕ)) (read : List ℕ) → Consumes l l' read → EndsShortInto step k k' (beginning start) read → Tells (ReportsFront step start) l l' k k'
-  tells_front l l' k k' read took ends = tells (ReportsFront step start) l l' k k' read ends.0 took ends.1 (λ rest is. ends.2 rest)
+  pub tells_front : (l l' k k' : Option (List ℕ)) (read last : List ℕ) → Consumes l l' (read ++ last) → length last ≤ most → IsRunning step start read
+      → EndsShortInto step k k' (beginning start) (read ++ last) → Tells (ReportsFront step start most) l l' k k'
+  tells_front l l' k k' read last took few running ends = tells (ReportsFront step start most) l l' k k' (read ++ last) ends.0 took ends.1
+      (λ rest is. (ends.2 rest, (read, last, refl, few, running)))
 
   -- all was read, and the last line was run
   pub tells_all : (l l' k k' k'' : Option (List ℕ)) (read : List ℕ) (at : Standing W) (out : List ℕ) → Consumes l l' read → IsAtEnd l' → Ran k k' read at
@@ -61,22 +71,23 @@ module _ {W : Type 0} (step : W → ℕ → List ℕ → Stepped W) (start : W) 
 
   -- all was read, and the last line ended the run
   pub tells_stop_last : (l l' k k' k'' : Option (List ℕ)) (read : List ℕ) (at : Standing W) → Consumes l l' read → IsAtEnd l' → Ran k k' read at
-      → EndsStoppedInto step k' k'' at (newline ∷ []) → at.line ≢ [] → Tells (ReportsStop step start) l l' k k''
+      → EndsStoppedInto step k' k'' at (newline ∷ []) → at.line ≢ [] → Tells (ReportsStop step start most) l l' k k''
   tells_stop_last l l' k k' k'' read at took end ran ends some =
-      tells (ReportsStop step start) l l' k k'' read (ran.0 ++ ends.0) took (Appends-trans k k' k'' ran.0 ends.0 ran.1 ends.1) (λ rest is.
+      tells (ReportsStop step start most) l l' k k'' read (ran.0 ++ ends.0) took (Appends-trans k k' k'' ran.0 ends.0 ran.1 ends.1) (λ rest is.
       let t = fed_then step (beginning start) read ran.0 at [] ran.2 in
       let e = ends.2 [] in
       let printed_last : ends.0 ≡ prints_from step at [] = rw (last_line-some at.line some) e.0 in
       let stopped : stops_from step at [] ≡ true = rw (last_line-some at.line some) e.1 in
-      subst (λ r. ReportsStop step start (read ++ r) r (ran.0 ++ ends.0)) (sym (at_end l' rest end is)) (ap (λ o. ran.0 ++ o) printed_last ∙ sym t.0, t.1 ∙ stopped))
+      subst (λ r. ReportsStop step start most (read ++ r) r (ran.0 ++ ends.0)) (sym (at_end l' rest end is))
+      (ap (λ o. ran.0 ++ o) printed_last ∙ sym t.0, t.1 ∙ stopped, reads_whole read [] ran.2.running))
 
   -- all was read, and the run ended within the last line
   pub tells_front_last : (l l' k k' k'' : Option (List ℕ)) (read : List ℕ) (at : Standing W) → Consumes l l' read → IsAtEnd l' → Ran k k' read at
-      → EndsShortInto step k' k'' at (newline ∷ []) → at.line ≢ [] → Tells (ReportsFront step start) l l' k k''
+      → EndsShortInto step k' k'' at (newline ∷ []) → at.line ≢ [] → Tells (ReportsFront step start most) l l' k k''
   tells_front_last l l' k k' k'' read at took end ran ends some =
-      tells (ReportsFront step start) l l' k k'' read (ran.0 ++ ends.0) took (Appends-trans k k' k'' ran.0 ends.0 ran.1 ends.1) (λ rest is.
+      tells (ReportsFront step start most) l l' k k'' read (ran.0 ++ ends.0) took (Appends-trans k k' k'' ran.0 ends.0 ran.1 ends.1) (λ rest is.
       let t = fed_then step (beginning start) read ran.0 at [] ran.2 in
       let e = ends.2 [] in
       let front : prints_from step at [] ≡ ends.0 ++ e.0 = rw (last_line-some at.line some) e.1 in
-      subst (λ r. ReportsFront step start (read ++ r) r (ran.0 ++ ends.0)) (sym (at_end l' rest end is))
-      (e.0, t.0 ∙ (ap (λ o. ran.0 ++ o) front ∙ sym (append_assoc ran.0 ends.0 e.0))))
+      subst (λ r. ReportsFront step start most (read ++ r) r (ran.0 ++ ends.0)) (sym (at_end l' rest end is))
+      ((e.0, t.0 ∙ (ap (λ o. ran.0 ++ o) front ∙ sym (append_assoc ran.0 ends.0 e.0))), reads_whole read [] ran.2.running))

@@ -59,3 +59,11 @@ module _ {W : Type 0} (step : W → ℕ → List ℕ → Stepped W) where
 
   abbrev pub EndsShortInto : Option (List ℕ) → Option (List ℕ) → Standing W → List ℕ → Type 0
   EndsShortInto before after old bytes = (out : List ℕ) × Appends before after out × EndsShort old bytes out
+
+  -- a run of the lines comes to a state: it is the one behind some of the first lines, none of which ends the run
+  abbrev pub Reaches : W → ℕ → List (List ℕ) → W → Type 0
+  Reaches w n lines w' = (front more : List (List ℕ)) × (lines ≡ front ++ more) × (is_stopped step w n front ≡ false) × (w' ≡ state_after step w n front)
+
+  -- so does a run that goes on from where it stands, whatever follows these bytes
+  abbrev pub ReachesFrom : Standing W → List ℕ → W → Type 0
+  ReachesFrom old bytes w' = (rest : List ℕ) → Reaches old.state old.number (lines_after old.line (bytes ++ rest)) w'

@@ -1,9 +1,10 @@
 -- Laws of lines, and of what they print.
 use Rattle.std.specs.Prelude.{◌≡◌, ℕ, ◌<◌, ◌≤◌, Bool, List, [], ◌++◌, length, true, All}
 use Rattle.rep_lines.specs.Lines.{whole_lines, pending, lines_after, joined, IsUnbroken}
-use Rattle.rep_lines.specs.Runs.{Stepped, halts, printed, is_stopped, state_after}
+use Rattle.rep_lines.specs.Runs.{Stepped, halts, printed, is_stopped, state_after, last_state}
 use Rattle.rep_lines.specs.Limits.{limited}
 use Rattle.rep_lines.specs.Fed.{Begins, Standing, Fed, prints_from, stops_from}
+use Rattle.rep_lines.specs.Told.{ReadsToStop, ReportsRead}
 
 -- the lines, each with its end, and the bytes without an end are the bytes, and no line has an end within
 pub record LinesJoin (bytes : List ℕ) : Type 0 where
@@ -39,10 +40,17 @@ module _ {W : Type 0} (step : W → ℕ → List ℕ → Stepped W) where
   abbrev pub StepsKeep : (W → Bool) → Type 0
   StepsKeep holds = (w : W) (n : ℕ) (line : List ℕ) → holds w ≡ true → holds (step w n line).state ≡ true
 
-  -- what every step keeps holds behind any lines, and wherever a run stands that was fed bytes
+  -- what every step keeps holds behind any lines, at the end of any run, and wherever a run stands that was fed bytes
   pub record HoldsThroughout (holds : W → Bool) : Type 0 where
     pub behind : (w : W) (n : ℕ) (lines : List (List ℕ)) → holds w ≡ true → holds (state_after step w n lines) ≡ true
+    pub end : (w : W) (n : ℕ) (lines : List (List ℕ)) → holds w ≡ true → holds (last_state step w n lines) ≡ true
     pub fed : (old : Standing W) (bytes out : List ℕ) (new : Standing W) → Fed step old bytes out new → holds old.state ≡ true → holds new.state ≡ true
+
+  -- a line of `read` ends the run: no read behind these bytes is told to have failed, and where the run was ended early, fewer bytes
+  -- were read behind them than a piece has
+  pub record StopEndsReading (start : W) (most : ℕ) (read more left written : List ℕ) : Type 0 where
+    pub fault : ReportsRead step start ((read ++ more) ++ left) left written → ⊥
+    pub stop : ReadsToStop step start most ((read ++ more) ++ left) left → length more < most
 
   -- the limits are tested in this order, and a line within them is under its own step
   pub record LimitsComeFirst (most_lines most_bytes : ℕ) (refusal : ℕ → ℕ → List ℕ) (w : W) (n : ℕ) (line : List ℕ) : Type 0 where

@@ -6,16 +6,15 @@ use Rattle.std.proofs.lemmas.List.{take_more}
 use Rattle.std.proofs.lemmas.List.Elements.{All-head, All-tail}
 use Rattle.rep_lines.specs.Lines.{newline, whole_lines, lines_after, IsUnbroken}
 use Rattle.rep_lines.specs.Runs.{Stepped, state_after}
-use Rattle.rep_lines.specs.Fed.{Standing, Fed, FedInto}
+use Rattle.rep_lines.specs.Fed.{Standing, Fed}
 use Rattle.rep_lines.proofs.LineLemmas.{StartsLine, starts_line, whole_lines-unbroken, pending-unbroken}
-use Rattle.rep_lines.proofs.FedLemmas.{fed_into_more}
 use Rattle.rep_lines.proofs.EndLemmas.{HaltsFirst, halts_first}
 use Rattle.rep_lines.proofs.LimitLemmas.{limited-long, one_line_too_many}
 use Rattle.report_text.specs.Texts.{malformed_text}
 use Rattle.script_drive.specs.Lines.{line_step}
-use Rattle.script_drive.specs.Halts.{HaltsInto}
+use Rattle.script_drive.specs.Halts.{FeedsBy, HaltsBy}
 use Rattle.script_drive.specs.declared.run.Halt.{Halt}
-use Rattle.script_drive.proofs.HaltLemmas.{halts_more, halts_longer}
+use Rattle.script_drive.proofs.HaltLemmas.{feeds_by_more, halts_by_more, halts_by_longer}
 
 -- bytes that don't end their line stand in it, whatever follows
 starts_front : (front : List ℕ) (b : ℕ) (bs rest : List ℕ) → IsUnbroken (b ∷ bs) → StartsLine (front ++ b ∷ bs) (lines_after front (b ∷ bs ++ rest))
@@ -41,22 +40,6 @@ module _ {W : Type 0} (step : W → ℕ → List ℕ → Stepped W) where
         after = λ i. record { state = state_after step at.state at.number (sym none i); number = sym number i; line = sym (pending-unbroken at.line xs unbroken) i };
       }
 
-  -- a line was run that the bytes before its end belong to
-  pub fed_line : (a b : Option (List ℕ)) (old : Standing W) (xs : List ℕ) (n : ℕ) (mid new : Standing W) → n < length xs → get_or xs n 0 ≡ newline
-      → Fed step old (take n xs) [] mid → FedInto step a b mid (newline ∷ []) new → FedInto step a b old (take (n + 1) xs) new
-  fed_line a b old xs n mid new here ends front line =
-      subst (λ l. FedInto step a b old l new) (sym (take-end xs n here ends))
-      (fed_into_more step a a b old (take n xs) mid (newline ∷ []) new ([], Appends-nil a, front) line)
-
-  -- that line ended the run
-  pub halts_line : (a b : Option (List ℕ)) (halt : Halt) (old : Standing W) (xs : List ℕ) (n : ℕ) (mid : Standing W) → n < length xs → get_or xs n 0 ≡ newline
-      → Fed step old (take n xs) [] mid → HaltsInto step a b halt mid (newline ∷ []) → HaltsInto step a b halt old xs
-  halts_line a b halt old xs n mid here ends front halted =
-      let line : List ℕ = take n xs ++ newline ∷ [] in
-      let whole : line ++ drop (n + 1) xs ≡ xs = ap (λ l. l ++ drop (n + 1) xs) (sym (take-end xs n here ends)) ∙ take-append-drop (n + 1) xs in
-      subst (HaltsInto step a b halt old) whole
-      (halts_longer step a b halt old line (drop (n + 1) xs) (halts_more step a a b halt old (take n xs) mid (newline ∷ []) ([], Appends-nil a, front) halted))
-
   -- bytes behind the last line
   pub bytes_behind_last : (at : Standing W) (xs rest : List ℕ) → 0 < length xs → 200000 < at.number → HaltsFirst (line_step step) at (xs ++ rest) (malformed_text at.number 2)
   bytes_behind_last at [] rest some many = absurd (omega (arith, some))
@@ -71,3 +54,31 @@ module _ {W : Type 0} (step : W → ℕ → List ℕ → Stepped W) where
       let longer : 1024 < length ((at.line ++ b ∷ bs) ++ l.0) = omega (arith, length-append at.line (b ∷ bs), length-append (at.line ++ b ∷ bs) l.0) in
       halts_first (line_step step) at (b ∷ bs ++ rest) ((at.line ++ b ∷ bs) ++ l.0) l.1 at.state (malformed_text at.number 1) l.2
       (limited-long 200000 1024 malformed_text step at.state at.number ((at.line ++ b ∷ bs) ++ l.0) few longer)
+
+module _ {W C : Type 0} (step : C → W → ℕ → List ℕ → Stepped W) (allowed : W → C → Type 0) (known : W → Type 0) where
+  -- bytes that don't end their line are appended to it
+  pub feeds_unbroken : (a : Option (List ℕ)) (at mid : Standing W) (xs : List ℕ) → IsUnbroken xs → mid ≡ record { state = at.state; number = at.number; line = at.line ++ xs }
+      → FeedsBy step allowed a a at xs mid
+  feeds_unbroken a at mid xs unbroken is choices may = (
+    subst (λ (s : Standing W). allowed s.state choices) is may,
+    ([], Appends-nil a, subst (λ (s : Standing W). Fed (line_step (step choices)) at xs [] s) (sym is) (fed_unbroken (line_step (step choices)) at xs unbroken)),
+  )
+
+  -- a line was run that the bytes before its end belong to
+  pub feeds_line : (a b : Option (List ℕ)) (old : Standing W) (xs : List ℕ) (n : ℕ) (mid new : Standing W) → n < length xs → get_or xs n 0 ≡ newline → IsUnbroken (take n xs)
+      → mid ≡ record { state = old.state; number = old.number; line = old.line ++ take n xs }
+      → FeedsBy step allowed a b mid (newline ∷ []) new → FeedsBy step allowed a b old (take (n + 1) xs) new
+  feeds_line a b old xs n mid new here ends unbroken is line =
+      subst (λ l. FeedsBy step allowed a b old l new) (sym (take-end xs n here ends))
+      (feeds_by_more step allowed known a a b old (take n xs) mid (newline ∷ []) new (feeds_unbroken a old mid (take n xs) unbroken is) line)
+
+  -- that line ended the run
+  pub halts_line : (a b : Option (List ℕ)) (halt : Halt) (old : Standing W) (xs : List ℕ) (n : ℕ) (mid : Standing W) → n < length xs → get_or xs n 0 ≡ newline → IsUnbroken (take n xs)
+      → mid ≡ record { state = old.state; number = old.number; line = old.line ++ take n xs }
+      → HaltsBy step allowed known a b halt mid (newline ∷ []) → HaltsBy step allowed known a b halt old xs
+  halts_line a b halt old xs n mid here ends unbroken is halted =
+      let line : List ℕ = take n xs ++ newline ∷ [] in
+      let whole : line ++ drop (n + 1) xs ≡ xs = ap (λ l. l ++ drop (n + 1) xs) (sym (take-end xs n here ends)) ∙ take-append-drop (n + 1) xs in
+      subst (HaltsBy step allowed known a b halt old) whole
+      (halts_by_longer step allowed known a b halt old line (drop (n + 1) xs)
+      (halts_by_more step allowed known a a b halt old (take n xs) mid (newline ∷ []) (feeds_unbroken a old mid (take n xs) unbroken is) halted))

@@ -1,6 +1,6 @@
 -- What the lines of a script do, by what those within the limits do.
 use Rattle.std.specs.Prelude.{◌≡◌, ℕ, List}
-use Rattle.rep_lines.specs.Runs.{Stepped, halts}
+use Rattle.rep_lines.specs.Runs.{Stepped, goes, halts}
 use Rattle.rep_lines.specs.Limits.{limited}
 use Rattle.report_text.specs.Texts.{malformed_text}
 use Rattle.script_lex.specs.declared.stop.LineStop.{LineStop}
@@ -14,6 +14,10 @@ most_lines = 200000
 abbrev pub most_bytes : ℕ
 most_bytes = 1024
 
+-- a read asks for at most so many bytes
+abbrev pub most_piece : ℕ
+most_piece = 4096
+
 -- a script is within these limits, and a line that breaks a rule is told of
 abbrev pub line_step : {W : Type 0} → (W → ℕ → List ℕ → Stepped W) → W → ℕ → List ℕ → Stepped W
 line_step step = limited most_lines most_bytes malformed_text step
@@ -22,3 +26,13 @@ line_step step = limited most_lines most_bytes malformed_text step
 abbrev pub StopsBy : {W : Type 0} → Stepped W → W → ℕ → LineStop → Type 0
 StopsBy stepped old number (Rule rule) = stepped ≡ halts old (malformed_text number rule)
 StopsBy stepped old number Memory = Unit {0}
+
+-- what a line does may depend on choices that are made only as it runs; a state allows those that agree with what was chosen so far
+module _ {W C : Type 0} (step : C → W → ℕ → List ℕ → Stepped W) (allowed : W → C → Type 0) where
+  -- all choices that are allowed behind the line were so before it, and by each of them the line goes on so
+  abbrev pub GoesBy : W → ℕ → List ℕ → W → List ℕ → Type 0
+  GoesBy old number line new prints = (choices : C) → allowed new choices → allowed old choices × (step choices old number line ≡ goes new prints)
+
+  -- by all choices that are allowed before the line it was stopped so
+  abbrev pub StopsAnyway : W → ℕ → List ℕ → LineStop → Type 0
+  StopsAnyway old number line stop = (choices : C) → allowed old choices → StopsBy (step choices old number line) old number stop

@@ -1,10 +1,7 @@
 //! A script that is read piece by piece from a source, and its report that goes to a sink.
 ghost use Rattle.std.specs.Prelude.{◌≡◌, ◌≢◌};
 ghost use Rattle.rep_io.specs.Faults.{Rose};
-ghost use Rattle.rep_lines.specs.Told.{Tells};
-ghost use Rattle.script_drive.specs.Lines.{line_step};
-ghost use Rattle.script_drive.specs.Outcome.{Told};
-ghost use Rattle.script_drive.specs.Prompt.{ReadsPromptly};
+ghost use Rattle.script_drive.specs.Outcome.{RanBy};
 
 use crate::reader::Reader;
 use crate::run::{Halt, LineRunner, MOST_PROGRESS, Run};
@@ -16,8 +13,10 @@ const PIECE: usize = 4_096;
 
 /// Runs a script line by line, and offers the report of each line before it reads on.
 ///
-/// Whenever more of the script is asked for, all that the whole lines read so far print had been written: so says
-/// `prompt`, where the reader tells its reads.
+/// Where the reader tells its reads: whenever more of the script is asked for, none of the whole lines read so far had ended the
+/// run, all that they print had been written, and no read had failed.
+///
+/// What is told holds by all choices that the state to which the run came allows.
 pub fn drive<X: LineRunner, S, K: Sink, R: Reader<S, K>>(
     alloc: Global,
     runner: X,
@@ -25,8 +24,8 @@ pub fn drive<X: LineRunner, S, K: Sink, R: Reader<S, K>>(
     source: &mut S,
     sink: &mut K,
 ) -> Status
-    ensures told { Tells (Told (line_step X.step) (X.state runner) result) (R.left source.old) (R.left source.new) (K.taken sink.old) (K.taken sink.new) }
-    ensures prompt { ReadsPromptly (line_step X.step) (X.state runner) (R.reads reader.old) (R.reads reader.new) (R.left source.old) (K.taken sink.old) }
+    requires { X.known (X.state runner) }
+    ensures told { RanBy X.step X.allowed X.known (X.state runner) result (R.left source.old) (R.left source.new) (K.taken sink.old) (K.taken sink.new) (R.reads reader.old) (R.reads reader.new) }
     ensures read { result ≡ Status.ReadFault → Rose (R.faults source.old) (R.faults source.new) }
     ensures write { result ≡ Status.WriteFault → Rose (K.faults sink.old) (K.faults sink.new) }
     ensures ran { result ≢ Status.Usage }

@@ -1,5 +1,5 @@
 //! Who reads a script for a run.
-ghost use Rattle.std.specs.Prelude.{ℕ, List, None};
+ghost use Rattle.std.specs.Prelude.{ℕ, List, None, is_err};
 ghost use Rattle.std.specs.declared.option.Option.{Option};
 ghost use Rattle.rep_io.specs.Faults.{HasCause};
 ghost use Rattle.rep_io.specs.Transfer.{Reads};
@@ -15,14 +15,15 @@ pub trait Reader<S, K: Sink> {
     /// How often a read has failed.
     ghost faults: { S → ℕ };
 
-    /// The reads that were asked for so far, in their order, where the reader tells them.
+    /// The reads that were asked for so far, in their order, where the reader tells them. One that finds no memory for a read
+    /// ceases to tell, and doesn't begin again.
     ghost reads: { Self → Option (List Asked) };
 
     /// Reads bytes into the front of a piece, as a source does.
     fn read(&mut self, source: &mut S, sink: &K, into: &mut [u8]) -> Result<usize, Failed>
         ensures bytes { Reads (left source.old) (left source.new) result into.new }
         ensures cause { HasCause (faults source.old) (faults source.new) result }
-        ensures asked { AsksNext (reads self.old) (reads self.new) (record { left = left source.old; written = K.taken sink.now }) };
+        ensures asked { AsksNext (reads self.old) (reads self.new) (record { left = left source.old; written = K.taken sink.now; failed = is_err result }) };
 }
 
 /// Reads from a source, and notes nothing.

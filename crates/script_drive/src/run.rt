@@ -1,13 +1,12 @@
 //! A script that is run line by line, as its bytes come.
-ghost use Rattle.std.specs.Prelude.{◌≡◌, ◌≢◌, ◌≤◌, ◌<◌, ◌+◌, ◌*◌, ◌^◌, ℕ, List, [], ◌∷◌, length, take, slice_index, false, IfOk, IfErr, OnOk, OnErr};
-ghost use Rattle.std.specs.Io.KnownBytes.{Appends};
+ghost use Rattle.std.specs.Prelude.{◌≡◌, ◌≢◌, ◌≤◌, ◌<◌, ◌+◌, ℕ, List, [], ◌∷◌, ◌++◌, length, take, slice_index, IfOk, IfErr, OnOk, OnErr};
 ghost use Rattle.rep_io.specs.Faults.{Rose};
 ghost use Rattle.rep_lines.specs.Lines.{newline, IsUnbroken};
-ghost use Rattle.rep_lines.specs.Runs.{Stepped, goes};
-ghost use Rattle.rep_lines.specs.Fed.{Fed, FedInto, beginning, prints_from, stops_from};
+ghost use Rattle.rep_lines.specs.Runs.{Stepped};
+ghost use Rattle.rep_lines.specs.Fed.{beginning};
 ghost use Rattle.report_text.specs.Texts.{malformed_text};
-ghost use Rattle.script_drive.specs.Lines.{line_step, most_bytes, StopsBy};
-ghost use Rattle.script_drive.specs.Halts.{HaltsInto, RefusesInto, HasWriteCause, status_of, progress};
+ghost use Rattle.script_drive.specs.Lines.{GoesBy, StopsAnyway, most_bytes};
+ghost use Rattle.script_drive.specs.Halts.{FeedsBy, FinishesBy, HaltsBy, RefusesInto, HasWriteCause, status_of, progress};
 
 use crate::status::Status;
 use memchr::memchr;
@@ -27,20 +26,38 @@ const MOST_BYTES: usize = 1_024;
 pub(crate) const MOST_PROGRESS: u32 = 205_002_049;
 
 /// What runs the lines of a script.
+///
+/// What a line does may depend on choices that are made only as it runs, as where threads take turns in an order of their own.
+/// No contract can name them before they are made. So contracts say what holds by all choices that agree with those made so
+/// far, and whoever has run a script picks among these at its end.
 pub trait LineRunner: Drop {
     /// What lines change.
     type State;
 
+    /// What is chosen as lines run, and decides what they do. It is `()` where nothing is chosen.
+    type Choices;
+
     /// The state that the lines so far led to.
     ghost state: { Self → Self.State };
 
-    /// What a line within the limits does to a state, by its number and its bytes.
-    ghost step: { Self.State → ℕ → List ℕ → Stepped Self.State };
+    /// What a line within the limits does to a state, by its number and its bytes. Once the choices are given it is a function:
+    /// so a report is one of a script and of choices.
+    ghost step: { Self.Choices → Self.State → ℕ → List ℕ → Stepped Self.State };
+
+    /// The choices that agree with those made on the way to a state. Lines only add to what was chosen: whatever is allowed
+    /// behind a line was allowed before it.
+    ghost allowed: { Self.State → Self.Choices → Type 0 };
+
+    /// What is known of each state to which lines lead. A contract tells of a run's last state only that there is one: it is a
+    /// value, without the runner that had it. So what the runner made sure of there has to be told by this.
+    ghost known: { Self.State → Type 0 };
 
     /// Runs a line, and gives what it prints. After a stop no further line is run.
     fn run_line(&mut self, alloc: Global, number: u32, line: &[u8]) -> Result<Lines, LineStop>
-        ensures ok { IfOk result (λ lines. step (state self.old) number line.now ≡ goes (state self.new) lines.bytes) }
-        ensures stop { IfErr result (StopsBy (step (state self.old) number line.now) (state self.old) number) };
+        requires { known (state self.old) }
+        ensures known { OnOk result (known (state self.new)) }
+        ensures ok { IfOk result (λ lines. GoesBy step allowed (state self.old) number line.now (state self.new) lines.bytes) }
+        ensures stop { IfErr result (StopsAnyway step allowed (state self.old) number line.now) };
 }
 
 /// Why a run ends before its script does.
@@ -101,8 +118,10 @@ impl<X: LineRunner> Run<X> {
 
     /// Runs each line that the piece ends, and offers what it prints.
     pub fn feed<K: Sink>(&mut self, alloc: Global, piece: &[u8], sink: &mut K) -> Result<(), Halt>
-        ensures fed { OnOk result (FedInto (line_step X.step) (K.taken sink.old) (K.taken sink.new) self.old piece.now self.new) }
-        ensures halted { IfErr result (λ halt. HaltsInto (line_step X.step) (K.taken sink.old) (K.taken sink.new) halt self.old piece.now) }
+        requires { X.known self.old.state }
+        ensures known { OnOk result (X.known self.new.state) }
+        ensures fed { OnOk result (FeedsBy X.step X.allowed (K.taken sink.old) (K.taken sink.new) self.old piece.now self.new) }
+        ensures halted { IfErr result (λ halt. HaltsBy X.step X.allowed X.known (K.taken sink.old) (K.taken sink.new) halt self.old piece.now) }
         ensures cause { HasWriteCause (K.faults sink.old) (K.faults sink.new) result }
         ensures further { OnOk result (progress self.old + length piece.now ≤ progress self.new) }
         ensures within { OnOk result (0 < length piece.now → progress self.new ≤ MOST_PROGRESS) }
@@ -115,11 +134,12 @@ impl<X: LineRunner> Run<X> {
     }
 
     /// Ends the run: its last line is run where it isn't empty, as if its end stood there.
-    pub fn finish<K: Sink>(mut self, alloc: Global, sink: &mut K) -> Result<(), Halt>
-        ensures fed { OnOk result ((out : List ℕ) × Appends (K.taken sink.old) (K.taken sink.new) out
-            × (out ≡ prints_from (line_step X.step) self []) × (stops_from (line_step X.step) self [] ≡ false)) }
-        ensures halted { IfErr result (λ halt. HaltsInto (line_step X.step) (K.taken sink.old) (K.taken sink.new) halt self (newline ∷ [])) }
-        ensures some { OnErr result (self.line ≢ []) }
+    pub fn finish<K: Sink>(&mut self, alloc: Global, sink: &mut K) -> Result<(), Halt>
+        requires { X.known self.old.state }
+        ensures fed { OnOk result (FinishesBy X.step X.allowed (K.taken sink.old) (K.taken sink.new) self.old self.new.state) }
+        ensures halted { IfErr result (λ halt. HaltsBy X.step X.allowed X.known (K.taken sink.old) (K.taken sink.new) halt self.old (newline ∷ [])) }
+        ensures known { OnOk result (X.known self.new.state) }
+        ensures some { OnErr result (self.old.line ≢ []) }
         ensures cause { HasWriteCause (K.faults sink.old) (K.faults sink.new) result }
     {
         if self.line.is_empty() {
@@ -130,10 +150,12 @@ impl<X: LineRunner> Run<X> {
 
     // Takes the bytes up to the first that ends a line, or all, runs the line that is ended, and tells how many it took.
     fn take<K: Sink>(&mut self, alloc: Global, bytes: &[u8], sink: &mut K) -> Result<usize, Halt>
-        requires { 0 < length bytes.now }
+        requires some { 0 < length bytes.now }
+        requires known { X.known self.old.state }
+        ensures known { OnOk result (X.known self.new.state) }
         ensures count { IfOk result (λ count. (0 < count) × (count ≤ length bytes.now)) }
-        ensures fed { IfOk result (λ count. FedInto (line_step X.step) (K.taken sink.old) (K.taken sink.new) self.old (take count bytes.now) self.new) }
-        ensures halted { IfErr result (λ halt. HaltsInto (line_step X.step) (K.taken sink.old) (K.taken sink.new) halt self.old bytes.now) }
+        ensures fed { IfOk result (λ count. FeedsBy X.step X.allowed (K.taken sink.old) (K.taken sink.new) self.old (take count bytes.now) self.new) }
+        ensures halted { IfErr result (λ halt. HaltsBy X.step X.allowed X.known (K.taken sink.old) (K.taken sink.new) halt self.old bytes.now) }
         ensures cause { HasWriteCause (K.faults sink.old) (K.faults sink.new) result }
         ensures further { IfOk result (λ count. progress self.old + count ≤ progress self.new) }
         ensures within { OnOk result (progress self.new ≤ MOST_PROGRESS) }
@@ -157,8 +179,7 @@ impl<X: LineRunner> Run<X> {
     fn append(&mut self, bytes: &[u8])
         requires unbroken { IsUnbroken bytes.now }
         requires room { length self.old.line + length bytes.now ≤ most_bytes }
-        ensures fed { Fed (line_step X.step) self.old bytes.now [] self.new }
-        ensures number { self.new.number ≡ self.old.number }
+        ensures line { self.new ≡ record { state = self.old.state; number = self.old.number; line = self.old.line ++ bytes.now } }
         ensures further { progress self.new ≡ progress self.old + length bytes.now }
     {
         let _ = self.line.extend_from_slice(bytes);
@@ -166,9 +187,11 @@ impl<X: LineRunner> Run<X> {
 
     // Runs the line that stands, and offers what it prints.
     fn end_line<K: Sink>(&mut self, alloc: Global, sink: &mut K) -> Result<(), Halt>
-        requires { self.old.number ≤ 200000 }
-        ensures fed { OnOk result (FedInto (line_step X.step) (K.taken sink.old) (K.taken sink.new) self.old (newline ∷ []) self.new) }
-        ensures halted { IfErr result (λ halt. HaltsInto (line_step X.step) (K.taken sink.old) (K.taken sink.new) halt self.old (newline ∷ [])) }
+        requires few { self.old.number ≤ 200000 }
+        requires known { X.known self.old.state }
+        ensures known { OnOk result (X.known self.new.state) }
+        ensures fed { OnOk result (FeedsBy X.step X.allowed (K.taken sink.old) (K.taken sink.new) self.old (newline ∷ []) self.new) }
+        ensures halted { IfErr result (λ halt. HaltsBy X.step X.allowed X.known (K.taken sink.old) (K.taken sink.new) halt self.old (newline ∷ [])) }
         ensures cause { HasWriteCause (K.faults sink.old) (K.faults sink.new) result }
         ensures further { OnOk result (progress self.old + 1 ≤ progress self.new) }
         ensures within { OnOk result (progress self.new ≤ MOST_PROGRESS) }
