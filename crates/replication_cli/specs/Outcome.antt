@@ -1,5 +1,5 @@
--- What the status of a storm tells of the bytes that it wrote.
-use Rattle.std.specs.Prelude.{◌≡◌, ℕ, List, ◌++◌, Option, Some}
+-- How a storm ends, and what its status tells of the bytes that it wrote.
+use Rattle.std.specs.Prelude.{◌≡◌, ◌⊎◌, ℕ, List, ◌++◌, Option, Some}
 use Rattle.rep_lines.specs.Fed.{Begins}
 use Rattle.script_drive.specs.declared.status.Status.{Status}
 use Rattle.script_drive.specs.declared.status.Status.TheVariants.{Done, Malformed, ReadFault, WriteFault, Memory, Usage}
@@ -17,3 +17,7 @@ Writes Usage text written = ⊥
 abbrev pub TellsOf : Status → List ℕ → Option (List ℕ) → Option (List ℕ) → Type 0
 TellsOf status text before after = (earlier : List ℕ) → before ≡ Some earlier
     → (written : List ℕ) × (after ≡ Some (earlier ++ written)) × Writes status text written
+
+-- the ways in which a storm ends: it is done, the sink failed, or there was no memory
+abbrev pub StormEnds : Status → Type 0
+StormEnds status = (status ≡ Done) ⊎ ((status ≡ WriteFault) ⊎ (status ≡ Memory))

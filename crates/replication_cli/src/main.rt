@@ -1,6 +1,11 @@
 //! The program that runs a script of replication and writes its report, or runs a storm and writes its summary.
 #![tactic(auto)]
 
+ghost use Rattle.std.specs.Prelude.{◌≡◌, ◌≢◌, map, string_bytes, IfOk};
+ghost use Rattle.std.specs.IoError.{error_kind};
+ghost use Rattle.std.specs.Process.{exit_status};
+ghost use Rattle.script_drive.specs.Codes.{code_of};
+
 mod program;
 mod run;
 mod stocks;
@@ -9,11 +14,12 @@ mod tally;
 mod whole;
 mod words;
 
-pub use program::run_program;
+pub use program::{run_program, run_program_through};
 use rep_io::{StdSink, StdSource, Still};
-pub use script_drive::Status;
+pub use script_drive::{Reader, Status};
 use std::alloc::{AllocError, Global};
 use std::env::Env;
+use std::io::ErrorKind;
 use std::process::ExitCode;
 use std::{env, io};
 pub use tally::Tally;
@@ -29,29 +35,41 @@ fn words_of<R: Env + AllocGlobal>(rt: &R) -> io::Result<Vec<String>> {
 }
 
 /// The words as slices of text.
-fn slices_of(alloc: Global, words: &[String]) -> Result<Vec<&str>, AllocError> {
+fn slices_of(alloc: Global, words: &[String]) -> Result<Vec<&str>, AllocError>
+    ensures { IfOk result (λ slices. map (λ slice. slice.now) slices.items ≡ map string_bytes words.now) }
+{
     words.iter().map(|word| word.as_str()).collect(alloc)
 }
 
 /// The status where the words can't be had: words that are no text are none that the program knows.
-fn status_without_words(error: &io::Error) -> Status {
-    match error.kind() {
-        io::ErrorKind::OutOfMemory => Status::Memory,
-        _ => Status::Usage,
+fn status_without_words(error: &io::Error) -> Status
+    ensures memory { error_kind error.now ≡ ErrorKind.OutOfMemory → result ≡ Status.Memory }
+    ensures usage { error_kind error.now ≢ ErrorKind.OutOfMemory → result ≡ Status.Usage }
+{
+    if error.kind() == ErrorKind::OutOfMemory {
+        Status::Memory
+    } else {
+        Status::Usage
     }
+}
+
+/// What the process ends with.
+fn exit_code(status: Status) -> ExitCode
+    ensures { exit_status result ≡ code_of status }
+{
+    ExitCode::from(status.code())
 }
 
 fn main(rt: HostRuntime) -> ExitCode {
     let alloc = rt.alloc();
     let words = match words_of(&rt) {
         Ok(words) => words,
-        Err(error) => return ExitCode::from(status_without_words(&error).code()),
+        Err(error) => return exit_code(status_without_words(&error)),
     };
     let Ok(words) = slices_of(alloc, &words) else {
-        return ExitCode::from(Status::Memory.code());
+        return exit_code(Status::Memory);
     };
     let mut source = StdSource::make(rt.reader());
     let mut sink = StdSink::make(io::writer(&rt));
-    let status = run_program(&rt, alloc, &words, &mut source, &mut sink, &Still);
-    ExitCode::from(status.code())
+    exit_code(run_program(&rt, alloc, &words, &mut source, &mut sink, &Still))
 }

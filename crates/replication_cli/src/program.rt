@@ -5,20 +5,21 @@ ghost use Rattle.rep_lines.specs.Told.{Tells};
 ghost use Rattle.world_state.specs.World.{first_world};
 ghost use Rattle.script_drive.specs.Lines.{line_step};
 ghost use Rattle.script_drive.specs.Outcome.{Told};
+ghost use Rattle.script_drive.specs.Prompt.{ReadsPromptly};
 ghost use Rattle.world_run.specs.Completeness.{RunsToItsEnd};
-ghost use Rattle.world_run.specs.Scripts.{script_step, EachWorldHolds};
-ghost use Rattle.replication_cli.specs.Outcome.{TellsOf};
+ghost use Rattle.world_run.specs.Scripts.{script_step, EachLineHolds};
+ghost use Rattle.replication_cli.specs.Outcome.{TellsOf, StormEnds};
 ghost use Rattle.replication_cli.specs.Summary.{storm_summary};
 ghost use Rattle.program_words.specs.Words.{asked_by};
 
 use crate::whole::storm;
 use program_words::{Asked, asked_by};
 use rep_io::{Sink, Source, Watch};
-use script_drive::Status;
+use script_drive::{Reader, Status, Straight};
 use std::alloc::Global;
 use std::sync::Wait;
 use std::thread::Threads;
-use world_run::{reported_worlds_hold, run_alone, run_crew};
+use world_run::{reported_worlds_hold, run_alone_through, run_crew_through};
 
 /// What the program does with the words behind its name. For `run` it runs the script of the source, as `run_alone` does, or with
 /// more appliers than one as `run_crew` does: the report is the same. For `storm SEED COUNT` it runs the script of that storm and
@@ -39,10 +40,41 @@ pub fn run_program<X: Threads + Wait + Sync, S: Source, K: Sink, W: Watch>(
         (S.left source.old) (S.left source.new) (K.taken sink.old) (K.taken sink.new) }
     ensures stormed { (seed count appliers : ℕ) → asked_by words.now ≡ Some (Asked.Storm seed count appliers)
         → TellsOf result (storm_summary seed count) (K.taken sink.old) (K.taken sink.new) }
+    ensures ends { (seed count appliers : ℕ) → asked_by words.now ≡ Some (Asked.Storm seed count appliers) → StormEnds result }
     ensures read { result ≡ Status.ReadFault → Rose (S.faults source.old) (S.faults source.new) }
     ensures write { result ≡ Status.WriteFault → Rose (K.faults sink.old) (K.faults sink.new) }
-    ensures worlds { (appliers : ℕ) → asked_by words.now ≡ Some (Asked.Run appliers) → EachWorldHolds (S.left source.old) }
+    ensures worlds { (appliers : ℕ) → asked_by words.now ≡ Some (Asked.Run appliers) → EachLineHolds (S.left source.old) }
     ensures complete { (appliers : ℕ) → asked_by words.now ≡ Some (Asked.Run appliers) → RunsToItsEnd (S.left source.old) (K.taken sink.old) (S.faults source.old) (S.faults source.new) (K.faults sink.old) (K.faults sink.new) result }
+{
+    run_program_through(rt, alloc, words, &mut Straight, source, sink, watch)
+}
+
+/// Does as `run_program` does, and reads through any reader. Whenever more of a script is asked for, all that the whole lines read
+/// by then print was written, none of them is malformed, and no read had failed, where the reader tells its reads.
+pub fn run_program_through<X: Threads + Wait + Sync, S, K: Sink, R: Reader<S, K>, W: Watch>(
+    rt: &X,
+    alloc: Global,
+    words: &[&str],
+    reader: &mut R,
+    source: &mut S,
+    sink: &mut K,
+    watch: &W,
+) -> Status
+    ensures usage { (result ≡ Status.Usage) ↔ (asked_by words.now ≡ None) }
+    ensures unread { ((appliers : ℕ) → asked_by words.now ≢ Some (Asked.Run appliers)) → source.new ≡ source.old }
+    ensures unasked { ((appliers : ℕ) → asked_by words.now ≢ Some (Asked.Run appliers)) → reader.new ≡ reader.old }
+    ensures unwritten { result ≡ Status.Usage → sink.new ≡ sink.old }
+    ensures told { (appliers : ℕ) → asked_by words.now ≡ Some (Asked.Run appliers) → Tells (Told (line_step script_step) first_world result)
+        (R.left source.old) (R.left source.new) (K.taken sink.old) (K.taken sink.new) }
+    ensures prompt { (appliers : ℕ) → asked_by words.now ≡ Some (Asked.Run appliers) → ReadsPromptly (line_step script_step) first_world result
+        (R.reads reader.old) (R.reads reader.new) (R.left source.old) (K.taken sink.old) }
+    ensures stormed { (seed count appliers : ℕ) → asked_by words.now ≡ Some (Asked.Storm seed count appliers)
+        → TellsOf result (storm_summary seed count) (K.taken sink.old) (K.taken sink.new) }
+    ensures ends { (seed count appliers : ℕ) → asked_by words.now ≡ Some (Asked.Storm seed count appliers) → StormEnds result }
+    ensures read { result ≡ Status.ReadFault → Rose (R.faults source.old) (R.faults source.new) }
+    ensures write { result ≡ Status.WriteFault → Rose (K.faults sink.old) (K.faults sink.new) }
+    ensures worlds { (appliers : ℕ) → asked_by words.now ≡ Some (Asked.Run appliers) → EachLineHolds (R.left source.old) }
+    ensures complete { (appliers : ℕ) → asked_by words.now ≡ Some (Asked.Run appliers) → RunsToItsEnd (R.left source.old) (K.taken sink.old) (R.faults source.old) (R.faults source.new) (K.faults sink.old) (K.faults sink.new) result }
 {
     reported_worlds_hold();
     let Ok(asked) = asked_by(alloc, words) else {
@@ -50,8 +82,10 @@ pub fn run_program<X: Threads + Wait + Sync, S: Source, K: Sink, W: Watch>(
     };
     match asked {
         None => Status::Usage,
-        Some(Asked::Run { appliers: 1 }) => run_alone(alloc, source, sink),
-        Some(Asked::Run { appliers }) => run_crew(rt, alloc, appliers, source, sink, watch),
+        Some(Asked::Run { appliers: 1 }) => run_alone_through(alloc, reader, source, sink),
+        Some(Asked::Run { appliers }) => {
+            run_crew_through(rt, alloc, appliers, reader, source, sink, watch)
+        }
         Some(
             Asked::Storm {
                 seed,

@@ -3,12 +3,14 @@ ghost use Rattle.std.specs.Prelude.{◌≡◌, ◌+◌, ◌*◌, ◌^◌, ◌<�
 ghost use Rattle.storm_script.specs.Laws.{IsLine, most_rounds};
 ghost use Rattle.storm_script.specs.Rounds.{rounds};
 ghost use Rattle.storm_script.specs.Storm.{storm_commands};
+ghost use Rattle.world_run.specs.Doing.{Does};
 ghost use Rattle.replication_cli.specs.Runs.{beginning, with_command, with_commands};
 
 use crate::tally::Tally;
 use rep_io::Watch;
 use rep_lists::NoMemory;
 use rep_values::Refusal;
+use report_text::Lines;
 use script_parse::Command;
 use std::alloc::Global;
 use std::marker::Model;
@@ -16,6 +18,27 @@ use std::sync::Wait;
 use std::thread::Threads;
 use storm_script::{Draws, closing, opening};
 use world_run::World;
+use world_state::Refused;
+
+// Runs a command in a world with so many appliers. With one it takes no lock.
+fn step<X: Threads + Wait + Sync, W: Watch>(
+    rt: &X,
+    alloc: Global,
+    world: &mut World,
+    number: u32,
+    command: &Command,
+    appliers: u32,
+    watch: &W,
+) -> Result<Lines, Refused>
+    requires line { IsLine command.now }
+    requires appliers { (1 ≤ appliers) × (appliers ≤ 8) }
+    ensures does { Does number command.now world.old world.new result }
+{
+    if appliers == 1 {
+        return world.step(alloc, number, command);
+    }
+    world.step_crew(rt, alloc, number, command, appliers, watch)
+}
 
 /// A world, the number of the command that comes, and what those before it told.
 #[derive(Drop)]
@@ -77,10 +100,7 @@ impl Run {
     {
         let number = self.number;
         self.number += 1;
-        match self
-            .world
-            .step_crew(rt, alloc, number, command, appliers, watch)
-        {
+        match step(rt, alloc, &mut self.world, number, command, appliers, watch) {
             Ok(lines) => {
                 self.tally.add(lines.bytes());
                 Ok(())

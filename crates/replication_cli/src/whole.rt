@@ -1,9 +1,9 @@
 //! The call that runs a whole storm.
-ghost use Rattle.std.specs.Prelude.{◌≡◌, ◌≤◌, ◌⊎◌};
+ghost use Rattle.std.specs.Prelude.{◌≡◌, ◌≤◌};
 ghost use Rattle.rep_io.specs.Faults.{Rose};
 ghost use Rattle.storm_script.specs.Laws.{most_rounds};
 ghost use Rattle.replication_cli.specs.Summary.{storm_summary};
-ghost use Rattle.replication_cli.specs.Outcome.{TellsOf};
+ghost use Rattle.replication_cli.specs.Outcome.{TellsOf, StormEnds};
 
 use crate::summary::summary;
 use rep_io::{Sink, Watch, offer};
@@ -29,7 +29,7 @@ pub fn storm<X: Threads + Wait + Sync, K: Sink, W: Watch>(
     requires most { count ≤ most_rounds }
     requires appliers { (1 ≤ appliers) × (appliers ≤ 8) }
     ensures told { TellsOf result (storm_summary seed count) (K.taken sink.old) (K.taken sink.new) }
-    ensures ends { (result ≡ Status.Done) ⊎ ((result ≡ Status.WriteFault) ⊎ (result ≡ Status.Memory)) }
+    ensures ends { StormEnds result }
     ensures write { result ≡ Status.WriteFault → Rose (K.faults sink.old) (K.faults sink.new) }
 {
     let Ok(told) = summary(rt, alloc, seed, count, appliers, watch) else {

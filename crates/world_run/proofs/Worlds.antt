@@ -1,16 +1,24 @@
 -- The world behind lines of a script is one of a script's, of forms that are built.
-use Rattle.std.proofs.Common.{◌≡◌, ℕ, ◌+◌, List, [], ◌∷◌, length, Bool, true, false, Some, None, refl, ap, inr}
+use Rattle.std.proofs.Common.{arith, ◌≡◌, ℕ, ◌+◌, ◌<◌, ◌≤◌, ◌⊎◌, List, [], ◌∷◌, ◌++◌, length, Bool, true, false, Some, None, refl, sym, ap, ◌∙◌, subst, inl, inr}
 use Rattle.std.specs.Prelude.{take, nat_lt, if◌then◌else◌, Option, Result, Ok, Err}
+use Rattle.std.proofs.lemmas.Bool.{cases_lt}
+use Rattle.std.proofs.lemmas.List.{length-take-le, take_more}
+use Rattle.std.proofs.lemmas.Option.{get_or_from_slice_get, slice_get_within}
 use Rattle.rep_values.specs.declared.refusal.Refusal.{Refusal}
 use Rattle.rep_lines.specs.Lines.{lines_after}
-use Rattle.rep_lines.specs.Runs.{halts, state_after}
+use Rattle.rep_lines.specs.Runs.{Stepped, halts, state_after}
 use Rattle.rep_lines.specs.Limits.{limited}
+use Rattle.rep_lines.proofs.RunLemmas.{state_after-append}
+use Rattle.rep_lines.proofs.LimitLemmas.{limited-within}
 use Rattle.report_text.specs.Texts.{malformed_text}
+use Rattle.script_lex.proofs.Steps.{line_long}
 use Rattle.script_parse.specs.declared.command.Command.{Command}
+use Rattle.script_parse.specs.declared.command.Command.TheVariants as command
 use Rattle.script_parse.specs.Built.{is_built}
 use Rattle.script_parse.specs.Named.{NamesColumn}
 use Rattle.script_parse.specs.Parsed.{parsed}
 use Rattle.script_parse.proofs.NamedLines.{parsed-Ok}
+use Rattle.event_laws.specs.Core.{site_of}
 use Rattle.world_state.specs.declared.refused.Refused.{Refused}
 use Rattle.world_state.specs.World.{WorldState, first_world}
 use Rattle.world_state.specs.Refusals.{world_refusal}
@@ -21,9 +29,10 @@ use Rattle.environment_lines.specs.Reached.{HoldsOfConvergence}
 use Rattle.environment_lines.proofs.Scripts.{of_snapshots}
 use Rattle.environment_lines.specs.Following.{IsBuilt}
 use Rattle.environment_lines.specs.Texts.{world_text}
+use Rattle.environment_lines.specs.Worlds.{ShowsItsMaster}
 use Rattle.environment_lines.proofs.Keeping.{lines_keep_built, first_built}
 use Rattle.script_drive.specs.Lines.{most_lines, most_bytes, line_step}
-use Rattle.world_run.specs.Scripts.{stepped_by, script_step, world_behind, ReportedWorldsHold, ReportedSnapshotsHold, ReportedWorldsConverge, PushesOfScriptsLeaveNothingReady, RefreshesOfScriptsShowTheQuery, EachWorldHolds}
+use Rattle.world_run.specs.Scripts.{stepped_by, script_step, world_behind, world_at, IsDoneAt, ReportedWorldsHold, ReportedSnapshotsHold, ReportedWorldsConverge, PushesOfScriptsLeaveNothingReady, RefreshesOfScriptsShowTheQuery, LinesOfScriptsHold}
 
 -- after a line of a form that is built, whatever refusal it meets
 step_built : (number : ℕ) (c : Command) (w : WorldState) → is_built c ≡ true → NamesColumn c → IsBuilt w → IsBuilt (world_step number c w)
@@ -74,13 +83,46 @@ reported_snapshots_hold lines = snapshots_hold_of _ (of_snapshots _ (behind_firs
 pub reported_worlds_converge : HoldsOfConvergence → ReportedWorldsConverge
 reported_worlds_converge law lines = law _ (behind_first lines).of_convergence
 
--- all of it holds behind each line of a script
-pub each_world_holds : ReportedWorldsHold → ReportedSnapshotsHold → ReportedWorldsConverge → (left : Option (List ℕ)) → EachWorldHolds left
-each_world_holds events snapshots convergence left script number is =
-    let lines : List (List ℕ) = take number (lines_after [] script) in
-    record { events = events lines; snapshots = snapshots lines; convergence = convergence lines }
-
 pub refreshes_show_the_query : RefreshesOfScriptsShowTheQuery
 unfolding script_step
 refreshes_show_the_query lines number line site how read passes =
     rw read (refreshes_show_of (world_behind lines) (of_snapshots (world_behind lines) (behind_first lines).of_convergence) number site how passes)
+
+-- ---- each line of a script
+
+-- a line that gives a command isn't too long
+parsed_short : (line : List ℕ) (c : Command) → parsed line ≡ Ok c → length line ≤ most_bytes
+parsed_short line c read = go (cases_lt most_bytes (length line))
+  where
+    go : (most_bytes < length line) ⊎ (length line ≤ most_bytes) → length line ≤ most_bytes
+    go (inl long) = let broken = rw (line_long line long) at read in absurd (cc broken)
+    go (inr short) = short
+
+-- the world behind a line that is done is that to which its step leads
+world_at-next : (script : List ℕ) (n : ℕ) (c : Command) (done : IsDoneAt script n c)
+    → world_at script (n + 1) ≡ (script_step (world_at script n) (1 + length (take n (lines_after [] script))) done.line).state
+world_at-next script n c done =
+    let lines : List (List ℕ) = lines_after [] script in
+    let front : List (List ℕ) = take n lines in
+    let within : n < length lines = slice_get_within lines n done.line done.here in
+    let next : take (n + 1) lines ≡ front ++ done.line ∷ [] =
+    take_more lines n done.line within ∙ ap (λ (line : List ℕ). front ++ line ∷ []) (get_or_from_slice_get lines n done.line done.line done.here) in
+    let size : length front ≡ n = length-take-le n lines (omega (arith, within)) in
+    let few : 1 + length front ≤ most_lines = omega (arith, size, done.few) in
+    ap world_behind next
+    ∙ state_after-append (line_step script_step) first_world 1 front (done.line ∷ [])
+    ∙ ap (λ (x : Stepped WorldState). x.state) (limited-within most_lines most_bytes malformed_text script_step (world_behind front) (1 + length front) done.line few (parsed_short done.line c done.reads))
+
+-- all of it holds of each line
+pub lines_of_scripts_hold : HoldsOfConvergence → LinesOfScriptsHold
+lines_of_scripts_hold law script n =
+    let front : List (List ℕ) = take n (lines_after [] script) in
+    record {
+      laws = record { events = reported_worlds_hold front; snapshots = reported_snapshots_hold front; convergence = reported_worlds_converge law front };
+      pushed = λ from to count x done there.
+          pushes_leave_nothing_ready front (1 + length front) done.line from to count x done.reads done.passes
+          (subst (λ (w : WorldState). site_of to w.sites ≡ Some x) (world_at-next script n (command.Push from to count) done) there);
+      refreshed = λ site how done.
+          subst (ShowsItsMaster site (world_at script n)) (sym (world_at-next script n (command.Refresh site how) done))
+          (refreshes_show_the_query front (1 + length front) done.line site how done.reads done.passes);
+    }

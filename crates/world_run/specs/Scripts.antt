@@ -1,5 +1,5 @@
 -- What a script prints: each of its lines is read as a command and done to the world, or refused there.
-use Rattle.std.specs.Prelude.{◌≡◌, ℕ, List, [], take, Option, Some, None, Result, Ok, Err}
+use Rattle.std.specs.Prelude.{◌≡◌, ℕ, ◌+◌, ◌<◌, List, [], take, slice_get, Option, Some, None, Result, Ok, Err}
 use Rattle.rep_values.specs.declared.name.SiteName.{SiteName}
 use Rattle.rep_lines.specs.Lines.{lines_after}
 use Rattle.rep_lines.specs.Runs.{Stepped, goes, halts, state_after}
@@ -19,7 +19,7 @@ use Rattle.environment_lines.specs.Worlds.{SnapshotsHold}
 use Rattle.environment_lines.specs.Worlds.{ShowsItsMaster}
 use Rattle.environment_lines.specs.Convergence.{ConvergenceHolds}
 use Rattle.environment_lines.specs.Texts.{line_text}
-use Rattle.script_drive.specs.Lines.{line_step}
+use Rattle.script_drive.specs.Lines.{most_lines, line_step}
 
 abbrev pub stepped_by : WorldState → ℕ → Result Command ℕ → Stepped WorldState
 stepped_by w number (Err rule) = halts w (malformed_text number rule)
@@ -47,7 +47,14 @@ PushesOfScriptsLeaveNothingReady = (lines : List (List ℕ)) (number : ℕ) (lin
     → parsed line ≡ Ok (command.Push from to count) → world_refusal (command.Push from to count) (world_behind lines) ≡ None
     → site_of to (script_step (world_behind lines) number line).state.sites ≡ Some x → NothingReady x
 
--- the laws of snapshots hold of it too
+-- behind lines of a script, once a refresh is reported each snapshot of the site is its query of its master's table, and the
+-- master is as before
+abbrev pub RefreshesOfScriptsShowTheQuery : Type 0
+RefreshesOfScriptsShowTheQuery = (lines : List (List ℕ)) (number : ℕ) (line : List ℕ) (site : SiteName) (how : Refresh)
+    → parsed line ≡ Ok (command.Refresh site how) → world_refusal (command.Refresh site how) (world_behind lines) ≡ None
+    → ShowsItsMaster site (world_behind lines) (script_step (world_behind lines) number line).state
+
+-- the laws of snapshots hold of the world behind whatever lines of a script
 abbrev pub ReportedSnapshotsHold : Type 0
 ReportedSnapshotsHold = (lines : List (List ℕ)) → SnapshotsHold (world_behind lines)
 
@@ -61,13 +68,31 @@ pub record AllLawsHold (w : WorldState) : Type 0 where
   pub snapshots : SnapshotsHold w
   pub convergence : ConvergenceHolds w
 
--- so they do of the world behind each line of the script that a source has left
-abbrev pub EachWorldHolds : Option (List ℕ) → Type 0
-EachWorldHolds left = (script : List ℕ) (number : ℕ) → left ≡ Some script → AllLawsHold (world_behind (take number (lines_after [] script)))
+-- the world behind the first n lines of a script
+abbrev pub world_at : List ℕ → ℕ → WorldState
+world_at script n = world_behind (take n (lines_after [] script))
 
--- behind lines of a script, once a refresh is reported each snapshot of the site is its query of its master's table, and the
--- master is as before
-abbrev pub RefreshesOfScriptsShowTheQuery : Type 0
-RefreshesOfScriptsShowTheQuery = (lines : List (List ℕ)) (number : ℕ) (line : List ℕ) (site : SiteName) (how : Refresh)
-    → parsed line ≡ Ok (command.Refresh site how) → world_refusal (command.Refresh site how) (world_behind lines) ≡ None
-    → ShowsItsMaster site (world_behind lines) (script_step (world_behind lines) number line).state
+-- line n + 1 of a script is this command, and it is done: the world behind the lines before it doesn't refuse it
+pub record IsDoneAt (script : List ℕ) (n : ℕ) (c : Command) : Type 0 where
+  pub line : List ℕ
+  pub here : slice_get (lines_after [] script) n ≡ Some line
+  pub few : n < most_lines
+  pub reads : parsed line ≡ Ok c
+  pub passes : world_refusal c (world_at script n) ≡ None
+
+-- all of these laws hold of the world behind the first n lines of a script. Behind line n + 1, where it is a push that is done, no
+-- position of any sender is ready at the receiver; where it is a refresh that is done, each snapshot of the site is its query of
+-- its master's table, and the master is as before
+pub record LineHolds (script : List ℕ) (n : ℕ) : Type 0 where
+  pub laws : AllLawsHold (world_at script n)
+  pub pushed : (from to : SiteName) (count : Option ℕ) (x : SiteState) → IsDoneAt script n (command.Push from to count)
+      → site_of to (world_at script (n + 1)).sites ≡ Some x → NothingReady x
+  pub refreshed : (site : SiteName) (how : Refresh) → IsDoneAt script n (command.Refresh site how) → ShowsItsMaster site (world_at script n) (world_at script (n + 1))
+
+-- so it is with each line of every script
+abbrev pub LinesOfScriptsHold : Type 0
+LinesOfScriptsHold = (script : List ℕ) (n : ℕ) → LineHolds script n
+
+-- and so of the script that a source has left
+abbrev pub EachLineHolds : Option (List ℕ) → Type 0
+EachLineHolds left = (script : List ℕ) (n : ℕ) → left ≡ Some script → LineHolds script n

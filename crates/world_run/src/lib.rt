@@ -10,5 +10,5 @@ mod runner;
 mod world;
 
 pub use laws::reported_worlds_hold;
-pub use run::{run_alone, run_crew};
+pub use run::{run_alone, run_alone_through, run_crew, run_crew_through};
 pub use world::World;

@@ -5,9 +5,10 @@ ghost use Rattle.rep_lines.specs.Told.{Tells};
 ghost use Rattle.world_state.specs.World.{first_world};
 ghost use Rattle.script_drive.specs.Lines.{line_step};
 ghost use Rattle.script_drive.specs.Outcome.{Told};
+ghost use Rattle.script_drive.specs.Prompt.{ReadsPromptly};
 ghost use Rattle.site_rounds.specs.Passing.{TakesPass, AnswersPass};
 ghost use Rattle.world_run.specs.Completeness.{RunsToItsEnd};
-ghost use Rattle.world_run.specs.Scripts.{script_step, EachWorldHolds};
+ghost use Rattle.world_run.specs.Scripts.{script_step, EachLineHolds};
 
 use crate::crew::crew_pass;
 use crate::laws::reported_worlds_hold;
@@ -16,7 +17,7 @@ use page_tables::PageTables;
 use rep_io::{Sink, Source, Watch};
 use rep_lists::NoMemory;
 use rep_values::SiteName;
-use script_drive::{Status, Straight, drive};
+use script_drive::{Reader, Status, Straight, drive};
 use site_core::Site;
 use site_rounds::{By, Passing, Serial};
 use site_state::PassCount;
@@ -24,44 +25,68 @@ use std::alloc::Global;
 use std::sync::Wait;
 use std::thread::Threads;
 
-/// Runs a script, whoever makes the passes.
-fn run_by<P: Passing + Drop, S: Source, K: Sink>(
+/// Runs a script, whoever makes the passes and whoever reads it.
+fn run_by<P: Passing + Drop, S, K: Sink, R: Reader<S, K>>(
     alloc: Global,
     passing: P,
+    reader: &mut R,
     source: &mut S,
     sink: &mut K,
 ) -> Status
     requires { P.able passing }
-    ensures told { Tells (Told (line_step script_step) first_world result) (S.left source.old) (S.left source.new) (K.taken sink.old) (K.taken sink.new) }
-    ensures read { result ≡ Status.ReadFault → Rose (S.faults source.old) (S.faults source.new) }
+    ensures told { Tells (Told (line_step script_step) first_world result) (R.left source.old) (R.left source.new) (K.taken sink.old) (K.taken sink.new) }
+    ensures prompt { ReadsPromptly (line_step script_step) first_world result (R.reads reader.old) (R.reads reader.new) (R.left source.old) (K.taken sink.old) }
+    ensures read { result ≡ Status.ReadFault → Rose (R.faults source.old) (R.faults source.new) }
     ensures write { result ≡ Status.WriteFault → Rose (K.faults sink.old) (K.faults sink.new) }
     ensures ran { result ≢ Status.Usage }
-    ensures complete { RunsToItsEnd (S.left source.old) (K.taken sink.old) (S.faults source.old) (S.faults source.new) (K.faults sink.old) (K.faults sink.new) result }
-    ensures worlds { EachWorldHolds (S.left source.old) }
+    ensures complete { RunsToItsEnd (R.left source.old) (K.taken sink.old) (R.faults source.old) (R.faults source.new) (K.faults sink.old) (K.faults sink.new) result }
+    ensures worlds { EachLineHolds (R.left source.old) }
 {
     reported_worlds_hold();
     let Ok(runner) = Runner::make(alloc, passing) else {
         return Status::Memory;
     };
-    drive(alloc, runner, &mut Straight, source, sink)
+    drive(alloc, runner, reader, source, sink)
 }
 
 /// Runs a script from the source and writes its report to the sink. It takes no lock, and always returns.
 ///
 /// `Done`: the script was read to its end, no line is malformed, and the whole report was written. `Malformed`: a
-/// line is malformed, and the report up to it and with it was written. `ReadFault`, `WriteFault`, `Memory`: a front of
-/// the report was written; after a read fault it is the report of all whole lines read.
+/// line is malformed, the report up to it and with it was written, and nothing was read behind the piece that shows it.
+/// `ReadFault`, `WriteFault`, `Memory`: a front of the report was written; after a read fault it is the report of all whole
+/// lines read, of which none is malformed.
 ///
-/// The laws over events, of snapshots and of convergence hold of the world behind each line of the script.
+/// The laws over events, of snapshots and of convergence hold of the world behind each line of the script. Behind a push that
+/// isn't refused no position of any sender is ready at the receiver, and behind such a refresh each snapshot of the site is its
+/// query of its master's table.
 pub fn run_alone<S: Source, K: Sink>(alloc: Global, source: &mut S, sink: &mut K) -> Status
     ensures told { Tells (Told (line_step script_step) first_world result) (S.left source.old) (S.left source.new) (K.taken sink.old) (K.taken sink.new) }
     ensures read { result ≡ Status.ReadFault → Rose (S.faults source.old) (S.faults source.new) }
     ensures write { result ≡ Status.WriteFault → Rose (K.faults sink.old) (K.faults sink.new) }
     ensures ran { result ≢ Status.Usage }
     ensures complete { RunsToItsEnd (S.left source.old) (K.taken sink.old) (S.faults source.old) (S.faults source.new) (K.faults sink.old) (K.faults sink.new) result }
-    ensures worlds { EachWorldHolds (S.left source.old) }
+    ensures worlds { EachLineHolds (S.left source.old) }
 {
-    run_by(alloc, Serial, source, sink)
+    run_alone_through(alloc, &mut Straight, source, sink)
+}
+
+/// Runs a script as `run_alone` does, through any reader. Whenever more of the script is asked for, all that the whole lines read
+/// by then print was written, none of them is malformed, and no read had failed, where the reader tells its reads.
+pub fn run_alone_through<S, K: Sink, R: Reader<S, K>>(
+    alloc: Global,
+    reader: &mut R,
+    source: &mut S,
+    sink: &mut K,
+) -> Status
+    ensures told { Tells (Told (line_step script_step) first_world result) (R.left source.old) (R.left source.new) (K.taken sink.old) (K.taken sink.new) }
+    ensures prompt { ReadsPromptly (line_step script_step) first_world result (R.reads reader.old) (R.reads reader.new) (R.left source.old) (K.taken sink.old) }
+    ensures read { result ≡ Status.ReadFault → Rose (R.faults source.old) (R.faults source.new) }
+    ensures write { result ≡ Status.WriteFault → Rose (K.faults sink.old) (K.faults sink.new) }
+    ensures ran { result ≢ Status.Usage }
+    ensures complete { RunsToItsEnd (R.left source.old) (K.taken sink.old) (R.faults source.old) (R.faults source.new) (K.faults sink.old) (K.faults sink.new) result }
+    ensures worlds { EachLineHolds (R.left source.old) }
+{
+    run_by(alloc, Serial, reader, source, sink)
 }
 
 /// Runs a script as `run_alone` does, with so many appliers, 1 to 8: passes for what masters sent are made by as many threads.
@@ -80,7 +105,29 @@ pub fn run_crew<X: Threads + Wait + Sync, S: Source, K: Sink, W: Watch>(
     ensures write { result ≡ Status.WriteFault → Rose (K.faults sink.old) (K.faults sink.new) }
     ensures ran { result ≢ Status.Usage }
     ensures complete { RunsToItsEnd (S.left source.old) (K.taken sink.old) (S.faults source.old) (S.faults source.new) (K.faults sink.old) (K.faults sink.new) result }
-    ensures worlds { EachWorldHolds (S.left source.old) }
+    ensures worlds { EachLineHolds (S.left source.old) }
+{
+    run_crew_through(rt, alloc, appliers, &mut Straight, source, sink, watch)
+}
+
+/// Runs a script as `run_crew` does, through any reader.
+pub fn run_crew_through<X: Threads + Wait + Sync, S, K: Sink, R: Reader<S, K>, W: Watch>(
+    rt: &X,
+    alloc: Global,
+    appliers: u32,
+    reader: &mut R,
+    source: &mut S,
+    sink: &mut K,
+    watch: &W,
+) -> Status
+    requires { (1 ≤ appliers) × (appliers ≤ 8) }
+    ensures told { Tells (Told (line_step script_step) first_world result) (R.left source.old) (R.left source.new) (K.taken sink.old) (K.taken sink.new) }
+    ensures prompt { ReadsPromptly (line_step script_step) first_world result (R.reads reader.old) (R.reads reader.new) (R.left source.old) (K.taken sink.old) }
+    ensures read { result ≡ Status.ReadFault → Rose (R.faults source.old) (R.faults source.new) }
+    ensures write { result ≡ Status.WriteFault → Rose (K.faults sink.old) (K.faults sink.new) }
+    ensures ran { result ≢ Status.Usage }
+    ensures complete { RunsToItsEnd (R.left source.old) (K.taken sink.old) (R.faults source.old) (R.faults source.new) (K.faults sink.old) (K.faults sink.new) result }
+    ensures worlds { EachLineHolds (R.left source.old) }
 {
     let pass = |alloc: Global, site: Site<PageTables>, origin: SiteName| -> Result<
         (Site<PageTables>, PassCount),
@@ -90,5 +137,5 @@ pub fn run_crew<X: Threads + Wait + Sync, S: Source, K: Sink, W: Watch>(
         requires appliers { (1 ≤ appliers) × (appliers ≤ 8) }
         ensures { AnswersPass origin site result }
     { crew_pass(rt, alloc, site, &origin, appliers, watch) };
-    run_by(alloc, By { pass }, source, sink)
+    run_by(alloc, By { pass }, reader, source, sink)
 }

@@ -1,5 +1,5 @@
 //! The world of a script, whose lines are run one by one.
-ghost use Rattle.std.specs.Prelude.{◌≡◌, false, IfOk};
+ghost use Rattle.std.specs.Prelude.{◌≡◌, false, ⊤, IfOk};
 ghost use Rattle.report_text.specs.Refusals.{is_memory, refused_text};
 ghost use Rattle.world_state.specs.World.{first_world};
 ghost use Rattle.world_run.specs.Scripts.{script_step};
@@ -60,9 +60,15 @@ fn told(alloc: Global, refused: &Refused) -> Result<Lines, NoMemory>
 impl<P: Passing + Drop> LineRunner for Runner<P> {
     type State = World;
 
+    type Choices = ();
+
     ghost state = { λ r. r };
 
-    ghost step = { script_step };
+    ghost step = { λ _. script_step };
+
+    ghost allowed = { λ _ _. ⊤ };
+
+    ghost known = { λ _. ⊤ };
 
     fn run_line(&mut self, alloc: Global, number: u32, line: &[u8]) -> Result<Lines, LineStop> {
         let command = parse_line(alloc, line)?;

@@ -15,5 +15,5 @@ pub returns-in_default : goal.returns-in_default
 returns-in_default g c =
     let told : is_memory c.in-Err.refused.refusal ≡ false = search rules in
     let before : Running = record { world = c.self.inside.world; number = c.self.inside.number; tally = c.self.inside.tally } in
-    subst (λ (r : Running). ◌≡◌ {A = Running} (record { world = c.step_crew.new.self; number = c.self.inside.number + 1; tally = c.refuse.new.self }) (with_command r c.args.command.now)) c.self.view_is
-    (with_command-told before c.step_crew.new.self c.refuse.new.self c.args.command.now c.in-Err.refused told c.in-Err.ensures.does c.refuse.ensures)
+    subst (λ (r : Running). ◌≡◌ {A = Running} (record { world = c.step.new.world; number = c.self.inside.number + 1; tally = c.refuse.new.self }) (with_command r c.args.command.now)) c.self.view_is
+    (with_command-told before c.step.new.world c.refuse.new.self c.args.command.now c.in-Err.refused told c.in-Err.ensures.does c.refuse.ensures)
