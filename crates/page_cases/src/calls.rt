@@ -1,10 +1,11 @@
 //! Calls on a store, with the tests that they leave to their callers.
-ghost use Rattle.std.specs.Prelude.{◌<◌, length, IfOk, OnOk};
+ghost use Rattle.std.specs.Prelude.{◌≡◌, ◌<◌, length, IfOk, OnOk};
 ghost use Rattle.rep_schema.specs.Tables.{columns_of, rows_of, IsKeyed, RowFits, IsUniqueRow};
 
 use case_lines::{CaseStop, Words, push_row};
 use rep_schema::{
-    RowStore, columns_of, constraint_count, constraints_of, is_keyed, is_unique, row_fits,
+    RowStore, columns_of, constraint_count, constraints_of, is_keyed, is_unique, put_if_changed,
+    row_fits,
 };
 use rep_values::{Key, Name, Row};
 use schema_names::table_place;
@@ -92,7 +93,9 @@ pub fn test_put<R: RowStore>(store: &R, table: u32, row: &Row) -> Result<(), Put
 }
 
 /// Puts a row where there is such a table, it fits and is unique.
-pub fn put_row<R: RowStore>(store: &mut R, table: u32, row: Row) -> Result<PutEnding, CaseStop> {
+pub fn put_row<R: RowStore>(store: &mut R, table: u32, row: Row) -> Result<PutEnding, CaseStop>
+    ensures { R.schema store.new ≡ R.schema store.old }
+{
     if table as usize >= store.schema().tables.len() {
         return Err(CaseStop::NoCase);
     }
@@ -138,6 +141,24 @@ pub fn put<R: RowStore>(
     let row = last_row(alloc, words)?;
     let ending = put_row(store, table, row)?;
     ending_shown(alloc, &ending)
+}
+
+/// Puts a row where it isn't there yet, and shows the row with its key before.
+pub fn changed<R: RowStore>(
+    alloc: Global,
+    store: &mut R,
+    words: &mut Words,
+) -> Result<String, CaseStop> {
+    let table = table_in(store, words)?;
+    let row = last_row(alloc, words)?;
+    store.reserve(table, 1)?;
+    if test_put(store, table, &row).is_err() {
+        return Err(CaseStop::NoCase);
+    }
+    match put_if_changed(alloc, store, table, row)? {
+        Some(change) => row_shown(alloc, change.before.as_ref()),
+        None => text(alloc, "unchanged"),
+    }
 }
 
 /// The row with a key.

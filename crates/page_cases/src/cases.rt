@@ -1,7 +1,11 @@
 //! What is declared so far, both stores, and the outcomes of lines.
 ghost use Rattle.rep_schema.specs.Shape.{HasShape};
 
-use crate::calls::{found, held, put, reserved, rows_shown, taken, text};
+use crate::applied::applied;
+use crate::calls::{changed, found, held, put, reserved, rows_shown, taken, text};
+use crate::detected::detected;
+use crate::logged::last_moment;
+use crate::refreshed::{refreshed_and_back, refreshed_by_key};
 use crate::series::{put_series, take_series};
 use crate::undone::undone;
 use case_lines::{CaseStop, Words, read_declaration};
@@ -88,11 +92,14 @@ fn called<R: RowStore>(
 ) -> Result<String, CaseStop> {
     match kind {
         b"put" => put(alloc, store, words),
+        b"change" => changed(alloc, store, words),
         b"puts" => put_series(alloc, store, words),
         b"take" => taken(alloc, store, words),
         b"takes" => take_series(alloc, store, words),
         b"reserve" => reserved(alloc, store, words),
         b"undo" => undone(alloc, store, words),
+        b"only" => refreshed_by_key(alloc, store, words),
+        b"try" => refreshed_and_back(alloc, store, words),
         _ => shown(alloc, store, kind, words),
     }
 }
@@ -157,6 +164,9 @@ impl Cases {
         match kind {
             b"declare" => declared(alloc, &mut self.schema, words),
             b"make" => self.make(alloc),
+            b"moment" => last_moment(alloc, words),
+            b"detect" => detected(alloc, &self.schema, words),
+            b"apply" => applied(alloc, &self.schema, words),
             _ => self.called(alloc, kind, words),
         }
     }

@@ -6,11 +6,24 @@
 //! COUNT keys, from FIRST on in steps of STEP, that begin again at WRAP; its other columns have the key and ADDED. `takes T
 //! FIRST STEP COUNT WRAP` takes such keys. `reserve T N` reserves room for so many rows more and counts those that are there.
 //! `rows T EVERY` shows each so manieth row and the last one. `undo VALUES, VALUES, KEY, KEY` puts two rows in the first
-//! table, takes two away and takes it all back. An empty line and one that begins with `#` is printed as it is.
+//! table, takes two away and takes it all back. `change T VALUES` puts a row where it isn't there yet.
+//!
+//! A table is a snapshot of the rows whose second value is 0 or more. `only T KEY : VALUES : VALUES ..` refreshes it by this
+//! key from a master that has these rows, if the table shows them under all other keys. `try T : VALUES : VALUES ..`
+//! refreshes it to such a master's rows, and takes it all back.
+//!
+//! The lines that follow need no store. `moment MARK, KEY : KEY : KEY ..` notes the keys behind the first colon at the moments
+//! 1, 2 and so on, purges their log up to the mark, and tells the key's last moment. `detect VALUES : CALL` compares a row,
+//! or none where there are no values, with a call. `apply SITE CALL` applies a transaction of a call, or of none, from a
+//! site to the schema's tables without rows. An empty line and one that begins with `#` is printed as it is.
 #![tactic(auto)]
 
+mod applied;
 mod calls;
 mod cases;
+mod detected;
+mod logged;
+mod refreshed;
 mod series;
 mod undone;
 

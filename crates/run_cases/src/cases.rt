@@ -2,6 +2,7 @@
 
 use crate::crews::{Held, run_held};
 use crate::cuts::cut_line;
+use crate::pieces::{Pieces, run_in_pieces};
 use crate::runs::{Ended, run};
 use std::alloc::{AllocError, Global};
 use std::sync::Wait;
@@ -13,6 +14,8 @@ enum Way {
     Alone,
     /// Cut behind each byte as well.
     Cut,
+    /// In pieces, where a read or a write fails.
+    Pieces(Pieces),
     /// By a crew.
     Crew(Held),
 }
@@ -104,11 +107,31 @@ fn crew_of(title: &str) -> Option<Way> {
     Some(Way::Crew(held))
 }
 
+/// Which call of a kind fails, by `KIND CALL fails`.
+fn failing_call(words: &str, kind: &str) -> Option<u64> {
+    let (call, _) = words.strip_prefix(kind)?.split_once(" fails")?;
+    call.parse::<u64>().ok()
+}
+
+/// The pieces of `== reads of MOST, writes of MOST, read CALL fails`. It may be `write CALL fails`; with other words none fails.
+fn pieces_of(title: &str) -> Option<Way> {
+    let (reads, rest) = title
+        .strip_prefix("== reads of ")?
+        .split_once(", writes of ")?;
+    let (writes, words) = rest.split_once(", ")?;
+    Some(Way::Pieces(Pieces {
+        reads: reads.parse::<u64>().ok()?,
+        writes: writes.parse::<u64>().ok()?,
+        failing_read: failing_call(words, "read ").unwrap_or(0),
+        failing_write: failing_call(words, "write ").unwrap_or(0),
+    }))
+}
+
 fn way_of(title: &str) -> Way {
     if title.starts_with("== cut ") {
         return Way::Cut;
     }
-    crew_of(title).unwrap_or(Way::Alone)
+    crew_of(title).or(pieces_of(title)).unwrap_or(Way::Alone)
 }
 
 /// The name of a case, the report of its script and the status.
@@ -135,6 +158,11 @@ fn told_cut(alloc: Global, case: &Case) -> Result<String, AllocError> {
     told_with(alloc, case.title.as_str(), &whole, cuts.as_str())
 }
 
+fn told_in_pieces(alloc: Global, pieces: Pieces, case: &Case) -> Result<String, AllocError> {
+    let (ended, calls) = run_in_pieces(alloc, pieces, &case.script)?;
+    told_with(alloc, case.title.as_str(), &ended, calls.as_str())
+}
+
 fn told_held<R: Threads + Wait + Sync>(
     rt: &R,
     alloc: Global,
@@ -148,7 +176,7 @@ fn told_held<R: Threads + Wait + Sync>(
     }
 }
 
-/// What a case prints: its name, the report of its script, the status, and what is to be said of its cuts or its crew.
+/// What a case prints: its name, what was written, the status, and what is to be said of its cuts, its pieces or its crew.
 pub fn outcome<R: Threads + Wait + Sync>(
     rt: &R,
     alloc: Global,
@@ -157,6 +185,7 @@ pub fn outcome<R: Threads + Wait + Sync>(
     match way_of(case.title.as_str()) {
         Way::Alone => told_alone(alloc, case),
         Way::Cut => told_cut(alloc, case),
+        Way::Pieces(pieces) => told_in_pieces(alloc, pieces, case),
         Way::Crew(held) => told_held(rt, alloc, held, case),
     }
 }

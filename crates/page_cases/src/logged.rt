@@ -1,0 +1,35 @@
+//! The last moments of keys in a log.
+
+use crate::calls::text;
+use case_lines::{CaseStop, Words};
+use script_lex::Symbol;
+use snapshot_log::Log;
+use std::alloc::Global;
+
+/// A log of the keys that the line ends with, each behind a colon. They are noted at the moments from 1 on.
+fn read_log(alloc: Global, words: &mut Words) -> Result<Log, CaseStop> {
+    let mut log = Log::make(alloc, 0);
+    for moment in 1..u64::MAX {
+        if words.is_done() {
+            break;
+        }
+        words.symbol(Symbol::Colon)?;
+        let key = words.key(alloc)?;
+        log.reserve(1)?;
+        log.note(key, moment);
+    }
+    Ok(log)
+}
+
+/// The last moment of a key in a log that is purged up to a mark.
+pub fn last_moment(alloc: Global, words: &mut Words) -> Result<String, CaseStop> {
+    let mark = words.whole()?;
+    words.symbol(Symbol::Comma)?;
+    let key = words.key(alloc)?;
+    let mut log = read_log(alloc, words)?;
+    log.purge(mark);
+    match log.moment_of(&key) {
+        Some(moment) => Ok(format!(in alloc; "last at {moment}")?),
+        None => text(alloc, "not logged"),
+    }
+}
