@@ -15,7 +15,7 @@ use Rattle.rep_schema.specs.Kinds.{is_stamp, is_filled, value_in_range, row_in_r
 use Rattle.rep_schema.proofs.FoundRows.{found_row, key_of-found}
 use Rattle.local_txn.specs.declared.local.Here.{Here}
 use Rattle.local_txn.specs.Filled.{filled_from, everywhere, next_stamp, inserted}
-use Rattle.local_txn.specs.Chosen.{first_outside, capped}
+use Rattle.txn_effects.specs.Stamps.{first_outside, capped}
 use Rattle.local_txn.specs.Convergent.{is_convergent, barred, begins_with}
 use Rattle.local_txn.specs.Statements.{Standing, row_at, row_steps, new_row_steps}
 use Rattle.local_txn.specs.Running.{inserted_capped}

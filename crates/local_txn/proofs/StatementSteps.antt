@@ -32,7 +32,7 @@ use Rattle.local_txn.specs.Literals.{literal_fits, literals_fit, key_literals_fi
 use Rattle.local_txn.specs.Sets.{names_columns, names_one_twice, takes_set, is_about, sets_fit, sets_filled, value_by, row_with}
 use Rattle.local_txn.specs.ByColumn.{AreSets, names_refusal, takes_each, fills_some, row_by, row_where_in_range}
 use Rattle.local_txn.specs.Filled.{Filling, RowMade, filled_from, value_filled, everywhere, is_modified, bound_from, next_stamp, made_with, written_columns, row_written}
-use Rattle.local_txn.specs.Chosen.{capped}
+use Rattle.txn_effects.specs.Stamps.{capped}
 use Rattle.local_txn.specs.Convergent.{barred, own_key_step, rule_step}
 use Rattle.local_txn.specs.Statements.{Standing, row_at, insert_made, update_made, insert_in, update_in, delete_in, row_steps, there, new_row_steps, insert_steps, changed_row_steps, update_steps, delete_steps}
 use Rattle.local_txn.specs.Running.{CanRun, IsKindly, inserted_capped, change_steps, ChangesTo, order_steps, AreInOrder, standing_of, footing_after, RunsAs, StopsAs}

@@ -1,5 +1,5 @@
--- Places of columns as marks, and stamps as far as a row can have them.
-use Rattle.std.specs.Prelude.{ℕ, min, Bool, false, ◌&&◌, List, slice_index_or}
+-- Places of columns as marks.
+use Rattle.std.specs.Prelude.{ℕ, Bool, false, ◌&&◌, List, slice_index_or}
 use Rattle.rep_schema.specs.declared.schema.Schema.{Schema}
 use Rattle.rep_schema.specs.Tables.{Cells}
 use Rattle.rep_schema.specs.Kinds.{has_place}
@@ -12,11 +12,3 @@ chosen_at marks place = slice_index_or marks place false
 -- the column at a place stands in a group, in which two rows differ
 abbrev pub is_modified_in : Schema → ℕ → Cells → Cells → ℕ → ℕ → Bool
 is_modified_in schema table before after group place = differ_in schema table before after group && has_place (group_columns_of schema table group) place
-
--- the least number above those that a column may hold
-abbrev pub first_outside : ℕ
-first_outside = 1000000000000001
-
--- a stamp, or else a number that no column may hold
-abbrev pub capped : ℕ → ℕ
-capped stamp = min stamp first_outside

@@ -9,6 +9,7 @@ use Rattle.rep_schema.specs.declared.schema.Column.{Column}
 use Rattle.rep_schema.specs.Tables.{Cells, columns_of}
 use Rattle.rep_schema.specs.Kinds.{is_stamp, is_filled, has_place}
 use Rattle.rep_schema.specs.Groups.{group_columns_of, differing_groups}
+use Rattle.txn_effects.specs.Stamps.{stamp_above}
 use Rattle.local_txn.specs.declared.local.Stamps.{Stamps}
 pub use Rattle.local_txn.specs.declared.filled.RowMade.{RowMade}
 
@@ -82,7 +83,7 @@ has_stamp_from chosen n (c ∷ cs) = (chosen n && is_stamp c.kind) || has_stamp_
 
 -- the greatest of the clock, the last stamp plus 1, and a bound
 abbrev pub next_stamp : Stamps → ℕ → ℕ
-next_stamp stamps bound = max stamps.clock (max (stamps.last + 1) bound)
+next_stamp stamps bound = stamp_above stamps.clock stamps.last bound
 
 -- a row with the chosen columns filled in; the stamp becomes the last one where a STAMP column is among them
 abbrev pub made_with : List Column → SiteName → ℕ → (ℕ → Bool) → ℕ → Cells → RowMade

@@ -23,7 +23,7 @@ use Rattle.local_txn.specs.Literals.{key_literals_fit}
 use Rattle.local_txn.specs.Sets.{names_columns, sets_fit, sets_filled}
 use Rattle.local_txn.specs.ByColumn.{AreSets}
 use Rattle.local_txn.specs.Filled.{RowMade, everywhere, is_modified, bound_from, next_stamp, made_with}
-use Rattle.local_txn.specs.Chosen.{capped}
+use Rattle.txn_effects.specs.Stamps.{capped}
 use Rattle.local_txn.specs.Convergent.{side_of, barred, rule_step}
 use Rattle.local_txn.specs.Statements.{Standing, Outcome, outcome_changes, statement_refusal, statement_changes, standing_after}
 use Rattle.local_txn.specs.Locals.{BlockEffect}

@@ -7,11 +7,13 @@ ghost use Rattle.rep_schema.specs.Shape.{HasShape};
 ghost use Rattle.rep_schema.specs.Tables.{columns_of};
 ghost use Rattle.rep_schema.specs.Kinds.{is_filled, is_stamp, has_place};
 ghost use Rattle.local_txn.specs.Filled.{filling_value, filled_from, filled_row, everywhere, is_modified, above_value, bound_from, has_stamp_from, next_stamp, made_with};
-ghost use Rattle.local_txn.specs.Chosen.{chosen_at, is_modified_in, capped, first_outside};
+ghost use Rattle.txn_effects.specs.Stamps.{capped, first_outside};
+ghost use Rattle.local_txn.specs.Chosen.{chosen_at, is_modified_in};
 
 use crate::Stamps;
 use rep_schema::{Column, SHADOW, Schema, columns_of, group_columns, groups_of, same_values_at};
 use rep_values::{Row, SiteName, Value};
+use txn_effects::stamp_above;
 
 /// A row that a statement makes, and the site's last stamp then.
 #[derive(Drop)]
@@ -131,17 +133,6 @@ fn has_stamp(columns: &[Column], chosen: &[bool]) -> bool
     false
 }
 
-/// The next stamp above a bound; where no row may have it, a number that none may have.
-fn next_stamp(stamps: &Stamps, bound: u64) -> u64
-    ensures { result ≡ capped (next_stamp stamps.now bound) }
-{
-    stamps
-        .clock
-        .max(stamps.last.saturating_add(1))
-        .max(bound)
-        .min(1_000_000_000_000_001)
-}
-
 fn filling_value(column: &Column, stamp: u64, site: &SiteName) -> Value
     requires { stamp ≤ first_outside }
     ensures { result ≡ filling_value (record { stamp = stamp; site = site.now }) column.now }
@@ -188,7 +179,7 @@ fn made_with(
     requires { length columns.now ≡ length row }
     ensures { result ≡ made_with columns.now site.now stamps.now.last (chosen_at chosen.now) (capped (next_stamp stamps.now bound)) row }
 {
-    let stamp = next_stamp(stamps, bound);
+    let stamp = stamp_above(stamps.clock, stamps.last, bound);
     let mut row = row;
     fill(columns, chosen, stamp, site, &mut row);
     RowMade {

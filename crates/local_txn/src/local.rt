@@ -3,6 +3,7 @@
 use rep_calls::Txn;
 use rep_schema::{Changes, TableSet};
 use rep_values::{Refusal, SiteName};
+use thiserror::Error;
 
 /// The site that runs a transaction, and the tables that it holds.
 #[derive(Clone, Copy)]
@@ -27,7 +28,8 @@ pub struct Local {
 }
 
 /// The first refused statement, from 1, and why it is refused. Want of memory has statement 0.
-#[derive(Clone, Copy)]
+#[derive(Clone, Copy, Debug, PartialEq, Eq, Error)]
+#[error("statement {statement} is refused: {refusal}")]
 pub struct LocalStop {
     pub statement: u32,
     pub refusal: Refusal,

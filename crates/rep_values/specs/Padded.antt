@@ -20,6 +20,18 @@ pub cells-of_front : {X : Type 0} (size : ℕ) (blank : X) (len : ℕ) (cells : 
 cells-of_front size blank len cells padded =
     rw (len-of_front size blank len cells padded, ← padded.blanks) (take-append-drop len cells)
 
+-- of two such arrays with the same front the fronts are as long
+pub len-same : {X : Type 0} (size : ℕ) (blank : X) (len : ℕ) (cells : List X) (other_len : ℕ) (other : List X) → IsPadded size blank len cells → IsPadded size blank other_len other
+    → take len cells ≡ take other_len other → len ≡ other_len
+len-same size blank len cells other_len other padded other_padded same =
+    sym (len-of_front size blank len cells padded) ∙ ap length same ∙ len-of_front size blank other_len other other_padded
+
+-- and so they have the same cells
+pub cells-same : {X : Type 0} (size : ℕ) (blank : X) (len : ℕ) (cells : List X) (other_len : ℕ) (other : List X) → IsPadded size blank len cells → IsPadded size blank other_len other
+    → take len cells ≡ take other_len other → cells ≡ other
+cells-same size blank len cells other_len other padded other_padded same =
+    sym (cells-of_front size blank len cells padded) ∙ ap (λ front. front ++ replicate (size - length front) blank) same ∙ cells-of_front size blank other_len other other_padded
+
 -- one more cell in front, and the others hold the blank as before
 pub one_more : {X : Type 0} (size : ℕ) (blank : X) (len : ℕ) (cells : List X) (x : X) → IsPadded size blank len cells → len < size
     → IsPadded size blank (len + 1) (set cells len x)

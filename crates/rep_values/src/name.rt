@@ -8,6 +8,7 @@ ghost use Rattle.rep_values.specs.Name.{is_name, is_name_byte, same_bytes};
 
 use crate::{Text, is_digit, is_letter};
 use std::cmp::Ordering;
+use std::fmt;
 use std::marker::Model;
 
 /// 1 to 30 bytes: a letter, then letters, digits and underscores. It is kept in place and takes no memory.
@@ -99,6 +100,13 @@ impl Name {
         }
     }
 
+    /// Whether two names are as long and begin with the same byte, as the same names do. Most names that differ, differ here.
+    fn begins_as(&self, other: &Name) -> bool
+        ensures { self.now ≡ other.now → IsTrue result }
+    {
+        self.len == other.len && self.cells[0] == other.cells[0]
+    }
+
     /// Whether two names are the same.
     pub fn is_same(&self, other: &Name) -> bool
         ensures value { result ≡ same_bytes self.now other.now }
@@ -108,13 +116,30 @@ impl Name {
     }
 }
 
+/// The bytes of the name, as they are.
+impl fmt::Display for Name {
+    fn fmt<W: fmt::Write>(&self, f: &mut fmt::Formatter<W>) -> fmt::Result {
+        for byte in self.bytes() {
+            f.write_char(char::from(*byte))?;
+        }
+        Ok(())
+    }
+}
+
+/// As it is displayed.
+impl fmt::Debug for Name {
+    fn fmt<W: fmt::Write>(&self, f: &mut fmt::Formatter<W>) -> fmt::Result {
+        fmt::Display::fmt(self, f)
+    }
+}
+
 impl PartialEq for Name {
     ghost eq = { pointwise nat_eq };
 
     ghost laws = { partial_equiv_from_equiv nat_list_eq_equiv };
 
     fn eq(&self, other: &Name) -> bool {
-        self.bytes() == other.bytes()
+        self.begins_as(other) && self.bytes() == other.bytes()
     }
 }
 
@@ -147,12 +172,18 @@ impl Ord for Name {
 }
 
 /// The name of a site.
-#[derive(Clone, Copy, PartialEq, Eq, PartialOrd, Ord)]
+#[derive(Clone, Copy, Debug, PartialEq, Eq, PartialOrd, Ord)]
 pub struct SiteName(pub Name);
 
 /// The name of a table.
 #[derive(Clone, Copy, PartialEq, Eq, PartialOrd, Ord)]
 pub struct TableName(pub Name);
+
+impl fmt::Display for SiteName {
+    fn fmt<W: fmt::Write>(&self, f: &mut fmt::Formatter<W>) -> fmt::Result {
+        fmt::Display::fmt(&self.0, f)
+    }
+}
 
 impl SiteName {
     /// Whether two sites have the same name.

@@ -33,6 +33,7 @@ limit_word limit.Constraints = codes "constraints"
 limit_word limit.Levels = codes "levels"
 limit_word limit.Statements = codes "statements"
 limit_word limit.Checks = codes "checks"
+limit_word limit.Sessions = codes "sessions"
 
 -- the name of a refusal
 abbrev pub refusal_name : Refusal → List ℕ

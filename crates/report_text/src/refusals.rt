@@ -65,6 +65,7 @@ fn limit_word(limit: Limit) -> &'static [u8]
         Limit::Levels => b"levels",
         Limit::Statements => b"statements",
         Limit::Checks => b"checks",
+        Limit::Sessions => b"sessions",
     }
 }
 

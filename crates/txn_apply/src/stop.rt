@@ -4,13 +4,16 @@ ghost use Rattle.txn_apply.specs.Stops.{stop_of};
 
 use rep_lists::NoMemory;
 use rep_values::ApplyError;
+use thiserror::Error;
 
 /// Why a transaction is not applied. The store and the counters are as before.
-#[derive(Clone, Copy)]
+#[derive(Clone, Copy, Debug, PartialEq, Eq, Error)]
 pub enum ApplyStop {
     /// The first call that fails, from 1, and why.
+    #[error("call {call} fails: {error}")]
     Failed { call: u32, error: ApplyError },
     /// There is no memory.
+    #[error("there is no memory")]
     Memory,
 }
 

@@ -1,4 +1,5 @@
 -- The definitions of this crate.
+pub mod Stamps
 pub mod Parts
 pub mod Calls
 pub mod Transactions

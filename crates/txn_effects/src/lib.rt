@@ -1,6 +1,8 @@
-//! What one call and one whole transaction do to tables and counters: definitions, and laws over them.
+//! What one call and one whole transaction do to tables and counters: definitions, and laws over them; and the next stamp of a site.
 #![tactic(auto)]
 
 mod laws;
+mod stamps;
 
 pub use laws::{calls_of_changes_make_them, transactions_lead_to_their_tables};
+pub use stamps::stamp_above;
