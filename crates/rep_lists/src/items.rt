@@ -33,7 +33,7 @@ impl<T> Items<T> {
         }
     }
 
-    /// The empty list with room for so many values, so that pushes up to there take no memory.
+    /// The empty list. It asks for room for so many values at once; no clause says how much is taken.
     pub fn with_capacity(alloc: Global, capacity: usize) -> Result<Items<T>, NoMemory>
         ensures { IfOk result (λ items. items ≡ []) }
     {

@@ -5,4 +5,3 @@ mod list_tables;
 mod sorted_rows;
 
 pub use list_tables::ListTables;
-pub use sorted_rows::SortedRows;

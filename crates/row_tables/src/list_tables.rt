@@ -1,18 +1,10 @@
 //! A store whose tables are sorted vectors.
-ghost use Rattle.std.specs.Prelude.{◌≡◌, ◌≢◌, ℕ, ◌+◌, ◌<◌, ◌≤◌, ◌⊎◌, ◌↔◌, [], length, replicate, slice_get, slice_set, slice_index, option_copied, vec_len, vec_capacity, None, Some, IsTrue, IsSome, IsOk, IfOk, IfErr, OnOk, OnErr, OnSome};
-ghost use Rattle.rep_values.specs.declared.refusal.Refusal.TheVariants.{Memory};
-ghost use Rattle.rep_schema.specs.Shape.{HasShape};
+ghost use Rattle.std.specs.Prelude.{◌≡◌, ◌≢◌, ℕ, ◌+◌, ◌<◌, ◌≤◌, ◌⊎◌, ◌↔◌, [], length, replicate, slice_get, slice_set, slice_index, option_copied, IsTrue, IsSome, IsOk, IfOk, OnOk, OnSome};
 ghost use Rattle.rep_schema.specs.Tables.{columns_of, constraints_of, constraint_columns_of, key_of, find_row, put_row, take_row, rows_of, IsKeyed, RowFits, IsUniqueRow, IsHeldElsewhere, AreTables};
-ghost use Rattle.rep_declare.specs.Refusals.{refusal_of};
-ghost use Rattle.rep_declare.specs.Additions.{ColumnNamed, declared};
-ghost use Rattle.rep_declare.specs.Shaping.{ShapesNoRows, rows_with};
-ghost use Rattle.row_tables.specs.Stored.{rows_in};
 
 use crate::sorted_rows::SortedRows;
-use rep_declare::{Declare, add_declaration, refusal_of};
-use rep_lists::Copies;
 use rep_schema::{RowStore, Schema, columns_of, constraint_columns};
-use rep_values::{Key, NoMemory, Refusal, Row};
+use rep_values::{Key, NoMemory, Row};
 use std::alloc::Global;
 use std::marker::Model;
 
@@ -35,47 +27,6 @@ impl Model for ListTables {
     ghost invariant = { λ s. AreTables s.schema (rows_in s.stored.items) };
 }
 
-/// The same tables once more.
-fn copy_each(alloc: Global, tables: &[SortedRows]) -> Result<Vec<SortedRows>, NoMemory>
-    ensures { IfOk result (λ copied. rows_in copied.items ≡ rows_in tables.now) }
-{
-    let mut copied = Vec::with_capacity(alloc, tables.len())?;
-    for rows in tables {
-        copied.push(rows.copy(alloc)?)?;
-    }
-    Ok(copied)
-}
-
-/// Takes the room for one more table.
-fn make_room(stored: &mut Vec<SortedRows>) -> Result<(), NoMemory>
-    ensures ok { OnOk result (vec_len stored.new < vec_capacity stored.new) }
-    ensures items { stored.new.items ≡ stored.old.items }
-{
-    stored.reserve(1)?;
-    Ok(())
-}
-
-/// Adds the rows of a table that is declared: none.
-fn add_rows(alloc: Global, stored: &mut Vec<SortedRows>, declaration: &Declare)
-    requires { vec_len stored.old < vec_capacity stored.old }
-    ensures { rows_in stored.new.items ≡ rows_with declaration.now (rows_in stored.old.items) }
-{
-    match declaration {
-        Declare::Table { .. } => stored.push_reserved(SortedRows::new(alloc)),
-        Declare::Site { .. }
-        | Declare::LateSite { .. }
-        | Declare::SnapSite { .. }
-        | Declare::Group { .. }
-        | Declare::Method { .. }
-        | Declare::Priority { .. }
-        | Declare::SiteLevel { .. }
-        | Declare::Unique { .. }
-        | Declare::UniqueMethod { .. }
-        | Declare::Check { .. }
-        | Declare::Convergent { .. } => {}
-    }
-}
-
 impl ListTables {
     /// A store of this schema with every table empty.
     pub fn make(alloc: Global, schema: Schema) -> Result<ListTables, NoMemory>
@@ -88,40 +39,6 @@ impl ListTables {
             stored.push(SortedRows::new(alloc))?;
         }
         Ok(ListTables { schema, stored })
-    }
-
-    /// A store of an equal schema with equal rows, or want of memory.
-    pub fn copy(&self, alloc: Global) -> Result<ListTables, NoMemory>
-        ensures schema { IfOk result (λ s. s.schema ≡ self.now.schema) }
-        ensures tables { IfOk result (λ s. s.tables ≡ self.now.tables) }
-    {
-        let schema = self.schema.copy(alloc)?;
-        let stored = copy_each(alloc, self.stored.as_slice())?;
-        Ok(ListTables { schema, stored })
-    }
-
-    /// Adds what a declaration adds to the schema, or says why it is refused, the first reason in order, or that
-    /// there is no memory; then the store is as it was. A table that is declared comes behind the others and is
-    /// empty. One that the declaration shapes has no rows.
-    pub fn declare(&mut self, alloc: Global, declaration: &Declare) -> Result<(), Refusal>
-        requires shape { HasShape self.old.schema }
-        requires columns { ColumnNamed declaration.now }
-        requires free { ShapesNoRows self.old.schema self.old.tables declaration.now }
-        ensures ok { OnOk result (refusal_of self.old.schema declaration.now ≡ None) }
-        ensures schema { OnOk result (self.new.schema ≡ declared declaration.now self.old.schema) }
-        ensures tables { OnOk result (self.new.tables ≡ rows_with declaration.now self.old.tables) }
-        ensures err { IfErr result (λ why. (refusal_of self.old.schema declaration.now ≡ Some why) ⊎ ((refusal_of self.old.schema declaration.now ≡ None) × (why ≡ Memory))) }
-        ensures kept { OnErr result ((self.new.schema ≡ self.old.schema) × (self.new.tables ≡ self.old.tables)) }
-        ensures shape { HasShape self.new.schema }
-    {
-        if let Some(refusal) = refusal_of(&self.schema, declaration) {
-            return Err(refusal);
-        }
-        // The room comes first, so that nothing fails once the schema has changed.
-        make_room(&mut self.stored)?;
-        add_declaration(&mut self.schema, alloc, declaration)?;
-        add_rows(alloc, &mut self.stored, declaration);
-        Ok(())
     }
 }
 

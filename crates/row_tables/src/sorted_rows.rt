@@ -3,7 +3,7 @@ ghost use Rattle.std.specs.Prelude.{◌≡◌, ◌≢◌, ◌+◌, ◌≤◌, �
 ghost use Rattle.rep_lists.specs.Rising.{IsRising, IsThere, IsGap};
 ghost use Rattle.rep_schema.specs.Tables.{beside, row_cmp, key_of, find_row, put_row, take_row, picked, IsHeldElsewhere};
 
-use rep_lists::{Copies, RoomyList};
+use rep_lists::RoomyList;
 use rep_schema::{Column, compare_row, compare_rows, have_one_key, same_picked};
 use rep_values::{NoMemory, Row, Value};
 use std::alloc::Global;
@@ -98,7 +98,7 @@ fn is_held_elsewhere(rows: &[Row], columns: &[Column], places: &[u32], row: &[Va
 
 /// A table's rows, in rising order of key. The columns of the table are given to each call.
 #[derive(Drop)]
-pub struct SortedRows {
+pub(crate) struct SortedRows {
     rows: RoomyList<Row>,
 }
 
@@ -112,7 +112,7 @@ impl Model for SortedRows {
 
 impl SortedRows {
     /// No rows, which take no memory.
-    pub fn new(alloc: Global) -> SortedRows
+    pub(crate) fn new(alloc: Global) -> SortedRows
         ensures { result.rows ≡ [] }
     {
         SortedRows {
@@ -120,40 +120,22 @@ impl SortedRows {
         }
     }
 
-    /// The same rows once more, or want of memory.
-    pub fn copy(&self, alloc: Global) -> Result<SortedRows, NoMemory>
-        ensures { IfOk result (λ copied. copied.rows ≡ self.now.rows) }
-    {
-        let mut rows = RoomyList::with_room(alloc, self.rows.len())?;
-        for row in self.rows.as_slice() {
-            rows.push(row.copy(alloc)?);
-        }
-        Ok(SortedRows { rows })
-    }
-
     /// How many rows there are.
-    pub fn len(&self) -> usize
+    pub(crate) fn len(&self) -> usize
         ensures { result ≡ length self.now.rows }
     {
         self.rows.len()
     }
 
-    /// Whether there is no row.
-    pub fn is_empty(&self) -> bool
-        ensures { IsTrue result ↔ (self.now.rows ≡ []) }
-    {
-        self.rows.is_empty()
-    }
-
     /// The row at a place in the order of keys, from 0.
-    pub fn at(&self, place: usize) -> Option<&Row>
+    pub(crate) fn at(&self, place: usize) -> Option<&Row>
         ensures { option_copied result ≡ slice_get self.now.rows place }
     {
         self.rows.as_slice().get(place)
     }
 
     /// The row with a key.
-    pub fn get(&self, columns: &[Column], key: &[Value]) -> Option<&Row>
+    pub(crate) fn get(&self, columns: &[Column], key: &[Value]) -> Option<&Row>
         requires { IsRising (row_cmp columns.now) self.now.rows }
         ensures { option_copied result ≡ find_row columns.now key.now self.now.rows }
     {
@@ -161,14 +143,14 @@ impl SortedRows {
     }
 
     /// Whether a row with another key has the row's values at these places.
-    pub fn holds(&self, columns: &[Column], places: &[u32], row: &[Value]) -> bool
+    pub(crate) fn holds(&self, columns: &[Column], places: &[u32], row: &[Value]) -> bool
         ensures { IsTrue result ↔ IsHeldElsewhere columns.now places.now row.now self.now.rows }
     {
         is_held_elsewhere(self.rows.as_slice(), columns, places, row)
     }
 
     /// Makes room for so many new rows, or finds no memory. Room that is there is never given up.
-    pub fn reserve(&mut self, rows: usize) -> Result<(), NoMemory>
+    pub(crate) fn reserve(&mut self, rows: usize) -> Result<(), NoMemory>
         ensures ok { OnOk result (rows ≤ self.new.spare) }
         ensures succeeds { rows ≤ self.old.spare → IsOk result }
         ensures kept { self.old.spare ≤ self.new.spare }
@@ -179,7 +161,7 @@ impl SortedRows {
 
     /// Adds a row, or puts it in the place of the row with its key, which it hands back. A new key uses up room for
     /// one row.
-    pub fn put(&mut self, columns: &[Column], row: Row) -> Option<Row>
+    pub(crate) fn put(&mut self, columns: &[Column], row: Row) -> Option<Row>
         requires rising { IsRising (row_cmp columns.now) self.old.rows }
         requires room { IsSome (find_row columns.now (key_of columns.now row) self.old.rows) ⊎ (1 ≤ self.old.spare) }
         ensures replaced { result ≡ find_row columns.now (key_of columns.now row) self.old.rows }
@@ -191,7 +173,7 @@ impl SortedRows {
     }
 
     /// Takes the row with a key away and hands it back. Its room stays.
-    pub fn take(&mut self, columns: &[Column], key: &[Value]) -> Option<Row>
+    pub(crate) fn take(&mut self, columns: &[Column], key: &[Value]) -> Option<Row>
         requires { IsRising (row_cmp columns.now) self.old.rows }
         ensures taken { result ≡ find_row columns.now key.now self.old.rows }
         ensures rows { self.new.rows ≡ take_row columns.now key.now self.old.rows }
