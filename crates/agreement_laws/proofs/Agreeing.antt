@@ -29,6 +29,7 @@ use Rattle.event_laws.specs.Quiet.{are_quiet}
 use Rattle.event_laws.specs.Starts.{IsNewSite}
 use Rattle.event_laws.specs.Fitting.{IsFitStart}
 use Rattle.event_laws.specs.Waiting.{AreMeshed}
+use Rattle.event_laws.proofs.Runs.{run-append}
 use Rattle.event_laws.proofs.Sites.{found_all, found_again, found_changed}
 use Rattle.event_laws.proofs.DeclaredSites.{IsSiteOf}
 use Rattle.event_laws.proofs.Meeting.{SiteMeets, MeetsAt}
@@ -49,7 +50,6 @@ use Rattle.agreement_laws.proofs.Told.{IsOwnValue, AreTold, told_calls, Known}
 use Rattle.agreement_laws.proofs.PairsTell.{Lower, of_schema, known, run_told, made_own, own_same}
 use Rattle.agreement_laws.proofs.Families.{masters_of, joined_by, queue_in, count_for, count_in, pieces_of, arrived_among}
 use Rattle.agreement_laws.proofs.Facts.{some_there, is_named, Facts, declared_master}
-use Rattle.agreement_laws.proofs.Between.{run-append}
 use Rattle.agreement_laws.proofs.Since.{IsSince, becomes_kept, since_now, becomes_since}
 use Rattle.agreement_laws.proofs.Ties.{master_named, sender_named, same_level, has_level, tie_first, pair_split}
 use Rattle.agreement_laws.proofs.Rooted.{Among-parts_in}
@@ -268,7 +268,7 @@ agree_since lower schema start events more is meshed now agree quiet kept one ot
 
 pub quiet_masters_agree_again : Lower → QuietMastersAgreeAgain
 quiet_masters_agree_again lower schema start events more is meshed quiet agree =
-    subst (λ (w : Core). are_quiet w.sites ≡ true → NothingWasDroppedSince schema (run events start).sites w.sites → MastersAgree schema w.sites) (sym (run-append events more start))
+    subst (λ (w : Core). are_quiet w.sites ≡ true → NothingWasDroppedSince schema (run events start).sites w.sites → MastersAgree schema w.sites) (run-append more events start)
     (agree_since lower schema start events more is meshed now agree)
   where
     now : IsSince schema (run events start).sites (run events start).sites

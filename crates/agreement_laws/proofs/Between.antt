@@ -1,21 +1,17 @@
 -- From one moment to a later one the groups of a master's rows become joins.
-use Rattle.std.proofs.Common.{◌≡◌, List, [], ◌∷◌, ◌++◌, Some, refl, sym, ap, ◌∙◌, subst}
+use Rattle.std.proofs.Common.{◌≡◌, List, ◌++◌, Some, refl, sym, ap, ◌∙◌, subst}
 use Rattle.rep_schema.specs.declared.schema.Schema.{Schema}
 use Rattle.site_state.specs.State.{SiteState}
 use Rattle.site_state.specs.Contents.{journal_content, tables_of}
 use Rattle.event_laws.specs.Core.{Core, site_of}
-use Rattle.event_laws.specs.Events.{Event, run, happens}
+use Rattle.event_laws.specs.Events.{Event, run}
 use Rattle.event_laws.specs.Marks.{journal_in}
+use Rattle.event_laws.proofs.Runs.{run-append}
 use Rattle.event_laws.proofs.Sites.{found_all, found_name}
 use Rattle.event_laws.proofs.MarkLaws.{IsOfSchema, run_schema}
 use Rattle.convergence_laws.specs.Laws.{AreJoined, GroupsAreJoinedSince}
 use Rattle.agreement_laws.specs.Between.{GroupsAreJoinedBetween}
 use Rattle.agreement_laws.proofs.Growing.{HasAll, run_all}
-
--- one list of events after another is a list of events
-pub run-append : (events more : List Event) (start : Core) → run more (run events start) ≡ run (more ++ events) start
-run-append events [] start = refl
-run-append events (e ∷ more) start = ap (happens e) (run-append events more start)
 
 pub groups_are_joined_between : GroupsAreJoinedSince → GroupsAreJoinedBetween
 groups_are_joined_between since schema start events more is site earlier later found there master = record {
@@ -27,7 +23,7 @@ groups_are_joined_between since schema start events more is site earlier later f
 }
   where
     there_too : site_of site (run (more ++ events) start).sites ≡ Some later
-    there_too = subst (λ (w : Core). site_of site w.sites ≡ Some later) (run-append events more start) there
+    there_too = subst (λ (w : Core). site_of site w.sites ≡ Some later) (sym (run-append more events start)) there
 
     has : HasAll (site_of site (run events start).sites) later
     has = (run_all more (run events start)).each site later there

@@ -9,14 +9,14 @@ use Rattle.rep_schema.specs.declared.schema.Column.{Column}
 use Rattle.rep_schema.specs.Tables.{Cells, Rows, row_cmp, find_row, rows_of}
 use Rattle.snapshot_query.specs.declared.query.Query.{Query}
 use Rattle.snapshot_query.specs.declared.snapshot.Snapshot.{Snapshot}
-use Rattle.snapshot_query.specs.Queries.{query_rows}
+use Rattle.rep_schema.proofs.FilteredRows.{find_row-filter}
+use Rattle.snapshot_query.specs.Queries.{matches, query_rows}
 use Rattle.fast_refresh.specs.Showing.{shown}
-use Rattle.fast_refresh.proofs.QueriedTables.{find_query}
 use Rattle.site_state.specs.Refreshes.{rows_shown, with_tables}
 
 -- a row that a query picks is there
 picked_there : (columns : List Column) (query : Query) (key : Cells) (rows : Rows) → IsRising (row_cmp columns) rows → find_row columns key (query_rows query rows) ≢ None → find_row columns key rows ≢ None
-picked_there columns query key rows rising found none = found (find_query columns query key rows rising ∙ ap (shown query) none)
+picked_there columns query key rows rising found none = found (find_row-filter columns (matches query) key rows rising ∙ ap (shown query) none)
 
 module _ (columns : List Column) (table : ℕ) (key : Cells) (shows : List Rows) (rising : IsRising (row_cmp columns) (rows_of shows table)) where
   abbrev row_of : List Rows → Option Cells

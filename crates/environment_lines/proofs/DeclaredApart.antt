@@ -1,5 +1,5 @@
 -- What Setup has declared when it ends: snapshots of the schema's tables, at most one of a table at each site.
-use Rattle.std.proofs.Common.{◌≡◌, ◌≢◌, ℕ, ◌==◌, List, [], ◌∷◌, map, Bool, true, false, cond, refl, subst}
+use Rattle.std.proofs.Common.{◌≡◌, ◌≢◌, ℕ, ◌==◌, List, [], ◌∷◌, map, Bool, true, false, cond, None, refl, subst}
 use Rattle.std.specs.Prelude.{filter}
 use Rattle.std.specs.List.{AllByRecursion}
 use Rattle.std.proofs.lemmas.Bool.{or_parts}
@@ -18,7 +18,7 @@ use Rattle.environment.specs.Reached.{IsOfConvergence, Declaring, Going}
 
 -- a declared snapshot as its site has it
 abbrev as_made : DeclaredSnapshot → Snapshot
-as_made d = record { table = d.table; query = d.query; mark = 0; touched = [] }
+as_made d = record { table = d.table; query = d.query; parent = None; mark = 0; touched = [] }
 
 abbrev is_at : SiteName → DeclaredSnapshot → Bool
 is_at site d = is_same_site d.site site

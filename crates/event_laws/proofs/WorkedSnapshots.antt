@@ -37,7 +37,7 @@ abbrev with_other : Schema
 with_other = additive (master a ∷ master b ∷ snapshot_of s a ∷ [])
 
 abbrev above_5 : Snapshot
-above_5 = record { table = 0; query = record { tests = record { column = 1; op = Gt; value = n 5 } ∷ [] }; mark = 0; touched = [] }
+above_5 = record { table = 0; query = record { tests = record { column = 1; op = Gt; value = n 5 } ∷ [] }; parent = None; mark = 0; touched = [] }
 
 abbrev start_above_5 : Core
 start_above_5 = record {
@@ -94,7 +94,7 @@ abbrev zone_row : ℕ → ℕ → ℕ → Cells
 zone_row k zone q = n k ∷ n zone ∷ n q ∷ []
 
 abbrev zone_1 : Snapshot
-zone_1 = record { table = 0; query = record { tests = record { column = 1; op = Eq; value = n 1 } ∷ [] }; mark = 0; touched = [] }
+zone_1 = record { table = 0; query = record { tests = record { column = 1; op = Eq; value = n 1 } ∷ [] }; parent = None; mark = 0; touched = [] }
 
 abbrev start_zone_1 : Core
 start_zone_1 = record {

@@ -30,7 +30,7 @@ abbrev schema : Schema
 schema = additive (master a ∷ master b ∷ late_master d ∷ snapshot_of s a ∷ [])
 
 abbrev all_rows : Snapshot
-all_rows = record { table = 0; query = record { tests = [] }; mark = 0; touched = [] }
+all_rows = record { table = 0; query = record { tests = [] }; parent = None; mark = 0; touched = [] }
 
 abbrev site_s : SiteState
 site_s = new_site schema (record { site = s; is_master = false; tables = true ∷ [] }) [] (all_rows ∷ []) ((row 1 10 ∷ []) ∷ [])

@@ -1,7 +1,7 @@
 -- The lemmas of this crate, from the bottom up.
 mod KeysAmong
 mod RowsFound
-pub mod QueriedTables
+mod FewerRows
 mod ShownRows
 mod PlannedKeys
 mod Replacing

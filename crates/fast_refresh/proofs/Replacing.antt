@@ -17,7 +17,7 @@ use Rattle.fast_refresh.specs.Showing.{has_key}
 use Rattle.fast_refresh.specs.Planned.{gone_keys, coming_rows, rows_left, rows_with, CanCome}
 use Rattle.fast_refresh.proofs.KeysAmong.{other_key, all_has}
 use Rattle.fast_refresh.proofs.PlannedKeys.{all_gone, all_coming, stays, waits}
-use Rattle.fast_refresh.proofs.QueriedTables.{IsUniqueRow-fewer}
+use Rattle.fast_refresh.proofs.FewerRows.{IsUniqueRow-fewer}
 
 module _ (columns : List Column) where
   rising_taken : (key : Cells) (rows : Rows) → IsRising (row_cmp columns) rows → IsRising (row_cmp columns) (take_row columns key rows)

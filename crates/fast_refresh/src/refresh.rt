@@ -1,7 +1,7 @@
 //! The two refreshes.
 ghost use Rattle.std.specs.Prelude.{◌≡◌, ◌+◌, ◌*◌, ◌<◌, ◌≤◌, length, IfOk, OnOk, OnErr};
 ghost use Rattle.rep_schema.specs.Tables.{columns_of, rows_of, IsKeyed, IsTable};
-ghost use Rattle.snapshot_query.specs.Queries.{query_rows};
+ghost use Rattle.snapshot_query.specs.Queries.{matches, query_rows};
 ghost use Rattle.site_state.specs.Refreshes.{renewed};
 ghost use Rattle.fast_refresh.specs.Showing.{ShowsOthers};
 ghost use Rattle.fast_refresh.specs.Refreshed.{RefreshesTo};
@@ -38,7 +38,7 @@ pub fn refresh_fast<R: RowStore, M: MasterView>(
     requires keyed { IsKeyed (columns_of (R.schema store.old) snap.old.table) }
     requires schema { M.schema master.old ≡ R.schema store.old }
     requires master { IsTable (R.schema store.old) snap.old.table (rows_of (M.tables master.old) snap.old.table) }
-    requires others { ShowsOthers (columns_of (R.schema store.old) snap.old.table) snap.old.query keys.now (rows_of (M.tables master.old) snap.old.table) (rows_of (R.tables store.old) snap.old.table) }
+    requires others { ShowsOthers (columns_of (R.schema store.old) snap.old.table) (matches snap.old.query) keys.now (rows_of (M.tables master.old) snap.old.table) (rows_of (R.tables store.old) snap.old.table) }
     ensures refreshed { RefreshesTo snap.old.table (query_rows snap.old.query (rows_of (M.tables master.old) snap.old.table))
         (record { schema = R.schema store.old; tables = R.tables store.old; spare = R.spare store.old })
         (record { schema = R.schema store.new; tables = R.tables store.new; spare = R.spare store.new }) result }

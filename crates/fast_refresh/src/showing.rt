@@ -4,8 +4,8 @@ ghost use Rattle.std.specs.List.{AllByRecursion};
 ghost use Rattle.rep_schema.specs.Tables.{columns_of, key_of, find_row, rows_of, RowFits, IsKeyed, IsTable};
 ghost use Rattle.rep_schema.specs.Groups.{are_same};
 ghost use Rattle.rep_schema.specs.Putting.{is_unchanged};
-ghost use Rattle.snapshot_query.specs.Queries.{query_rows};
-ghost use Rattle.fast_refresh.specs.Showing.{shown, has_key, ShowsKey, ShowsOthers, FindsWhatIsShown, QueriesTables};
+ghost use Rattle.snapshot_query.specs.Queries.{matches, query_rows};
+ghost use Rattle.fast_refresh.specs.Showing.{shown, has_key, ShowsKey, ShowsOthers, FindsWhatIsShown, PicksTables};
 
 use rep_lists::{Copies, Items, NoMemory};
 use rep_schema::{RowStore, holds_tables, key_in};
@@ -13,10 +13,11 @@ use rep_values::{Key, Row, same_values};
 use snapshot_query::Query;
 use std::alloc::Global;
 
-/// What a query picks from a table is a table, and under each key it has what the query shows of the table's row.
+/// What a test of rows, such as a query's, picks from a table is a table, and under each key it has what the test shows of the
+/// table's row.
 pub fn query_laws()
     ensures finds { FindsWhatIsShown }
-    ensures tables { QueriesTables }
+    ensures tables { PicksTables }
 {}
 
 /// Whether it is the same row, or none both times.
@@ -110,7 +111,7 @@ fn shows_row<R: RowStore, S: RowStore>(
     requires schema { S.schema master.now ≡ R.schema store.now }
     requires fits { RowFits (columns_of (R.schema store.now) table) row.now }
     ensures { IsTrue result
-        ↔ ShowsKey (columns_of (R.schema store.now) table) query.now keys.now (rows_of (S.tables master.now) table) (rows_of (R.tables store.now) table) (key_of (columns_of (R.schema store.now) table) row.now) }
+        ↔ ShowsKey (columns_of (R.schema store.now) table) (matches query.now) keys.now (rows_of (S.tables master.now) table) (rows_of (R.tables store.now) table) (key_of (columns_of (R.schema store.now) table) row.now) }
 {
     let key = key_in(store.schema(), table, row);
     is_among(keys, &key)
@@ -134,7 +135,7 @@ fn shows_each<W: RowStore, R: RowStore, S: RowStore>(
     requires walked { W.schema walked.now ≡ R.schema store.now }
     requires schema { S.schema master.now ≡ R.schema store.now }
     ensures { IsTrue result
-        ↔ AllByRecursion (λ row. ShowsKey (columns_of (R.schema store.now) table) query.now keys.now (rows_of (S.tables master.now) table) (rows_of (R.tables store.now) table) (key_of (columns_of (R.schema store.now) table) row)) (rows_of (W.tables walked.now) table) }
+        ↔ AllByRecursion (λ row. ShowsKey (columns_of (R.schema store.now) table) (matches query.now) keys.now (rows_of (S.tables master.now) table) (rows_of (R.tables store.now) table) (key_of (columns_of (R.schema store.now) table) row)) (rows_of (W.tables walked.now) table) }
 {
     holds_tables(walked);
     for place in 0..walked.count(table) {
@@ -161,7 +162,7 @@ pub fn shows_others<R: RowStore, S: RowStore>(
     requires keyed { IsKeyed (columns_of (R.schema store.now) table) }
     requires schema { S.schema master.now ≡ R.schema store.now }
     ensures { IsTrue result
-        ↔ ShowsOthers (columns_of (R.schema store.now) table) query.now keys.now (rows_of (S.tables master.now) table) (rows_of (R.tables store.now) table) }
+        ↔ ShowsOthers (columns_of (R.schema store.now) table) (matches query.now) keys.now (rows_of (S.tables master.now) table) (rows_of (R.tables store.now) table) }
 {
     shows_each(store, query, store, master, table, keys)
         && shows_each(master, query, store, master, table, keys)

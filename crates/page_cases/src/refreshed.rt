@@ -28,6 +28,7 @@ fn snapshot_of(alloc: Global, table: u32) -> Result<Snapshot, CaseStop>
     Ok(Snapshot {
         table,
         query: Query { tests },
+        parent: None,
         mark: 0,
         touched: Items::new(alloc),
     })

@@ -31,6 +31,7 @@ use Rattle.site_outbox.specs.contracts.outbox.Outbox as outbox
 use Rattle.error_queue.specs.contracts.entry.ErrorEntry as error_entry
 use Rattle.error_queue.specs.contracts.errors.Errors as errors
 use Rattle.snapshot_query.specs.contracts.query.Query as query
+use Rattle.snapshot_query.specs.contracts.parent.Parent as parent
 use Rattle.snapshot_log.specs.contracts.log.Log as log
 use Rattle.site_notes.specs.contracts.watched.Watched as watched
 use Rattle.site_notes.specs.contracts.notes.Notes as notes
@@ -133,8 +134,11 @@ log_send = search (sendable, crosses, key_send) depth 30
 query_send : IsSend query.the_row
 query_send = search (sendable, crosses, value_send) depth 30
 
+parent_send : IsSend parent.the_row
+parent_send = search (sendable, crosses, query_send) depth 30
+
 watched_send : IsSend watched.the_row
-watched_send = search (sendable, crosses, key_send, query_send) depth 30
+watched_send = search (sendable, crosses, key_send, query_send, parent_send) depth 30
 
 notes_send : IsSend notes.the_row
 notes_send = search (sendable, crosses, log_send, watched_send) depth 30

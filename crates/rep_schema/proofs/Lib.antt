@@ -5,6 +5,7 @@ pub mod SameValues
 pub mod KeptTables
 pub mod FittingTests
 pub mod FoundRows
+pub mod FilteredRows
 pub mod ValuesAt
 mod RowWalk
 pub mod WithValues

@@ -1,6 +1,7 @@
 -- The definitions of this crate.
 pub mod Limits
 pub mod Tables
+pub mod Shown
 pub mod Fitting
 pub mod Kinds
 pub mod Checks

@@ -1,5 +1,5 @@
 -- Where every site is there from the start, Setup's end makes them all.
-use Rattle.std.proofs.Common.{◌≡◌, Bool, true, false, List, [], ◌∷◌, map, refl, sym, ap, ◌∙◌, ◌<◌, length, cond}
+use Rattle.std.proofs.Common.{◌≡◌, Bool, true, false, List, [], ◌∷◌, map, refl, sym, ap, ◌∙◌, ◌<◌, length, cond, None}
 use Rattle.std.specs.Prelude.{◌&&◌, ◌||◌, filter}
 use Rattle.std.specs.List.{AllByRecursion, list_any}
 use Rattle.rep_values.specs.declared.name.SiteName.{SiteName}
@@ -61,6 +61,6 @@ AreWithin-snapshots_at schema site [] all = tt
 AreWithin-snapshots_at schema site (s ∷ ss) all = go (is_same_site s.site site) (AreWithin-snapshots_at schema site ss all.1)
   where
     go : (b : Bool) → AreWithin schema (snapshots_at ss site)
-        → AreWithin schema (map (λ (s : DeclaredSnapshot). record { table = s.table; query = s.query; mark = 0; touched = [] }) (cond b (s ∷ filter (λ (t : DeclaredSnapshot). is_same_site t.site site) ss) (filter (λ (t : DeclaredSnapshot). is_same_site t.site site) ss)))
+        → AreWithin schema (map (λ (s : DeclaredSnapshot). record { table = s.table; query = s.query; parent = None; mark = 0; touched = [] }) (cond b (s ∷ filter (λ (t : DeclaredSnapshot). is_same_site t.site site) ss) (filter (λ (t : DeclaredSnapshot). is_same_site t.site site) ss)))
     go true later = (all.0, later)
     go false later = later

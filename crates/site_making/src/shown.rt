@@ -1,5 +1,5 @@
 //! The snapshots of a site, and their rows.
-ghost use Rattle.std.specs.Prelude.{◌≡◌, ◌<◌, [], length, slice_set, IfOk, OnOk};
+ghost use Rattle.std.specs.Prelude.{◌≡◌, ◌<◌, [], None, length, slice_set, IfOk, OnOk};
 ghost use Rattle.std.specs.List.{AllByRecursion};
 ghost use Rattle.rep_schema.specs.Tables.{rows_of};
 ghost use Rattle.snapshot_query.specs.Queries.{query_rows};
@@ -17,11 +17,12 @@ use world_state::DeclaredSnapshot;
 
 /// A declared snapshot, not refreshed yet.
 fn new_snapshot(alloc: Global, declared: &DeclaredSnapshot) -> Result<Snapshot, NoMemory>
-    ensures { IfOk result (λ made. made ≡ record { table = declared.now.table; query = declared.now.query; mark = 0; touched = [] }) }
+    ensures { IfOk result (λ made. made ≡ record { table = declared.now.table; query = declared.now.query; parent = None; mark = 0; touched = [] }) }
 {
     Ok(Snapshot {
         table: declared.table,
         query: declared.query.copy(alloc)?,
+        parent: None,
         mark: 0,
         touched: Items::new(alloc),
     })
@@ -37,7 +38,7 @@ fn show_one(
     requires keyed { IsKeyed store.old.schema }
     requires schema { filled.now.schema ≡ store.old.schema }
     requires within { declared.now.table < length store.old.schema.tables }
-    ensures made { IfOk result (λ made. made ≡ record { table = declared.now.table; query = declared.now.query; mark = 0; touched = [] }) }
+    ensures made { IfOk result (λ made. made ≡ record { table = declared.now.table; query = declared.now.query; parent = None; mark = 0; touched = [] }) }
     ensures tables { OnOk result (store.new.tables ≡ slice_set store.old.tables declared.now.table (query_rows declared.now.query (rows_of filled.now.tables declared.now.table))) }
     ensures schema { store.new.schema ≡ store.old.schema }
 {

@@ -5,14 +5,14 @@ use Rattle.snapshot_query.specs.declared.snapshot.Snapshot.{Snapshot}
 use Rattle.snapshot_log.specs.Logs.{RoomyLog}
 use Rattle.site_state.specs.Refreshes.{renewed}
 use Rattle.site_notes.specs.Kept.{RoomySnapshot, snapshots_in, log_spares, least, least_room}
-use Rattle.site_notes.specs.Noted.{without_keys, with_query, without_query, at_place}
+use Rattle.site_notes.specs.Noted.{as_lent, with_query, without_query, at_place}
 use Rattle.site_notes.proofs.Parts.{part_stays}
 
 -- with its query back it is as it was
-pub lent_return : (place : ℕ) (lent : Snapshot) (snapshots : List Snapshot) → option_map without_keys (slice_get snapshots place) ≡ Some lent
+pub lent_return : (place : ℕ) (lent : Snapshot) (snapshots : List Snapshot) → option_map as_lent (slice_get snapshots place) ≡ Some lent
     → at_place place (with_query lent.query) (at_place place without_query snapshots) ≡ snapshots
 lent_return place lent [] found = refl
-lent_return zero lent (s ∷ ss) found = let same : without_keys s ≡ lent = cc in rw (← same) refl
+lent_return zero lent (s ∷ ss) found = let same : as_lent s ≡ lent = cc in rw (← same) refl
 lent_return (suc place) lent (s ∷ ss) found = ap (λ more. s ∷ more) (lent_return place lent ss found)
 
 -- there are as many as before

@@ -6,11 +6,11 @@ use Rattle.std.specs.List.{AllByRecursion}
 use Rattle.std.specs.declared.cmp.Ordering.TheVariants.{Less, Equal, Greater}
 use Rattle.rep_lists.specs.Rising.{IsRising, put_at}
 use Rattle.rep_lists.proofs.Each.{each_then}
-use Rattle.rep_lists.proofs.Rising.{rising_put}
 use Rattle.rep_values.specs.Order.{key_cmp}
 use Rattle.rep_values.specs.OrderLaws.{key_cmp_total}
 use Rattle.rep_schema.specs.Tables.{Cells}
 use Rattle.site_state.specs.Notes.{with_keys}
+use Rattle.site_state.proofs.RisingKeys.{rising-with_keys}
 use Rattle.site_notes.proofs.RisingKeys.{rising_drop}
 
 -- a key below all that come among others stays in front of them
@@ -35,12 +35,7 @@ pub with_keys-none : (xs : List Cells) → IsRising key_cmp xs → with_keys xs 
 with_keys-none [] rising = refl
 with_keys-none (x ∷ xs) rising = behind x xs [] rising.0 ∙ ap (λ ks. x ∷ ks) (with_keys-none xs rising.1)
 
--- keys that come among rising ones leave them rising
-pub rising-with_keys : (more keys : List Cells) → IsRising key_cmp keys → IsRising key_cmp (with_keys more keys)
-rising-with_keys [] keys rising = rising
-rising-with_keys (k ∷ more) keys rising = rising-with_keys more (put_at (λ j. key_cmp j k) k keys) (rising_put (λ (j : Cells). j) key_cmp key_cmp_total k keys rising)
-
--- and so do those that are given, if they are
+-- keys that are given rise, if they are rising ones with others among them
 pub rises_given : {E : Type 0} (more keys : List Cells) (given : Result (List Cells) E) → IsRising key_cmp keys → IfOk given (λ all. all ≡ with_keys more keys) → IfOk given (IsRising key_cmp)
 rises_given more keys (Ok all) rising is = rw is (rising-with_keys more keys rising)
 rises_given more keys (Err e) rising is = tt

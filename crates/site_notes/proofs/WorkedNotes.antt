@@ -1,12 +1,12 @@
 -- What some notes come to.
-use Rattle.std.proofs.Common.{◌≡◌, ℕ, [], ◌∷◌, pos, refl}
+use Rattle.std.proofs.Common.{◌≡◌, ℕ, [], ◌∷◌, pos, Some, None, refl}
 use Rattle.rep_values.specs.declared.value.Value.TheVariants.{Num}
 use Rattle.rep_schema.specs.Tables.{Cells}
 use Rattle.snapshot_query.specs.declared.snapshot.Snapshot.{Snapshot}
 use Rattle.site_state.specs.State.{LoggedKey, LogState}
 use Rattle.site_state.specs.Notes.{with_keys, pending_keys}
 use Rattle.site_state.specs.Refreshes.{renewed}
-use Rattle.site_notes.specs.Noted.{key_touched, without_keys, without_query, with_query, at_place}
+use Rattle.site_notes.specs.Noted.{key_touched, as_lent, without_query, with_query, at_place}
 
 abbrev key : ℕ → Cells
 key n = Num (pos n) ∷ []
@@ -16,10 +16,10 @@ at moment n = record { key = key n; moment = moment }
 
 -- a snapshot of table 3, refreshed at moment 4, where key 5 was changed since then
 abbrev snapshot : Snapshot
-snapshot = record { table = 3; query = record { tests = [] }; mark = 4; touched = key 5 ∷ [] }
+snapshot = record { table = 3; query = record { tests = [] }; parent = None; mark = 4; touched = key 5 ∷ [] }
 
 -- key 2 is noted, and key 5 again
-touched_keys : key_touched (key 5) (key_touched (key 2) snapshot) ≡ record { table = 3; query = record { tests = [] }; mark = 4; touched = key 2 ∷ key 5 ∷ [] }
+touched_keys : key_touched (key 5) (key_touched (key 2) snapshot) ≡ record { table = 3; query = record { tests = [] }; parent = None; mark = 4; touched = key 2 ∷ key 5 ∷ [] }
 touched_keys = refl
 
 -- the master logged key 1 at the mark, and keys 4 and 5 above it
@@ -41,5 +41,15 @@ back : at_place 1 (with_query snapshot.query) (at_place 1 without_query (snapsho
 back = refl
 
 -- what was lent, as a refresh leaves it
-refreshed : renewed 7 (without_keys snapshot) ≡ renewed 7 snapshot
+refreshed : renewed 7 (as_lent snapshot) ≡ renewed 7 snapshot
 refreshed = refl
+
+-- the same snapshot, which shows the rows whose parent is a row of table 1
+abbrev by_parent : Snapshot
+by_parent = record snapshot { parent = Some (record { table = 1; columns = 2 ∷ []; tests = record { tests = [] } }) }
+
+lent_without_parent : as_lent by_parent ≡ as_lent snapshot
+lent_without_parent = refl
+
+parent_is_kept : (renewed 7 (without_query by_parent)).parent ≡ by_parent.parent
+parent_is_kept = refl

@@ -1,5 +1,5 @@
 -- What a site noted of its changed rows.
-use Rattle.std.specs.Prelude.{◌≡◌, ℕ, zero, suc, List, [], ◌∷◌, Some, slice_get, option_map}
+use Rattle.std.specs.Prelude.{◌≡◌, ℕ, zero, suc, List, [], ◌∷◌, Some, None, slice_get, option_map}
 use Rattle.std.specs.declared.cmp.Ordering.TheVariants.{Less}
 use Rattle.rep_lists.specs.Rising.{IsRising}
 use Rattle.rep_values.specs.Order.{key_cmp}
@@ -21,9 +21,9 @@ pub record NotesState : Type 0 where
 abbrev pub key_touched : Cells → Snapshot → Snapshot
 key_touched key snapshot = record snapshot { touched = with_keys (key ∷ []) snapshot.touched }
 
--- a snapshot without its touched keys
-abbrev pub without_keys : Snapshot → Snapshot
-without_keys snapshot = record snapshot { touched = [] }
+-- a snapshot as it is lent: without its parent and its touched keys
+abbrev pub as_lent : Snapshot → Snapshot
+as_lent snapshot = record snapshot { parent = None; touched = [] }
 
 -- a snapshot with another query
 abbrev pub with_query : Query → Snapshot → Snapshot
@@ -47,7 +47,7 @@ IsBelowNext (a ∷ b ∷ keys) = key_cmp a b ≡ Less
 
 -- once its query is back, a snapshot that was lent is as it was
 abbrev pub LentReturn : Type 0
-LentReturn = (place : ℕ) (lent : Snapshot) (snapshots : List Snapshot) → option_map without_keys (slice_get snapshots place) ≡ Some lent
+LentReturn = (place : ℕ) (lent : Snapshot) (snapshots : List Snapshot) → option_map as_lent (slice_get snapshots place) ≡ Some lent
     → at_place place (with_query lent.query) (at_place place without_query snapshots) ≡ snapshots
 
 -- where the touched keys of a snapshot rise, so do the pending ones

@@ -12,7 +12,7 @@ ghost use Rattle.site_state.specs.Purges.{purged_where};
 ghost use Rattle.site_state.specs.Refreshes.{renewed};
 ghost use Rattle.snapshot_log.specs.Logs.{count_up_to};
 ghost use Rattle.site_notes.specs.Kept.{log_in, snapshot_in};
-ghost use Rattle.site_notes.specs.Noted.{without_keys, without_query, with_query, at_place};
+ghost use Rattle.site_notes.specs.Noted.{as_lent, without_query, with_query, at_place};
 
 use crate::{Watched, logs, snapshots};
 use rep_lists::{Items, NoMemory};
@@ -150,11 +150,11 @@ impl Notes {
         self.watched[place].pending_keys(alloc, logged)
     }
 
-    /// Lends the snapshot at a place, without its touched keys, to a refresh. Until it is taken back its query has no test
-    /// here.
+    /// Lends the snapshot at a place, without its parent and its touched keys, to a refresh. Until it is taken back its query
+    /// has no test here.
     pub fn lend_snapshot(&mut self, alloc: Global, place: usize) -> Snapshot
         requires { place < length self.old.snapshots }
-        ensures lent { option_map without_keys (slice_get self.old.snapshots place) ≡ Some result }
+        ensures lent { option_map as_lent (slice_get self.old.snapshots place) ≡ Some result }
         ensures snapshots { self.new.snapshots ≡ at_place place without_query self.old.snapshots }
         ensures logs { self.new.logs ≡ self.old.logs }
         ensures room { self.new.room ≡ self.old.room }

@@ -6,14 +6,14 @@ ghost use Rattle.site_state.specs.State.{LogState};
 ghost use Rattle.site_state.specs.Notes.{log_of, pending_keys};
 ghost use Rattle.site_state.specs.Refreshes.{renewed};
 ghost use Rattle.site_notes.specs.Kept.{log_in};
-ghost use Rattle.site_notes.specs.Noted.{key_touched, without_keys, without_query, with_query};
+ghost use Rattle.site_notes.specs.Noted.{key_touched, as_lent, without_query, with_query};
 
 use crate::merge::with_keys;
 use crate::touched::Touched;
 use rep_lists::{Items, NoMemory};
 use rep_values::Key;
 use snapshot_log::Log;
-use snapshot_query::{Query, Snapshot};
+use snapshot_query::{Parent, Query, Snapshot};
 use std::alloc::Global;
 use std::marker::Model;
 use std::mem;
@@ -24,6 +24,7 @@ use std::mem;
 pub struct Watched {
     table: u32,
     query: Query,
+    parent: Option<Parent>,
     mark: u64,
     touched: Touched,
 }
@@ -34,7 +35,7 @@ impl Model for Watched {
     ghost Value = { RoomySnapshot };
 
     ghost view = { λ w. record {
-      snapshot = record { table = w.table; query = w.query; mark = w.mark; touched = w.touched.items };
+      snapshot = record { table = w.table; query = w.query; parent = w.parent; mark = w.mark; touched = w.touched.items };
       spare = w.touched.spare;
     } };
 }
@@ -47,12 +48,14 @@ impl Watched {
         let Snapshot {
             table,
             query,
+            parent,
             mark,
             touched,
         } = snapshot;
         Watched {
             table,
             query,
+            parent,
             mark,
             touched: Touched::of(touched),
         }
@@ -119,9 +122,9 @@ impl Watched {
         with_keys(alloc, above.as_slice(), self.touched.as_slice())
     }
 
-    /// Lends the snapshot without its touched keys. Until it is taken back its query has no test here.
+    /// Lends the snapshot without its parent and its touched keys. Until it is taken back its query has no test here.
     pub(crate) fn lend(&mut self, alloc: Global) -> Snapshot
-        ensures lent { result ≡ without_keys self.old.snapshot }
+        ensures lent { result ≡ as_lent self.old.snapshot }
         ensures snapshot { self.new.snapshot ≡ without_query self.old.snapshot }
         ensures spare { self.new.spare ≡ self.old.spare }
     {
@@ -131,12 +134,13 @@ impl Watched {
         Snapshot {
             table: self.table,
             query: mem::replace(&mut self.query, none),
+            parent: None,
             mark: self.mark,
             touched: Items::new(alloc),
         }
     }
 
-    /// Takes the query of what was lent back. Mark and touched keys are still here.
+    /// Takes the query of what was lent back. Parent, mark and touched keys are still here.
     pub(crate) fn take_back(&mut self, lent: Snapshot)
         ensures snapshot { self.new.snapshot ≡ with_query lent.query self.old.snapshot }
         ensures spare { self.new.spare ≡ self.old.spare }

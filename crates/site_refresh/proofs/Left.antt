@@ -9,6 +9,7 @@ use Rattle.rep_schema.specs.Tables.{Rows, columns_of, rows_of}
 use Rattle.rep_schema.specs.Changes.{room_for}
 use Rattle.rep_schema.specs.Putting.{StoreState}
 use Rattle.snapshot_query.specs.declared.snapshot.Snapshot.{Snapshot}
+use Rattle.snapshot_query.specs.Queries.{matches}
 use Rattle.site_state.specs.declared.rows.TableRows.{TableRows}
 use Rattle.site_state.specs.State.{LogState}
 use Rattle.site_state.specs.Notes.{pending_keys}
@@ -53,8 +54,8 @@ module _ {E : Type 0} (table : ℕ) (rows : Rows) (old new : StoreState) (change
       → OthersAreShown schema logs master left old.tables → OthersAreShown schema logs master left new.tables
   shown_left schema logs master left apart others =
       each_both (λ (s : Snapshot). s.table ≢ table)
-      (λ (s : Snapshot). ShowsOthers (columns_of schema s.table) s.query (pending_keys logs s) (rows_of master s.table) (rows_of old.tables s.table))
-      (λ (s : Snapshot). ShowsOthers (columns_of schema s.table) s.query (pending_keys logs s) (rows_of master s.table) (rows_of new.tables s.table))
+      (λ (s : Snapshot). ShowsOthers (columns_of schema s.table) (matches s.query) (pending_keys logs s) (rows_of master s.table) (rows_of old.tables s.table))
+      (λ (s : Snapshot). ShowsOthers (columns_of schema s.table) (matches s.query) (pending_keys logs s) (rows_of master s.table) (rows_of new.tables s.table))
       (λ s other shows. rw (rows_elsewhere table rows old new changes refreshes s.table other) shows) left apart others
 
 -- after the first of them is refreshed, the others are left

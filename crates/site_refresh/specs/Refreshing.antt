@@ -4,6 +4,7 @@ use Rattle.std.specs.List.{AllByRecursion, Any}
 use Rattle.rep_schema.specs.declared.schema.Schema.{Schema}
 use Rattle.rep_schema.specs.Tables.{Rows, columns_of, rows_of, IsTable}
 use Rattle.snapshot_query.specs.declared.snapshot.Snapshot.{Snapshot}
+use Rattle.snapshot_query.specs.Queries.{matches}
 use Rattle.site_state.specs.declared.answers.RefreshCount.{RefreshCount}
 use Rattle.site_state.specs.declared.rows.TableRows.{TableRows}
 use Rattle.site_state.specs.State.{LogState}
@@ -14,7 +15,7 @@ use Rattle.fast_refresh.specs.Showing.{ShowsOthers}
 -- each snapshot's table has, under each key that isn't pending, what the snapshot shows of the master's row
 abbrev pub OthersAreShown : Schema → List LogState → List Rows → List Snapshot → List Rows → Type 0
 OthersAreShown schema logs master snapshots tables =
-    AllByRecursion (λ (s : Snapshot). ShowsOthers (columns_of schema s.table) s.query (pending_keys logs s) (rows_of master s.table) (rows_of tables s.table)) snapshots
+    AllByRecursion (λ (s : Snapshot). ShowsOthers (columns_of schema s.table) (matches s.query) (pending_keys logs s) (rows_of master s.table) (rows_of tables s.table)) snapshots
 
 -- no rows are given twice for a table
 abbrev pub AreGivenOnce : List TableRows → Type 0

@@ -2,7 +2,7 @@
 ghost use Rattle.std.specs.Prelude.{◌≡◌, ℕ, ◌+◌, ◌<◌, ◌≤◌, [], length, slice_get, vec_len, vec_capacity, Some, IfOk, OnOk};
 ghost use Rattle.rep_schema.specs.Tables.{columns_of, rows_of, AreTables};
 ghost use Rattle.snapshot_query.specs.declared.snapshot.Snapshot.{Snapshot as SnapshotValue};
-ghost use Rattle.snapshot_query.specs.Queries.{query_rows};
+ghost use Rattle.snapshot_query.specs.Queries.{matches, query_rows};
 ghost use Rattle.site_state.specs.Notes.{pending_keys};
 ghost use Rattle.site_state.specs.Refreshes.{rows_shown, with_tables};
 ghost use Rattle.site_state.specs.Fits.{IsKeyed, AreApart, AreWithin};
@@ -51,7 +51,7 @@ fn refresh_at<R: RowStore, M: MasterView>(
     requires schema { M.schema master.old ≡ R.schema store.old }
     requires master { AreTables (R.schema store.old) (M.tables master.old) }
     requires others { (s : SnapshotValue) → slice_get notes.old.snapshots place ≡ Some s
-        → ShowsOthers (columns_of (R.schema store.old) s.table) s.query keys.now (rows_of (M.tables master.old) s.table) (rows_of (R.tables store.old) s.table) }
+        → ShowsOthers (columns_of (R.schema store.old) s.table) (matches s.query) keys.now (rows_of (M.tables master.old) s.table) (rows_of (R.tables store.old) s.table) }
     ensures refreshed { (s : SnapshotValue) → slice_get notes.old.snapshots place ≡ Some s
         → RefreshesTo s.table (query_rows s.query (rows_of (M.tables master.old) s.table))
         (record { schema = R.schema store.old; tables = R.tables store.old; spare = R.spare store.old })

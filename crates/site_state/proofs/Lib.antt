@@ -7,6 +7,7 @@ pub mod Changing
 pub mod Pasts
 pub mod Queueing
 pub mod Deferring
+pub mod RisingKeys
 pub mod SchemaSites
 pub mod DeclaredSites
 pub mod PastLimits

@@ -22,7 +22,7 @@ with_tables (t ∷ ts) tables = with_tables ts (slice_set tables t.table t.rows)
 
 -- a snapshot as its refresh leaves it
 abbrev pub renewed : ℕ → Snapshot → Snapshot
-renewed moment s = record { table = s.table; query = s.query; mark = moment; touched = [] }
+renewed moment s = record s { mark = moment; touched = [] }
 
 -- the snapshots get these rows, at this moment of the master: the tables with them are the base rows from then on
 abbrev pub site_refresh : List TableRows → ℕ → SiteState → SiteState

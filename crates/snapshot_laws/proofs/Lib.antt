@@ -1,6 +1,6 @@
 -- The lemmas of this crate, from the bottom up.
 pub mod Keys
-pub mod QueriedRows
+pub mod RowsFromKeys
 pub mod ChangedRows
 pub mod Moves
 pub mod Calls

@@ -6,8 +6,9 @@ use Rattle.std.proofs.lemmas.List.{length-set, get_or-set_other, get_or-set_same
 use Rattle.rep_values.specs.declared.name.SiteName.{SiteName}
 use Rattle.rep_schema.specs.declared.schema.Schema.{Schema}
 use Rattle.rep_schema.specs.Tables.{Rows, columns_of, find_row, rows_of, AreTables}
+use Rattle.rep_schema.proofs.FilteredRows.{find_row-filter}
 use Rattle.snapshot_query.specs.declared.snapshot.Snapshot.{Snapshot}
-use Rattle.snapshot_query.specs.Queries.{query_rows}
+use Rattle.snapshot_query.specs.Queries.{matches, query_rows}
 use Rattle.site_state.specs.State.{SiteState, is_among}
 use Rattle.site_state.specs.Contents.{tables_of}
 use Rattle.site_state.specs.Refreshes.{rows_shown, with_tables, renewed, site_refresh}
@@ -19,7 +20,6 @@ use Rattle.event_laws.proofs.Happening as happening
 use Rattle.event_laws.proofs.DeclaredSites.{refreshed_names}
 use Rattle.site_state.specs.Fits.{AreApart}
 use Rattle.snapshot_laws.specs.Refreshed.{IsQueried, RefreshedTablesAreTheQueries}
-use Rattle.snapshot_laws.proofs.QueriedRows.{find_row-query_rows}
 use Rattle.snapshot_laws.proofs.Moves.{all_map, all_weaker, KeepsUp, AllKeepUp}
 use Rattle.snapshot_laws.proofs.Keeping.{HaveTables, master_in, Keeps}
 use Rattle.snapshot_laws.proofs.Begun.{is_among-gone, is_among-refresh}
@@ -135,7 +135,7 @@ module _ (schema : Schema) where
       before = λ is. absurd (cc (end, is));
       within = h.within;
       others = λ key le untold untouched.
-          ap (find_row (columns_of schema s.table) key) rows ∙ find_row-query_rows (columns_of schema s.table) s.query key (rows_of (tables_of m) s.table) (are.each s.table h.within).rising;
+          ap (find_row (columns_of schema s.table) key) rows ∙ find_row-filter (columns_of schema s.table) (matches s.query) key (rows_of (tables_of m) s.table) (are.each s.table h.within).rising;
     }
 
     -- the master is the one from before

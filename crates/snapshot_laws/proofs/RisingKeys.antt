@@ -2,22 +2,20 @@
 use Rattle.std.proofs.Common.{◌≡◌, List, [], ◌∷◌, Bool, true, false, cond, Some, None, refl, sym, ap, ◌∙◌, inl, inr, subst}
 use Rattle.std.specs.Prelude.{Option, option_map}
 use Rattle.std.specs.List.{AllByRecursion}
-use Rattle.rep_lists.specs.Rising.{IsRising, put_at}
-use Rattle.rep_lists.proofs.Rising.{rising_put}
+use Rattle.rep_lists.specs.Rising.{IsRising}
 use Rattle.rep_values.specs.declared.name.SiteName.{SiteName}
 use Rattle.rep_values.specs.Order.{key_cmp}
-use Rattle.rep_values.specs.OrderLaws.{key_cmp_total}
 use Rattle.rep_schema.specs.declared.schema.Schema.{Schema}
-use Rattle.rep_schema.specs.Tables.{Cells}
 use Rattle.deferred_queue.specs.Streams.{is_same_site}
 use Rattle.deferred_queue.proofs.Sites.{is_same_site-true}
 use Rattle.snapshot_query.specs.declared.snapshot.Snapshot.{Snapshot}
 use Rattle.site_state.specs.State.{SiteState, is_among}
-use Rattle.site_state.specs.Notes.{keys_changed, with_keys, touched_in, log_of, keys_in, logged_above}
+use Rattle.site_state.specs.Notes.{keys_changed, touched_in, log_of, keys_in, logged_above}
 use Rattle.site_state.specs.Refreshes.{renewed}
 use Rattle.site_state.specs.Steps.{begun}
 use Rattle.site_state.specs.Purges.{site_purge_log}
 use Rattle.site_state.specs.Joining.{site_open}
+use Rattle.site_state.proofs.RisingKeys.{rising-with_keys}
 use Rattle.event_laws.specs.Core.{Core, site_of, at_site}
 use Rattle.event_laws.specs.Joins.{copied, with_joined}
 use Rattle.event_laws.specs.Events.{refreshed, run}
@@ -33,11 +31,6 @@ use Rattle.snapshot_laws.proofs.Joining.{snapshots-copied}
 use Rattle.snapshot_laws.proofs.RunsFit.{SitesFit}
 use Rattle.snapshot_laws.proofs.SnapshotEvents.{Becomes, run_becomes}
 use Rattle.snapshot_laws.proofs.SnapshotEvents as events
-
--- keys that come among rising ones leave them rising
-rising-with_keys : (more keys : List Cells) → IsRising key_cmp keys → IsRising key_cmp (with_keys more keys)
-rising-with_keys [] keys rising = rising
-rising-with_keys (k ∷ more) keys rising = rising-with_keys more (put_at (λ j. key_cmp j k) k keys) (rising_put (λ (j : Cells). j) key_cmp key_cmp_total k keys rising)
 
 -- ---- what holds of a site
 

@@ -9,7 +9,7 @@ use Rattle.rep_schema.specs.Tables.{Rows, columns_of, rows_of, AreTables}
 use Rattle.deferred_queue.specs.Streams.{is_same_site}
 use Rattle.deferred_queue.proofs.Sites.{is_same_site-true}
 use Rattle.snapshot_query.specs.declared.snapshot.Snapshot.{Snapshot}
-use Rattle.snapshot_query.specs.Queries.{query_rows}
+use Rattle.snapshot_query.specs.Queries.{matches, query_rows}
 use Rattle.site_state.specs.State.{SiteState}
 use Rattle.site_state.specs.Contents.{tables_of}
 use Rattle.site_state.specs.Notes.{pending_keys, purged_of, is_too_young}
@@ -22,7 +22,7 @@ use Rattle.snapshot_laws.specs.Pending.{rows_from_keys, pending_table, pending_r
 use Rattle.snapshot_laws.specs.Starts.{master_at, IsSnapshotStart}
 use Rattle.snapshot_laws.specs.Laws.{OthersAreShown, OtherKeysAreTheMasters, FastIsComplete, ShowsTheMaster, RefreshedIsTheQuery}
 use Rattle.snapshot_laws.proofs.Keys.{has_key-with_keys, told}
-use Rattle.snapshot_laws.proofs.QueriedRows.{rows_from_keys-query}
+use Rattle.snapshot_laws.proofs.RowsFromKeys.{rows_from_keys-filter}
 use Rattle.snapshot_laws.proofs.Moves.{all_weaker, KeepsUp, AllKeepUp}
 use Rattle.snapshot_laws.proofs.Keeping.{site_of-at_site, KeepUpWith, SiteKeepsUp, master_in, found_keeps_up}
 use Rattle.snapshot_laws.proofs.Refreshing.{all_queried, masters_tables, within_tables, refreshed_here}
@@ -37,7 +37,7 @@ not_above mark purged is = grind (arith, nat_tests)
 
 module _ (schema : Schema) (begun : List SiteName) (m x : SiteState) where
   others_shown : (s : Snapshot) → KeepsUp schema begun m x s → is_too_young m.logs s ≡ false
-      → ShowsOthers (columns_of schema s.table) s.query (pending_keys m.logs s) (rows_of (tables_of m) s.table) (rows_of (tables_of x) s.table)
+      → ShowsOthers (columns_of schema s.table) (matches s.query) (pending_keys m.logs s) (rows_of (tables_of m) s.table) (rows_of (tables_of x) s.table)
   others_shown s up young = record {
     shows = λ key none.
         let both = has_key-with_keys key (told s.table s.mark m.logs) s.touched none in
@@ -48,8 +48,8 @@ module _ (schema : Schema) (begun : List SiteName) (m x : SiteState) where
   pending_is : (s : Snapshot) → x.schema ≡ schema → AreTables schema (tables_of m) → AreTables schema (tables_of x) → KeepsUp schema begun m x s → is_too_young m.logs s ≡ false
       → pending_table m x s ≡ record { table = s.table; rows = query_rows s.query (rows_of (tables_of m) s.table) }
   pending_is s same are_m are_x up young = ap (λ (rows : Rows). record { table = s.table; rows = rows })
-      (ap (λ (c : Schema). rows_from_keys (columns_of c s.table) s.query (rows_of (tables_of m) s.table) (pending_keys m.logs s) (rows_of (tables_of x) s.table)) same
-      ∙ rows_from_keys-query (columns_of schema s.table) s.query (rows_of (tables_of m) s.table) (are_m.each s.table up.within).rising (pending_keys m.logs s) (rows_of (tables_of x) s.table)
+      (ap (λ (c : Schema). rows_from_keys (columns_of c s.table) (matches s.query) (rows_of (tables_of m) s.table) (pending_keys m.logs s) (rows_of (tables_of x) s.table)) same
+      ∙ rows_from_keys-filter (columns_of schema s.table) (matches s.query) (rows_of (tables_of m) s.table) (are_m.each s.table up.within).rising (pending_keys m.logs s) (rows_of (tables_of x) s.table)
       (are_x.each s.table up.within).rising (others_shown s up young))
 
   all_pending : (ss : List Snapshot) → x.schema ≡ schema → AreTables schema (tables_of m) → AreTables schema (tables_of x) → AllKeepUp schema begun m x ss → AllByRecursion (λ (s : Snapshot). is_too_young m.logs s ≡ false) ss
@@ -86,7 +86,7 @@ module _ (schema : Schema) (start : Core) (events : List Event) (is : IsSnapshot
 
     others : AllByRecursion (OthersAreShown m x) x.snapshots
     others = all_weaker (KeepsUp schema w.begun m x) (OthersAreShown m x) x.snapshots
-        (λ s one young. subst (λ (c : Schema). ShowsOthers (columns_of c s.table) s.query (pending_keys m.logs s) (rows_of (tables_of m) s.table) (rows_of (tables_of x) s.table)) (sym same)
+        (λ s one young. subst (λ (c : Schema). ShowsOthers (columns_of c s.table) (matches s.query) (pending_keys m.logs s) (rows_of (tables_of m) s.table) (rows_of (tables_of x) s.table)) (sym same)
         (others_shown schema w.begun m x s one young)) up
 
     complete : AllByRecursion (λ (s : Snapshot). is_too_young m.logs s ≡ false) x.snapshots → pending_rows m x ≡ rows_shown (tables_of m) x.snapshots

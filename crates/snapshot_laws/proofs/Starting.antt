@@ -5,8 +5,9 @@ use Rattle.std.specs.List.{AllByRecursion}
 use Rattle.rep_values.specs.declared.name.SiteName.{SiteName}
 use Rattle.rep_schema.specs.declared.schema.Schema.{Schema}
 use Rattle.rep_schema.specs.Tables.{Rows, columns_of, find_row, rows_of, AreTables}
+use Rattle.rep_schema.proofs.FilteredRows.{find_row-filter}
 use Rattle.snapshot_query.specs.declared.snapshot.Snapshot.{Snapshot}
-use Rattle.snapshot_query.specs.Queries.{query_rows}
+use Rattle.snapshot_query.specs.Queries.{matches, query_rows}
 use Rattle.site_state.specs.declared.entry.Entry.{Entry}
 use Rattle.site_state.specs.State.{SiteState, is_among}
 use Rattle.site_state.specs.Contents.{journal_content, tables_of}
@@ -17,7 +18,6 @@ use Rattle.event_laws.specs.Starts.{IsNewSite}
 use Rattle.event_laws.specs.Fitting.{StartsFit}
 use Rattle.event_laws.proofs.Sites.{found_all}
 use Rattle.snapshot_laws.specs.Starts.{StartsShown, StartsFrom, StartsWithSnapshots, IsSnapshotStart}
-use Rattle.snapshot_laws.proofs.QueriedRows.{find_row-query_rows}
 use Rattle.snapshot_laws.proofs.Moves.{KeepsUp, AllKeepUp}
 use Rattle.snapshot_laws.proofs.Keeping.{KeepUpWith, SitesKeepUp, KeepsUpAt}
 use Rattle.snapshot_laws.proofs.RunsFit.{run_fits}
@@ -36,7 +36,7 @@ module _ (schema : Schema) where
       before = λ among. absurd (cc (ap (λ (names : List SiteName). is_among names m.here.site) is.begun, among));
       within = within;
       others = λ key le untold untouched.
-          ap (find_row (columns_of schema s.table) key) rows ∙ find_row-query_rows (columns_of schema s.table) s.query key (rows_of (tables_of m) s.table) (are.each s.table within).rising;
+          ap (find_row (columns_of schema s.table) key) rows ∙ find_row-filter (columns_of schema s.table) (matches s.query) key (rows_of (tables_of m) s.table) (are.each s.table within).rising;
     }
       where
         rows : rows_of (tables_of x) s.table ≡ query_rows s.query (rows_of (tables_of m) s.table)

@@ -39,7 +39,7 @@ abbrev pub rows_of_zone_1 : Rows
 rows_of_zone_1 = row 1 1 10 ∷ row 2 1 20 ∷ []
 
 abbrev pub zone_1 : Snapshot
-zone_1 = record { table = 0; query = record { tests = record { column = 1; op = Eq; value = n 1 } ∷ [] }; mark = 0; touched = [] }
+zone_1 = record { table = 0; query = record { tests = record { column = 1; op = Eq; value = n 1 } ∷ [] }; parent = None; mark = 0; touched = [] }
 
 abbrev pub site_a : SiteState
 site_a = at_first schema all_rows a

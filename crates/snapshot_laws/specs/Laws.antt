@@ -7,6 +7,7 @@ use Rattle.rep_values.specs.Order.{key_cmp}
 use Rattle.rep_schema.specs.declared.schema.Schema.{Schema}
 use Rattle.rep_schema.specs.Tables.{columns_of, rows_of}
 use Rattle.snapshot_query.specs.declared.snapshot.Snapshot.{Snapshot}
+use Rattle.snapshot_query.specs.Queries.{matches}
 use Rattle.site_state.specs.State.{LogState, SiteState}
 use Rattle.site_state.specs.Contents.{tables_of}
 use Rattle.site_state.specs.Notes.{pending_keys, is_too_young}
@@ -27,7 +28,7 @@ WithEveryMaster Holds = (schema : Schema) (start : Core) (events : List Event) �
 -- master's row
 abbrev pub OthersAreShown : SiteState → SiteState → Snapshot → Type 0
 OthersAreShown m x s = is_too_young m.logs s ≡ false
-    → ShowsOthers (columns_of x.schema s.table) s.query (pending_keys m.logs s) (rows_of (tables_of m) s.table) (rows_of (tables_of x) s.table)
+    → ShowsOthers (columns_of x.schema s.table) (matches s.query) (pending_keys m.logs s) (rows_of (tables_of m) s.table) (rows_of (tables_of x) s.table)
 
 abbrev pub OtherKeysAreTheMasters : Type 0
 OtherKeysAreTheMasters = WithEveryMaster (λ m x. AllByRecursion (OthersAreShown m x) x.snapshots)

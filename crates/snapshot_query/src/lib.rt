@@ -1,8 +1,10 @@
 //! Snapshots and their queries: which of its master's rows a snapshot shows.
 #![tactic(auto)]
 
+mod parent;
 mod query;
 mod snapshot;
 
+pub use parent::Parent;
 pub use query::{Op, Query, Test};
 pub use snapshot::Snapshot;

@@ -1,5 +1,5 @@
 -- A site's snapshots, of those that are declared.
-use Rattle.std.proofs.Common.{◌≡◌, ◌≢◌, ℕ, ◌==◌, List, [], ◌∷◌, ◌++◌, map, Bool, true, false, cond, refl, sym, ap, ◌∙◌, arith, subst}
+use Rattle.std.proofs.Common.{◌≡◌, ◌≢◌, ℕ, ◌==◌, List, [], ◌∷◌, ◌++◌, map, Bool, true, false, cond, None, refl, sym, ap, ◌∙◌, arith, subst}
 use Rattle.std.specs.Prelude.{◌&&◌, filter}
 use Rattle.std.specs.List.{AllByRecursion}
 use Rattle.std.proofs.lemmas.Bool.{or_parts, or_from, or_right}
@@ -17,7 +17,7 @@ use Rattle.snapshot_worlds.specs.WellDeclared.{AreDeclaredOnce}
 
 -- a declared snapshot as its site has it
 abbrev as_made : DeclaredSnapshot → Snapshot
-as_made d = record { table = d.table; query = d.query; mark = 0; touched = [] }
+as_made d = record { table = d.table; query = d.query; parent = None; mark = 0; touched = [] }
 
 abbrev is_at : SiteName → DeclaredSnapshot → Bool
 is_at site d = is_same_site d.site site

@@ -10,8 +10,9 @@ use Rattle.rep_values.proofs.RefusalSteps.{or_then-None, refused-None}
 use Rattle.rep_schema.specs.declared.schema.Schema.{Schema}
 use Rattle.rep_schema.specs.Shape.{HasShape}
 use Rattle.rep_schema.specs.Tables.{columns_of, rows_of, IsTable, AreTables}
+use Rattle.rep_schema.proofs.FilteredRows.{IsTable-filter}
 use Rattle.snapshot_query.specs.declared.snapshot.Snapshot.{Snapshot}
-use Rattle.snapshot_query.specs.Queries.{query_rows}
+use Rattle.snapshot_query.specs.Queries.{matches, query_rows}
 use Rattle.site_state.specs.declared.rows.TableRows.{TableRows}
 use Rattle.site_state.specs.State.{LogState, SiteState, is_master_site}
 use Rattle.site_state.specs.Contents.{tables_of}
@@ -26,7 +27,6 @@ use Rattle.event_laws.proofs.Sites.{found_name, found_all}
 use Rattle.event_laws.proofs.Happening.{run_keeps}
 use Rattle.event_laws.proofs.DeclaredSites.{IsSiteOf, becomes_sites_of, start_sites_of}
 use Rattle.fast_refresh.specs.Showing.{ShowsOthers}
-use Rattle.fast_refresh.proofs.QueriedTables.{IsTable-query}
 use Rattle.script_parse.specs.declared.command.Refresh.{Refresh}
 use Rattle.script_parse.specs.declared.command.Command.TheVariants as command
 use Rattle.snapshot_laws.specs.Starts.{master_at}
@@ -152,11 +152,11 @@ module _ (w : WorldState) (g : GoesOn w) where
     picked : AllByRecursion (λ (t : TableRows). IsTable w.schema t.table t.rows) (rows_shown (tables_of m) x.snapshots)
     picked = all_map (KeepsUp w.schema later.begun m x) (λ (t : TableRows). IsTable w.schema t.table t.rows)
         (λ (s : Snapshot). record { table = s.table; rows = query_rows s.query (rows_of (tables_of m) s.table) }) x.snapshots
-        (λ s one. IsTable-query w.schema s.table s.query (rows_of (tables_of m) s.table) (masters.each s.table one.within)) up
+        (λ s one. IsTable-filter w.schema s.table (matches s.query) (rows_of (tables_of m) s.table) (masters.each s.table one.within)) up
 
     shown : young_step m.logs x.snapshots ≡ None → OthersAreShown m x
     shown none = all_both (law.OthersAreShown m x) (λ (s : Snapshot). is_too_young m.logs s ≡ false)
-        (λ (s : Snapshot). ShowsOthers (columns_of x.schema s.table) s.query (pending_keys m.logs s) (rows_of (tables_of m) s.table) (rows_of (tables_of x) s.table)) x.snapshots
+        (λ (s : Snapshot). ShowsOthers (columns_of x.schema s.table) (matches s.query) (pending_keys m.logs s) (rows_of (tables_of m) s.table) (rows_of (tables_of x) s.table)) x.snapshots
         (λ s others young. others young)
         (other_keys_are_the_masters w.schema g.start g.leads.events g.snapshots site x m (there site x at_x) served) (none_young m.logs x.snapshots none)
 

@@ -4,6 +4,7 @@ use Rattle.std.specs.List.{AllByRecursion}
 use Rattle.rep_values.specs.declared.name.SiteName.{SiteName}
 use Rattle.rep_schema.specs.Tables.{columns_of, rows_of, IsTable, AreTables}
 use Rattle.snapshot_query.specs.declared.snapshot.Snapshot.{Snapshot}
+use Rattle.snapshot_query.specs.Queries.{matches}
 use Rattle.site_state.specs.declared.rows.TableRows.{TableRows}
 use Rattle.site_state.specs.State.{SiteState}
 use Rattle.site_state.specs.Contents.{tables_of}
@@ -28,7 +29,7 @@ master_in site w = found_site w.sites (master_of w.schema site)
 -- master's row
 abbrev pub OthersAreShown : SiteState → SiteState → Type 0
 OthersAreShown m x = AllByRecursion
-    (λ (s : Snapshot). ShowsOthers (columns_of x.schema s.table) s.query (pending_keys m.logs s) (rows_of (tables_of m) s.table) (rows_of (tables_of x) s.table)) x.snapshots
+    (λ (s : Snapshot). ShowsOthers (columns_of x.schema s.table) (matches s.query) (pending_keys m.logs s) (rows_of (tables_of m) s.table) (rows_of (tables_of x) s.table)) x.snapshots
 
 -- a snapshot site and its master have one schema and tables of it, and no table has two snapshots; what each snapshot picks
 -- is a table; and where no log is too young the others are shown

@@ -52,7 +52,7 @@ refreshes_that_are_refused : told 12 refresh_lines changed ≡ at_line 12 (refus
 unfolding group_columns_of columns_step broken_rule
 refreshes_that_are_refused = refl
 
-refreshed_at_the_masters_moment : shown [] (λ x. x.snapshots) s (stepped 12 refresh_lines changed) ≡ record { table = 0; query = record { tests = record { column = 1; op = op.Gt; value = n 5 } ∷ [] }; mark = 1; touched = [] } ∷ []
+refreshed_at_the_masters_moment : shown [] (λ x. x.snapshots) s (stepped 12 refresh_lines changed) ≡ record { table = 0; query = record { tests = record { column = 1; op = op.Gt; value = n 5 } ∷ [] }; parent = None; mark = 1; touched = [] } ∷ []
 unfolding group_columns_of columns_step broken_rule
 refreshed_at_the_masters_moment = refl
 

@@ -47,7 +47,7 @@ logged_at schema snapshots master = map (is_logged schema.sites snapshots master
 -- the snapshots of a site, none of them refreshed yet
 abbrev pub snapshots_at : List DeclaredSnapshot → SiteName → List Snapshot
 snapshots_at snapshots site =
-    map (λ (s : DeclaredSnapshot). record { table = s.table; query = s.query; mark = 0; touched = [] }) (filter (λ (s : DeclaredSnapshot). is_same_site s.site site) snapshots)
+    map (λ (s : DeclaredSnapshot). record { table = s.table; query = s.query; parent = None; mark = 0; touched = [] }) (filter (λ (s : DeclaredSnapshot). is_same_site s.site site) snapshots)
 
 -- a snapshot site, which holds the tables of its snapshots
 abbrev pub snapshot_here : List DeclaredSnapshot → SiteName → Here

@@ -2,9 +2,9 @@ use Rattle.std.proofs.Common.{◌+◌, length, drop, ap, ◌∙◌, arith}
 use Rattle.std.proofs.lemmas.List.{append_assoc}
 use Rattle.rep_lists.proofs.Places.{drop_from_place}
 use Rattle.rep_schema.specs.Tables.{columns_of, find_row, rows_of}
-use Rattle.snapshot_query.specs.Queries.{query_rows}
+use Rattle.rep_schema.proofs.FilteredRows.{find_row-filter}
+use Rattle.snapshot_query.specs.Queries.{matches, query_rows}
 use Rattle.fast_refresh.specs.Planned.{gone_here, coming_here, gone_keys, coming_rows}
-use Rattle.fast_refresh.proofs.QueriedTables.{find_query}
 use Rattle.fast_refresh.proofs.plan.plan_keys.Goals as goal
 
 pub loop-key-preserved : goal.loop-key-preserved
@@ -15,7 +15,7 @@ loop-key-preserved g c =
     let rows = rows_of (g.R.RowStore.tables c.args.store.now) c.args.table in
     let wanted = query_rows c.args.query.now master in
     let here = drop_from_place c.args.keys.now c.loop-key.key-index c.key-item.result c.loop-key-test.true c.key-item.is in
-    let sees = find_query columns c.args.query.now c.key-item.result master c.requires.rising in
+    let sees = find_row-filter columns (matches c.args.query.now) c.key-item.result master c.requires.rising in
     let gone = rw (inv.tables, ← sees) at c.in_ok-look_up.ensures.gone in
     let come = rw (inv.tables, ← sees) at c.in_ok-look_up.ensures.come in
     record {

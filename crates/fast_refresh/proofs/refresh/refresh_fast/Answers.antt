@@ -1,8 +1,8 @@
 use Rattle.std.proofs.Common.{◌≡◌, false, sym, ◌∙◌}
 use Rattle.rep_schema.specs.Tables.{Cells, columns_of, find_row, rows_of}
-use Rattle.snapshot_query.specs.Queries.{query_rows}
+use Rattle.rep_schema.proofs.FilteredRows.{find_row-filter, IsTable-filter}
+use Rattle.snapshot_query.specs.Queries.{matches, query_rows}
 use Rattle.fast_refresh.specs.Showing.{has_key}
-use Rattle.fast_refresh.proofs.QueriedTables.{find_query, IsTable-query}
 use Rattle.fast_refresh.specs.Planned.{gone_keys, rows_left}
 use Rattle.fast_refresh.proofs.ChangesMade.{length-replaced}
 use Rattle.fast_refresh.proofs.AsRefreshed.{can_come, refreshes}
@@ -15,8 +15,8 @@ carry_out-requires-clause-can g c κs within =
     let tables = g.R.RowStore.tables c.args.store.now in
     let master = rows_of (g.M.MasterView.tables c.args.master.now) snap.table in
     let others : (key : Cells) → has_key key c.args.keys.now ≡ false → find_row (columns_of schema snap.table) key (rows_of tables snap.table) ≡ find_row (columns_of schema snap.table) key (query_rows snap.query master) =
-    λ key none. c.requires.others.shows key none ∙ sym (find_query (columns_of schema snap.table) snap.query key master c.requires.master.rising) in
-    let can = can_come schema snap.table tables (query_rows snap.query master) c.requires.table c.requires.keyed c.holds_tables.ensures (IsTable-query schema snap.table snap.query master c.requires.master) c.args.keys.now others in
+    λ key none. c.requires.others.shows key none ∙ sym (find_row-filter (columns_of schema snap.table) (matches snap.query) key master c.requires.master.rising) in
+    let can = can_come schema snap.table tables (query_rows snap.query master) c.requires.table c.requires.keyed c.holds_tables.ensures (IsTable-filter schema snap.table (matches snap.query) master c.requires.master) c.args.keys.now others in
     rw (c.in_ok-plan.ensures.come, c.in_ok-plan.ensures.gone) can
 
 pub returns-clause-refreshed : goal.returns-clause-refreshed
@@ -26,10 +26,10 @@ returns-clause-refreshed g c =
     let tables = g.R.RowStore.tables c.args.store.now in
     let master = rows_of (g.M.MasterView.tables c.args.master.now) snap.table in
     let others : (key : Cells) → has_key key c.args.keys.now ≡ false → find_row (columns_of schema snap.table) key (rows_of tables snap.table) ≡ find_row (columns_of schema snap.table) key (query_rows snap.query master) =
-    λ key none. c.requires.others.shows key none ∙ sym (find_query (columns_of schema snap.table) snap.query key master c.requires.master.rising) in
+    λ key none. c.requires.others.shows key none ∙ sym (find_row-filter (columns_of schema snap.table) (matches snap.query) key master c.requires.master.rising) in
     let gone = c.in_ok-plan.ensures.gone in
     let come = c.in_ok-plan.ensures.come in
-    refreshes schema snap.table tables (query_rows snap.query master) c.requires.table c.requires.keyed c.holds_tables.ensures (IsTable-query schema snap.table snap.query master c.requires.master) c.args.keys.now others
+    refreshes schema snap.table tables (query_rows snap.query master) c.requires.table c.requires.keyed c.holds_tables.ensures (IsTable-filter schema snap.table (matches snap.query) master c.requires.master) c.args.keys.now others
     (g.R.RowStore.spare c.args.store.now)
     (record { schema = g.R.RowStore.schema c.carry_out.new.store; tables = g.R.RowStore.tables c.carry_out.new.store; spare = g.R.RowStore.spare c.carry_out.new.store })
     c.in_ok-changes.changes c.carry_out.ensures.schema (rw (come, gone) at c.in_ok-changes.ensures.tables) (rw (come, gone) at c.in_ok-changes.ensures.changes) (rw gone at c.in_ok-changes.ensures.room) c.carry_out.ensures.others

@@ -2,6 +2,7 @@ use Rattle.std.proofs.Common.{◌≡◌, Some, inl, inr, sym, ap, ◌∙◌, sub
 use Rattle.std.specs.Prelude.{slice_get}
 use Rattle.std.proofs.lemmas.Bool.{cases_lt}
 use Rattle.rep_schema.specs.Tables.{Cells, columns_of, key_of, rows_of}
+use Rattle.snapshot_query.specs.Queries.{matches}
 use Rattle.fast_refresh.specs.Showing.{ShowsKey}
 use Rattle.fast_refresh.proofs.showing.shows_each.Goals as goal
 
@@ -15,6 +16,6 @@ loop-place-preserved g c = λ p row before there.
           let here : p ≡ c.loop-place.place = omega (arith, before, later) in
           let found : Some c.in-Some.row.now ≡ Some row = c.in-Some.ensures ∙ ap (slice_get walked) (sym here) ∙ there in
           let same : c.in-Some.row.now ≡ row = cc found in
-          subst (λ (x : Cells). ShowsKey columns c.args.query.now c.args.keys.now (rows_of (g.S.RowStore.tables c.args.master.now) c.args.table) (rows_of (g.R.RowStore.tables c.args.store.now) c.args.table) (key_of columns x)) same
+          subst (λ (x : Cells). ShowsKey columns (matches c.args.query.now) c.args.keys.now (rows_of (g.S.RowStore.tables c.args.master.now) c.args.table) (rows_of (g.R.RowStore.tables c.args.store.now) c.args.table) (key_of columns x)) same
           (c.shows_row.ensures.0 c.if-not-shows_row.false)
     ]
