@@ -32,8 +32,8 @@ AreWithin-snapshots_at schema (s ∷ ss) site all = go (is_same_site s.site site
     rest : List DeclaredSnapshot
     rest = filter (λ (s : DeclaredSnapshot). is_same_site s.site site) ss
 
-    go : (b : Bool) → AreWithin schema (map (λ (s : DeclaredSnapshot). record { table = s.table; query = s.query; mark = 0; touched = [] }) rest)
-        → AreWithin schema (map (λ (s : DeclaredSnapshot). record { table = s.table; query = s.query; mark = 0; touched = [] }) (cond b (s ∷ rest) rest))
+    go : (b : Bool) → AreWithin schema (map (λ (s : DeclaredSnapshot). record { table = s.table; query = s.query; parent = None; mark = 0; touched = [] }) rest)
+        → AreWithin schema (map (λ (s : DeclaredSnapshot). record { table = s.table; query = s.query; parent = None; mark = 0; touched = [] }) (cond b (s ∷ rest) rest))
     go true later = (all.0, later)
     go false later = later
 

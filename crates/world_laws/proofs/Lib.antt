@@ -7,6 +7,8 @@ pub mod RoundsEnd
 pub mod Pushes
 pub mod Sending
 pub mod Starting
+pub mod Failures
+pub mod StandingErrors
 pub mod WorldLaws
 pub mod PushCounts
 pub mod Calling

@@ -17,9 +17,11 @@ use Rattle.world_state.specs.World.{WorldState}
 use Rattle.world_state.specs.Making.{world_made}
 use Rattle.world_state.specs.Steps.{world_step, world_steps}
 use Rattle.world_laws.specs.Simulation.{Leads, AreEvents}
+use Rattle.world_laws.specs.Errors.{EachErrorIsWhole, EachUnsettledErrorStands}
 use Rattle.world_laws.specs.Worlds.{EachCanPass, EachIsSent, AreFrom1, EachWaitsForNothing, WorldHolds, WorldsHold, NothingWaitsInWorlds}
 use Rattle.world_laws.proofs.Pieces.{none_lead, then_lead, steps_are_events}
 use Rattle.world_laws.proofs.Sending.{holds_packets, holds_from_1}
+use Rattle.world_laws.proofs.StandingErrors.{errors_are_whole, unsettled_errors_stand}
 use Rattle.world_laws.proofs.Starting.{core_of, made_start, made_simulates, made_meshed}
 
 -- lines behind Setup are a list of events
@@ -50,6 +52,8 @@ holds_as_run w schema start events is meshed same = record {
   packets = in_world EachIsSent packets_are_sent w schema start events is same;
   from_1 = in_world AreFrom1 arrivals_are_from_1 w schema start events is same;
   waits = subst EachWaitsForNothing (sym same) (λ site x found delivered finish. nothing_waits_for_ever schema start events is meshed site x found delivered finish);
+  errors = subst EachErrorIsWhole (sym same) (errors_are_whole schema start events is meshed);
+  unsettled = in_world EachUnsettledErrorStands unsettled_errors_stand w schema start events is same;
 }
 
 -- and of a world that events lead to

@@ -18,6 +18,7 @@ use Rattle.world_state.specs.World.{WorldState}
 use Rattle.world_state.specs.Making.{world_made}
 use Rattle.world_state.specs.Pushes.{world_push}
 use Rattle.world_state.specs.Steps.{world_steps}
+use Rattle.world_laws.specs.Errors.{EachErrorIsWhole, EachUnsettledErrorStands}
 
 -- every site can make a pass for every sender
 abbrev pub EachCanPass : List SiteState → Type 0
@@ -47,6 +48,8 @@ pub record WorldHolds (w : WorldState) : Type 0 where
   pub packets : EachIsSent w.sites
   pub from_1 : AreFrom1 w.sites
   pub waits : EachWaitsForNothing w.sites
+  pub errors : EachErrorIsWhole w.sites
+  pub unsettled : EachUnsettledErrorStands w.sites
 
 -- they hold of the world that Setup's end makes of a schema that has its shape, and of each that further lines make of it
 abbrev pub WorldsHold : Type 0
