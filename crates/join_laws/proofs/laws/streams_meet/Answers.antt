@@ -1,0 +1,12 @@
+-- The laws of streams.
+use Rattle.join_laws.proofs.Streams.{streams_meet, arrivals_are_of_streams, meshes_stay}
+use Rattle.join_laws.proofs.laws.streams_meet.Goals as goal
+
+pub returns-clause-meet : goal.returns-clause-meet
+returns-clause-meet c = streams_meet
+
+pub returns-clause-arrived : goal.returns-clause-arrived
+returns-clause-arrived c = arrivals_are_of_streams
+
+pub returns-clause-meshed : goal.returns-clause-meshed
+returns-clause-meshed c = meshes_stay

@@ -1,0 +1,4 @@
+-- The definitions of this crate.
+pub mod Names
+pub mod Streams
+pub mod Joined
