@@ -2,7 +2,7 @@
 ghost use Rattle.std.specs.Prelude.{◌<◌, length, IfOk};
 
 use crate::declared::Declared;
-use crate::events::{begin, commit, from_origin, purge, seen, set_clock, settle};
+use crate::events::{called, commit};
 use crate::member::Member;
 use crate::packets::{carried, delivered, kept, last_number, mark_of, route};
 use crate::shown::shown;
@@ -42,6 +42,33 @@ fn packet_of(packets: &[Sealed], number: u64) -> Option<&Sealed> {
     packets.get(number.checked_sub(1)? as usize)
 }
 
+/// The rule that a schema breaks, as reports have it.
+fn told_rule(alloc: Global, rule: u8) -> Told {
+    Ok(Some(format!(in alloc; "! SchemaRule {rule}")?))
+}
+
+fn is_declaration(kind: &[u8]) -> bool {
+    matches!(
+        kind,
+        b"site"
+            | b"latesite"
+            | b"snapsite"
+            | b"table"
+            | b"group"
+            | b"method"
+            | b"priority"
+            | b"site-level"
+            | b"unique"
+            | b"unique-method"
+            | b"check"
+            | b"convergent"
+    )
+}
+
+fn is_statement(kind: &[u8]) -> bool {
+    matches!(kind, b"insert" | b"update" | b"delete")
+}
+
 impl Cases {
     /// Nothing is declared, and nothing is kept.
     pub fn new(alloc: Global) -> Cases {
@@ -62,47 +89,47 @@ impl Cases {
         Ok(None)
     }
 
-    /// Opens a declared site, or answers the rule that the schema breaks.
-    fn open(
+    /// Opens the sites of these names, behind those that are open.
+    fn open_each(
         &self,
         alloc: Global,
         members: &mut Vec<Member>,
-        name: SiteName,
-    ) -> Result<Option<u8>, CaseStop> {
-        match self.declared.open(alloc, name)? {
-            Ok(member) => {
-                members.push(member)?;
-                Ok(None)
-            }
-            Err(rule) => Ok(Some(rule)),
-        }
-    }
-
-    /// The sites of these names, or the rule that the schema breaks.
-    fn opened(
-        &self,
-        alloc: Global,
         names: &[SiteName],
-    ) -> Result<Result<Vec<Member>, u8>, CaseStop> {
-        let mut members = Vec::new(alloc);
+    ) -> Result<(), CaseStop> {
         for name in names {
-            if let Some(rule) = self.open(alloc, &mut members, *name)? {
-                return Ok(Err(rule));
-            }
+            members.push(self.declared.open(alloc, *name)?)?;
         }
-        Ok(Ok(members))
+        Ok(())
     }
 
-    /// Opens each declared site.
+    /// The sites of these names.
+    fn opened(&self, alloc: Global, names: &[SiteName]) -> Result<Vec<Member>, CaseStop> {
+        let mut members = Vec::new(alloc);
+        self.open_each(alloc, &mut members, names)?;
+        Ok(members)
+    }
+
+    /// The sites of these names are those that are there from now on.
+    fn open(&mut self, alloc: Global, names: &[SiteName]) -> Told {
+        self.members = self.opened(alloc, names)?;
+        Ok(None)
+    }
+
+    /// The rule that the schema breaks, where a site is to be opened.
+    fn broken_rule(&self, names: &[SiteName]) -> Option<u8> {
+        if names.is_empty() {
+            return None;
+        }
+        self.declared.broken_rule()
+    }
+
+    /// Opens each declared site, or tells the rule that the schema breaks.
     fn resume(&mut self, alloc: Global, words: &mut Words) -> Told {
         words.end()?;
         let names = self.declared.sites(alloc)?;
-        match self.opened(alloc, names.as_slice())? {
-            Ok(members) => {
-                self.members = members;
-                Ok(None)
-            }
-            Err(rule) => Ok(Some(format!(in alloc; "! SchemaRule {rule}")?)),
+        match self.broken_rule(names.as_slice()) {
+            Some(rule) => told_rule(alloc, rule),
+            None => self.open(alloc, names.as_slice()),
         }
     }
 
@@ -235,15 +262,7 @@ impl Cases {
     fn at_site(&mut self, alloc: Global, kind: &[u8], words: &mut Words) -> Told {
         let name = words.site()?;
         let place = place_of(&self.members, &name)?;
-        let site = &mut self.members[place].site;
-        match kind {
-            b"clock" => set_clock(site, words),
-            b"begin" => begin(site, words),
-            b"purge" => purge(alloc, site, words),
-            b"settle" => settle(alloc, site, words),
-            b"seen" => seen(alloc, site, words),
-            _ => from_origin(alloc, site, kind, words),
-        }
+        called(alloc, &mut self.members[place].site, kind, words)
     }
 
     /// What a line of this kind does with packets, or at a site.
@@ -277,21 +296,12 @@ impl Cases {
     fn answer(&mut self, alloc: Global, tokens: &[Token]) -> Told {
         let mut words = Words::of(tokens);
         let kind = words.word()?;
-        match kind {
-            b"site"
-            | b"latesite"
-            | b"snapsite"
-            | b"table"
-            | b"group"
-            | b"method"
-            | b"priority"
-            | b"site-level"
-            | b"unique"
-            | b"unique-method"
-            | b"check"
-            | b"convergent" => self.declared.declare(alloc, &mut Words::of(tokens)),
-            b"insert" | b"update" | b"delete" => self.statement(alloc, &mut Words::of(tokens)),
-            _ => self.event(alloc, kind, &mut words),
+        if is_declaration(kind) {
+            self.declared.declare(alloc, &mut Words::of(tokens))
+        } else if is_statement(kind) {
+            self.statement(alloc, &mut Words::of(tokens))
+        } else {
+            self.event(alloc, kind, &mut words)
         }
     }
 

@@ -7,6 +7,7 @@ use case_lines::{CaseStop, Words, declare};
 use rep_lists::NoMemory;
 use rep_schema::Schema;
 use rep_values::{ApplyError, Refusal, SiteName};
+use schema_rules::check;
 use std::alloc::Global;
 use std::marker::Model;
 
@@ -78,8 +79,16 @@ impl Declared {
         Ok(names)
     }
 
-    /// The site of a name, or the rule that the schema breaks.
-    pub fn open(&self, alloc: Global, name: SiteName) -> Result<Result<Member, u8>, CaseStop> {
+    /// The rule that the schema breaks.
+    pub fn broken_rule(&self) -> Option<u8> {
+        match check(&self.schema) {
+            Ok(()) => None,
+            Err(rule) => Some(rule),
+        }
+    }
+
+    /// The site of a name. Where the schema breaks a rule there is no case.
+    pub fn open(&self, alloc: Global, name: SiteName) -> Result<Member, CaseStop> {
         Member::open(alloc, &self.schema, &self.rows, name)
     }
 }

@@ -47,13 +47,13 @@ pub fn commit(
 }
 
 /// Nothing is told.
-pub fn set_clock(site: &mut Site<ListTables>, words: &mut Words) -> Told {
+fn set_clock(site: &mut Site<ListTables>, words: &mut Words) -> Told {
     site.set_clock(last_number(words)?);
     Ok(None)
 }
 
 /// Nothing is told.
-pub fn begin(site: &mut Site<ListTables>, words: &mut Words) -> Told {
+fn begin(site: &mut Site<ListTables>, words: &mut Words) -> Told {
     words.end()?;
     if site.moment() == u64::MAX {
         return Err(CaseStop::NoCase);
@@ -63,7 +63,7 @@ pub fn begin(site: &mut Site<ListTables>, words: &mut Words) -> Told {
 }
 
 /// Whether the newest entry is one that can be settled.
-pub fn settle(alloc: Global, site: &mut Site<ListTables>, words: &mut Words) -> Told {
+fn settle(alloc: Global, site: &mut Site<ListTables>, words: &mut Words) -> Told {
     words.end()?;
     let word = if settle_newest(alloc, site)? {
         "settled"
@@ -74,14 +74,14 @@ pub fn settle(alloc: Global, site: &mut Site<ListTables>, words: &mut Words) -> 
 }
 
 /// How many transactions are let go of.
-pub fn purge(alloc: Global, site: &mut Site<ListTables>, words: &mut Words) -> Told {
+fn purge(alloc: Global, site: &mut Site<ListTables>, words: &mut Words) -> Told {
     words.end()?;
     let count = site.purge();
     Ok(Some(format!(in alloc; "purged {count}")?))
 }
 
 /// What the site has seen of the masters among its senders.
-pub fn seen(alloc: Global, site: &Site<ListTables>, words: &mut Words) -> Told {
+fn seen(alloc: Global, site: &Site<ListTables>, words: &mut Words) -> Told {
     words.end()?;
     let past = site.past(alloc)?;
     let mut out = format!(in alloc; "seen")?;
@@ -184,14 +184,15 @@ fn drop_error(
     }
 }
 
-/// What the call of this kind answers that an origin and a position name.
+/// What the call of this kind answers that an origin and a position name, which comes next.
 fn at_position(
     alloc: Global,
     site: &mut Site<ListTables>,
     origin: &SiteName,
     kind: &[u8],
-    position: u64,
+    words: &mut Words,
 ) -> Told {
+    let position = last_number(words)?;
     match kind {
         b"apply" => apply(alloc, site, origin, position),
         b"work" => work(alloc, site, origin, position),
@@ -204,16 +205,23 @@ fn at_position(
 }
 
 /// What the call of this kind answers that an origin names, which comes next.
-pub fn from_origin(
-    alloc: Global,
-    site: &mut Site<ListTables>,
-    kind: &[u8],
-    words: &mut Words,
-) -> Told {
+fn from_origin(alloc: Global, site: &mut Site<ListTables>, kind: &[u8], words: &mut Words) -> Told {
     let origin = words.site()?;
     match kind {
         b"pass" => pass(alloc, site, &origin, words),
         b"covered" => covered(alloc, site, &origin, words),
-        _ => at_position(alloc, site, &origin, kind, last_number(words)?),
+        _ => at_position(alloc, site, &origin, kind, words),
+    }
+}
+
+/// What a call of this kind answers, of the site alone or with an origin.
+pub fn called(alloc: Global, site: &mut Site<ListTables>, kind: &[u8], words: &mut Words) -> Told {
+    match kind {
+        b"clock" => set_clock(site, words),
+        b"begin" => begin(site, words),
+        b"purge" => purge(alloc, site, words),
+        b"settle" => settle(alloc, site, words),
+        b"seen" => seen(alloc, site, words),
+        _ => from_origin(alloc, site, kind, words),
     }
 }

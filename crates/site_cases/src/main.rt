@@ -31,25 +31,31 @@ use case_lines::CaseStop;
 use cases::Cases;
 use told::Told;
 
-fn echo(rt: &HostRuntime, line: &str) -> Result<()> {
+fn print(rt: &HostRuntime, line: &str) -> Result<()> {
     println!(rt; "{line}")?;
     Ok(())
 }
 
+/// What is printed of a line that tells nothing.
+fn words_of(stop: CaseStop) -> &'static str {
+    match stop {
+        CaseStop::NoCase => "no case",
+        CaseStop::Memory => "no memory",
+    }
+}
+
 fn tell(rt: &HostRuntime, told: Told) -> Result<()> {
     match told {
-        Ok(Some(told)) => println!(rt; "{told}")?,
-        Ok(None) => {}
-        Err(CaseStop::NoCase) => println!(rt; "no case")?,
-        Err(CaseStop::Memory) => println!(rt; "no memory")?,
+        Ok(Some(told)) => print(rt, told.as_str()),
+        Ok(None) => Ok(()),
+        Err(stop) => print(rt, words_of(stop)),
     }
-    Ok(())
 }
 
 /// Prints what a line tells.
 fn answer(rt: &HostRuntime, cases: &mut Cases, line: &str) -> Result<()> {
     if line.is_empty() || line.starts_with('#') {
-        return echo(rt, line);
+        return print(rt, line);
     }
     tell(rt, cases.outcome(rt.alloc(), line))
 }

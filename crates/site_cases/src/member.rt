@@ -82,19 +82,15 @@ fn here_of(schema: &Schema, name: SiteName) -> Here
     }
 }
 
-/// A store with the base rows, or the rule that the schema breaks.
-fn base_store(
-    alloc: Global,
-    schema: &Schema,
-    rows: &[BaseRow],
-) -> Result<Result<ListTables, u8>, CaseStop>
+/// A store with the base rows. Where the schema breaks a rule there is no case.
+fn base_store(alloc: Global, schema: &Schema, rows: &[BaseRow]) -> Result<ListTables, CaseStop>
     requires { HasShape schema.now }
-    ensures keyed { IfOk result (λ found. IfOk found (λ store. IsKeyed store.schema)) }
-    ensures schema { IfOk result (λ found. IfOk found (λ store. store.schema ≡ schema.now)) }
+    ensures keyed { IfOk result (λ store. IsKeyed store.schema) }
+    ensures schema { IfOk result (λ store. store.schema ≡ schema.now) }
 {
-    if let Err(rule) = check(schema) {
-        return Ok(Err(rule));
-    }
+    let Ok(()) = check(schema) else {
+        return Err(CaseStop::NoCase);
+    };
     sound_schemas_have_keys();
     sound_schemas_fill_freely();
     let mut store = ListTables::make(alloc, schema.copy(alloc)?)?;
@@ -102,7 +98,7 @@ fn base_store(
     if let Some(master) = first_master(schema) {
         fill_base_rows(&mut store, &master)?;
     }
-    Ok(Ok(store))
+    Ok(store)
 }
 
 impl Member {
@@ -133,18 +129,16 @@ impl Member {
         })
     }
 
-    /// The site of this name, with these rows, or the rule that the schema breaks.
+    /// The site of this name, with these rows. Where the schema breaks a rule there is no case.
     pub fn open(
         alloc: Global,
         schema: &Schema,
         rows: &[BaseRow],
         name: SiteName,
-    ) -> Result<Result<Member, u8>, CaseStop>
+    ) -> Result<Member, CaseStop>
         requires { HasShape schema.now }
     {
-        match base_store(alloc, schema, rows)? {
-            Ok(store) => Ok(Ok(Member::of(alloc, schema, store, name)?)),
-            Err(rule) => Ok(Err(rule)),
-        }
+        let store = base_store(alloc, schema, rows)?;
+        Member::of(alloc, schema, store, name)
     }
 }

@@ -25,6 +25,7 @@ pub fn route(words: &mut Words) -> Result<(SiteName, SiteName), CaseStop> {
 }
 
 /// The number, the position and what it depends on.
+#[derive(Clone, Copy)]
 struct Numbers {
     number: u64,
     position: u64,
@@ -47,21 +48,37 @@ fn sealed(alloc: Global, packet: &Packet) -> Result<Option<Sealed>, CaseStop> {
     Ok(Some(Sealed::seal(alloc, packet)?))
 }
 
-/// The packet of the calls, with the words that come next.
-pub fn carried(
-    alloc: Global,
-    words: &mut Words,
-    calls: Vec<Call>,
-) -> Result<Option<Sealed>, CaseStop> {
-    let txn = Txn::of(alloc, Items::from_vec(calls))?;
+/// What a packet has beside its transaction.
+#[derive(Drop)]
+struct Carriage {
+    from: SiteName,
+    to: SiteName,
+    numbers: Numbers,
+    past: Items<Past>,
+}
+
+fn read_carriage(alloc: Global, words: &mut Words) -> Result<Carriage, CaseStop> {
     let (from, to) = route(words)?;
-    let Numbers {
-        number,
-        position,
-        dep,
-    } = read_numbers(words)?;
-    let past = read_past(alloc, words)?;
-    let packet = Packet::Carry {
+    Ok(Carriage {
+        from,
+        to,
+        numbers: read_numbers(words)?,
+        past: read_past(alloc, words)?,
+    })
+}
+
+fn carry_of(carriage: Carriage, txn: Txn) -> Packet {
+    let Carriage {
+        from,
+        to,
+        numbers: Numbers {
+            number,
+            position,
+            dep,
+        },
+        past,
+    } = carriage;
+    Packet::Carry {
         from,
         to,
         number,
@@ -69,7 +86,18 @@ pub fn carried(
         dep,
         past,
         txn,
-    };
+    }
+}
+
+/// The packet of the calls, with the words that come next.
+pub fn carried(
+    alloc: Global,
+    words: &mut Words,
+    calls: Vec<Call>,
+) -> Result<Option<Sealed>, CaseStop> {
+    let txn = Txn::of(alloc, Items::from_vec(calls))?;
+    let carriage = read_carriage(alloc, words)?;
+    let packet = carry_of(carriage, txn);
     sealed(alloc, &packet)
 }
 
@@ -92,6 +120,26 @@ fn push_past(out: &mut String, alloc: Global, past: &[Past]) -> Result<(), NoMem
     push_seen(out, alloc, past)
 }
 
+fn described_carry(
+    alloc: Global,
+    kept: usize,
+    numbers: Numbers,
+    calls: usize,
+) -> Result<String, NoMemory> {
+    let Numbers {
+        number,
+        position,
+        dep,
+    } = numbers;
+    Ok(format!(in alloc;
+        "packet {kept} number {number} position {position} dep {dep} calls {calls}"
+    )?)
+}
+
+fn described_mark(alloc: Global, kept: usize, mark: u64) -> Result<String, NoMemory> {
+    Ok(format!(in alloc; "packet {kept} mark {mark}")?)
+}
+
 /// The packet of a number, and what is in it.
 fn described(alloc: Global, kept: usize, packet: &Packet) -> Result<String, NoMemory> {
     match packet {
@@ -101,11 +149,15 @@ fn described(alloc: Global, kept: usize, packet: &Packet) -> Result<String, NoMe
             dep,
             txn,
             ..
-        } => Ok(format!(in alloc;
-            "packet {kept} number {number} position {position} dep {dep} calls {}",
-            txn.calls.len()
-        )?),
-        Packet::Mark { mark, .. } => Ok(format!(in alloc; "packet {kept} mark {mark}")?),
+        } => {
+            let numbers = Numbers {
+                number: *number,
+                position: *position,
+                dep: *dep,
+            };
+            described_carry(alloc, kept, numbers, txn.calls.len())
+        }
+        Packet::Mark { mark, .. } => described_mark(alloc, kept, *mark),
     }
 }
 
@@ -117,12 +169,16 @@ fn past_of(packet: &Packet) -> &[Past] {
     }
 }
 
+fn told_packet(alloc: Global, number: usize, packet: &Packet) -> Told {
+    let mut out = described(alloc, number, packet)?;
+    push_past(&mut out, alloc, past_of(packet))?;
+    Ok(Some(out))
+}
+
 /// What the packet carries that is kept under a number.
 pub fn kept(alloc: Global, number: usize, sealed: &Sealed) -> Told {
     let packet = sealed.unseal(alloc)?;
-    let mut out = described(alloc, number, &packet)?;
-    push_past(&mut out, alloc, past_of(&packet))?;
-    Ok(Some(out))
+    told_packet(alloc, number, &packet)
 }
 
 fn word_of(accepted: Accepted) -> &'static str {

@@ -46,14 +46,20 @@ pub fn push_error(out: &mut String, error: &ApplyError) -> Result<(), NoMemory> 
     }
 }
 
+/// A line behind those that are there.
+fn push_line(out: &mut String, line: &str) -> Result<(), NoMemory> {
+    if !out.is_empty() {
+        out.push('\n')?;
+    }
+    out.push_str(line)?;
+    Ok(())
+}
+
 /// The lines of a report without the last one's end.
 pub fn text_of(alloc: Global, lines: &Lines) -> Result<String, NoMemory> {
     let mut out = String::new(alloc);
     for line in str::from_utf8(lines.bytes()).unwrap_or("?").lines() {
-        if !out.is_empty() {
-            out.push('\n')?;
-        }
-        out.push_str(line)?;
+        push_line(&mut out, line)?;
     }
     Ok(out)
 }

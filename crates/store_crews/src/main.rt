@@ -56,12 +56,20 @@ enum Form<'a> {
     Told,
 }
 
+fn run_of(words: &str) -> Option<Form<'_>> {
+    Some(Form::Run(Held::read(words)?))
+}
+
+fn fake_of(words: &str) -> Option<Form<'_>> {
+    Some(Form::Fake(Held::read(words)?))
+}
+
 /// The form of a line by its first word.
-fn form_by<'a>(kind: &str, words: &'a str) -> Option<Form<'a>> {
+fn form_by<'a>(kind: &[u8], words: &'a str) -> Option<Form<'a>> {
     match kind {
-        "add" => Some(Form::Add(words)),
-        "run" => Some(Form::Run(Held::read(words)?)),
-        "fake" => Some(Form::Fake(Held::read(words)?)),
+        b"add" => Some(Form::Add(words)),
+        b"run" => run_of(words),
+        b"fake" => fake_of(words),
         _ => None,
     }
 }
@@ -71,7 +79,7 @@ fn form_of(line: &str) -> Form<'_> {
         return Form::Remark;
     }
     match line.split_once(' ') {
-        Some((kind, words)) => form_by(kind, words).unwrap_or(Form::Told),
+        Some((kind, words)) => form_by(kind.as_bytes(), words).unwrap_or(Form::Told),
         None => Form::Told,
     }
 }
@@ -89,6 +97,25 @@ fn receiver(
     pair.into_receiver()
 }
 
+/// The low-water mark behind a pass.
+fn low_behind<R: Threads + Wait + Sync>(
+    rt: &R,
+    alloc: Global,
+    told: &Told,
+    held: Held,
+    maker: Maker,
+    order: &Order,
+) -> Result<u64, CaseStop> {
+    let receiver = receiver(alloc, told, order.puts()?)?;
+    order.begin();
+    mark_after_pass(rt, alloc, maker, receiver, held, order)
+}
+
+/// A low-water mark, and how a pass went.
+fn pass_lines(alloc: Global, low: u64, how: &str) -> Result<String, CaseStop> {
+    Ok(format!(in alloc; "low {low}\n{how}")?)
+}
+
 /// What is printed of a pass.
 fn outcome<R: Threads + Wait + Sync>(
     rt: &R,
@@ -98,11 +125,8 @@ fn outcome<R: Threads + Wait + Sync>(
     maker: Maker,
 ) -> Result<String, CaseStop> {
     let order = Order::new(Arc::new(alloc, Puts::new())?, held.turns, told.first());
-    let receiver = receiver(alloc, told, order.puts()?)?;
-    order.begin();
-    let low = mark_after_pass(rt, alloc, maker, receiver, held, &order)?;
-    let how = order.word();
-    Ok(format!(in alloc; "low {low}\n{how}")?)
+    let low = low_behind(rt, alloc, told, held, maker, &order)?;
+    pass_lines(alloc, low, order.word())
 }
 
 /// What is printed, or that there was no case.
@@ -136,10 +160,15 @@ fn fake_outcomes<R: Threads + Wait + Sync>(
     Ok(format!(in alloc; "pass behind the calls\n{before}\npass before the calls\n{behind}")?)
 }
 
+/// These words are printed.
+fn printed(alloc: Global, words: &str) -> Result<Option<String>, AllocError> {
+    Ok(Some(format!(in alloc; "{words}")?))
+}
+
 fn take_told(alloc: Global, told: &mut Told, line: &str) -> Result<Option<String>, AllocError> {
     match told.take_line(alloc, line) {
         Ok(()) => Ok(None),
-        Err(CaseStop::NoCase) => Ok(Some(format!(in alloc; "no case")?)),
+        Err(CaseStop::NoCase) => printed(alloc, "no case"),
         Err(CaseStop::Memory) => Err(AllocError),
     }
 }
@@ -152,7 +181,7 @@ fn answer<R: Threads + Wait + Sync>(
     line: &str,
 ) -> Result<Option<String>, AllocError> {
     match form_of(line) {
-        Form::Remark => Ok(Some(format!(in alloc; "{line}")?)),
+        Form::Remark => printed(alloc, line),
         Form::Add(parts) => answered(alloc, line, sum_line(rt, alloc, parts)),
         Form::Run(held) => answered(alloc, line, outcome(rt, alloc, told, held, Maker::Crew)),
         Form::Fake(held) => answered(alloc, line, fake_outcomes(rt, alloc, told, held)),
@@ -165,9 +194,23 @@ fn ends_case(line: &str) -> bool {
     matches!(form_of(line), Form::Run(_) | Form::Fake(_))
 }
 
-fn tell(rt: &HostRuntime, answer: Option<String>) -> anyhow::Result<()> {
+fn tell<R: Print>(rt: &R, answer: Option<String>) -> anyhow::Result<()> {
     if let Some(answer) = answer {
         println!(rt; "{answer}")?;
+    }
+    Ok(())
+}
+
+/// Prints what comes of a line, behind which another case may begin.
+fn answer_line<R: Print + Threads + Wait + Sync>(
+    rt: &R,
+    alloc: Global,
+    told: &mut Told,
+    line: &str,
+) -> anyhow::Result<()> {
+    tell(rt, answer(rt, alloc, told, line)?)?;
+    if ends_case(line) {
+        *told = Told::new(alloc);
     }
     Ok(())
 }
@@ -176,11 +219,7 @@ fn main(rt: HostRuntime) -> anyhow::Result<()> {
     let alloc = rt.alloc();
     let mut told = Told::new(alloc);
     for line in rt.lines(alloc) {
-        let line = line?;
-        tell(&rt, answer(&rt, alloc, &mut told, &line)?)?;
-        if ends_case(&line) {
-            told = Told::new(alloc);
-        }
+        answer_line(&rt, alloc, &mut told, &line?)?;
     }
     Ok(())
 }

@@ -73,14 +73,19 @@ impl Told {
         add_declaration(alloc, &mut self.schema, &mut Words::of(tokens.as_slice()))
     }
 
+    /// A block of one statement, in which a number stands for `%`.
+    fn add_numbered(&mut self, alloc: Global, number: u64, line: &str) -> Result<(), CaseStop> {
+        let statement = numbered(alloc, number, line)?;
+        self.add_block(alloc, 1, statement.as_str())
+    }
+
     /// `* COUNT STATEMENT`: so many blocks, in each of which its number stands for `%`.
     fn add_blocks(&mut self, alloc: Global, words: &str) -> Result<(), CaseStop> {
         let Some((count, line)) = repeated(words) else {
             return Err(CaseStop::NoCase);
         };
         for number in 1..=count {
-            let statement = numbered(alloc, number, line)?;
-            self.add_block(alloc, 1, statement.as_str())?;
+            self.add_numbered(alloc, number, line)?;
         }
         Ok(())
     }
@@ -102,11 +107,11 @@ impl Told {
     /// Takes in a declaration, a statement, `* COUNT STATEMENT`, `block COUNT STATEMENT` or `apply`.
     pub fn take_line(&mut self, alloc: Global, line: &str) -> Result<(), CaseStop> {
         let (kind, words) = line.split_once(' ').unwrap_or((line, ""));
-        match kind {
-            "insert" | "update" | "delete" => self.add_block(alloc, 1, line),
-            "*" => self.add_blocks(alloc, words),
-            "block" => self.add_long_block(alloc, words),
-            "apply" => self.apply(),
+        match kind.as_bytes() {
+            b"insert" | b"update" | b"delete" => self.add_block(alloc, 1, line),
+            b"*" => self.add_blocks(alloc, words),
+            b"block" => self.add_long_block(alloc, words),
+            b"apply" => self.apply(),
             _ => self.add_declared(alloc, line),
         }
     }
