@@ -114,12 +114,11 @@ fn echo(rt: &HostRuntime, line: &str) -> Result<()> {
 
 fn tell(rt: &HostRuntime, outcome: Outcome) -> Result<()> {
     match outcome {
-        Ok(Some(outcome)) => println!(rt; "{outcome}")?,
-        Ok(None) => {}
-        Err(CaseStop::NoCase) => println!(rt; "no case")?,
-        Err(CaseStop::Memory) => println!(rt; "no memory")?,
+        Ok(Some(outcome)) => echo(rt, outcome.as_str()),
+        Ok(None) => Ok(()),
+        Err(CaseStop::NoCase) => echo(rt, "no case"),
+        Err(CaseStop::Memory) => echo(rt, "no memory"),
     }
-    Ok(())
 }
 
 /// Prints the outcome of a line.

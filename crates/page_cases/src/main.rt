@@ -38,11 +38,10 @@ fn echo(rt: &HostRuntime, line: &str) -> Result<()> {
 
 fn tell(rt: &HostRuntime, outcome: Result<String, CaseStop>) -> Result<()> {
     match outcome {
-        Ok(outcome) => println!(rt; "{outcome}")?,
-        Err(CaseStop::NoCase) => println!(rt; "no case")?,
-        Err(CaseStop::Memory) => println!(rt; "no memory")?,
+        Ok(outcome) => echo(rt, outcome.as_str()),
+        Err(CaseStop::NoCase) => echo(rt, "no case"),
+        Err(CaseStop::Memory) => echo(rt, "no memory"),
     }
-    Ok(())
 }
 
 /// Prints the outcome of a line.

@@ -107,14 +107,19 @@ fn echo(rt: &HostRuntime, line: &str) -> Result<()> {
     Ok(())
 }
 
+/// Prints a case and these words about it.
+fn tell_words(rt: &HostRuntime, line: &str, words: &str) -> Result<()> {
+    println!(rt; "{line} =>{words}")?;
+    Ok(())
+}
+
 /// Prints a case and its outcome.
 fn tell(rt: &HostRuntime, line: &str, outcome: Result<String, CaseStop>) -> Result<()> {
     match outcome {
-        Ok(outcome) => println!(rt; "{line} =>{outcome}")?,
-        Err(CaseStop::NoCase) => println!(rt; "{line} => no case")?,
-        Err(CaseStop::Memory) => println!(rt; "{line} => no memory")?,
+        Ok(outcome) => tell_words(rt, line, outcome.as_str()),
+        Err(CaseStop::NoCase) => tell_words(rt, line, " no case"),
+        Err(CaseStop::Memory) => tell_words(rt, line, " no memory"),
     }
-    Ok(())
 }
 
 fn answer(rt: &HostRuntime, line: &str) -> Result<()> {
