@@ -1,0 +1,9 @@
+-- The lemmas of this crate, from the bottom up.
+mod Renewing
+mod Walking
+mod Searching
+mod NoParent
+mod Families
+mod Settled
+mod WorkedRules
+mod WorkedChildren

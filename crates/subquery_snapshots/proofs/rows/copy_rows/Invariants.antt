@@ -1,0 +1,7 @@
+-- Copying rows one by one.
+use Rattle.std.proofs.Common.{◌≡◌, take}
+use Rattle.subquery_snapshots.proofs.rows.copy_rows.Given as goal
+
+-- the rows so far are copied
+abbrev pub invariant-loop-row : goal.invariant-loop-row
+invariant-loop-row l = l.copied.items ≡ take l.row-index l.rows
