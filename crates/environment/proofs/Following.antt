@@ -1,7 +1,6 @@
 -- What a push leaves of which some steps were done: all else, a world to which events lead, and what holds of a script's world.
 use Rattle.std.proofs.Common.{◌≡◌, ◌≢◌, ℕ, ◌+◌, List, [], ◌∷◌, ◌++◌, drop, true, false, Some, None, refl, sym, ap, ◌∙◌, subst, drop-drop}
 use Rattle.std.specs.Prelude.{Option, option_map}
-use Rattle.std.specs.List.{AllByRecursion}
 use Rattle.rep_values.specs.declared.name.SiteName.{SiteName}
 use Rattle.rep_schema.specs.declared.schema.Schema.{Schema}
 use Rattle.rep_schema.specs.Shape.{HasShape}
@@ -26,10 +25,10 @@ use Rattle.world_laws.proofs.Pieces.{none_lead, then_lead, site_leads, release_l
 use Rattle.world_laws.proofs.Calling.{take_leads, lose_leads}
 use Rattle.site_rounds.specs.Parts.{parts_done}
 use Rattle.site_rounds.proofs.Parts.{parts_do}
-use Rattle.site_making.specs.Entries.{IsThere}
 use Rattle.convergent_worlds.specs.Reached.{IsOfConvergence, Declaring, Going}
 use Rattle.convergent_worlds.proofs.Scripts.{goes_on_alike}
 use Rattle.environment.specs.Following.{Travel, Release, Take, Lose, travel_done, PushStep, There, Send, Settle, SendMark, Back, step_done, steps_done, up_between, fates_in, fates_between, LeavesAllElse, PushesInPart, IsBuilt}
+use Rattle.environment.proofs.Apart.{apart_behind}
 use Rattle.environment.proofs.Directions.{direction_of-at, KeepsLink, released_keeps_link, delivered_keeps_link, sent_keeps_link}
 
 -- ---- all else
@@ -237,7 +236,7 @@ built_in_part from to w y behind built part = record {
   of_script = of_script_leads w y behind built.of_script (in_part_leads from to w y part);
   of_convergence = of_convergence_leads w y behind built.of_convergence part.beside.schema (in_part_leads from to w y part);
   shape = subst HasShape (sym part.beside.schema) built.shape;
-  early = subst (λ (s : Schema). AllByRecursion IsThere s.sites) (sym part.beside.schema) built.early;
+  apart = apart_behind w y behind built.of_script (in_part_leads from to w y part) built.apart;
   linked = λ later site origin gets.
       let both = built.linked behind site origin (subst (λ (s : Schema). is_among (senders_of s site) origin ≡ true) part.beside.schema gets) in
       (in_part_linked from to site origin w y part both.0, in_part_linked from to origin site w y part both.1);

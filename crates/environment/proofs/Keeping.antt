@@ -1,31 +1,25 @@
 -- What holds of a world of a script of the forms that are built holds behind each of its lines.
-use Rattle.std.proofs.Common.{◌≡◌, ℕ, ℤ, List, [], ◌∷◌, Bool, true, false, cond, Some, None, refl, sym, ap, ◌∙◌, subst, inl, inr}
+use Rattle.std.proofs.Common.{◌≡◌, ℕ, List, [], ◌∷◌, Bool, true, false, cond, Some, None, refl, sym, ap, ◌∙◌, subst, inl, inr}
 use Rattle.std.specs.Prelude.{◌||◌, not, Option, Ok, Err, is_some}
-use Rattle.std.specs.List.{AllByRecursion}
-use Rattle.rep_lists.proofs.Each.{each_push}
 use Rattle.rep_values.specs.declared.name.SiteName.{SiteName}
 use Rattle.rep_values.specs.declared.refusal.Refusal.{Refusal}
 use Rattle.rep_values.specs.declared.refusal.Refusal.TheVariants as refusal
 use Rattle.rep_values.specs.RefusalSteps.{refused}
 use Rattle.rep_values.proofs.RefusalSteps.{or_then-None}
-use Rattle.rep_schema.specs.declared.schema.SiteEntry.{SiteEntry}
 use Rattle.rep_schema.specs.declared.schema.Schema.{Schema}
 use Rattle.rep_schema.specs.Shape.{HasShape}
-use Rattle.rep_schema.specs.Entries.{master_site, snapshot_site}
 use Rattle.rep_schema.specs.Sites.{senders_of}
-use Rattle.rep_schema.specs.Named.{is_site, table_place}
+use Rattle.rep_schema.specs.Named.{table_place}
 use Rattle.rep_declare.specs.declared.declaration.Declare.{Declare}
-use Rattle.rep_declare.specs.declared.declaration.Declare.TheVariants as declare
-use Rattle.rep_declare.specs.Additions.{with_changed, with_site_level, declared}
 use Rattle.rep_declare.specs.Refusals.{refusal_of}
 use Rattle.rep_declare.proofs.DeclaredShapes.{HasShape-declared}
 use Rattle.net_plan.specs.Directions.{Direction, HasDirection, direction_of, is_up, with_link, with_fates, without_fates}
 use Rattle.script_parse.specs.declared.command.Command.{Command}
 use Rattle.script_parse.specs.declared.command.Command.TheVariants as command
-use Rattle.script_parse.specs.Built.{is_built, is_built_declaration}
 use Rattle.script_parse.specs.declared.command.TestWords.{TestWords}
 use Rattle.script_parse.specs.Named.{NamesColumn}
 use Rattle.site_state.specs.State.{is_among}
+use Rattle.event_laws.specs.Core.{Core}
 use Rattle.world_state.specs.declared.phase.Phase.{Phase}
 use Rattle.world_state.specs.declared.phase.Phase.TheVariants as phase
 use Rattle.world_state.specs.declared.block.Block.{Block}
@@ -40,17 +34,20 @@ use Rattle.world_state.specs.Refusals.{world_refusal}
 use Rattle.world_state.specs.Steps.{resumed, log_purged_at, is_up_word, world_done, world_refused, step_by, step_refused, told_by}
 use Rattle.world_laws.specs.Scripts.{LeavesAllButTheBlock}
 use Rattle.world_laws.specs.Reached.{IsOfScript}
+use Rattle.world_laws.specs.Simulation.{Simulates, Leads}
+use Rattle.world_laws.proofs.Pieces.{steps_are_events_however_refused}
 use Rattle.world_laws.proofs.Scripts.{HasShape-no_schema, step_of_script, first_of_script}
 use Rattle.world_laws.proofs.RefusedLines.{refused_leaves}
 use Rattle.site_making.proofs.SenderDirections.{direction_to_sender, direction_from_sender}
-use Rattle.site_making.specs.Entries.{IsThere}
 use Rattle.convergent_worlds.specs.Reached.{IsOfConvergence}
 use Rattle.convergent_worlds.proofs.Scripts.{step_of_convergence, first_of_convergence}
 use Rattle.environment.specs.Following.{IsBuilt}
 use Rattle.environment.specs.Doing.{IsShort, is_push}
 use Rattle.environment.specs.Keeping.{LinesKeepBuilt}
 use Rattle.environment.proofs.Directions.{Stay, stay-at, stays, stay-push}
+use Rattle.environment.proofs.Apart.{made_apart, apart_kept}
 use Rattle.environment.proofs.Following.{built_in_part}
+use Rattle.environment.proofs.Joining.{behind_of}
 
 -- ---- lines that declare nothing and end no Setup
 
@@ -102,7 +99,7 @@ keeps_resumed phase.Setup w is behind = absurd (cc behind)
 keeps_resumed phase.Running w is behind = same w
 keeps_resumed phase.Suspended w is behind = record { schema = refl; setup = sym (ap is_setup is); net = λ a b. refl }
 
--- each line that is built, declares nothing and ends no Setup
+-- each line that declares nothing and ends no Setup
 abbrev IsPlain : Command → WorldState → Type 0
 IsPlain command.Nothing w = Unit {0}
 IsPlain (command.Declare declaration) w = ⊥
@@ -124,7 +121,7 @@ IsPlain (command.DropError site origin position) w = Unit {0}
 IsPlain (command.Refresh site how) w = Unit {0}
 IsPlain (command.PurgeLog master table) w = Unit {0}
 IsPlain command.Suspend w = is_setup w.phase ≡ false
-IsPlain (command.Join site source) w = ⊥
+IsPlain (command.Join site source) w = Unit {0}
 IsPlain (command.Show what site) w = Unit {0}
 
 keeps_done : (number : ℕ) (c : Command) (w : WorldState) → IsPlain c w → Keeps w (world_done number c w)
@@ -148,7 +145,7 @@ keeps_done number (command.DropError site origin position) w plain = record { sc
 keeps_done number (command.Refresh site how) w plain = record { schema = refl; setup = refl; net = λ a b. refl }
 keeps_done number (command.PurgeLog master table) w plain = keeps_log_purged master (table_place w.schema table) w
 keeps_done number command.Suspend w plain = record { schema = refl; setup = sym plain; net = λ a b. refl }
-keeps_done number (command.Join site source) w plain = absurd plain
+keeps_done number (command.Join site source) w plain = record { schema = refl; setup = refl; net = λ a b. refl }
 keeps_done number (command.Show what site) w plain = same w
 
 -- ---- what stays built
@@ -167,55 +164,36 @@ linked_behind w y built kept behind site origin gets =
     let had = built.linked (sym kept.setup ∙ behind) site origin (subst (λ (s : Schema). is_among (senders_of s site) origin ≡ true) kept.schema gets) in
     (stays w.net y.net kept.net site origin had.0, stays w.net y.net kept.net origin site had.1)
 
-built_kept : (w y : WorldState) → IsBuilt w → IsOfScript y → IsOfConvergence y → Keeps w y → IsBuilt y
-built_kept w y built is has kept = record {
+-- events lead to it from the sites before
+step_leads : (number : ℕ) (c : Command) (w : WorldState) (r : Option Refusal) (v : Core) → Simulates w v → Leads (step_by r number c w) v
+step_leads number c w r v s = steps_are_events_however_refused r number c w v s
+
+built_kept : (w y : WorldState) → IsBuilt w → IsOfScript y → IsOfConvergence y → ((v : Core) → Simulates w v → Leads y v) → Keeps w y → IsBuilt y
+built_kept w y built is has leads kept = record {
   of_script = is;
   of_convergence = has;
   shape = subst HasShape (sym kept.schema) built.shape;
-  early = subst (λ (s : Schema). AllByRecursion IsThere s.sites) (sym kept.schema) built.early;
+  apart = apart_kept w y built.of_script is kept.setup leads built.apart;
   linked = linked_behind w y built kept;
 }
 
 -- ---- declarations
-
-levels_keep : (site : SiteName) (level : ℤ) (es : List SiteEntry) → AllByRecursion IsThere es → AllByRecursion IsThere (with_changed (is_site site) (with_site_level level) es)
-levels_keep site level [] all = tt
-levels_keep site level (e ∷ es) all = go (is_site site e) (levels_keep site level es all.1)
-  where
-    go : (b : Bool) → AllByRecursion IsThere (with_changed (is_site site) (with_site_level level) es)
-        → AllByRecursion IsThere (cond b (with_site_level level e ∷ es) (e ∷ with_changed (is_site site) (with_site_level level) es))
-    go true later = (all.0, all.1)
-    go false later = (all.0, later)
-
-early_declared : (d : Declare) (schema : Schema) → is_built_declaration d ≡ true → AllByRecursion IsThere schema.sites → AllByRecursion IsThere (declared d schema).sites
-early_declared (declare.Site name) schema form all = each_push IsThere schema.sites (master_site name) all refl
-early_declared (declare.LateSite name) schema form all = absurd (cc form)
-early_declared (declare.SnapSite name master) schema form all = each_push IsThere schema.sites (snapshot_site name master) all refl
-early_declared (declare.Table name columns) schema form all = all
-early_declared (declare.Group table group columns) schema form all = all
-early_declared (declare.Method table group method) schema form all = all
-early_declared (declare.Priority group value level) schema form all = all
-early_declared (declare.SiteLevel site level) schema form all = levels_keep site level schema.sites all
-early_declared (declare.Unique table constraint columns) schema form all = all
-early_declared (declare.UniqueMethod table constraint method) schema form all = all
-early_declared (declare.Check table check column rel value) schema form all = all
-early_declared (declare.Convergent table) schema form all = all
 
 in_setup : (p : Phase) (b : Bool) → refused (not (is_setup p) || b) refusal.WrongPhase ≡ None → is_setup p ≡ true
 in_setup phase.Setup b none = refl
 in_setup phase.Running b none = absurd (cc none)
 in_setup phase.Suspended b none = absurd (cc none)
 
-built_declared : (number : ℕ) (d : Declare) (w : WorldState) → is_built_declaration d ≡ true → NamesColumn (command.Declare d) → world_refusal (command.Declare d) w ≡ None → IsBuilt w
+built_declared : (number : ℕ) (d : Declare) (w : WorldState) → NamesColumn (command.Declare d) → world_refusal (command.Declare d) w ≡ None → IsBuilt w
     → IsBuilt (world_done number (command.Declare d) w)
-built_declared number d w form named passes built =
+built_declared number d w named passes built =
     let steps = or_then-None (declare_step d w) _ passes in
     let setup : is_setup w.phase ≡ true = in_setup w.phase (has_block w) (or_then-None (setup_step w) _ steps.0).0 in
     record {
       of_script = step_is number (command.Declare d) w None named built passes;
       of_convergence = step_has number (command.Declare d) w None named built passes;
       shape = HasShape-declared d w.schema built.shape named (or_then-None (refusal_of w.schema d) None steps.1).0;
-      early = early_declared d w.schema form built.early;
+      apart = built.apart;
       linked = λ behind. absurd (cc (setup, behind));
     }
 
@@ -226,7 +204,7 @@ built_made w is has built = record {
   of_script = is;
   of_convergence = has;
   shape = built.shape;
-  early = built.early;
+  apart = made_apart w built.shape;
   linked = λ behind site origin gets. (direction_to_sender w.schema site origin gets, direction_from_sender w.schema site origin gets);
 }
 
@@ -241,43 +219,38 @@ built_resumed number w passes built = go w.phase refl
 
     go : (now : Phase) → w.phase ≡ now → IsBuilt (resumed w.phase w)
     go phase.Setup at = subst (λ (p : Phase). IsBuilt (resumed p w)) (sym at) (built_made w (subst (λ (p : Phase). IsOfScript (resumed p w)) at is) (subst (λ (p : Phase). IsOfConvergence (resumed p w)) at has) built)
-    go phase.Running at = built_kept w (resumed w.phase w) built is has (keeps_resumed w.phase w refl (ap is_setup at))
-    go phase.Suspended at = built_kept w (resumed w.phase w) built is has (keeps_resumed w.phase w refl (ap is_setup at))
+    go phase.Running at = built_kept w (resumed w.phase w) built is has (step_leads number command.Resume w None) (keeps_resumed w.phase w refl (ap is_setup at))
+    go phase.Suspended at = built_kept w (resumed w.phase w) built is has (step_leads number command.Resume w None) (keeps_resumed w.phase w refl (ap is_setup at))
 
 -- ---- each line
 
 plain_done : (number : ℕ) (c : Command) (w : WorldState) → IsPlain c w → NamesColumn c → world_refusal c w ≡ None → IsBuilt w → IsBuilt (world_done number c w)
-plain_done number c w plain named passes built = built_kept w (world_done number c w) built (step_is number c w None named built passes) (step_has number c w None named built passes) (keeps_done number c w plain)
+plain_done number c w plain named passes built = built_kept w (world_done number c w) built (step_is number c w None named built passes) (step_has number c w None named built passes) (step_leads number c w None) (keeps_done number c w plain)
 
-behind_of : (p : Phase) (b : Bool) → refused (is_setup p || b) refusal.WrongPhase ≡ None → is_setup p ≡ false
-behind_of phase.Setup b none = absurd (cc none)
-behind_of phase.Running b none = refl
-behind_of phase.Suspended b none = refl
-
-built_done : (number : ℕ) (c : Command) (w : WorldState) → is_built c ≡ true → NamesColumn c → world_refusal c w ≡ None → IsBuilt w → IsBuilt (world_done number c w)
-built_done number (command.Declare declaration) w form named passes built = built_declared number declaration w form named passes built
-built_done number command.Resume w form named passes built = built_resumed number w passes built
-built_done number (command.Snapshot site table tests) w form named passes built = plain_done number (command.Snapshot site table tests) w tt named passes built
-built_done number (command.Refresh site how) w form named passes built = plain_done number (command.Refresh site how) w tt named passes built
-built_done number (command.PurgeLog master table) w form named passes built = plain_done number (command.PurgeLog master table) w tt named passes built
-built_done number (command.Join site source) w form named passes built = absurd (cc form)
-built_done number command.Suspend w form named passes built =
+built_done : (number : ℕ) (c : Command) (w : WorldState) → NamesColumn c → world_refusal c w ≡ None → IsBuilt w → IsBuilt (world_done number c w)
+built_done number (command.Declare declaration) w named passes built = built_declared number declaration w named passes built
+built_done number command.Resume w named passes built = built_resumed number w passes built
+built_done number (command.Snapshot site table tests) w named passes built = plain_done number (command.Snapshot site table tests) w tt named passes built
+built_done number (command.Refresh site how) w named passes built = plain_done number (command.Refresh site how) w tt named passes built
+built_done number (command.PurgeLog master table) w named passes built = plain_done number (command.PurgeLog master table) w tt named passes built
+built_done number (command.Join site source) w named passes built = plain_done number (command.Join site source) w tt named passes built
+built_done number command.Suspend w named passes built =
     plain_done number command.Suspend w (behind_of w.phase (has_block w) (or_then-None (behind_setup_step w) _ (or_then-None (phase_step command.Suspend w) _ passes).0).0) named passes built
-built_done number command.Nothing w form named passes built = plain_done number command.Nothing w tt named passes built
-built_done number (command.Row table values) w form named passes built = plain_done number (command.Row table values) w tt named passes built
-built_done number (command.Statement statement) w form named passes built = plain_done number (command.Statement statement) w tt named passes built
-built_done number (command.Txn site) w form named passes built = plain_done number (command.Txn site) w tt named passes built
-built_done number command.Commit w form named passes built = plain_done number command.Commit w tt named passes built
-built_done number command.Abandon w form named passes built = plain_done number command.Abandon w tt named passes built
-built_done number (command.Push from to count) w form named passes built = plain_done number (command.Push from to count) w tt named passes built
-built_done number (command.Fates from to fates) w form named passes built = plain_done number (command.Fates from to fates) w tt named passes built
-built_done number (command.ClearFates from to) w form named passes built = plain_done number (command.ClearFates from to) w tt named passes built
-built_done number (command.Link from to word) w form named passes built = plain_done number (command.Link from to word) w tt named passes built
-built_done number (command.Clock site time) w form named passes built = plain_done number (command.Clock site time) w tt named passes built
-built_done number (command.Purge site) w form named passes built = plain_done number (command.Purge site) w tt named passes built
-built_done number (command.Execute site origin position) w form named passes built = plain_done number (command.Execute site origin position) w tt named passes built
-built_done number (command.DropError site origin position) w form named passes built = plain_done number (command.DropError site origin position) w tt named passes built
-built_done number (command.Show what site) w form named passes built = plain_done number (command.Show what site) w tt named passes built
+built_done number command.Nothing w named passes built = plain_done number command.Nothing w tt named passes built
+built_done number (command.Row table values) w named passes built = plain_done number (command.Row table values) w tt named passes built
+built_done number (command.Statement statement) w named passes built = plain_done number (command.Statement statement) w tt named passes built
+built_done number (command.Txn site) w named passes built = plain_done number (command.Txn site) w tt named passes built
+built_done number command.Commit w named passes built = plain_done number command.Commit w tt named passes built
+built_done number command.Abandon w named passes built = plain_done number command.Abandon w tt named passes built
+built_done number (command.Push from to count) w named passes built = plain_done number (command.Push from to count) w tt named passes built
+built_done number (command.Fates from to fates) w named passes built = plain_done number (command.Fates from to fates) w tt named passes built
+built_done number (command.ClearFates from to) w named passes built = plain_done number (command.ClearFates from to) w tt named passes built
+built_done number (command.Link from to word) w named passes built = plain_done number (command.Link from to word) w tt named passes built
+built_done number (command.Clock site time) w named passes built = plain_done number (command.Clock site time) w tt named passes built
+built_done number (command.Purge site) w named passes built = plain_done number (command.Purge site) w tt named passes built
+built_done number (command.Execute site origin position) w named passes built = plain_done number (command.Execute site origin position) w tt named passes built
+built_done number (command.DropError site origin position) w named passes built = plain_done number (command.DropError site origin position) w tt named passes built
+built_done number (command.Show what site) w named passes built = plain_done number (command.Show what site) w tt named passes built
 
 built_refused : (number : ℕ) (c : Command) (w : WorldState) (r : Refused) → NamesColumn c → step_refused number c w ≡ Some r → IsBuilt w → IsBuilt (world_refused c w)
 built_refused number c w r named told built = go (world_refusal c w) refl told
@@ -290,7 +263,7 @@ built_refused number c w r named told built = go (world_refusal c w) refl told
 
     go : (o : Option Refusal) → world_refusal c w ≡ o → told_by o number c w ≡ Some r → IsBuilt (world_refused c w)
     go None met told = absurd (cc told)
-    go (Some why) met told = built_kept w (world_refused c w) built (step_is number c w (Some why) named built met) (step_has number c w (Some why) named built met) kept
+    go (Some why) met told = built_kept w (world_refused c w) built (step_is number c w (Some why) named built met) (step_has number c w (Some why) named built met) (step_leads number c w (Some why)) kept
 
 -- what is left of a push for which there was no memory
 built_pushed : (number : ℕ) (c : Command) (old new : WorldState) (r : Refused) → is_push c ≡ true → IsShort number c old new r → IsBuilt old → IsBuilt new
@@ -327,10 +300,10 @@ built_short number c old new r short built = go (is_push c) refl
     go true is = built_pushed number c old new r is short built
 
 pub lines_keep_built : LinesKeepBuilt
-lines_keep_built number c old new (Ok sheet) form named does built = subst IsBuilt (sym does.world) (built_done number c old form named does.passes built)
+lines_keep_built number c old new (Ok sheet) form named does built = subst IsBuilt (sym does.world) (built_done number c old named does.passes built)
 lines_keep_built number c old new (Err r) form named (inl short) built = built_short number c old new r short built
 lines_keep_built number c old new (Err r) form named (inr refused) built = subst IsBuilt (sym refused.world) (built_refused number c old r named refused.told built)
 
 -- where nothing is declared
 pub first_built : IsBuilt first_world
-first_built = record { of_script = first_of_script; of_convergence = first_of_convergence; shape = HasShape-no_schema; early = tt; linked = λ behind site origin gets. absurd (cc behind) }
+first_built = record { of_script = first_of_script; of_convergence = first_of_convergence; shape = HasShape-no_schema; apart = tt; linked = λ behind site origin gets. absurd (cc behind) }

@@ -1,11 +1,14 @@
 -- The lemmas of this crate, from the bottom up.
 pub mod Places
 pub mod Directions
+pub mod Apart
 pub mod Following
 mod Queued
 mod Young
 pub mod Written
 pub mod Masters
+mod Quiet
+pub mod Joining
 pub mod Keeping
 pub mod KnownRefusals
 pub use Rattle.convergent_worlds.proofs.Scripts

@@ -16,7 +16,6 @@ use Rattle.deferred_queue.specs.Streams.{is_same_site}
 use Rattle.deferred_queue.proofs.Sites.{is_same_site-true, is_same_site-refl}
 use Rattle.net_plan.specs.Directions.{HasDirection}
 use Rattle.site_state.specs.State.{DestinationState, SiteState, is_among}
-use Rattle.site_state.specs.DeclaredSites.{IsDeclared}
 use Rattle.site_state.proofs.SchemaSites.{AreApart, are_apart, find_holds, place_found, own_is_no_sender}
 use Rattle.event_laws.specs.Core.{site_of}
 use Rattle.event_laws.specs.Events.{master_of, found_site, run}
@@ -133,14 +132,13 @@ module _ (schema : Schema) (shape : HasShape schema) (site master : SiteName) (i
 
 -- ---- a world
 
--- a site of a world is as the schema declares it
-site_declared : (w : WorldState) → GoesOn w → (site : SiteName) (x : SiteState) → site_of site w.sites ≡ Some x → IsDeclared w.schema x
-site_declared w g site x at_x = is.declared
-  where
-    is : IsSiteOf w.schema x
-    is = found_all (IsSiteOf w.schema) site (run g.leads.events g.start).sites x
-        (run_keeps (λ xs sent. AllByRecursion (IsSiteOf w.schema) xs) (becomes_sites_of w.schema) g.leads.events g.start (start_sites_of w.schema g.start.sites g.snapshots.fit.start.sites g.meshed.declared.each))
-        (ap (site_of site) (sym g.leads.simulates.sites) ∙ at_x)
+-- the sites of a world are of its schema, and as it declares them
+pub sites_of_schema : (w : WorldState) → GoesOn w → AllByRecursion (IsSiteOf w.schema) w.sites
+sites_of_schema w g = subst (AllByRecursion (IsSiteOf w.schema)) (sym g.leads.simulates.sites)
+    (run_keeps (λ xs sent. AllByRecursion (IsSiteOf w.schema) xs) (becomes_sites_of w.schema) g.leads.events g.start (start_sites_of w.schema g.start.sites g.snapshots.fit.start.sites g.meshed.declared.each))
+
+pub site_of_schema : (w : WorldState) → GoesOn w → (site : SiteName) (x : SiteState) → site_of site w.sites ≡ Some x → IsSiteOf w.schema x
+site_of_schema w g site x at_x = found_all (IsSiteOf w.schema) site w.sites x (sites_of_schema w g) at_x
 
 pub behind_goes : (w : WorldState) → IsOfConvergence w → is_setup w.phase ≡ false → GoesOn w
 behind_goes w (Declaring so_far) behind = absurd (cc (behind, so_far.setup.setup))
@@ -166,7 +164,7 @@ served_by w built behind site x m at_x at_m = go (master_of w.schema site) refl 
         rw (here, named) (record {
           there = linked.1;
           back = linked.0;
-          sends = (site_declared w (behind_goes w built.of_convergence behind) site x at_x).destinations ∙ ap (destinations_of w.schema) here ∙ only_destination w.schema built.shape site name is;
+          sends = (site_of_schema w (behind_goes w built.of_convergence behind) site x at_x).declared.destinations ∙ ap (destinations_of w.schema) here ∙ only_destination w.schema built.shape site name is;
           another = is_another w.schema built.shape site name is;
         })
 

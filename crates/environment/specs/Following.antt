@@ -1,13 +1,12 @@
 -- What an environment may become, and what holds of it whatever its script is.
 use Rattle.std.specs.Prelude.{◌≡◌, ◌≢◌, ℕ, Bool, true, false, drop, List, [], ◌∷◌, Option, Some, None, option_map}
-use Rattle.std.specs.List.{AllByRecursion}
 use Rattle.rep_values.specs.declared.name.SiteName.{SiteName}
 use Rattle.rep_schema.specs.Shape.{HasShape}
 use Rattle.net_plan.specs.declared.fate.Fate.{Fate}
 use Rattle.net_plan.specs.Directions.{Direction, HasDirection, direction_of, at_direction, delivered}
 use Rattle.event_laws.specs.Core.{site_of}
 use Rattle.site_rounds.specs.Parts.{parts_done}
-use Rattle.site_making.specs.Entries.{IsThere}
+use Rattle.join_laws.specs.Names.{AreApart}
 use Rattle.world_state.specs.World.{WorldState, with_site, gets_from}
 use Rattle.world_state.specs.Phases.{is_setup}
 use Rattle.world_state.specs.Pushes.{world_release, world_send, world_take, world_send_mark}
@@ -89,12 +88,12 @@ pub record PushesInPart (from to : SiteName) (old new : WorldState) : Type 0 whe
 
 -- ---- what holds of it
 
--- a world of some script of the forms that are built: the laws over events, of snapshots and of convergence hold of it, every
--- declared site is there from the start, and behind Setup there is a direction from each site to its senders and back
+-- a world of some script of the forms that are built: the laws over events, of snapshots and of convergence hold of it, no two
+-- of its sites have the same name, and behind Setup there is a direction from each site to its senders and back
 pub record IsBuilt (w : WorldState) : Type 0 where
   pub of_script : IsOfScript w
   pub of_convergence : IsOfConvergence w
   pub shape : HasShape w.schema
-  pub early : AllByRecursion IsThere w.schema.sites
+  pub apart : AreApart w.sites
   pub linked : is_setup w.phase ≡ false → (site origin : SiteName) → gets_from w site origin ≡ true
       → HasDirection w.net site origin × HasDirection w.net origin site

@@ -1,5 +1,6 @@
 -- The definitions of this crate.
 pub mod Finding
+pub mod Joining
 pub mod Following
 pub mod Known
 pub mod Texts

@@ -5,7 +5,7 @@ use Rattle.rep_values.specs.declared.name.SiteName.{SiteName}
 use Rattle.rep_values.specs.declared.name.TableName.{TableName}
 use Rattle.rep_schema.specs.Named.{table_place}
 use Rattle.rep_schema.specs.Sites.{senders_of, destinations_of}
-use Rattle.report_text.specs.Texts.{commit_text, nothing_committed_text, purge_text, purge_log_text, refresh_fast_text, refresh_complete_text, execute_text, drop_error_text, push_text, tables_text}
+use Rattle.report_text.specs.Texts.{commit_text, nothing_committed_text, purge_text, purge_log_text, refresh_fast_text, refresh_complete_text, join_text, execute_text, drop_error_text, push_text, tables_text}
 use Rattle.report_text.specs.Refusals.{error_text, refused_text}
 use Rattle.site_report.specs.Shows.{errors_text, journal_text, log_text, marks_text, queue_text}
 use Rattle.error_queue.specs.declared.entry.ErrorEntry.{ErrorEntry}
@@ -19,7 +19,7 @@ use Rattle.event_laws.specs.Core.{site_of}
 use Rattle.world_state.specs.declared.block.Block.{Block}
 use Rattle.world_state.specs.declared.refused.Refused.{Refused}
 use Rattle.world_state.specs.World.{WorldState, is_there}
-use Rattle.world_state.specs.Answers.{RefreshTold, commit_number, purge_count, log_purge_count, refresh_answer}
+use Rattle.world_state.specs.Answers.{RefreshTold, commit_number, purge_count, log_purge_count, refresh_answer, join_count}
 use Rattle.world_state.specs.PushAnswers.{push_count, push_errors}
 use Rattle.world_state.specs.Steps.{step_refused}
 
@@ -70,7 +70,7 @@ abbrev pub shown_found : Shown → SiteName → Option SiteState → WorldState 
 shown_found what site None w = []
 shown_found what site (Some x) w = shown_text what site x w
 
--- what a line prints; those of joins come with them
+-- what a line prints
 abbrev pub world_text : Command → WorldState → List ℕ
 world_text command.Nothing w = []
 world_text (command.Declare declaration) w = []
@@ -92,7 +92,7 @@ world_text (command.DropError site origin position) w = drop_error_text site.0 o
 world_text (command.Refresh site how) w = refreshed_text site (refresh_answer site how w)
 world_text (command.PurgeLog master table) w = log_purged_text master table (table_place w.schema table) w
 world_text command.Suspend w = []
-world_text (command.Join site source) w = []
+world_text (command.Join site source) w = join_text site.0 source.0 (join_count source w)
 world_text (command.Show what site) w = shown_found what site (site_of site w.sites) w
 
 abbrev pub told_text : Option Refused → Command → WorldState → List ℕ

@@ -3,6 +3,7 @@
 #![tactic(auto)]
 
 mod environment;
+mod joins;
 mod laws;
 mod names;
 mod phases;
@@ -14,6 +15,6 @@ pub use convergent_worlds::convergence_holds;
 pub use environment::{Environment, place_of};
 pub use laws::lines_keep_worlds_of_scripts;
 pub use refreshes::young_step;
-pub use site_making::{Site, make_net, make_sites};
+pub use site_making::{Site, make_net, make_sites, master_here};
 pub use site_report::{add_errors, add_journal, add_log, add_marks, add_queue};
 pub use snapshots::{master_of, tests_in};

@@ -1,7 +1,6 @@
 //! Why a line is refused, as far as that is known before it is tried.
-ghost use Rattle.std.specs.Prelude.{◌≡◌, true, false, not, None};
+ghost use Rattle.std.specs.Prelude.{◌≡◌, false, not, None};
 ghost use Rattle.rep_values.specs.RefusalSteps.{refused, first_refusal, unknown};
-ghost use Rattle.script_parse.specs.Built.{is_built};
 ghost use Rattle.event_laws.specs.Core.{site_of};
 ghost use Rattle.world_state.specs.Phases.{is_setup, phase_step};
 ghost use Rattle.world_state.specs.Refusals.{has_link};
@@ -76,11 +75,10 @@ impl Environment {
         }
     }
 
-    // What hinders a line of a form that is built behind the phase.
+    // What hinders a line behind the phase.
     fn further_step(&self, command: &Command) -> Option<Refusal>
         requires built { IsBuilt self.now }
         requires behind { phase_step command.now self.now ≡ None }
-        requires form { is_built command.now ≡ true }
         ensures { result ≡ first_refusal (known_steps command.now self.now) }
     {
         match command {
@@ -108,15 +106,14 @@ impl Environment {
             | Command::Commit
             | Command::Abandon
             | Command::Suspend => None,
-            Command::Join { .. } => unreachable!(),
+            Command::Join { site, source } => self.join_refusal(site, source),
         }
     }
 
     /// Why a line is refused, as far as that is known before it is tried: all but what a row, a commit, an execution and a
     /// drop of an error meet as they run. It takes no memory.
     pub fn refusal(&self, command: &Command) -> Option<Refusal>
-        requires built { IsBuilt self.now }
-        requires form { is_built command.now ≡ true }
+        requires { IsBuilt self.now }
         ensures { result ≡ known_refusal command.now self.now }
     {
         if let Some(refusal) = self.phase_step(command) {

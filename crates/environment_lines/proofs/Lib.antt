@@ -7,6 +7,10 @@ mod ShownRows
 mod Parts
 mod RefreshedSites
 mod RefreshSteps
+mod QueueCounts
+mod OpenedSites
+mod JoinSteps
+pub mod TakenOver
 pub use Rattle.environment.proofs.Keeping
 pub use Rattle.environment.proofs.KnownRefusals
 pub use Rattle.environment.proofs.Scripts

@@ -1,5 +1,6 @@
 -- The definitions of this crate.
 pub mod Refreshing
+pub mod Joining
 pub use Rattle.environment.specs.Following
 pub use Rattle.environment.specs.Known
 pub use Rattle.environment.specs.Texts

@@ -2,6 +2,7 @@
 #![tactic(auto)]
 
 mod blocks;
+mod joins;
 mod links;
 mod refreshing;
 mod room;
@@ -12,6 +13,7 @@ mod snapshots;
 
 pub use blocks::{abandon, commit, open_block, state};
 pub use environment::{Environment, Site, convergence_holds, place_of};
+pub use joins::join;
 pub use links::{add_fates, clear_fates, set_link};
 pub use refreshing::{purge_log, refresh};
 pub use setup::{add_row, declare, resume, suspend};

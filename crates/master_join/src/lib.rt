@@ -7,4 +7,4 @@ mod quiet;
 mod rows;
 
 pub use copy::copy_site;
-pub use quiet::unfinished;
+pub use quiet::{master_errors, unfinished, unfinished_of};

@@ -7,8 +7,8 @@ use rep_schema::RowStore;
 use schema_sites::is_master_site;
 use site_core::Site;
 
-/// How many of the positions 1 to a last one aren't finished.
-fn unfinished_of<R: RowStore>(site: &Site<R>, last: &Past) -> u64
+/// How many of the positions 1 to a last one of an origin aren't finished at a site. It takes no memory.
+pub fn unfinished_of<R: RowStore>(site: &Site<R>, last: &Past) -> u64
     ensures { result ≡ unfinished_of site.now last.now }
 {
     // Each position up to the mark is finished.
@@ -22,8 +22,8 @@ fn unfinished_of<R: RowStore>(site: &Site<R>, last: &Past) -> u64
     count
 }
 
-/// How many errors of masters' transactions stand.
-fn master_errors<R: RowStore>(site: &Site<R>) -> u64
+/// How many errors of masters' transactions stand at a site. It takes no memory.
+pub fn master_errors<R: RowStore>(site: &Site<R>) -> u64
     ensures { result ≡ master_errors site.now }
 {
     let errors = site.errors();

@@ -35,6 +35,10 @@ refresh_fast_text site keys rows = line (codes "refresh") (site ∷ codes "fast"
 abbrev pub refresh_complete_text : List ℕ → ℕ → List ℕ
 refresh_complete_text site rows = line (codes "refresh") (site ∷ codes "complete" ∷ codes "rows" ∷ decimal rows ∷ [])
 
+-- join SITE from SOURCE rows N
+abbrev pub join_text : List ℕ → List ℕ → ℕ → List ℕ
+join_text site source count = line (codes "join") (site ∷ codes "from" ∷ source ∷ codes "rows" ∷ decimal count ∷ [])
+
 -- execute SITE ORIGIN POSITION done
 abbrev pub execute_text : List ℕ → List ℕ → ℕ → List ℕ
 execute_text site origin position = line (codes "execute") (site ∷ origin ∷ decimal position ∷ codes "done" ∷ [])

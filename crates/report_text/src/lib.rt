@@ -11,8 +11,9 @@ mod word;
 pub use calls::add_calls;
 pub use lines::{Lines, MOST_LINE};
 pub use printed::{
-    PushCount, commit_line, drop_error_line, execute_line, malformed_line, nothing_committed_line,
-    purge_line, purge_log_line, push_line, refresh_complete_line, refresh_fast_line,
+    PushCount, commit_line, drop_error_line, execute_line, join_line, malformed_line,
+    nothing_committed_line, purge_line, purge_log_line, push_line, refresh_complete_line,
+    refresh_fast_line,
 };
 pub use refusals::{error_line, refused_line};
 pub use shown::{add_logged_key, add_tables};

@@ -1,7 +1,7 @@
 //! Lines of at most 256 bytes, which are put into room that is there.
 ghost use Rattle.std.specs.Prelude.{◌≤◌};
 ghost use Rattle.report_text.specs.Sheet.{Appends, most_line};
-ghost use Rattle.report_text.specs.Texts.{commit_text, nothing_committed_text, purge_text, purge_log_text, execute_text, drop_error_text, push_text, refresh_fast_text, refresh_complete_text, malformed_text};
+ghost use Rattle.report_text.specs.Texts.{commit_text, nothing_committed_text, purge_text, purge_log_text, execute_text, drop_error_text, push_text, refresh_fast_text, refresh_complete_text, join_text, malformed_text};
 
 use crate::{Lines, Word};
 use rep_values::{SiteName, TableName};
@@ -79,6 +79,23 @@ pub fn refresh_complete_line(lines: &mut Lines, site: SiteName, rows: u64)
         &[
             Word::Name(site.0),
             Word::Plain(b"complete"),
+            Word::Plain(b"rows"),
+            Word::Number(rows),
+        ],
+    );
+}
+
+/// `join SITE from SOURCE rows N`
+pub fn join_line(lines: &mut Lines, site: SiteName, source: SiteName, rows: u64)
+    requires { most_line ≤ lines.old.room }
+    ensures { Appends lines.old lines.new (join_text site.0 source.0 rows) }
+{
+    lines.put_line(
+        b"join",
+        &[
+            Word::Name(site.0),
+            Word::Plain(b"from"),
+            Word::Name(source.0),
             Word::Plain(b"rows"),
             Word::Number(rows),
         ],

@@ -11,7 +11,7 @@ use Rattle.rep_declare.specs.Additions.{ColumnNamed}
 use Rattle.script_lex.specs.declared.token.Token.{Token}
 use Rattle.script_lex.specs.Lines.{lexed}
 use Rattle.script_words.specs.Words.{is_named, is_valued, is_chosen, choice_of}
-use Rattle.script_words.specs.Reading.{Reading, ◌>>=◌, begins, at, mark, row, ◌⊛◌, ◌⊘◌, optional, separated, many, some_of, ended}
+use Rattle.script_words.specs.Reading.{Reading, ◌>>=◌, at, mark, row, ◌⊛◌, ◌⊘◌, optional, separated, many, some_of, ended}
 use Rattle.script_words.specs.Parts.{name, number, whole_number, value, choice}
 use Rattle.script_parse.specs.declared.heads.Declaring.{Declaring}
 use Rattle.script_parse.specs.declared.heads.Declaring.TheVariants as declaring
@@ -26,7 +26,7 @@ use Rattle.script_parse.specs.Parts.{site, table, rels, row_test, set_part, fate
 use Rattle.script_parse.specs.Declarations.{declaration_of}
 use Rattle.script_parse.specs.Rows.{insert_of, update_of, delete_of, fates_behind, fate_row}
 use Rattle.script_parse.specs.Heads.{heads, row_of}
-use Rattle.script_parse.specs.Built.{is_built, gated, later_words}
+use Rattle.script_parse.specs.Built.{is_built, gated}
 use Rattle.script_parse.specs.Parsed.{formed, form_of, command_of, parsed}
 
 -- something holds of all that a reading gives
@@ -229,11 +229,7 @@ form_of-named (t ∷ ts) c is = go (choice_of heads t) is
 
 command_of-Ok : (ts : List Token) (c : Command) → command_of ts ≡ Ok c → (is_built c ≡ true) × NamesColumn c
 unfolding command_of
-command_of-Ok ts c is = go (begins (is_chosen later_words) ts) is
-  where
-    go : (b : Bool) → (if b then not_built else gated is_built (form_of ts)) ≡ Ok c → (is_built c ≡ true) × NamesColumn c
-    go true is = absurd (cc is)
-    go false is = let built = gated-built (form_of ts) c is in (built.0, form_of-named ts c built.1)
+command_of-Ok ts c is = let built = gated-built (form_of ts) c is in (built.0, form_of-named ts c built.1)
 
 -- a command that is read is of a form that is built, and if it declares a group or a constraint, that names a column
 pub parsed-Ok : (line : List ℕ) (c : Command) → parsed line ≡ Ok c → (is_built c ≡ true) × NamesColumn c

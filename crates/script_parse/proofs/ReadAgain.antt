@@ -1,5 +1,5 @@
 -- Commands are read as they are written.
-use Rattle.std.proofs.Common.{◌≡◌, ◌≢◌, ℕ, List, [], ◌∷◌, Option, Some, None, Ok, refl}
+use Rattle.std.proofs.Common.{◌≡◌, ◌≢◌, ℕ, List, [], ◌∷◌, Option, Some, None, Result, Ok, refl, ap}
 use Rattle.std.specs.List.{AllByRecursion}
 use Rattle.rep_values.specs.declared.literal.Literal.{Literal}
 use Rattle.rep_values.specs.declared.name.SiteName.{SiteName}
@@ -170,51 +170,7 @@ reads_again command.Suspend formed = refl
 reads_again (command.Join site source) formed = rw (formed.0, formed.1) refl
 reads_again (command.Show what site) formed = show_again what site formed
 
-declaration_gated : (d : Declare) → form_of (spelled (command.Declare d)) ≡ Ok (command.Declare d)
-    → command_of (spelled (command.Declare d)) ≡ gated is_built (Ok (command.Declare d))
-unfolding command_of
-declaration_gated (declare.Site name) read = rw read refl
-declaration_gated (declare.LateSite name) read = refl
-declaration_gated (declare.SnapSite name master) read = rw read refl
-declaration_gated (declare.Table name columns) read = rw read refl
-declaration_gated (declare.Group table group columns) read = rw read refl
-declaration_gated (declare.Method table group method) read = rw read refl
-declaration_gated (declare.Priority group v level) read = rw read refl
-declaration_gated (declare.SiteLevel site level) read = rw read refl
-declaration_gated (declare.Unique table constraint columns) read = rw read refl
-declaration_gated (declare.UniqueMethod table constraint method) read = rw read refl
-declaration_gated (declare.Check table check column r v) read = rw read refl
-declaration_gated (declare.Convergent table) read = rw read refl
-
-statement_gated : (s : Statement) → form_of (spelled (command.Statement s)) ≡ Ok (command.Statement s)
-    → command_of (spelled (command.Statement s)) ≡ gated is_built (Ok (command.Statement s))
-unfolding command_of
-statement_gated (statement.Insert table values) read = rw read refl
-statement_gated (statement.Update table key sets) read = rw read refl
-statement_gated (statement.Delete table key) read = rw read refl
-
 -- a command that is read stops at rule 5 where its form isn't built
 pub command_gated : (c : Command) → form_of (spelled c) ≡ Ok c → command_of (spelled c) ≡ gated is_built (Ok c)
 unfolding command_of
-command_gated command.Nothing read = rw read refl
-command_gated (command.Declare d) read = declaration_gated d read
-command_gated (command.Snapshot site table tests) read = rw read refl
-command_gated (command.Row table values) read = rw read refl
-command_gated command.Resume read = rw read refl
-command_gated (command.Statement s) read = statement_gated s read
-command_gated (command.Txn site) read = rw read refl
-command_gated command.Commit read = rw read refl
-command_gated command.Abandon read = rw read refl
-command_gated (command.Push from to count) read = rw read refl
-command_gated (command.Fates from to fates) read = rw read refl
-command_gated (command.ClearFates from to) read = rw read refl
-command_gated (command.Link from to l) read = rw read refl
-command_gated (command.Clock site time) read = rw read refl
-command_gated (command.Purge site) read = rw read refl
-command_gated (command.Execute site origin position) read = rw read refl
-command_gated (command.DropError site origin position) read = rw read refl
-command_gated (command.Refresh site how) read = rw read refl
-command_gated (command.PurgeLog master table) read = rw read refl
-command_gated command.Suspend read = rw read refl
-command_gated (command.Join site source) read = refl
-command_gated (command.Show what site) read = rw read refl
+command_gated c read = ap (λ (o : Result Command ℕ). gated is_built o) read

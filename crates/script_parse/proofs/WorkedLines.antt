@@ -28,7 +28,7 @@ site_line : parsed (codes "site A") ≡ Ok (command.Declare (declare.Site (site_
 unfolding lexed tokens_from longest_up_to has_form token_of one mark many form_of command_of column row_test set_part
 site_line = refl
 
-late_site_line : parsed (codes "latesite D") ≡ Err 5
+late_site_line : parsed (codes "latesite D") ≡ Ok (command.Declare (declare.LateSite (site_of (codes "D"))))
 unfolding lexed tokens_from longest_up_to has_form token_of one mark many form_of command_of column row_test set_part
 late_site_line = refl
 
@@ -289,7 +289,21 @@ shown_log : parsed (codes "show log A") ≡ Ok (command.Show shown.Log (site_of 
 unfolding lexed tokens_from longest_up_to has_form token_of one mark many form_of command_of column row_test set_part
 shown_log = refl
 
--- Forms that aren't built: rule 5 where the whole line is one, or where its word has no form that is built, and else rule 6.
+-- Forms of masters that join.
+
+joining : parsed (codes "join D A") ≡ Ok (command.Join (site_of (codes "D")) (site_of (codes "A")))
+unfolding lexed tokens_from longest_up_to has_form token_of one mark many form_of command_of column row_test set_part
+joining = refl
+
+join_word : parsed (codes "join") ≡ Err 6
+unfolding lexed tokens_from longest_up_to has_form token_of one mark many form_of command_of column row_test set_part
+join_word = refl
+
+late_site_and_more : parsed (codes "latesite D E") ≡ Err 6
+unfolding lexed tokens_from longest_up_to has_form token_of one mark many form_of command_of column row_test set_part
+late_site_and_more = refl
+
+-- Forms that aren't built: rule 5 where the whole line is one, and else rule 6.
 
 shown_calls : parsed (codes "show calls A") ≡ Err 5
 unfolding lexed tokens_from longest_up_to has_form token_of one mark many form_of command_of column row_test set_part
@@ -298,7 +312,3 @@ shown_calls = refl
 shown_log_and_more : parsed (codes "show log A B") ≡ Err 6
 unfolding lexed tokens_from longest_up_to has_form token_of one mark many form_of command_of column row_test set_part
 shown_log_and_more = refl
-
-joining : parsed (codes "join D A") ≡ Err 5
-unfolding lexed tokens_from longest_up_to has_form token_of one mark many form_of command_of column row_test set_part
-joining = refl

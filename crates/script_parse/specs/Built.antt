@@ -1,26 +1,9 @@
 -- Which forms are built. A line of any other form is no command yet.
-use Rattle.std.specs.Prelude.{ℕ, Bool, true, false, if◌then◌else◌, List, [], ◌∷◌, Result, Ok, Err, codes}
-use Rattle.rep_declare.specs.declared.declaration.Declare.{Declare}
-use Rattle.rep_declare.specs.declared.declaration.Declare.TheVariants as declare
+use Rattle.std.specs.Prelude.{ℕ, Bool, true, false, if◌then◌else◌, Result, Ok, Err}
 use Rattle.script_parse.specs.declared.command.Shown.{Shown}
 use Rattle.script_parse.specs.declared.command.Shown.TheVariants as shown
 use Rattle.script_parse.specs.declared.command.Command.{Command}
 use Rattle.script_parse.specs.declared.command.Command.TheVariants as command
-
--- a declaration of anything but a late master
-abbrev pub is_built_declaration : Declare → Bool
-is_built_declaration (declare.Site name) = true
-is_built_declaration (declare.LateSite name) = false
-is_built_declaration (declare.SnapSite name master) = true
-is_built_declaration (declare.Table name columns) = true
-is_built_declaration (declare.Group table group columns) = true
-is_built_declaration (declare.Method table group method) = true
-is_built_declaration (declare.Priority group value level) = true
-is_built_declaration (declare.SiteLevel site level) = true
-is_built_declaration (declare.Unique table constraint columns) = true
-is_built_declaration (declare.UniqueMethod table constraint method) = true
-is_built_declaration (declare.Check table check column rel value) = true
-is_built_declaration (declare.Convergent table) = true
 
 -- anything but the calls
 abbrev pub is_built_show : Shown → Bool
@@ -32,10 +15,10 @@ is_built_show shown.Journal = true
 is_built_show shown.Log = true
 is_built_show shown.Calls = false
 
--- a command of a form that is built: no late masters
+-- a command of a form that is built
 abbrev pub is_built : Command → Bool
 is_built command.Nothing = true
-is_built (command.Declare declaration) = is_built_declaration declaration
+is_built (command.Declare declaration) = true
 is_built (command.Snapshot site table tests) = true
 is_built (command.Row table values) = true
 is_built command.Resume = true
@@ -54,14 +37,10 @@ is_built (command.DropError site origin position) = true
 is_built (command.Refresh site how) = true
 is_built (command.PurgeLog master table) = true
 is_built command.Suspend = true
-is_built (command.Join site source) = false
+is_built (command.Join site source) = true
 is_built (command.Show what site) = is_built_show what
 
 -- a command whose form doesn't pass is stopped by rule 5
 abbrev pub gated : (Command → Bool) → Result Command ℕ → Result Command ℕ
 gated passes (Err rule) = Err rule
 gated passes (Ok c) = if passes c then Ok c else Err 5
-
--- the words of which no form is built
-abbrev pub later_words : List (List ℕ × Unit {0})
-later_words = (codes "latesite", tt) ∷ (codes "join", tt) ∷ []

@@ -1,13 +1,13 @@
 -- A line as its command, or the first rule that it breaks.
-use Rattle.std.specs.Prelude.{◌≡◌, ℕ, if◌then◌else◌, List, [], ◌∷◌, Option, Some, None, Result, Ok, Err, IsOk}
+use Rattle.std.specs.Prelude.{◌≡◌, ℕ, List, [], ◌∷◌, Option, Some, None, Result, Ok, Err, IsOk}
 use Rattle.script_lex.specs.declared.token.Token.{Token}
 use Rattle.script_lex.specs.Lines.{lexed}
-use Rattle.script_words.specs.Words.{choice_of, is_chosen}
-use Rattle.script_words.specs.Reading.{◌>>=◌, begins, whole}
+use Rattle.script_words.specs.Words.{choice_of}
+use Rattle.script_words.specs.Reading.{◌>>=◌, whole}
 use Rattle.script_parse.specs.declared.heads.Head.{Head}
 use Rattle.script_parse.specs.declared.command.Command.{Command}
 use Rattle.script_parse.specs.declared.command.Command.TheVariants as command
-use Rattle.script_parse.specs.Built.{is_built, gated, later_words}
+use Rattle.script_parse.specs.Built.{is_built, gated}
 use Rattle.script_parse.specs.Heads.{heads, row_of}
 
 -- rule 5: a command word; rule 6: its form
@@ -20,10 +20,9 @@ unfoldable pub form_of : List Token → Result Command ℕ
 form_of [] = Ok command.Nothing
 form_of (t ∷ ts) = formed (choice_of heads t) ts
 
--- the same of the forms that are built: any other is stopped by rule 5, and so is whatever stands behind a word of which
--- no form is built
+-- the same of the forms that are built: any other is stopped by rule 5
 unfoldable pub command_of : List Token → Result Command ℕ
-command_of ts = if begins (is_chosen later_words) ts then Err 5 else gated is_built (form_of ts)
+command_of ts = gated is_built (form_of ts)
 
 -- the tokens begin with a command word, and the parts of its form stand behind it
 abbrev pub HasForm : List Token → Type 0

@@ -1,30 +1,10 @@
 //! Which forms are built. A line of any other form is no command yet.
 ghost use Rattle.std.specs.Prelude.{◌≡◌, Ok, IfOk};
 ghost use Rattle.script_lex.specs.Stop.{GivesExactly};
-ghost use Rattle.script_parse.specs.Built.{is_built, is_built_declaration, is_built_show, gated};
+ghost use Rattle.script_parse.specs.Built.{is_built, is_built_show, gated};
 
 use crate::{Command, Shown};
-use rep_declare::Declare;
 use script_lex::BrokenRule;
-
-fn is_built_declaration(declaration: &Declare) -> bool
-    ensures { result ≡ is_built_declaration declaration.now }
-{
-    match declaration {
-        Declare::LateSite { .. } => false,
-        Declare::Site { .. }
-        | Declare::SnapSite { .. }
-        | Declare::Table { .. }
-        | Declare::Group { .. }
-        | Declare::Method { .. }
-        | Declare::Priority { .. }
-        | Declare::SiteLevel { .. }
-        | Declare::Unique { .. }
-        | Declare::UniqueMethod { .. }
-        | Declare::Check { .. }
-        | Declare::Convergent { .. } => true,
-    }
-}
 
 fn is_built_show(what: Shown) -> bool
     ensures { result ≡ is_built_show what }
@@ -40,10 +20,9 @@ fn is_built(command: &Command) -> bool
     ensures { result ≡ is_built command.now }
 {
     match command {
-        Command::Declare(declaration) => is_built_declaration(declaration),
         Command::Show { what, .. } => is_built_show(*what),
-        Command::Join { .. } => false,
         Command::Nothing
+        | Command::Declare(_)
         | Command::Snapshot { .. }
         | Command::Refresh { .. }
         | Command::PurgeLog { .. }
@@ -61,7 +40,8 @@ fn is_built(command: &Command) -> bool
         | Command::Purge { .. }
         | Command::Execute { .. }
         | Command::DropError { .. }
-        | Command::Suspend => true,
+        | Command::Suspend
+        | Command::Join { .. } => true,
     }
 }
 

@@ -2,12 +2,10 @@
 ghost use Rattle.std.specs.Prelude.{◌≡◌, IsOk, IfOk};
 ghost use Rattle.script_lex.specs.Lines.{HasTokens};
 ghost use Rattle.script_lex.specs.Stop.{Gives};
-ghost use Rattle.script_words.specs.Words.{is_chosen};
-ghost use Rattle.script_words.specs.Reading.{whole, begins};
+ghost use Rattle.script_words.specs.Reading.{whole};
 ghost use Rattle.script_words.specs.Readers.{Takes};
 ghost use Rattle.script_parse.specs.Named.{NamesColumn};
 ghost use Rattle.script_parse.specs.Heads.{row_of};
-ghost use Rattle.script_parse.specs.Built.{later_words};
 ghost use Rattle.script_parse.specs.Parsed.{form_of, command_of, parsed, HasForm};
 
 use crate::Command;
@@ -79,22 +77,12 @@ fn form_of(alloc: Global, tokens: &mut Reader<'_>) -> Result<Command, LineStop>
     form(alloc, head, tokens)
 }
 
-const LATER: [(&[u8], ()); 2] = [(b"latesite", ()), (b"join", ())];
-
-fn is_later(tokens: &Reader<'_>) -> bool
-    ensures { result ≡ begins (is_chosen later_words) tokens.now }
-{
-    tokens.is_at_choice(&LATER)
-}
-
+/// The command that the tokens are, of the forms that are built.
 #[tactic(auto, unfolding(crate::specs::Parsed::command_of))]
 fn command_of(alloc: Global, tokens: &mut Reader<'_>) -> Result<Command, LineStop>
     ensures read { Gives (HasForm tokens.old) (λ command. command) result (command_of tokens.old) }
     ensures named { IfOk result NamesColumn }
 {
-    if is_later(tokens) {
-        return Err(LineStop::Rule(5));
-    }
     let command = form_of(alloc, tokens)?;
     Ok(built(command)?)
 }

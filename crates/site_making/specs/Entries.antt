@@ -1,12 +1,8 @@
 -- The entries of the sites that Setup's end makes.
-use Rattle.std.specs.Prelude.{◌≡◌, false, Some}
+use Rattle.std.specs.Prelude.{◌≡◌, Some}
 use Rattle.rep_schema.specs.declared.schema.Schema.{Schema}
 use Rattle.rep_schema.specs.declared.schema.SiteEntry.{SiteEntry}
 use Rattle.rep_schema.specs.Named.{site_named}
-
--- a site that is there from the start
-abbrev pub IsThere : SiteEntry → Type 0
-IsThere entry = entry.late ≡ false
 
 -- an entry is the one that the schema has under its name
 abbrev pub IsEntryOf : Schema → SiteEntry → Type 0

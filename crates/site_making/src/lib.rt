@@ -8,4 +8,4 @@ mod table_sets;
 
 pub use net::make_net;
 pub use site_core::Site;
-pub use sites::make_sites;
+pub use sites::{make_sites, master_here};

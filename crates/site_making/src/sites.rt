@@ -1,5 +1,5 @@
 //! The sites that the end of Setup makes.
-ghost use Rattle.std.specs.Prelude.{◌≡◌, ◌<◌, ℕ, true, false, [], length, map, None, IfOk, OnOk};
+ghost use Rattle.std.specs.Prelude.{◌≡◌, ◌<◌, ℕ, true, false, [], length, map, filter, None, IfOk, OnOk};
 ghost use Rattle.std.specs.List.{AllByRecursion};
 ghost use Rattle.rep_values.specs.declared.name.SiteName.{SiteName as SiteNameValue};
 ghost use Rattle.rep_schema.specs.Sites.{has_table};
@@ -7,8 +7,8 @@ ghost use Rattle.rep_laws.specs.Commuting.{IsSound};
 ghost use Rattle.site_state.specs.State.{is_master_site};
 ghost use Rattle.site_state.specs.Making.{master_here, new_site};
 ghost use Rattle.site_state.specs.Fits.{IsKeyed, AreWithin, AreApart};
-ghost use Rattle.world_state.specs.Making.{rows_made, snapshots_at, snapshot_here, rows_of_snapshots, site_made, entry_made, sites_made};
-ghost use Rattle.site_making.specs.Entries.{IsThere, IsEntryOf};
+ghost use Rattle.world_state.specs.Making.{rows_made, snapshots_at, snapshot_here, rows_of_snapshots, site_made, entry_made, is_early, sites_made};
+ghost use Rattle.site_making.specs.Entries.{IsEntryOf};
 
 use crate::shown::show_each;
 use crate::table_sets::{logged_at, snapshot_here};
@@ -18,14 +18,14 @@ use rep_laws::sound_schemas_have_keys;
 use rep_lists::{Copies, Items, NoMemory};
 use rep_schema::{RowStore, Schema, SiteEntry, TableSet};
 use rep_values::SiteName;
-use schema_sites::{destinations_of, first_master, senders_of};
+use schema_sites::{destinations_of, first_master, is_late_master, senders_of};
 use site_core::Site;
 use snapshot_query::Snapshot;
 use std::alloc::Global;
 use world_state::DeclaredSnapshot;
 
 /// A master site, which holds every table.
-fn master_here(schema: &Schema, site: SiteName) -> Here
+pub fn master_here(schema: &Schema, site: SiteName) -> Here
     ensures { result ≡ master_here schema.now site }
 {
     Here {
@@ -147,18 +147,19 @@ fn entry_made(
     }
 }
 
-/// The sites of all entries.
+/// The sites of entries.
 fn entries_made(
     alloc: Global,
     filled: &PageTables,
     snapshots: &[DeclaredSnapshot],
+    entries: &[SiteEntry],
 ) -> Result<Vec<Site<PageTables>>, NoMemory>
     requires keyed { IsKeyed filled.now.schema }
+    requires entries { AllByRecursion (IsEntryOf filled.now.schema) entries.now }
     requires within { AllByRecursion (λ s. s.table < length filled.now.schema.tables) snapshots.now }
     requires apart { (site : SiteNameValue) → AreApart (snapshots_at snapshots.now site) }
-    ensures { IfOk result (λ made. made.items ≡ map (entry_made filled.now.schema filled.now.tables snapshots.now) filled.now.schema.sites) }
+    ensures { IfOk result (λ made. made.items ≡ map (entry_made filled.now.schema filled.now.tables snapshots.now) entries.now) }
 {
-    let entries = filled.schema().sites.as_slice();
     let mut made = Vec::new(alloc);
     for entry in entries {
         made.push(entry_made(alloc, filled, snapshots, entry)?)?;
@@ -166,20 +167,61 @@ fn entries_made(
     Ok(made)
 }
 
-/// The declared sites, in declared order, made of a store whose rows are filled in with stamp 0 and the first declared
-/// master: masters have all of them, and log the tables of which a snapshot site of theirs has a snapshot, snapshot sites
-/// have what their snapshots show. The store stays as it is.
+/// Whether a site is there from the start.
+fn is_early(schema: &Schema, entry: &SiteEntry) -> bool
+    ensures { result ≡ is_early schema.now entry.now }
+{
+    !is_late_master(schema, &entry.name)
+}
+
+/// Those of some entries whose sites are there from the start.
+fn early_entries(
+    alloc: Global,
+    schema: &Schema,
+    entries: &[SiteEntry],
+) -> Result<Items<SiteEntry>, NoMemory>
+    ensures { IfOk result (λ early. early ≡ filter (is_early schema.now) entries.now) }
+{
+    let mut early = Items::new(alloc);
+    for entry in entries {
+        if is_early(schema, entry) {
+            early.push(*entry)?;
+        }
+    }
+    Ok(early)
+}
+
+/// The sites that are there from the start.
+fn early_sites(
+    alloc: Global,
+    filled: &PageTables,
+    snapshots: &[DeclaredSnapshot],
+) -> Result<Vec<Site<PageTables>>, NoMemory>
+    requires keyed { IsKeyed filled.now.schema }
+    requires within { AllByRecursion (λ s. s.table < length filled.now.schema.tables) snapshots.now }
+    requires apart { (site : SiteNameValue) → AreApart (snapshots_at snapshots.now site) }
+    ensures { IfOk result (λ made. made.items ≡ sites_made filled.now.schema filled.now.tables snapshots.now) }
+{
+    let schema = filled.schema();
+    let entries = schema.sites.as_slice();
+    let early = early_entries(alloc, schema, entries)?;
+    let kept = early.as_slice();
+    entries_made(alloc, filled, snapshots, kept)
+}
+
+/// The declared sites that are there from the start, in declared order, made of a store whose rows are filled in with stamp 0
+/// and the first declared master: masters have all of them, and log the tables of which a snapshot site of theirs has a
+/// snapshot, snapshot sites have what their snapshots show. The store stays as it is.
 pub fn make_sites(
     alloc: Global,
     store: &PageTables,
     snapshots: &[DeclaredSnapshot],
 ) -> Result<Vec<Site<PageTables>>, NoMemory>
     requires sound { IsSound store.now.schema }
-    requires early { AllByRecursion IsThere store.now.schema.sites }
     requires within { AllByRecursion (λ s. s.table < length store.now.schema.tables) snapshots.now }
     requires apart { (site : SiteNameValue) → AreApart (snapshots_at snapshots.now site) }
     ensures { IfOk result (λ sites. sites.items ≡ sites_made store.now.schema (rows_made store.now.schema store.now.tables) snapshots.now) }
 {
     let filled = filled_copy(alloc, store)?;
-    entries_made(alloc, &filled, snapshots)
+    early_sites(alloc, &filled, snapshots)
 }

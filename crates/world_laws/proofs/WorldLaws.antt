@@ -7,11 +7,13 @@ use Rattle.event_laws.specs.Events.{Event, run}
 use Rattle.event_laws.specs.Starts.{IsStart, InEveryRun}
 use Rattle.event_laws.specs.Marks.{MarksAreLow, PurgedIsFinished, AreWellNumbered}
 use Rattle.event_laws.specs.Orders.{AreFinishedOnce, AreSettledOnce, EarlierComesFirst}
-use Rattle.event_laws.specs.Waiting.{AreMeshed}
+use Rattle.event_laws.specs.Waiting.{AreMeshed, StreamsMeet}
 use Rattle.event_laws.proofs.MarkLaws.{run_holds, marks_are_low, purged_is_finished, arrivals_are_well_numbered}
 use Rattle.event_laws.proofs.OrderLaws.{are_finished_once, are_settled_once, earlier_comes_first}
 use Rattle.event_laws.proofs.Passing.{every_site_can_pass}
 use Rattle.event_laws.proofs.Waiting.{nothing_waits_for_ever}
+use Rattle.join_laws.specs.Streams.{ArrivalsAreOfStreams}
+use Rattle.join_laws.proofs.Streams.{streams_meet, arrivals_are_of_streams}
 use Rattle.script_parse.specs.declared.command.Command.{Command}
 use Rattle.world_state.specs.World.{WorldState}
 use Rattle.world_state.specs.Making.{world_made}
@@ -54,6 +56,8 @@ holds_as_run w schema start events is meshed same = record {
   waits = subst EachWaitsForNothing (sym same) (λ site x found delivered finish. nothing_waits_for_ever schema start events is meshed site x found delivered finish);
   errors = subst EachErrorIsWhole (sym same) (errors_are_whole schema start events is meshed);
   unsettled = in_world EachUnsettledErrorStands unsettled_errors_stand w schema start events is same;
+  streams = subst StreamsMeet (sym same) (streams_meet schema start events is meshed);
+  arrived = subst ArrivalsAreOfStreams (sym same) (arrivals_are_of_streams schema start events is meshed);
 }
 
 -- and of a world that events lead to

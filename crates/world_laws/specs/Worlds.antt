@@ -12,7 +12,8 @@ use Rattle.site_state.specs.Ready.{is_ready}
 use Rattle.event_laws.specs.Core.{site_of}
 use Rattle.event_laws.specs.Marks.{MarksAreLow, PurgedIsFinished, AreWellNumbered}
 use Rattle.event_laws.specs.Orders.{AreFinishedOnce, AreSettledOnce, EarlierComesFirst}
-use Rattle.event_laws.specs.Waiting.{IsDelivered, PassesFinishNothing, NothingWaits}
+use Rattle.event_laws.specs.Waiting.{StreamsMeet, IsDelivered, PassesFinishNothing, NothingWaits}
+use Rattle.join_laws.specs.Streams.{ArrivalsAreOfStreams}
 use Rattle.script_parse.specs.declared.command.Command.{Command}
 use Rattle.world_state.specs.World.{WorldState}
 use Rattle.world_state.specs.Making.{world_made}
@@ -50,6 +51,8 @@ pub record WorldHolds (w : WorldState) : Type 0 where
   pub waits : EachWaitsForNothing w.sites
   pub errors : EachErrorIsWhole w.sites
   pub unsettled : EachUnsettledErrorStands w.sites
+  pub streams : StreamsMeet w.sites
+  pub arrived : ArrivalsAreOfStreams w.sites
 
 -- they hold of the world that Setup's end makes of a schema that has its shape, and of each that further lines make of it
 abbrev pub WorldsHold : Type 0

@@ -19,7 +19,7 @@ pub fn refused_lines_leave_the_world()
 
 /// The laws over events hold of the world of every script, of which each group and constraint names a column, as the form
 /// of its line asks; and of the world that Setup's end makes of any schema that has its shape, and each that further lines
-/// make of it.
+/// make of it. Among them is that what a site keeps for another one and what that one has of it is one stream.
 pub fn worlds_hold()
     ensures scripts { ScriptsHold }
     ensures worlds { WorldsHold }

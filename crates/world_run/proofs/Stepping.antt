@@ -17,7 +17,9 @@ use Rattle.environment_lines.specs.Doing.{Does, AnswersKnown}
 use Rattle.environment_lines.specs.Worlds.{ShowsItsMaster}
 use Rattle.environment_lines.proofs.Worlds.{refreshes_show_of}
 use Rattle.environment_lines.proofs.Scripts.{of_snapshots}
-use Rattle.world_run.specs.Reporting.{PushLeavesNothingReady, RefreshShowsTheQuery}
+use Rattle.environment_lines.specs.Joining.{TakesOver}
+use Rattle.environment_lines.proofs.TakenOver.{takes_over}
+use Rattle.world_run.specs.Reporting.{PushLeavesNothingReady, RefreshShowsTheQuery, JoinTakesOver}
 
 -- no refusal is known
 pub known-None : (number : ℕ) (c : Command) (w : WorldState) (result : Result Sheet Refused) → known_refusal c w ≡ None → AnswersKnown number c w result
@@ -46,3 +48,11 @@ refreshed-done number c old new (Ok sheet) built done site how is ok =
     let stepped : world_step number (command.Refresh site how) old ≡ new =
     ap (λ (o : Option Refusal). step_by o number (command.Refresh site how) old) passes ∙ sym (subst (λ (k : Command). new ≡ world_done number k old) is done.world) in
     subst (λ (y : WorldState). ShowsItsMaster site old y) stepped (refreshes_show_of old (of_snapshots old built.of_convergence) number site how passes)
+
+-- a join that was tried
+pub joined-done : (number : ℕ) (c : Command) (old new : WorldState) (result : Result Sheet Refused) → IsBuilt old → Does number c old new result → JoinTakesOver c old new result
+joined-done number c old new (Err r) built does site source is ok = absurd (cc ok)
+joined-done number c old new (Ok sheet) built done site source is ok =
+    let passes : world_refusal (command.Join site source) old ≡ None = subst (λ (k : Command). world_refusal k old ≡ None) is done.passes in
+    let made : new ≡ world_done number (command.Join site source) old = subst (λ (k : Command). new ≡ world_done number k old) is done.world in
+    subst (TakesOver site source old) (sym made) (takes_over old built site source passes)

@@ -31,8 +31,10 @@ use Rattle.environment_lines.specs.Following.{IsBuilt}
 use Rattle.environment_lines.specs.Texts.{world_text}
 use Rattle.environment_lines.specs.Worlds.{ShowsItsMaster}
 use Rattle.environment_lines.proofs.Keeping.{lines_keep_built, first_built}
+use Rattle.environment_lines.specs.Joining.{TakesOver}
+use Rattle.environment_lines.proofs.TakenOver.{step_takes_over}
 use Rattle.script_drive.specs.Lines.{most_lines, most_bytes, line_step}
-use Rattle.world_run.specs.Scripts.{stepped_by, script_step, world_behind, world_at, IsDoneAt, ReportedWorldsHold, ReportedSnapshotsHold, ReportedWorldsConverge, PushesOfScriptsLeaveNothingReady, RefreshesOfScriptsShowTheQuery, LinesOfScriptsHold}
+use Rattle.world_run.specs.Scripts.{stepped_by, script_step, world_behind, world_at, IsDoneAt, ReportedWorldsHold, ReportedSnapshotsHold, ReportedWorldsConverge, PushesOfScriptsLeaveNothingReady, RefreshesOfScriptsShowTheQuery, JoinsOfScriptsTakeOver, LinesOfScriptsHold}
 
 -- after a line of a form that is built, whatever refusal it meets
 step_built : (number : ℕ) (c : Command) (w : WorldState) → is_built c ≡ true → NamesColumn c → IsBuilt w → IsBuilt (world_step number c w)
@@ -88,6 +90,10 @@ unfolding script_step
 refreshes_show_the_query lines number line site how read passes =
     rw read (refreshes_show_of (world_behind lines) (of_snapshots (world_behind lines) (behind_first lines).of_convergence) number site how passes)
 
+pub joins_take_over : JoinsOfScriptsTakeOver
+unfolding script_step
+joins_take_over lines number line site source read passes = rw read (step_takes_over (world_behind lines) (behind_first lines) site source passes number)
+
 -- ---- each line of a script
 
 -- a line that gives a command isn't too long
@@ -125,4 +131,7 @@ lines_of_scripts_hold law script n =
       refreshed = λ site how done.
           subst (ShowsItsMaster site (world_at script n)) (sym (world_at-next script n (command.Refresh site how) done))
           (refreshes_show_the_query front (1 + length front) done.line site how done.reads done.passes);
+      joined = λ site source done.
+          subst (TakesOver site source (world_at script n)) (sym (world_at-next script n (command.Join site source) done))
+          (joins_take_over front (1 + length front) done.line site source done.reads done.passes);
     }

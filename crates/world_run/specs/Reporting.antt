@@ -1,4 +1,4 @@
--- What is so where a push or a refresh is reported.
+-- What is so where a push, a refresh or a join is reported.
 use Rattle.std.specs.Prelude.{◌≡◌, ℕ, Option, Some, Result, IsOk}
 use Rattle.rep_values.specs.declared.name.SiteName.{SiteName}
 use Rattle.report_text.specs.Sheet.{Sheet}
@@ -11,6 +11,7 @@ use Rattle.world_state.specs.declared.refused.Refused.{Refused}
 use Rattle.world_state.specs.World.{WorldState}
 use Rattle.environment_lines.specs.Worlds.{NothingReady}
 use Rattle.environment_lines.specs.Worlds.{ShowsItsMaster}
+use Rattle.environment_lines.specs.Joining.{TakesOver}
 
 -- once a push is reported no position of any sender is ready at the receiver
 abbrev pub PushLeavesNothingReady : Command → WorldState → Result Sheet Refused → Type 0
@@ -20,3 +21,7 @@ PushLeavesNothingReady line new result = (from to : SiteName) (count : Option �
 -- once a refresh is reported each snapshot of the site is its query of its master's table, and the master is as before
 abbrev pub RefreshShowsTheQuery : Command → WorldState → WorldState → Result Sheet Refused → Type 0
 RefreshShowsTheQuery line old new result = (site : SiteName) (how : Refresh) → line ≡ command.Refresh site how → IsOk result → ShowsItsMaster site old new
+
+-- once a join is reported the late master has taken over from the master that the line names
+abbrev pub JoinTakesOver : Command → WorldState → WorldState → Result Sheet Refused → Type 0
+JoinTakesOver line old new result = (site source : SiteName) → line ≡ command.Join site source → IsOk result → TakesOver site source old new

@@ -18,6 +18,7 @@ use Rattle.environment_lines.specs.Worlds.{WorldHolds, NothingReady}
 use Rattle.environment_lines.specs.Worlds.{SnapshotsHold}
 use Rattle.environment_lines.specs.Worlds.{ShowsItsMaster}
 use Rattle.environment_lines.specs.Convergence.{ConvergenceHolds}
+use Rattle.environment_lines.specs.Joining.{TakesOver}
 use Rattle.environment_lines.specs.Texts.{line_text}
 use Rattle.script_drive.specs.Lines.{most_lines, line_step}
 
@@ -54,6 +55,12 @@ RefreshesOfScriptsShowTheQuery = (lines : List (List ℕ)) (number : ℕ) (line 
     → parsed line ≡ Ok (command.Refresh site how) → world_refusal (command.Refresh site how) (world_behind lines) ≡ None
     → ShowsItsMaster site (world_behind lines) (script_step (world_behind lines) number line).state
 
+-- behind lines of a script, once a join is reported the late master has taken over from the master that the line names
+abbrev pub JoinsOfScriptsTakeOver : Type 0
+JoinsOfScriptsTakeOver = (lines : List (List ℕ)) (number : ℕ) (line : List ℕ) (site source : SiteName)
+    → parsed line ≡ Ok (command.Join site source) → world_refusal (command.Join site source) (world_behind lines) ≡ None
+    → TakesOver site source (world_behind lines) (script_step (world_behind lines) number line).state
+
 -- the laws of snapshots hold of the world behind whatever lines of a script
 abbrev pub ReportedSnapshotsHold : Type 0
 ReportedSnapshotsHold = (lines : List (List ℕ)) → SnapshotsHold (world_behind lines)
@@ -82,12 +89,14 @@ pub record IsDoneAt (script : List ℕ) (n : ℕ) (c : Command) : Type 0 where
 
 -- all of these laws hold of the world behind the first n lines of a script. Behind line n + 1, where it is a push that is done, no
 -- position of any sender is ready at the receiver; where it is a refresh that is done, each snapshot of the site is its query of
--- its master's table, and the master is as before
+-- its master's table, and the master is as before; where it is a join that is done, the late master has taken over from the master
+-- that the line names
 pub record LineHolds (script : List ℕ) (n : ℕ) : Type 0 where
   pub laws : AllLawsHold (world_at script n)
   pub pushed : (from to : SiteName) (count : Option ℕ) (x : SiteState) → IsDoneAt script n (command.Push from to count)
       → site_of to (world_at script (n + 1)).sites ≡ Some x → NothingReady x
   pub refreshed : (site : SiteName) (how : Refresh) → IsDoneAt script n (command.Refresh site how) → ShowsItsMaster site (world_at script n) (world_at script (n + 1))
+  pub joined : (site source : SiteName) → IsDoneAt script n (command.Join site source) → TakesOver site source (world_at script n) (world_at script (n + 1))
 
 -- so it is with each line of every script
 abbrev pub LinesOfScriptsHold : Type 0

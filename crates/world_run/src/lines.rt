@@ -8,8 +8,8 @@ ghost use Rattle.environment_lines.specs.Doing.{Does};
 
 use environment_lines::{
     Environment, abandon, add_fates, add_row, add_snapshot, clear_fates, commit, declare,
-    drop_error, execute, open_block, purge, purge_log, refresh, resume, set_clock, set_link, show,
-    state, suspend,
+    drop_error, execute, join, open_block, purge, purge_log, refresh, resume, set_clock, set_link,
+    show, state, suspend,
 };
 use environment_push::push;
 use report_text::Lines;
@@ -80,6 +80,6 @@ pub fn run_line<P: Passing>(
         Command::PurgeLog { master, table } => purge_log(environment, alloc, line, master, table),
         Command::Suspend => suspend(environment, alloc, line),
         Command::Show { what, site } => show(environment, alloc, line, *what, site),
-        Command::Join { .. } => unreachable!(),
+        Command::Join { site, source } => join(environment, alloc, line, site, source),
     }
 }

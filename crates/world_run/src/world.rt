@@ -9,7 +9,7 @@ ghost use Rattle.environment_lines.specs.Doing.{Does, AnswersKnown};
 ghost use Rattle.environment_lines.specs.Worlds.{SnapshotsHold};
 ghost use Rattle.environment_lines.specs.Convergence.{ConvergenceHolds};
 ghost use Rattle.site_rounds.specs.Passing.{TakesPass, AnswersPass};
-ghost use Rattle.world_run.specs.Reporting.{PushLeavesNothingReady, RefreshShowsTheQuery};
+ghost use Rattle.world_run.specs.Reporting.{PushLeavesNothingReady, RefreshShowsTheQuery, JoinTakesOver};
 
 use crate::crew::crew_pass;
 use crate::lines::run_line;
@@ -59,10 +59,11 @@ impl World {
     /// What the line of a number does, and what it prints. A line that is refused leaves the world, but that a refused commit
     /// closes its block. Where there is no memory a push may be done in part, and any other line leaves the world; a refusal
     /// that is known before the line is tried is answered all the same. Once a push is reported, no position of any sender is
-    /// ready at the receiver; once a refresh is, each snapshot of the site is its query of its master's table. Whatever came of
-    /// the line, the laws over events hold of the world, and so do those of snapshots and of convergence: at each master each
-    /// group of a row of a convergent table is the join of what was applied, each error there is excused, and masters that are
-    /// quiet agree.
+    /// ready at the receiver; once a refresh is, each snapshot of the site is its query of its master's table; once a join is, the
+    /// late master is there as a copy of the master that the line names, and each master that was there has opened its stream to it
+    /// behind all that it had queued. Whatever came of the line, the laws over events hold of the world, and so do those of snapshots
+    /// and of convergence: at each master each group of a row of a convergent table is the join of what was applied, each error
+    /// there is excused, and masters that are quiet agree.
     ///
     /// The form of the line is one that is built, and a group or constraint that it declares names a column, as `parse_line`
     /// says.
@@ -73,6 +74,7 @@ impl World {
         ensures known { AnswersKnown line command.now self.old result }
         ensures pushed { PushLeavesNothingReady command.now self.new result }
         ensures refreshed { RefreshShowsTheQuery command.now self.old self.new result }
+        ensures joined { JoinTakesOver command.now self.old self.new result }
         ensures laws { WorldHolds self.new }
         ensures snapshots { SnapshotsHold self.new }
         ensures convergence { ConvergenceHolds self.new }
@@ -98,6 +100,7 @@ impl World {
         ensures known { AnswersKnown line command.now self.old result }
         ensures pushed { PushLeavesNothingReady command.now self.new result }
         ensures refreshed { RefreshShowsTheQuery command.now self.old self.new result }
+        ensures joined { JoinTakesOver command.now self.old self.new result }
         ensures laws { WorldHolds self.new }
         ensures snapshots { SnapshotsHold self.new }
         ensures convergence { ConvergenceHolds self.new }
@@ -128,6 +131,7 @@ impl World {
         ensures known { AnswersKnown line command.now self.old result }
         ensures pushed { PushLeavesNothingReady command.now self.new result }
         ensures refreshed { RefreshShowsTheQuery command.now self.old self.new result }
+        ensures joined { JoinTakesOver command.now self.old self.new result }
         ensures laws { WorldHolds self.new }
         ensures snapshots { SnapshotsHold self.new }
         ensures convergence { ConvergenceHolds self.new }

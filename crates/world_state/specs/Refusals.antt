@@ -1,6 +1,6 @@
 -- Why a line is refused: the first of its steps that refuses it. The phase comes first, then names from left to right, and
 -- then links, queues, logs, shapes, errors and ranges.
-use Rattle.std.specs.Prelude.{ℕ, ◌-◌, ◌&&◌, ◌||◌, Bool, not, nat_lt, pos, List, [], ◌∷◌, map, sum, length, Option, Some, None}
+use Rattle.std.specs.Prelude.{ℕ, ◌-◌, ◌^◌, min, ◌&&◌, ◌||◌, Bool, not, nat_lt, pos, List, [], ◌∷◌, map, sum, length, Option, Some, None}
 use Rattle.std.specs.List.{list_all}
 use Rattle.rep_values.specs.declared.name.SiteName.{SiteName}
 use Rattle.rep_values.specs.declared.name.TableName.{TableName}
@@ -77,9 +77,13 @@ refresh_steps mode x master w =
 
 -- ---- joins
 
+-- how much hinders a join at a site, as it is told: the count stands still at the end of its type
+abbrev pub unquiet_told : List SiteState → SiteState → ℕ
+unquiet_told sites x = min (2 ^ 64 - 1) (unquiet_at sites x)
+
 abbrev pub unquiet_step : List SiteState → Option SiteState → Option Refusal
 unquiet_step sites None = None
-unquiet_step sites (Some x) = refused (x.here.is_master && nat_lt 0 (unquiet_at sites x)) (refusal.NotQuiet x.here.site (unquiet_at sites x))
+unquiet_step sites (Some x) = refused (x.here.is_master && nat_lt 0 (unquiet_at sites x)) (refusal.NotQuiet x.here.site (unquiet_told sites x))
 
 -- the first master in declared order at which something hinders it
 abbrev pub quiet_step : List SiteState → List SiteEntry → Option Refusal

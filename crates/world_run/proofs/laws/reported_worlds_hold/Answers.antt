@@ -1,5 +1,5 @@
 -- The law of reports.
-use Rattle.world_run.proofs.Worlds.{reported_worlds_hold, reported_snapshots_hold, reported_worlds_converge, pushes_leave_nothing_ready, refreshes_show_the_query, lines_of_scripts_hold}
+use Rattle.world_run.proofs.Worlds.{reported_worlds_hold, reported_snapshots_hold, reported_worlds_converge, pushes_leave_nothing_ready, refreshes_show_the_query, joins_take_over, lines_of_scripts_hold}
 use Rattle.world_run.proofs.laws.reported_worlds_hold.Goals as goal
 
 pub returns-clause-worlds : goal.returns-clause-worlds
@@ -16,6 +16,9 @@ returns-clause-convergence c = reported_worlds_converge c.convergence_holds.ensu
 
 pub returns-clause-refreshed : goal.returns-clause-refreshed
 returns-clause-refreshed c = refreshes_show_the_query
+
+pub returns-clause-joined : goal.returns-clause-joined
+returns-clause-joined c = joins_take_over
 
 pub returns-clause-lines : goal.returns-clause-lines
 returns-clause-lines c = lines_of_scripts_hold c.convergence_holds.ensures.kept

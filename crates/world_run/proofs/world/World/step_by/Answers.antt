@@ -8,8 +8,8 @@ use Rattle.environment_lines.proofs.KnownRefusals.{known_refused}
 use Rattle.environment_lines.proofs.Worlds.{of_script_holds}
 use Rattle.environment_lines.proofs.Worlds.{snapshots_hold_of}
 use Rattle.environment_lines.proofs.Scripts.{of_snapshots}
-use Rattle.world_run.specs.Reporting.{RefreshShowsTheQuery}
-use Rattle.world_run.proofs.Stepping.{ready-done, refreshed-done}
+use Rattle.world_run.specs.Reporting.{RefreshShowsTheQuery, JoinTakesOver}
+use Rattle.world_run.proofs.Stepping.{ready-done, refreshed-done, joined-done}
 use Rattle.world_run.proofs.world.World.step_by.Goals as goal
 
 pub returns-in-Some-clause-does : goal.returns-in-Some-clause-does
@@ -38,6 +38,12 @@ returns-clause-refreshed g c =
     let same : c.self.inside.environment ≡ c.args.self.now = cc c.self.view_is in
     subst (λ (old : WorldState). RefreshShowsTheQuery c.args.command.now old c.run_line.new.environment c.run_line.result) same
     (refreshed-done c.args.line c.args.command.now c.self.inside.environment c.run_line.new.environment c.run_line.result c.self.invariant c.run_line.ensures)
+
+pub returns-clause-joined : goal.returns-clause-joined
+returns-clause-joined g c =
+    let same : c.self.inside.environment ≡ c.args.self.now = cc c.self.view_is in
+    subst (λ (old : WorldState). JoinTakesOver c.args.command.now old c.run_line.new.environment c.run_line.result) same
+    (joined-done c.args.line c.args.command.now c.self.inside.environment c.run_line.new.environment c.run_line.result c.self.invariant c.run_line.ensures)
 
 pub returns-in-Some-clause-snapshots : goal.returns-in-Some-clause-snapshots
 returns-in-Some-clause-snapshots g c =
