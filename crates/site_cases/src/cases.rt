@@ -7,7 +7,7 @@ use crate::member::Member;
 use crate::packets::{carried, delivered, kept, last_number, mark_of, route};
 use crate::shown::shown;
 use crate::told::{Told, told};
-use case_lines::{CaseStop, Words, read_call, read_statement};
+use case_lines::{CaseStop, Words, read_call, read_past, read_statement};
 use packet_code::Sealed;
 use rep_calls::{Call, Statement};
 use rep_values::SiteName;
@@ -131,6 +131,21 @@ impl Cases {
             Some(rule) => told_rule(alloc, rule),
             None => self.open(alloc, names.as_slice()),
         }
+    }
+
+    /// A site as a copy of one that is there, with the first numbers that come next.
+    fn copied(&self, alloc: Global, words: &mut Words) -> Result<Member, CaseStop> {
+        let (name, source) = route(words)?;
+        let firsts = read_past(alloc, words)?;
+        let place = place_of(&self.members, &source)?;
+        Member::copy_of(alloc, &self.members[place], name, firsts.as_slice())
+    }
+
+    /// Opens a site as a copy of another one.
+    fn copy(&mut self, alloc: Global, words: &mut Words) -> Told {
+        let member = self.copied(alloc, words)?;
+        self.members.push(member)?;
+        told(alloc, "copied")
     }
 
     /// Begins a block at a site.
@@ -285,6 +300,7 @@ impl Cases {
             b"new" => self.forget(alloc, words),
             b"row" => self.declared.add_row(alloc, words),
             b"resume" => self.resume(alloc, words),
+            b"copy" => self.copy(alloc, words),
             b"txn" => self.begin_block(alloc, words),
             b"commit" => self.commit(alloc, words),
             b"show" => self.show(alloc, words),

@@ -3,7 +3,8 @@
 use crate::packets::last_number;
 use crate::told::{Told, push_error, push_seen, refused, told};
 use crate::works::{WorkAnswer, apply_by_work, settle_newest};
-use case_lines::{CaseStop, Words, push_name};
+use case_lines::{CaseStop, Words, push_name, read_past};
+use master_join::unfinished;
 use rep_calls::Statement;
 use rep_lists::NoMemory;
 use rep_values::{ApplyError, SiteName};
@@ -87,6 +88,27 @@ fn seen(alloc: Global, site: &Site<ListTables>, words: &mut Words) -> Told {
     let mut out = format!(in alloc; "seen")?;
     push_seen(&mut out, alloc, past.as_slice())?;
     Ok(Some(out))
+}
+
+/// What hinders a join at the site, of each origin its last position given.
+fn hindered(alloc: Global, site: &Site<ListTables>, words: &mut Words) -> Told {
+    let last = read_past(alloc, words)?;
+    let count = unfinished(site, last.as_slice());
+    Ok(Some(format!(in alloc; "unfinished {count}")?))
+}
+
+/// Nothing is told.
+fn open_to(site: &mut Site<ListTables>, destination: &SiteName, words: &Words) -> Told {
+    words.end()?;
+    site.open_to(destination);
+    Ok(None)
+}
+
+/// How much of an origin's queue was in the rows that were copied.
+fn first(alloc: Global, site: &Site<ListTables>, origin: &SiteName, words: &Words) -> Told {
+    words.end()?;
+    let number = site.first_number(origin);
+    Ok(Some(format!(in alloc; "first {number}")?))
 }
 
 fn pass(alloc: Global, site: &mut Site<ListTables>, origin: &SiteName, words: &Words) -> Told {
@@ -204,12 +226,14 @@ fn at_position(
     }
 }
 
-/// What the call of this kind answers that an origin names, which comes next.
+/// What the call of this kind answers that an origin or a destination names, which comes next.
 fn from_origin(alloc: Global, site: &mut Site<ListTables>, kind: &[u8], words: &mut Words) -> Told {
     let origin = words.site()?;
     match kind {
         b"pass" => pass(alloc, site, &origin, words),
         b"covered" => covered(alloc, site, &origin, words),
+        b"first" => first(alloc, site, &origin, words),
+        b"open" => open_to(site, &origin, words),
         _ => at_position(alloc, site, &origin, kind, words),
     }
 }
@@ -222,6 +246,7 @@ pub fn called(alloc: Global, site: &mut Site<ListTables>, kind: &[u8], words: &m
         b"purge" => purge(alloc, site, words),
         b"settle" => settle(alloc, site, words),
         b"seen" => seen(alloc, site, words),
+        b"unfinished" => hindered(alloc, site, words),
         _ => from_origin(alloc, site, kind, words),
     }
 }

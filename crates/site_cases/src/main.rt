@@ -1,7 +1,8 @@
 //! Calls of sites as cases: each line is one, and what the call answers is printed.
 //!
 //! `new` forgets all. A declaration has the form that scripts have, `row TABLE VALUE..` is a base row of each site, and
-//! `resume` opens the sites; a refusal is printed behind `! 0`. A snapshot site holds all tables, too.
+//! `resume` opens the sites that are there from the start; a refusal is printed behind `! 0`. A snapshot site holds all tables,
+//! too. `copy SITE SOURCE [past ORIGIN NUMBER ..]` opens a site as a copy of another one, with these first numbers.
 //!
 //! `txn SITE`, the statements and `commit` are a block; where one is refused, its number stands in the place of the 0. `packet
 //! FROM TO POSITION` keeps the packet of a position, and `send FROM TO POSITION` delivers it at once. `acknowledge FROM
@@ -11,10 +12,11 @@
 //!
 //! `begin SITE`, `pass SITE ORIGIN`, `apply SITE ORIGIN POSITION`, `stale SITE ORIGIN POSITION`, `lowest SITE ORIGIN
 //! ABOVE`, `execute SITE ORIGIN POSITION`, `drop-error SITE ORIGIN POSITION`, `purge SITE`, `clock SITE NUMBER`, `seen
-//! SITE` and `covered SITE ORIGIN` are calls of a site. `work SITE ORIGIN POSITION` is an `apply` of which the transaction
-//! is evaluated on copies of the rows that it names; it isn't, and `Unique` is told, where it touches a constraint. `settle
-//! SITE` settles the journal's newest entry. `show tables|queue|errors|marks|journal|site SITE` shows what a site keeps. An
-//! empty line and one that begins with `#` is printed as it is.
+//! SITE`, `covered SITE ORIGIN`, `first SITE ORIGIN` and `open SITE DESTINATION` are calls of a site. `unfinished SITE [past
+//! ORIGIN LAST ..]` is what hinders a join there, of each origin its last position given. `work SITE ORIGIN POSITION` is an
+//! `apply` of which the transaction is evaluated on copies of the rows that it names; it isn't, and `Unique` is told, where it
+//! touches a constraint. `settle SITE` settles the journal's newest entry. `show tables|queue|errors|marks|journal|site SITE`
+//! shows what a site keeps. An empty line and one that begins with `#` is printed as it is.
 #![tactic(auto)]
 
 mod cases;

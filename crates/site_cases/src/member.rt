@@ -1,5 +1,5 @@
 //! A site of the cases.
-ghost use Rattle.std.specs.Prelude.{◌≡◌, IfOk};
+ghost use Rattle.std.specs.Prelude.{◌≡◌, [], length, replicate, IfOk};
 ghost use Rattle.rep_schema.specs.Shape.{HasShape};
 ghost use Rattle.rep_schema.specs.Sites.{senders_of, destinations_of};
 ghost use Rattle.site_state.specs.State.{is_master_site};
@@ -7,9 +7,11 @@ ghost use Rattle.site_state.specs.Fits.{IsKeyed};
 
 use case_lines::CaseStop;
 use local_txn::{Here, fill_base_rows, put_base_row, sound_schemas_fill_freely};
+use master_join::copy_site;
+use rep_calls::Past;
 use rep_laws::sound_schemas_have_keys;
-use rep_lists::{Copies, Items};
-use rep_schema::{Schema, TableSet};
+use rep_lists::{Copies, Items, NoMemory};
+use rep_schema::{RowStore, Schema, TableSet};
 use rep_values::{Literal, Refusal, SiteName, TableName};
 use row_tables::ListTables;
 use schema_rules::check;
@@ -101,6 +103,15 @@ fn base_store(alloc: Global, schema: &Schema, rows: &[BaseRow]) -> Result<ListTa
     Ok(store)
 }
 
+/// A store without rows.
+fn empty_store(alloc: Global, schema: &Schema) -> Result<ListTables, NoMemory>
+    ensures schema { IfOk result (λ store. store.schema ≡ schema.now) }
+    ensures tables { IfOk result (λ store. store.tables ≡ replicate (length schema.now.tables) []) }
+{
+    let copied = schema.copy(alloc)?;
+    ListTables::make(alloc, copied)
+}
+
 impl Member {
     /// The site of this name over a store.
     fn of(
@@ -140,5 +151,31 @@ impl Member {
     {
         let store = base_store(alloc, schema, rows)?;
         Member::of(alloc, schema, store, name)
+    }
+
+    /// The site of this name, with the rows that another one has now and with these first numbers.
+    pub fn copy_of(
+        alloc: Global,
+        source: &Member,
+        name: SiteName,
+        firsts: &[Past],
+    ) -> Result<Member, CaseStop> {
+        let schema = source.site.store().schema();
+        let store = empty_store(alloc, schema)?;
+        let parties = parties_of(alloc, schema, &name)?;
+        let site = copy_site(
+            alloc,
+            &source.site,
+            store,
+            here_of(schema, name),
+            parties.senders.as_slice(),
+            parties.destinations.as_slice(),
+            firsts,
+        )?;
+        Ok(Member {
+            name,
+            parties,
+            site,
+        })
     }
 }
