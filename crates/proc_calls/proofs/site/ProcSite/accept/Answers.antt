@@ -1,0 +1,29 @@
+use Rattle.std.proofs.Common.{sym}
+use Rattle.packet_code.specs.declared.packet.Packet.TheVariants.{Carry}
+use Rattle.proc_calls.proofs.Holding.{foreign_state, foreign_answer, mark_within, mark_holds}
+use Rattle.proc_calls.proofs.site.ProcSite.accept.Goals as goal
+
+pub returns-then-is_foreign_carry-clause-ok : goal.returns-then-is_foreign_carry-clause-ok
+returns-then-is_foreign_carry-clause-ok c =
+    let k = c.in-Carry in
+    let foreign = rw c.as_slice.ensures at (sym (c.if-is_foreign_carry.ensures k.number k.position k.dep)) in
+    rw k.is (foreign_state (Carry k.from k.to k.number k.position k.dep k.past k.txn) c.args.self.now foreign)
+
+pub returns-then-is_foreign_carry-clause-answer : goal.returns-then-is_foreign_carry-clause-answer
+returns-then-is_foreign_carry-clause-answer c =
+    let k = c.in-Carry in
+    let foreign = rw c.as_slice.ensures at (sym (c.if-is_foreign_carry.ensures k.number k.position k.dep)) in
+    rw k.is (foreign_answer (Carry k.from k.to k.number k.position k.dep k.past k.txn) c.args.self.now foreign)
+
+pub take_in-requires-clause-known : goal.take_in-requires-clause-known
+take_in-requires-clause-known c = rw c.as_slice.ensures at (sym (c.if-is_foreign_carry.ensures c.in-Carry.number c.in-Carry.position c.in-Carry.dep))
+
+pub acknowledge-requires : goal.acknowledge-requires
+acknowledge-requires c =
+    let known = rw (← c.self.view_is) at (sym c.if-is_foreign_mark.ensures) in
+    mark_within _ _ _ _ _ _ _ _ c.self.invariant c.in-Mark.from c.in-Mark.to c.in-Mark.mark known
+
+pub invariant_of-self : goal.invariant_of-self
+invariant_of-self c =
+    let known = rw (← c.self.view_is) at (sym c.if-is_foreign_mark.ensures) in
+    mark_holds _ _ _ _ _ _ _ _ c.self.invariant c.in-Mark.from c.in-Mark.to c.in-Mark.mark known c.acknowledge.new.self c.acknowledge.ensures.marks c.acknowledge.ensures.deferred c.acknowledge.ensures.noted

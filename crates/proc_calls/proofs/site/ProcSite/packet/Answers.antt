@@ -1,0 +1,29 @@
+use Rattle.std.proofs.Common.{ap, ◌∙◌, Some, reverse}
+use Rattle.proc_calls.specs.Keeping.{state_of}
+use Rattle.proc_calls.proofs.Holding.{queue_is}
+use Rattle.proc_calls.proofs.Sending.{no_packet, packet_is, can_be_carried, is_past}
+use Rattle.proc_calls.proofs.site.ProcSite.packet.Goals as goal
+
+pub returns-in_default : goal.returns-in_default
+returns-in_default c =
+    let s = c.self.inside in
+    let x = state_of s.store.schema s.procedures s.me (reverse s.journal.items) s.inboxes.items s.outbox in
+    rw (← c.self.view_is) (no_packet x s.outbox.deferred (queue_is _ _ _ _ _ _ _ _ c.self.invariant) c.args.to.now c.args.position c.in_default.ensures.sent)
+
+pub seal_carry-requires-clause-seen : goal.seal_carry-requires-clause-seen
+seal_carry-requires-clause-seen c =
+    let s = c.self.inside in
+    let x = state_of s.store.schema s.procedures s.me (reverse s.journal.items) s.inboxes.items s.outbox in
+    is_past x s.outbox.deferred (queue_is _ _ _ _ _ _ _ _ c.self.invariant) c.args.to.now c.args.position _ _ _ _ c.in-Some.ensures.sent
+
+pub seal_carry-requires-clause-plain : goal.seal_carry-requires-clause-plain
+seal_carry-requires-clause-plain c =
+    let s = c.self.inside in
+    let x = state_of s.store.schema s.procedures s.me (reverse s.journal.items) s.inboxes.items s.outbox in
+    can_be_carried x s.outbox.deferred (queue_is _ _ _ _ _ _ _ _ c.self.invariant) c.args.to.now c.args.position _ _ _ _ c.in-Some.ensures.sent c.self.invariant.journal
+
+pub returns : goal.returns
+returns c =
+    let s = c.self.inside in
+    let x = state_of s.store.schema s.procedures s.me (reverse s.journal.items) s.inboxes.items s.outbox in
+    rw (← c.self.view_is) (ap Some c.in_ok-sealed.ensures ∙ packet_is x s.outbox.deferred (queue_is _ _ _ _ _ _ _ _ c.self.invariant) c.args.to.now c.args.position _ _ _ _ c.in-Some.ensures.sent)
