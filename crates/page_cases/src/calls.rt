@@ -271,7 +271,8 @@ fn push_rows<R: RowStore>(
     Ok(())
 }
 
-fn count_text(alloc: Global, count: u64) -> Result<String, CaseStop> {
+/// So many rows.
+pub fn count_text(alloc: Global, count: u64) -> Result<String, CaseStop> {
     Ok(format!(in alloc; "{count} rows")?)
 }
 
