@@ -271,8 +271,7 @@ fn push_rows<R: RowStore>(
     Ok(())
 }
 
-/// So many rows.
-pub fn count_text(alloc: Global, count: u64) -> Result<String, CaseStop> {
+fn count_text(alloc: Global, count: u64) -> Result<String, CaseStop> {
     Ok(format!(in alloc; "{count} rows")?)
 }
 

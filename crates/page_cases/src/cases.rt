@@ -4,10 +4,8 @@ ghost use Rattle.rep_schema.specs.Shape.{HasShape};
 use crate::applied::applied;
 use crate::calls::{changed, found, held, put, reserved, rows_shown, taken, text};
 use crate::detected::detected;
-use crate::families::picked;
 use crate::logged::last_moment;
 use crate::refreshed::{refreshed_and_back, refreshed_by_key};
-use crate::renewed::renewed;
 use crate::series::{put_series, take_series};
 use crate::undone::undone;
 use case_lines::{CaseStop, Words, read_declaration};
@@ -81,8 +79,6 @@ fn shown<R: RowStore>(
         b"get" => found(alloc, store, words),
         b"holds" => held(alloc, store, words),
         b"rows" => rows_shown(alloc, store, words),
-        b"picked" => picked(alloc, store, words),
-        b"renewed" => renewed(alloc, store, words),
         _ => Err(CaseStop::NoCase),
     }
 }

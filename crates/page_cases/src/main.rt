@@ -12,11 +12,6 @@
 //! key from a master that has these rows, if the table shows them under all other keys. `try T : VALUES : VALUES ..`
 //! refreshes it to such a master's rows, and takes it all back.
 //!
-//! `picked T P COLUMN COLUMN ..` shows the rows of T whose parent, the row of P under the key in these columns, is there with a
-//! second value of 0 or more. `renewed T P COLUMN .., : KEY : KEY .., : PARENT : PARENT .. , : VALUES : VALUES ..` makes them from the
-//! rows behind the last comma, by the keys and the parents' keys before it, if these rows show what is settled. It tells the look-ups
-//! beside the most that there may be.
-//!
 //! The lines that follow need no store. `moment MARK, KEY : KEY : KEY ..` notes the keys behind the first colon at the moments
 //! 1, 2 and so on, purges their log up to the mark, and tells the key's last moment. `detect VALUES : CALL` compares a row,
 //! or none where there are no values, with a call. `apply SITE CALL` applies a transaction of a call, or of none, from a
@@ -27,12 +22,9 @@ mod applied;
 mod calls;
 mod cases;
 mod detected;
-mod families;
 mod logged;
 mod refreshed;
-mod renewed;
 mod series;
-mod settled;
 mod undone;
 
 use anyhow::Result;

@@ -15,24 +15,19 @@ use script_lex::Symbol;
 use snapshot_query::{Op, Query, Snapshot, Test};
 use std::alloc::Global;
 
-/// The query of the rows whose second value is 0 or more.
-pub fn from_0(alloc: Global) -> Result<Query, CaseStop> {
+/// The snapshot of the rows of a table whose second value is 0 or more.
+fn snapshot_of(alloc: Global, table: u32) -> Result<Snapshot, CaseStop>
+    ensures { IfOk result (λ snap. snap.table ≡ table) }
+{
     let mut tests = Items::new(alloc);
     tests.push(Test {
         column: 1,
         op: Op::Ge,
         value: Value::Num(0),
     })?;
-    Ok(Query { tests })
-}
-
-/// The snapshot of such rows of a table.
-pub fn snapshot_of(alloc: Global, table: u32) -> Result<Snapshot, CaseStop>
-    ensures { IfOk result (λ snap. snap.table ≡ table) }
-{
     Ok(Snapshot {
         table,
-        query: from_0(alloc)?,
+        query: Query { tests },
         parent: None,
         mark: 0,
         touched: Items::new(alloc),
@@ -40,7 +35,7 @@ pub fn snapshot_of(alloc: Global, table: u32) -> Result<Snapshot, CaseStop>
 }
 
 /// The number of the table that comes next, which has a key.
-pub fn keyed_table_in<R: RowStore>(store: &R, words: &mut Words) -> Result<u32, CaseStop>
+fn keyed_table_in<R: RowStore>(store: &R, words: &mut Words) -> Result<u32, CaseStop>
     ensures table { IfOk result (λ table. table < length (R.schema store.now).tables) }
     ensures keyed { IfOk result (λ table. IsKeyed (columns_of (R.schema store.now) table)) }
 {
@@ -69,7 +64,7 @@ fn put_next(
 }
 
 /// A master with the rows that the line ends with, each behind a colon.
-pub fn read_master<R: RowStore>(
+fn read_master<R: RowStore>(
     alloc: Global,
     store: &R,
     table: u32,
