@@ -6,5 +6,5 @@ pub returns-then-count-eq0-clause-text : goal.returns-then-count-eq0-clause-text
 returns-then-count-eq0-clause-text g c =
     told-none c.args.pushed.from c.args.pushed.to _ _ _ _ _ _ _ _ _ c.in-Ok.ensures.ok c.journal_len-before.ensures c.in-Ok.ensures.count.0 c.in-Ok.ensures.count.1 c.mark.ensures c.push_line.ensures.bytes c.if-count-eq0.true
 
-pub add_new_errors-told-requires-after_bounds : goal.add_new_errors-told-requires-after_bounds
-add_new_errors-told-requires-after_bounds g c lifetimes = settled-longer c.args.pushed.from c.args.site c.in-Ok.made.0 c.journal_len-before.result c.in-Ok.ensures.ok c.journal_len-before.ensures
+pub add_new_errors-told-requires : goal.add_new_errors-told-requires
+add_new_errors-told-requires g c = settled-longer c.args.pushed.from c.args.site c.in-Ok.made.0 c.journal_len-before.result c.in-Ok.ensures.ok c.journal_len-before.ensures
