@@ -5,9 +5,9 @@ ghost use Rattle.environment.specs.Following.{IsBuilt};
 ghost use Rattle.environment.specs.Known.{known_refusal};
 ghost use Rattle.environment.specs.Doing.{Does};
 
-use crate::room::no_memory;
-use environment::Environment;
+use environment::{Environment, no_memory};
 use net_plan::Fate;
+use rep_lists::Items;
 use rep_values::SiteName;
 use report_text::Lines;
 use script_parse::{Command, Link};
@@ -21,13 +21,13 @@ pub fn add_fates(
     line: u32,
     from: &SiteName,
     to: &SiteName,
-    fates: &[Fate],
+    fates: &Items<Fate>,
 ) -> Result<Lines, Refused>
     requires built { IsBuilt environment.old }
     requires passes { known_refusal (Command.Fates from.now to.now fates.now) environment.old ≡ None }
     ensures { Does line (Command.Fates from.now to.now fates.now) environment.old environment.new result }
 {
-    let Ok(()) = environment.net.add_fates(from, to, fates) else {
+    let Ok(()) = environment.net.add_fates(from, to, fates.as_slice()) else {
         return Err(no_memory(line));
     };
     Ok(Lines::make(alloc))
