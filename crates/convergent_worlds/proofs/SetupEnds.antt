@@ -74,6 +74,7 @@ module _ (number : ℕ) (w : WorldState) (in_setup : IsInSetup w) where
   done_ends command.Suspend passes behind = absurd (not_behind (or_then-None (behind_setup_step w) _ passes).0)
   done_ends (command.Join site source) passes behind = absurd (not_behind (or_then-None (behind_setup_step w) _ passes).0)
   done_ends (command.Show what site) passes behind = absurd (not_behind passes)
+  done_ends (command.Procedures line) passes behind = absurd (stays_setup (world_done number (command.Procedures line) w) refl behind)
 
   -- a line behind which Setup is over has made the sites
   pub ends_setup : (c : Command) → is_setup (world_step number c w).phase ≡ false → world_step number c w ≡ world_made w

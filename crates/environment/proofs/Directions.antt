@@ -11,6 +11,8 @@ use Rattle.net_plan.specs.Directions.{Direction, HasDirection, is_between, direc
 use Rattle.event_laws.specs.Core.{site_of}
 use Rattle.event_laws.specs.Events.{packet_from, mark_from}
 use Rattle.world_state.specs.World.{WorldState}
+use Rattle.world_state.specs.Procs.{Procs, proc_of}
+use Rattle.world_state.specs.CallPushes.{calls_release, calls_from, calls_send, calls_send_each, calls_positions, calls_send_above, calls_deliver, calls_settle, calls_mark_from, calls_send_mark, calls_answer, calls_pushed_in, calls_push}
 use Rattle.world_state.specs.Pushes.{world_release, sent_on, world_send, world_send_each, positions_above, world_send_above, emptied, world_deliver, world_settle, world_send_mark, world_bring_mark, world_answer, pushed_in, world_push}
 
 -- a change leaves it open between which sites a direction is
@@ -92,6 +94,37 @@ stay-answer from to w a b = go (is_up from to w.net)
 -- a push leaves each direction there
 pub stay-push : (from to : SiteName) (count : Option ℕ) (w : WorldState) → Stay w.net (world_push from to count w).net
 stay-push from to count w a b = stay-answer to from (world_settle from to (pushed_in from to count w)) a b ∙ stay-pushed_in from to count w a b
+
+-- ---- calls
+
+stay-calls_send_each : (from to : SiteName) (positions : List ℕ) (p : Procs) → Stay p.net (calls_send_each from to positions p).net
+stay-calls_send_each from to [] p a b = refl
+stay-calls_send_each from to (position ∷ more) p a b =
+    stay-calls_send_each from to more (calls_send from to position p) a b ∙ stay-sent_on (calls_from to position (proc_of from p.sites)) from to p.net a b
+
+stay-calls_deliver : (from to : SiteName) (p : Procs) → Stay p.net (calls_deliver from to p).net
+stay-calls_deliver from to p = stay-at from to emptied (λ a b d. refl) p.net
+
+stay-calls_release : (from to : SiteName) (p : Procs) → Stay p.net (calls_release from to p).net
+stay-calls_release from to p = stay-at from to released (λ a b d. refl) p.net
+
+stay-calls_pushed_in : (from to : SiteName) (p : Procs) → Stay p.net (calls_pushed_in from to p).net
+stay-calls_pushed_in from to p a b =
+    let released_calls : Procs = calls_release from to p in
+    stay-calls_deliver from to (calls_send_above from to released_calls) a b
+    ∙ stay-calls_send_each from to (calls_positions from to released_calls) released_calls a b
+    ∙ stay-calls_release from to p a b
+
+stay-calls_answer : (up : Bool) (from to : SiteName) (p : Procs) → Stay p.net (calls_answer up from to p).net
+stay-calls_answer true from to p a b =
+    stay-calls_deliver from to (calls_send_mark from to (calls_release from to p)) a b
+    ∙ stay-sent_on (calls_mark_from to (proc_of from (calls_release from to p).sites)) from to (calls_release from to p).net a b
+    ∙ stay-calls_release from to p a b
+stay-calls_answer false from to p a b = refl
+
+-- a push of calls leaves each direction there
+pub stay-push_calls : (up : Bool) (from to : SiteName) (p : Procs) → Stay p.net (calls_push up from to p).net
+stay-push_calls up from to p a b = stay-calls_answer up to from (calls_settle from to (calls_pushed_in from to p)) a b ∙ stay-calls_pushed_in from to p a b
 
 -- ---- one direction of several
 

@@ -15,6 +15,7 @@ use Rattle.event_laws.specs.Core.{Core, site_of}
 use Rattle.event_laws.specs.Events.{packet_from, mark_from, run}
 use Rattle.event_laws.proofs.Sites.{KeepsHere}
 use Rattle.world_state.specs.World.{WorldState, with_site}
+use Rattle.world_state.specs.Procs.{Procs}
 use Rattle.world_state.specs.Phases.{is_setup}
 use Rattle.world_state.specs.Pushes.{sent_on, taken_one, world_take}
 use Rattle.world_laws.specs.Simulation.{Simulates, Leads, AreEvents}
@@ -27,6 +28,8 @@ use Rattle.site_rounds.specs.Parts.{parts_done}
 use Rattle.site_rounds.proofs.Parts.{parts_do}
 use Rattle.convergent_worlds.specs.Reached.{IsOfConvergence, Declaring, Going}
 use Rattle.convergent_worlds.proofs.Scripts.{goes_on_alike}
+use Rattle.procedure_worlds.proofs.Kept.{same_procs}
+use Rattle.environment.specs.Procedures.{LinksForCalls}
 use Rattle.environment.specs.Following.{Travel, Release, Take, Lose, travel_done, PushStep, There, Send, Settle, SendMark, Back, step_done, steps_done, up_between, fates_in, fates_between, LeavesAllElse, PushesInPart, IsBuilt}
 use Rattle.environment.proofs.Apart.{apart_behind}
 use Rattle.environment.proofs.Directions.{direction_of-at, KeepsLink, released_keeps_link, delivered_keeps_link, sent_keeps_link}
@@ -45,10 +48,11 @@ leaves_same from to w = record {
   base = refl;
   snapshots = refl;
   block = refl;
+  procs = refl;
 }
 
 -- what is left of fates of which some were used up, and then more
-used_then : (old middle new : List Fate) → ((used : ℕ) × (middle ≡ drop used old)) → ((used : ℕ) × (new ≡ drop used middle)) → (used : ℕ) × (new ≡ drop used old)
+pub used_then : (old middle new : List Fate) → ((used : ℕ) × (middle ≡ drop used old)) → ((used : ℕ) × (new ≡ drop used middle)) → (used : ℕ) × (new ≡ drop used old)
 used_then old middle new first second = (first.0 + second.0, second.1 ∙ ap (λ (fates : List Fate). drop second.0 fates) first.1 ∙ drop-drop second.0 first.0 old)
 
 -- one thing and then another
@@ -63,6 +67,7 @@ leaves_then from to w y z first second = record {
   base = second.base ∙ first.base;
   snapshots = second.snapshots ∙ first.snapshots;
   block = second.block ∙ first.block;
+  procs = second.procs ∙ first.procs;
 }
 
 -- it is the same whichever of the two sites pushes
@@ -77,10 +82,11 @@ leaves_turned from to w y leaves = record {
   base = leaves.base;
   snapshots = leaves.snapshots;
   block = leaves.block;
+  procs = leaves.procs;
 }
 
 -- the direction between them changes
-direction_leaves : (used : ℕ) (from to : SiteName) (change : Direction → Direction) → KeepsLink used change → (w : WorldState) → LeavesAllElse from to w (record w { net = at_direction from to change w.net })
+pub direction_leaves : (used : ℕ) (from to : SiteName) (change : Direction → Direction) → KeepsLink used change → (w : WorldState) → LeavesAllElse from to w (record w { net = at_direction from to change w.net })
 direction_leaves used from to change keeps w = record {
   sites = λ name one other. refl;
   directions = λ a b one other. direction_of-at (λ (o : Option Direction). o ≡ direction_of a b w.net) from to a b change keeps.ends w.net (λ e f. absurd (one e f)) refl;
@@ -91,6 +97,7 @@ direction_leaves used from to change keeps w = record {
   base = refl;
   snapshots = refl;
   block = refl;
+  procs = refl;
 }
   where
     same_up : (o : Option Direction) → option_map (λ (d : Direction). d.up) (option_map change o) ≡ option_map (λ (d : Direction). d.up) o
@@ -113,6 +120,7 @@ receiver_leaves from to change keeps w = record {
   base = refl;
   snapshots = refl;
   block = refl;
+  procs = refl;
 }
 
 taken_elsewhere : (to name : SiteName) (packet : Option Packet) (sites : List SiteState) → name ≢ to → site_of name (taken_one to packet sites) ≡ site_of name sites
@@ -133,10 +141,11 @@ take_leaves from to w =
       base = refl;
       snapshots = refl;
       block = refl;
+      procs = refl;
     }
 
 -- a packet is sent, where there is one
-sent_leaves : (packet : Option Packet) (from to : SiteName) (w : WorldState) → LeavesAllElse from to w (record w { net = sent_on packet from to w.net })
+pub sent_leaves : (packet : Option Packet) (from to : SiteName) (w : WorldState) → LeavesAllElse from to w (record w { net = sent_on packet from to w.net })
 sent_leaves None from to w = leaves_same from to w
 sent_leaves (Some packet) from to w = direction_leaves 1 from to (with_sent packet) (sent_keeps_link packet) w
 
@@ -216,7 +225,7 @@ in_part_leads from to w y part v s = subst (λ (z : WorldState). Leads z v) (sym
 leads_then : (y z : WorldState) (v : Core) (a : Leads y v) → Leads z (run a.events v) → Leads z v
 leads_then y z v a b = record { events = b.events ++ a.events; simulates = subst (Simulates z) (sym (run-append b.events a.events v)) b.simulates }
 
-of_script_leads : (w y : WorldState) → is_setup w.phase ≡ false → IsOfScript w → ((v : Core) → Simulates w v → Leads y v) → IsOfScript y
+pub of_script_leads : (w y : WorldState) → is_setup w.phase ≡ false → IsOfScript w → ((v : Core) → Simulates w v → Leads y v) → IsOfScript y
 of_script_leads w y behind (InSetup in_setup) leads = absurd (cc (behind, in_setup.setup))
 of_script_leads w y behind (Behind r) leads = Behind (record {
   schema = r.schema;
@@ -226,11 +235,17 @@ of_script_leads w y behind (Behind r) leads = Behind (record {
   leads = leads_then w y r.start r.leads (leads (run r.leads.events r.start) r.leads.simulates);
 })
 
-of_convergence_leads : (w y : WorldState) → is_setup w.phase ≡ false → IsOfConvergence w → y.schema ≡ w.schema → ((v : Core) → Simulates w v → Leads y v) → IsOfConvergence y
+pub of_convergence_leads : (w y : WorldState) → is_setup w.phase ≡ false → IsOfConvergence w → y.schema ≡ w.schema → ((v : Core) → Simulates w v → Leads y v) → IsOfConvergence y
 of_convergence_leads w y behind (Declaring so_far) same leads = absurd (cc (behind, so_far.setup.setup))
 of_convergence_leads w y behind (Going a) same leads = Going (goes_on_alike w y same leads a)
 
--- behind Setup, what a push leaves of a world of the forms that are built is such a world
+-- where the schema and what there is of procedures stay, so do the directions for calls
+same_calls : (w y : WorldState) → y.schema ≡ w.schema → y.procs ≡ w.procs → LinksForCalls w → LinksForCalls y
+same_calls w y schema procs linked site origin gets =
+    subst (λ (p : Procs). HasDirection p.net site origin × HasDirection p.net origin site) (sym procs)
+    (linked site origin (subst (λ (s : Schema). is_among (senders_of s site) origin ≡ true) schema gets))
+
+-- behind Setup, what a push leaves of a world of a script is such a world
 pub built_in_part : (from to : SiteName) (w y : WorldState) → is_setup w.phase ≡ false → IsBuilt w → PushesInPart from to w y → IsBuilt y
 built_in_part from to w y behind built part = record {
   of_script = of_script_leads w y behind built.of_script (in_part_leads from to w y part);
@@ -240,4 +255,6 @@ built_in_part from to w y behind built part = record {
   linked = λ later site origin gets.
       let both = built.linked behind site origin (subst (λ (s : Schema). is_among (senders_of s site) origin ≡ true) part.beside.schema gets) in
       (in_part_linked from to site origin w y part both.0, in_part_linked from to origin site w y part both.1);
+  procs = same_procs w y part.beside.phase part.beside.schema part.beside.procs built.procs;
+  calls_linked = λ later. same_calls w y part.beside.schema part.beside.procs (built.calls_linked behind);
 }

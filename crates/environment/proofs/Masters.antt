@@ -33,7 +33,7 @@ use Rattle.environment.proofs.Written.{site_of-world}
 -- ---- entries
 
 -- an entry that is found by a name, and passes a test, has its name among those that pass
-found_among : (test : SiteEntry → Bool) (name : SiteName) (es : List SiteEntry) (s : SiteEntry) → find (is_site name) es ≡ Some s → test s ≡ true → is_among (names_of (filter test es)) name ≡ true
+pub found_among : (test : SiteEntry → Bool) (name : SiteName) (es : List SiteEntry) (s : SiteEntry) → find (is_site name) es ≡ Some s → test s ≡ true → is_among (names_of (filter test es)) name ≡ true
 found_among test name [] s found passes = absurd (cc found)
 found_among test name (e ∷ es) s found passes = go (test e) refl (is_site name e) refl found (found_among test name es s)
   where

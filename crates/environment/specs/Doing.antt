@@ -6,14 +6,28 @@ use Rattle.rep_values.specs.declared.refusal.Refusal.TheVariants as refusal
 use Rattle.report_text.specs.Sheet.{Sheet}
 use Rattle.script_parse.specs.declared.command.Command.{Command}
 use Rattle.script_parse.specs.declared.command.Command.TheVariants as command
-use Rattle.script_parse.specs.declared.command.Command.TheVariants.{Push}
+use Rattle.script_parse.specs.declared.command.Command.TheVariants.{Push, Procedures}
+use Rattle.script_parse.specs.declared.proc_line.ProcLine.{ProcLine}
+use Rattle.script_parse.specs.declared.proc_line.ProcLine.TheVariants as proc_line
 use Rattle.world_state.specs.declared.refused.Refused.{Refused}
 use Rattle.world_state.specs.World.{WorldState}
 use Rattle.world_state.specs.Refusals.{world_refusal}
 use Rattle.world_state.specs.Steps.{world_done, world_refused, step_refused}
 use Rattle.environment.specs.Following.{PushesInPart}
+use Rattle.environment.specs.Calling.{CallsPushInPart}
 use Rattle.environment.specs.Known.{is_tried, known_refusal}
 use Rattle.environment.specs.Texts.{world_text}
+
+-- a line pushes calls
+abbrev pub is_push_of_calls : ProcLine → Bool
+is_push_of_calls (proc_line.Table table columns) = false
+is_push_of_calls (proc_line.Procedure procedure table does) = false
+is_push_of_calls (proc_line.Calls site) = false
+is_push_of_calls (proc_line.Call call) = false
+is_push_of_calls (proc_line.Send to) = false
+is_push_of_calls (proc_line.Push from to) = true
+is_push_of_calls (proc_line.Fates from to fates) = false
+is_push_of_calls (proc_line.Execute site origin position) = false
 
 -- a line pushes
 abbrev pub is_push : Command → Bool
@@ -39,6 +53,12 @@ is_push (command.PurgeLog master table) = false
 is_push command.Suspend = false
 is_push (command.Join site source) = false
 is_push (command.Show what site) = false
+is_push (command.Procedures line) = is_push_of_calls line
+
+-- a push of calls was done in part, and beside what there is of procedures all is as it was
+pub record PushesCallsInPart (from to : SiteName) (old new : WorldState) : Type 0 where
+  pub part : CallsPushInPart from to old.procs new.procs
+  pub rest : new ≡ record old { procs = new.procs }
 
 -- a line that isn't refused was done, and this is what it prints
 pub record IsDone (number : ℕ) (command : Command) (old new : WorldState) (bytes : List ℕ) : Type 0 where
@@ -54,6 +74,7 @@ pub record IsShort (number : ℕ) (command : Command) (old new : WorldState) (r 
   pub passes : is_tried command ≡ false → world_refusal command old ≡ None
   pub kept : is_push command ≡ false → new ≡ old
   pub pushed : (from to : SiteName) (count : Option ℕ) → command ≡ Push from to count → PushesInPart from to old new
+  pub called : (from to : SiteName) → command ≡ Procedures (proc_line.Push from to) → PushesCallsInPart from to old new
 
 -- a line was refused
 pub record IsRefused (number : ℕ) (command : Command) (old new : WorldState) (r : Refused) : Type 0 where

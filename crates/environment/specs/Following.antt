@@ -12,6 +12,8 @@ use Rattle.world_state.specs.Phases.{is_setup}
 use Rattle.world_state.specs.Pushes.{world_release, world_send, world_take, world_send_mark}
 use Rattle.world_laws.specs.Reached.{IsOfScript}
 use Rattle.convergent_worlds.specs.Reached.{IsOfConvergence}
+use Rattle.procedure_worlds.specs.Built.{AreProcsBuilt}
+use Rattle.environment.specs.Procedures.{LinksForCalls}
 
 -- ---- what a push does
 
@@ -68,7 +70,8 @@ abbrev pub fates_between : SiteName → SiteName → List Direction → List Fat
 fates_between from to net = fates_in (direction_of from to net)
 
 -- beside two sites and the packets between them all is as it was: the other sites, the other directions and what stands in
--- them, which directions are up, the phase, what is declared, and the open block; of fates, some in front are used up
+-- them, which directions are up, the phase, what is declared, the open block, and what there is of procedures; of fates, some in front
+-- are used up
 pub record LeavesAllElse (from to : SiteName) (old new : WorldState) : Type 0 where
   pub sites : (name : SiteName) → name ≢ from → name ≢ to → site_of name new.sites ≡ site_of name old.sites
   pub directions : (a b : SiteName) → (a ≡ from → b ≢ to) → (a ≡ to → b ≢ from) → direction_of a b new.net ≡ direction_of a b old.net
@@ -79,6 +82,7 @@ pub record LeavesAllElse (from to : SiteName) (old new : WorldState) : Type 0 wh
   pub base : new.base ≡ old.base
   pub snapshots : new.snapshots ≡ old.snapshots
   pub block : new.block ≡ old.block
+  pub procs : new.procs ≡ old.procs
 
 -- a push from one site to another was done in part: some of its steps were done, one after the other, and all else is as it was
 pub record PushesInPart (from to : SiteName) (old new : WorldState) : Type 0 where
@@ -88,8 +92,9 @@ pub record PushesInPart (from to : SiteName) (old new : WorldState) : Type 0 whe
 
 -- ---- what holds of it
 
--- a world of some script of the forms that are built: the laws over events, of snapshots and of convergence hold of it, no two
--- of its sites have the same name, and behind Setup there is a direction from each site to its senders and back
+-- a world of some script: the laws over events, of snapshots and of convergence hold of it, no two of its sites have the same
+-- name, behind Setup there is a direction from each site to its senders and back, its procedures are built, and so are the
+-- directions for calls
 pub record IsBuilt (w : WorldState) : Type 0 where
   pub of_script : IsOfScript w
   pub of_convergence : IsOfConvergence w
@@ -97,3 +102,5 @@ pub record IsBuilt (w : WorldState) : Type 0 where
   pub apart : AreApart w.sites
   pub linked : is_setup w.phase ≡ false → (site origin : SiteName) → gets_from w site origin ≡ true
       → HasDirection w.net site origin × HasDirection w.net origin site
+  pub procs : AreProcsBuilt w
+  pub calls_linked : is_setup w.phase ≡ false → LinksForCalls w

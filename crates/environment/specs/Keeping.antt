@@ -1,15 +1,14 @@
 -- What holds of a world whatever its script is, and stays so.
-use Rattle.std.specs.Prelude.{◌≡◌, ℕ, true, Result}
+use Rattle.std.specs.Prelude.{ℕ, Result}
 use Rattle.report_text.specs.Sheet.{Sheet}
 use Rattle.script_parse.specs.declared.command.Command.{Command}
-use Rattle.script_parse.specs.Built.{is_built}
 use Rattle.script_parse.specs.Named.{NamesColumn}
 use Rattle.world_state.specs.declared.refused.Refused.{Refused}
 use Rattle.world_state.specs.World.{WorldState}
 use Rattle.environment.specs.Following.{IsBuilt}
 use Rattle.environment.specs.Doing.{Does}
 
--- whatever comes of a line of a form that is built, the world stays one of a script of such forms
+-- whatever comes of a line, the world stays one of a script
 abbrev pub LinesKeepBuilt : Type 0
 LinesKeepBuilt = (number : ℕ) (command : Command) (old new : WorldState) (result : Result Sheet Refused)
-    → is_built command ≡ true → NamesColumn command → Does number command old new result → IsBuilt old → IsBuilt new
+    → NamesColumn command → Does number command old new result → IsBuilt old → IsBuilt new

@@ -1,14 +1,46 @@
--- Which refusals are known before a line is tried. What a row, a commit and an execution meet besides comes out as they run.
+-- Which refusals are known before a line is tried. What a row, a commit, a send and an execution meet besides comes out as they
+-- run.
 use Rattle.std.specs.Prelude.{Bool, true, false, not, List, [], ◌∷◌, Option}
 use Rattle.rep_values.specs.declared.refusal.Refusal.{Refusal}
 use Rattle.rep_values.specs.declared.refusal.Refusal.TheVariants as refusal
 use Rattle.rep_values.specs.RefusalSteps.{refused, or_then, first_refusal, known}
 use Rattle.script_parse.specs.declared.command.Command.{Command}
 use Rattle.script_parse.specs.declared.command.Command.TheVariants as command
+use Rattle.script_parse.specs.declared.proc_line.ProcLine.{ProcLine}
+use Rattle.script_parse.specs.declared.proc_line.ProcLine.TheVariants as proc_line
 use Rattle.event_laws.specs.Core.{site_of}
 use Rattle.world_state.specs.World.{WorldState}
 use Rattle.world_state.specs.Phases.{phase_step}
+use Rattle.world_state.specs.Procs.{proc_of}
+use Rattle.world_state.specs.CallBlocks.{can_send_to}
+use Rattle.world_state.specs.ProcRefusals.{are_two_masters, proc_steps}
 use Rattle.world_state.specs.Refusals.{has_sender, further_steps}
+
+-- ---- lines about procedures
+
+-- one that has to be tried before all of its refusals are known
+abbrev pub is_tried_call : ProcLine → Bool
+is_tried_call (proc_line.Table table columns) = false
+is_tried_call (proc_line.Procedure procedure table does) = false
+is_tried_call (proc_line.Calls site) = false
+is_tried_call (proc_line.Call call) = false
+is_tried_call (proc_line.Send to) = true
+is_tried_call (proc_line.Push from to) = false
+is_tried_call (proc_line.Fates from to fates) = false
+is_tried_call (proc_line.Execute site origin position) = true
+
+-- its steps behind the phase that are known before: of a send those of its names
+abbrev pub known_proc_steps : ProcLine → WorldState → List (Option Refusal)
+known_proc_steps (proc_line.Table table columns) w = proc_steps (proc_line.Table table columns) w
+known_proc_steps (proc_line.Procedure procedure table does) w = proc_steps (proc_line.Procedure procedure table does) w
+known_proc_steps (proc_line.Calls site) w = proc_steps (proc_line.Calls site) w
+known_proc_steps (proc_line.Call call) w = proc_steps (proc_line.Call call) w
+known_proc_steps (proc_line.Send to) w = refused (not (can_send_to to w.procs)) refusal.UnknownName ∷ []
+known_proc_steps (proc_line.Push from to) w = proc_steps (proc_line.Push from to) w
+known_proc_steps (proc_line.Fates from to fates) w = proc_steps (proc_line.Fates from to fates) w
+known_proc_steps (proc_line.Execute site origin position) w = known (proc_of site w.procs.sites) (λ x. refused (not (are_two_masters site origin w.procs)) refusal.UnknownName ∷ [])
+
+-- ---- every line
 
 -- a line that has to be tried before all of its refusals are known
 abbrev pub is_tried : Command → Bool
@@ -34,6 +66,7 @@ is_tried (command.PurgeLog master table) = false
 is_tried command.Suspend = false
 is_tried (command.Join site source) = false
 is_tried (command.Show what site) = false
+is_tried (command.Procedures line) = is_tried_call line
 
 -- the steps behind the phase that are known before
 abbrev pub known_steps : Command → WorldState → List (Option Refusal)
@@ -59,6 +92,7 @@ known_steps (command.PurgeLog master table) w = further_steps (command.PurgeLog 
 known_steps command.Suspend w = further_steps command.Suspend w
 known_steps (command.Join site source) w = further_steps (command.Join site source) w
 known_steps (command.Show what site) w = further_steps (command.Show what site) w
+known_steps (command.Procedures line) w = known_proc_steps line w
 
 -- the refusal of a line that is known before it is tried
 abbrev pub known_refusal : Command → WorldState → Option Refusal

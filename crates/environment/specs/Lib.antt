@@ -1,7 +1,9 @@
 -- The definitions of this crate.
 pub mod Finding
 pub mod Joining
+pub mod Procedures
 pub mod Following
+pub mod Calling
 pub mod Known
 pub mod Texts
 pub mod Doing

@@ -5,7 +5,7 @@ use Rattle.rep_values.specs.declared.name.SiteName.{SiteName}
 use Rattle.rep_values.specs.declared.name.TableName.{TableName}
 use Rattle.rep_schema.specs.Named.{table_place}
 use Rattle.rep_schema.specs.Sites.{senders_of, destinations_of}
-use Rattle.report_text.specs.Texts.{commit_text, nothing_committed_text, purge_text, purge_log_text, refresh_fast_text, refresh_complete_text, join_text, execute_text, drop_error_text, push_text, tables_text}
+use Rattle.report_text.specs.Texts.{commit_text, nothing_committed_text, purge_text, purge_log_text, refresh_fast_text, refresh_complete_text, join_text, execute_text, drop_error_text, push_text, tables_text, sent_text, nothing_sent_text, push_calls_text, execute_calls_text, proc_tables_text}
 use Rattle.report_text.specs.Refusals.{error_text, refused_text}
 use Rattle.site_report.specs.Shows.{errors_text, journal_text, log_text, marks_text, queue_text}
 use Rattle.error_queue.specs.declared.entry.ErrorEntry.{ErrorEntry}
@@ -13,14 +13,21 @@ use Rattle.script_parse.specs.declared.command.Shown.{Shown}
 use Rattle.script_parse.specs.declared.command.Shown.TheVariants as shown
 use Rattle.script_parse.specs.declared.command.Command.{Command}
 use Rattle.script_parse.specs.declared.command.Command.TheVariants as command
+use Rattle.script_parse.specs.declared.proc_line.ProcLine.{ProcLine}
+use Rattle.script_parse.specs.declared.proc_line.ProcLine.TheVariants as proc_line
 use Rattle.site_state.specs.State.{SiteState}
 use Rattle.site_state.specs.Contents.{tables_of}
 use Rattle.event_laws.specs.Core.{site_of}
+use Rattle.proc_state.specs.State.{ProcState, proc_tables}
 use Rattle.world_state.specs.declared.block.Block.{Block}
+use Rattle.world_state.specs.declared.call_block.CallBlock.{CallBlock}
 use Rattle.world_state.specs.declared.refused.Refused.{Refused}
 use Rattle.world_state.specs.World.{WorldState, is_there}
 use Rattle.world_state.specs.Answers.{RefreshTold, commit_number, purge_count, log_purge_count, refresh_answer, join_count}
 use Rattle.world_state.specs.PushAnswers.{push_count, push_errors}
+use Rattle.world_state.specs.Procs.{Procs, proc_of}
+use Rattle.world_state.specs.CallBlocks.{sent_number}
+use Rattle.world_state.specs.CallPushes.{calls_push_count, calls_push_errors}
 use Rattle.world_state.specs.Steps.{step_refused}
 
 -- a commit's number, or that nothing was committed
@@ -56,7 +63,7 @@ senders_there w site = filter (is_there w) (senders_of w.schema site)
 abbrev pub destinations_there : WorldState → SiteName → List SiteName
 destinations_there w site = filter (is_there w) (destinations_of w.schema site)
 
--- what is shown of a site; the calls of procedures come with them
+-- what is shown of a site; its tables of procedures stand elsewhere
 abbrev pub shown_text : Shown → SiteName → SiteState → WorldState → List ℕ
 shown_text shown.Tables site x w = tables_text site.0 x.here.tables x.schema (tables_of x)
 shown_text shown.Queue site x w = queue_text site.0 (destinations_there w site) x
@@ -69,6 +76,48 @@ shown_text shown.Calls site x w = []
 abbrev pub shown_found : Shown → SiteName → Option SiteState → WorldState → List ℕ
 shown_found what site None w = []
 shown_found what site (Some x) w = shown_text what site x w
+
+-- ---- procedures
+
+-- the number under which calls are queued, or that nothing was sent
+abbrev pub calls_sent_text : SiteName → ℕ → List ℕ
+calls_sent_text site number = cond (number == 0) (nothing_sent_text site.0) (sent_text site.0 number)
+
+abbrev pub call_block_text : Option CallBlock → ℕ → List ℕ
+call_block_text None number = []
+call_block_text (Some block) number = calls_sent_text block.site number
+
+-- a push of calls, and the errors that it brought
+abbrev pub calls_pushed_text : SiteName → SiteName → Procs → List ℕ
+calls_pushed_text from to p = push_calls_text from.0 to.0 (calls_push_count from to p) ++ flat_map new_error_text (calls_push_errors from to p)
+
+-- what a line about procedures prints
+abbrev pub procs_text : ProcLine → Procs → List ℕ
+procs_text (proc_line.Table table columns) p = []
+procs_text (proc_line.Procedure procedure table does) p = []
+procs_text (proc_line.Calls site) p = []
+procs_text (proc_line.Call call) p = []
+procs_text (proc_line.Send to) p = call_block_text p.block (sent_number p)
+procs_text (proc_line.Push from to) p = calls_pushed_text from to p
+procs_text (proc_line.Fates from to fates) p = []
+procs_text (proc_line.Execute site origin position) p = execute_calls_text site.0 origin.0 position
+
+-- what is shown of a site's tables of procedures
+abbrev pub shown_calls : SiteName → Option ProcState → List ℕ
+shown_calls site None = []
+shown_calls site (Some x) = proc_tables_text site.0 x.schema (proc_tables x)
+
+-- ---- every line
+
+-- what a line prints that shows something
+abbrev pub show_text : Shown → SiteName → WorldState → List ℕ
+show_text shown.Tables site w = shown_found shown.Tables site (site_of site w.sites) w
+show_text shown.Queue site w = shown_found shown.Queue site (site_of site w.sites) w
+show_text shown.Errors site w = shown_found shown.Errors site (site_of site w.sites) w
+show_text shown.Marks site w = shown_found shown.Marks site (site_of site w.sites) w
+show_text shown.Journal site w = shown_found shown.Journal site (site_of site w.sites) w
+show_text shown.Log site w = shown_found shown.Log site (site_of site w.sites) w
+show_text shown.Calls site w = shown_calls site (proc_of site w.procs.sites)
 
 -- what a line prints
 abbrev pub world_text : Command → WorldState → List ℕ
@@ -93,7 +142,8 @@ world_text (command.Refresh site how) w = refreshed_text site (refresh_answer si
 world_text (command.PurgeLog master table) w = log_purged_text master table (table_place w.schema table) w
 world_text command.Suspend w = []
 world_text (command.Join site source) w = join_text site.0 source.0 (join_count source w)
-world_text (command.Show what site) w = shown_found what site (site_of site w.sites) w
+world_text (command.Show what site) w = show_text what site w
+world_text (command.Procedures line) w = procs_text line w.procs
 
 abbrev pub told_text : Option Refused → Command → WorldState → List ℕ
 told_text None command w = world_text command w

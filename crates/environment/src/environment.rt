@@ -5,6 +5,7 @@ ghost use Rattle.deferred_queue.specs.Streams.{is_same_site};
 ghost use Rattle.world_state.specs.World.{first_world};
 ghost use Rattle.environment.specs.Finding.{FindsSite};
 
+use crate::Procs;
 use net_plan::Net;
 use page_tables::PageTables;
 use rep_lists::{Items, NoMemory};
@@ -16,7 +17,7 @@ use std::marker::Model;
 use world_state::{Block, DeclaredSnapshot, Phase};
 
 /// A replication environment: the phase of its script, the store of what is declared and of the rows that masters begin
-/// with, the declared snapshots, its sites in declared order, the net between them, and the open block.
+/// with, the declared snapshots, its sites in declared order, the net between them, the open block, and what there is of procedures.
 #[derive(Drop)]
 pub struct Environment {
     pub phase: Phase,
@@ -25,6 +26,7 @@ pub struct Environment {
     pub sites: Vec<Site<PageTables>>,
     pub net: Net,
     pub block: Option<Block>,
+    pub procs: Procs,
 }
 
 impl Model for Environment {
@@ -40,6 +42,7 @@ impl Model for Environment {
       sites = e.sites.items;
       net = e.net;
       block = e.block;
+      procs = e.procs;
     } };
 }
 
@@ -55,6 +58,7 @@ impl Environment {
             sites: Vec::new(alloc),
             net: Net::make(alloc, &[])?,
             block: None,
+            procs: Procs::make(alloc)?,
         })
     }
 }

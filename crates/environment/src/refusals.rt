@@ -3,16 +3,17 @@ ghost use Rattle.std.specs.Prelude.{◌≡◌, false, not, None};
 ghost use Rattle.rep_values.specs.RefusalSteps.{refused, first_refusal, unknown};
 ghost use Rattle.event_laws.specs.Core.{site_of};
 ghost use Rattle.world_state.specs.Phases.{is_setup, phase_step};
-ghost use Rattle.world_state.specs.Refusals.{has_link};
+ghost use Rattle.world_state.specs.Refusals.{has_link, shown_step};
+ghost use Rattle.world_state.specs.Steps.{world_refused};
 ghost use Rattle.environment.specs.Following.{IsBuilt};
 ghost use Rattle.environment.specs.Known.{known_steps, known_refusal};
 
 use crate::Environment;
-use crate::snapshots::tests_in;
-use rep_declare::refusal_of;
+use crate::testing::tests_in;
+use rep_declare::{Declare, refusal_of};
 use rep_schema::RowStore;
 use rep_values::{Refusal, SiteName};
-use script_parse::Command;
+use script_parse::{Command, ProcLine, Shown};
 
 /// The most that a number may be.
 const MOST_NUMBER: u64 = 1_000_000_000_000_000;
@@ -25,6 +26,31 @@ impl Environment {
             None
         } else {
             Some(Refusal::UnknownName)
+        }
+    }
+
+    // A declaration: what it meets because procedures have tables too, and then what it meets by itself.
+    fn declare_refusal(&self, declaration: &Declare) -> Option<Refusal>
+        ensures { result ≡ first_refusal (known_steps (Command.Declare declaration.now) self.now) }
+    {
+        if let Some(refusal) = self.declaring_step(declaration) {
+            return Some(refusal);
+        }
+        refusal_of(self.store.schema(), declaration)
+    }
+
+    // The site of what is shown; one whose calls are shown holds tables of procedures.
+    fn shown_step(&self, what: Shown, site: &SiteName) -> Option<Refusal>
+        ensures { result ≡ shown_step what site.now self.now }
+    {
+        match what {
+            Shown::Tables
+            | Shown::Queue
+            | Shown::Errors
+            | Shown::Marks
+            | Shown::Journal
+            | Shown::Log => self.unknown_site(site),
+            Shown::Calls => self.procs.unknown_site(site),
         }
     }
 
@@ -82,7 +108,7 @@ impl Environment {
         ensures { result ≡ first_refusal (known_steps command.now self.now) }
     {
         match command {
-            Command::Declare(declaration) => refusal_of(self.store.schema(), declaration),
+            Command::Declare(declaration) => self.declare_refusal(declaration),
             Command::Push { from, to, .. } => self.push_refusal(from, to),
             Command::Fates { from, to, .. }
             | Command::ClearFates { from, to }
@@ -90,8 +116,8 @@ impl Environment {
             Command::Clock { site, time } => self.clock_refusal(site, *time),
             Command::Execute { site, origin, .. } | Command::DropError { site, origin, .. } =>
                 self.error_refusal(site, origin),
-            Command::Txn { site } | Command::Purge { site } | Command::Show { site, .. } =>
-                self.unknown_site(site),
+            Command::Txn { site } | Command::Purge { site } => self.unknown_site(site),
+            Command::Show { what, site } => self.shown_step(*what, site),
             Command::Snapshot { site, table, tests } => self.snapshot_refusal(
                 site,
                 table,
@@ -107,11 +133,12 @@ impl Environment {
             | Command::Abandon
             | Command::Suspend => None,
             Command::Join { site, source } => self.join_refusal(site, source),
+            Command::Procedures(line) => self.proc_refusal(line),
         }
     }
 
-    /// Why a line is refused, as far as that is known before it is tried: all but what a row, a commit, an execution and a
-    /// drop of an error meet as they run. It takes no memory.
+    /// Why a line is refused, as far as that is known before it is tried: all but what a row, a commit, the calls of a send, an
+    /// execution and a drop of an error meet as they run. It takes no memory.
     pub fn refusal(&self, command: &Command) -> Option<Refusal>
         requires { IsBuilt self.now }
         ensures { result ≡ known_refusal command.now self.now }
@@ -120,5 +147,45 @@ impl Environment {
             return Some(refusal);
         }
         self.further_step(command)
+    }
+
+    /// Leaves what a refused line leaves: a commit closes the open block, and a send that of calls.
+    pub fn refuse(&mut self, command: &Command)
+        ensures { self.new ≡ world_refused command.now self.old }
+    {
+        match command {
+            Command::Commit => self.block = None,
+            Command::Procedures(ProcLine::Send { .. }) => self.procs.close(),
+            Command::Nothing
+            | Command::Declare(_)
+            | Command::Snapshot { .. }
+            | Command::Row { .. }
+            | Command::Resume
+            | Command::Statement(_)
+            | Command::Txn { .. }
+            | Command::Abandon
+            | Command::Push { .. }
+            | Command::Fates { .. }
+            | Command::ClearFates { .. }
+            | Command::Link { .. }
+            | Command::Clock { .. }
+            | Command::Purge { .. }
+            | Command::Execute { .. }
+            | Command::DropError { .. }
+            | Command::Refresh { .. }
+            | Command::PurgeLog { .. }
+            | Command::Suspend
+            | Command::Join { .. }
+            | Command::Show { .. }
+            | Command::Procedures(
+                ProcLine::Table { .. }
+                | ProcLine::Procedure { .. }
+                | ProcLine::Calls { .. }
+                | ProcLine::Call(_)
+                | ProcLine::Push { .. }
+                | ProcLine::Fates { .. }
+                | ProcLine::Execute { .. },
+            ) => {}
+        }
     }
 }

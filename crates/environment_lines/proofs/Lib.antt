@@ -1,6 +1,7 @@
 -- The lemmas of this crate, from the bottom up.
 pub mod Outcomes
 pub mod Printing
+mod Unbroken
 mod DeclaredApart
 mod GivenRows
 mod ShownRows

@@ -1,5 +1,5 @@
 -- What comes of a line where there is no memory, and what of one that had to be tried.
-use Rattle.std.proofs.Common.{◌≡◌, ◌-◌, ℕ, List, [], ◌∷◌, false, Some, None, refl, ap, ◌∙◌}
+use Rattle.std.proofs.Common.{◌≡◌, ◌-◌, ℕ, List, [], ◌∷◌, false, Some, None, refl, sym, ap, subst, ◌∙◌}
 use Rattle.std.specs.Prelude.{Option, slice_get}
 use Rattle.rep_values.specs.declared.name.SiteName.{SiteName}
 use Rattle.rep_values.specs.declared.name.TableName.{TableName}
@@ -19,14 +19,23 @@ use Rattle.world_state.specs.declared.block.Block.{Block}
 use Rattle.world_state.specs.declared.refused.Refused.{Refused}
 use Rattle.world_state.specs.World.{WorldState}
 use Rattle.world_state.specs.Phases.{block_step, setup_step}
+use Rattle.world_state.specs.CallBlocks.{sent_to}
 use Rattle.world_state.specs.Blocks.{is_commit, closed, stop_at_site, refusal_in, commit_stop, commit_refusal, commit_line, line_in}
 use Rattle.world_state.specs.Refusals.{world_refusal}
 use Rattle.world_state.specs.Steps.{told_by}
 use Rattle.environment.specs.Known.{is_tried, known_refusal}
-use Rattle.environment.specs.Doing.{IsShort, IsRefused}
+use Rattle.environment.specs.Doing.{PushesCallsInPart, IsShort, IsRefused}
 use Rattle.environment.proofs.Following.{in_part_none}
+use Rattle.environment.proofs.CallsFollowing.{calls_part_none}
 
 -- ---- want of memory
+
+-- where nothing changed, of a push of calls no step was done
+no_calls_pushed : (from to : SiteName) (old new : WorldState) → new ≡ old → PushesCallsInPart from to old new
+no_calls_pushed from to old new same = record {
+  part = calls_part_none from to old.procs new.procs (ap (λ (w : WorldState). w.procs) same);
+  rest = subst (λ (w : WorldState). w ≡ record old { procs = w.procs }) (sym same) refl;
+}
 
 -- there was no memory, and nothing changed
 pub is_short : (number : ℕ) (command : Command) (old new : WorldState) (r : Refused) → r ≡ record { line = number; refusal = refusal.Memory } → (is_tried command ≡ false → world_refusal command old ≡ None)
@@ -37,6 +46,7 @@ is_short number command old new r is passes same = record {
   passes = passes;
   kept = λ push. same;
   pushed = λ from to count push. in_part_none from to old new same;
+  called = λ from to push. no_calls_pushed from to old new same;
 }
 
 -- ---- lines that had to be tried
@@ -77,12 +87,12 @@ pub drop_tried : (w : WorldState) (site origin : SiteName) (position : ℕ) (x :
     → world_refusal (command.DropError site origin position) w ≡ drop_refusal origin position x
 drop_tried w site origin position x there passes = tried_of_sender _ _ (drop_refusal origin position) (site_of site w.sites) x there passes
 
--- one that is refused leaves the world, where it is no commit
-pub is_refused : (number : ℕ) (command : Command) (old new : WorldState) (why : Refusal) → is_commit command ≡ false → world_refusal command old ≡ Some why → new ≡ old
+-- one that is refused leaves the world, where it is no commit and no send
+pub is_refused : (number : ℕ) (command : Command) (old new : WorldState) (why : Refusal) → is_commit command ≡ false → sent_to command ≡ None → world_refusal command old ≡ Some why → new ≡ old
     → IsRefused number command old new (record { line = number; refusal = why })
-is_refused number command old new why other refused same = record {
-  told = rw (refused, other) refl;
-  world = rw other same;
+is_refused number command old new why other unsent refused same = record {
+  told = rw (refused, other, unsent) refl;
+  world = rw (other, unsent) same;
 }
 
 -- ---- commits

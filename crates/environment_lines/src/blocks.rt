@@ -1,5 +1,5 @@
 //! Blocks of statements.
-ghost use Rattle.std.specs.Prelude.{◌≡◌, ◌≤◌, ◌-◌, ◌⊎◌, ◌++◌, ◌∷◌, [], None, Some, slice_get, take, length, IfOk, IfErr, OnOk, OnErr};
+ghost use Rattle.std.specs.Prelude.{◌≡◌, ◌≤◌, ◌-◌, ◌⊎◌, ◌++◌, ◌∷◌, [], None, Some, slice_get, IfOk, IfErr, OnOk, OnErr};
 ghost use Rattle.rep_values.specs.declared.refusal.Refusal.TheVariants as refusal;
 ghost use Rattle.site_state.specs.Commits.{site_commit, commit_answer};
 ghost use Rattle.event_laws.specs.Core.{site_of, at_site};
@@ -10,8 +10,7 @@ ghost use Rattle.environment.specs.Known.{known_refusal};
 ghost use Rattle.environment.specs.Texts.{committed_text};
 ghost use Rattle.environment.specs.Doing.{Does};
 
-use crate::room::{no_memory, room_for_line};
-use environment::{Environment, Site, place_of};
+use environment::{Environment, Site, drop_last, no_memory, place_of, room_for_line};
 use local_txn::LocalStop;
 use page_tables::PageTables;
 use rep_calls::Statement;
@@ -20,7 +19,6 @@ use rep_values::{Refusal, SiteName};
 use report_text::{Lines, commit_line, nothing_committed_line};
 use script_parse::Command;
 use std::alloc::Global;
-use std::mem;
 use world_state::{Block, Refused};
 
 /// So many statements, and one more, are kept.
@@ -42,15 +40,6 @@ pub fn open_block(
         statements: Items::new(alloc),
     });
     Ok(Lines::make(alloc))
-}
-
-/// Lets go of the last line.
-fn drop_last(lines: &mut Items<u32>, alloc: Global)
-    ensures { lines.new ≡ take (length lines.old - 1) lines.old }
-{
-    let mut kept = mem::replace(lines, Items::new(alloc)).into_vec();
-    let _ = kept.pop();
-    *lines = Items::from_vec(kept);
 }
 
 /// Keeps a statement and its line, or neither where there is no memory.

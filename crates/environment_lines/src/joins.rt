@@ -10,8 +10,7 @@ ghost use Rattle.environment.specs.Known.{known_refusal};
 ghost use Rattle.environment.specs.Doing.{Does};
 ghost use Rattle.environment_lines.specs.Joining.{world_join};
 
-use crate::room::{no_memory, room_for_line};
-use environment::{Environment, Site, master_here, place_of};
+use environment::{Environment, Site, master_here, no_memory, place_of, room_for_line};
 use master_join::copy_site;
 use page_tables::PageTables;
 use rep_calls::Past;

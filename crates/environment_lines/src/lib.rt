@@ -5,7 +5,6 @@ mod blocks;
 mod joins;
 mod links;
 mod refreshing;
-mod room;
 mod setup;
 mod shown;
 mod sites;

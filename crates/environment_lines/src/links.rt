@@ -5,8 +5,7 @@ ghost use Rattle.environment.specs.Following.{IsBuilt};
 ghost use Rattle.environment.specs.Known.{known_refusal};
 ghost use Rattle.environment.specs.Doing.{Does};
 
-use crate::room::no_memory;
-use environment::Environment;
+use environment::{Environment, no_memory};
 use net_plan::Fate;
 use rep_values::SiteName;
 use report_text::Lines;

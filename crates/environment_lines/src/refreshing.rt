@@ -14,8 +14,7 @@ ghost use Rattle.environment.specs.Texts.{refreshed_text};
 ghost use Rattle.environment.specs.Doing.{Does};
 ghost use Rattle.environment_lines.specs.Refreshing.{CanRefreshAt, refreshed_at, told_at, told_of};
 
-use crate::room::{no_memory, room_for_line};
-use environment::{Environment, Site, master_of, place_of, young_step};
+use environment::{Environment, Site, master_of, no_memory, place_of, room_for_line, young_step};
 use fast_refresh::{CountedView, rows_shown};
 use page_tables::PageTables;
 use rep_lists::{Items, NoMemory};

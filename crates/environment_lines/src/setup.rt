@@ -2,18 +2,20 @@
 ghost use Rattle.std.specs.Prelude.{◌≡◌, true, None, OnOk, OnErr};
 ghost use Rattle.schema_rules.specs.Rules.{broken_rule};
 ghost use Rattle.script_parse.specs.Named.{NamesColumn};
+ghost use Rattle.site_state.specs.Fits.{IsKeyed};
+ghost use Rattle.proc_state.specs.Calls.{AreProcedures};
 ghost use Rattle.world_state.specs.Making.{world_made};
-ghost use Rattle.world_state.specs.Phases.{is_setup};
+ghost use Rattle.world_state.specs.Phases.{is_setup, broken_by};
+ghost use Rattle.world_state.specs.Procs.{proc_schema, procs_made};
 ghost use Rattle.environment.specs.Following.{IsBuilt};
 ghost use Rattle.environment.specs.Known.{known_refusal};
 ghost use Rattle.environment.specs.Doing.{Does};
 
-use crate::room::no_memory;
-use environment::{Environment, make_net, make_sites};
+use environment::{Environment, Procs, make_net, make_proc_sites, make_sites, no_memory};
 use local_txn::put_base_row;
 use rep_declare::Declare;
 use rep_lists::NoMemory;
-use rep_schema::RowStore;
+use rep_schema::{RowStore, Schema};
 use rep_values::{Literal, TableName};
 use report_text::Lines;
 use script_parse::Command;
@@ -56,16 +58,33 @@ pub fn add_row(
     }
 }
 
-/// Setup ends: the sites are made, and the net between them.
+/// The sites that hold tables of procedures are made, and the net of calls between them.
+fn end_procs(procs: &mut Procs, alloc: Global, schema: &Schema) -> Result<(), NoMemory>
+    requires keyed { IsKeyed (proc_schema schema.now procs.old.tables) }
+    requires procedures { AreProcedures (proc_schema schema.now procs.old.tables) procs.old.procedures }
+    ensures ok { OnOk result (procs.new ≡ procs_made schema.now procs.old) }
+    ensures err { OnErr result (procs.new ≡ procs.old) }
+{
+    let sites = make_proc_sites(alloc, schema, &procs.tables, &procs.procedures)?;
+    let net = make_net(alloc, schema)?;
+    procs.sites = sites;
+    procs.net = net;
+    Ok(())
+}
+
+/// Setup ends: the sites are made, and the nets between them.
 fn end_setup(environment: &mut Environment, alloc: Global) -> Result<(), NoMemory>
     requires built { IsBuilt environment.old }
     requires setup { is_setup environment.old.phase ≡ true }
     requires sound { broken_rule environment.old.schema ≡ None }
+    requires keyed { broken_by environment.old.procs.tables ≡ None }
     ensures ok { OnOk result (environment.new ≡ world_made environment.old) }
     ensures err { OnErr result (environment.new ≡ environment.old) }
 {
     let sites = make_sites(alloc, &environment.store, environment.snapshots.as_slice())?;
     let net = make_net(alloc, environment.store.schema())?;
+    end_procs(&mut environment.procs, alloc, environment.store.schema())?;
+    // What follows can't fail.
     environment.sites = sites;
     environment.net = net;
     environment.phase = Phase::Running;

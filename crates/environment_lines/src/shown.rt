@@ -1,20 +1,22 @@
 //! What is shown of a site.
-ghost use Rattle.std.specs.Prelude.{◌≡◌, ◌++◌, true, None, filter, IfOk, OnOk};
-ghost use Rattle.script_parse.specs.Built.{is_built, is_built_show};
+ghost use Rattle.std.specs.Prelude.{◌≡◌, ◌++◌, None, filter, IfOk, OnOk};
+ghost use Rattle.event_laws.specs.Core.{site_of};
 ghost use Rattle.world_state.specs.World.{is_there};
+ghost use Rattle.world_state.specs.Procs.{proc_of};
 ghost use Rattle.environment.specs.Known.{known_refusal};
-ghost use Rattle.environment.specs.Texts.{senders_there, destinations_there, shown_text};
+ghost use Rattle.environment.specs.Texts.{senders_there, destinations_there, shown_text, shown_found, shown_calls, show_text};
 ghost use Rattle.environment.specs.Doing.{Does};
 
-use crate::room::no_memory;
 use environment::{
-    Environment, Site, add_errors, add_journal, add_log, add_marks, add_queue, place_of,
+    Environment, Site, add_errors, add_journal, add_log, add_marks, add_queue, no_memory, place_of,
+    proc_place_of,
 };
 use page_tables::PageTables;
+use proc_calls::ProcSite;
 use rep_lists::{Items, NoMemory};
 use rep_schema::RowStore;
 use rep_values::SiteName;
-use report_text::{Lines, add_tables};
+use report_text::{Lines, add_proc_tables, add_tables};
 use schema_sites::{destinations_of, senders_of};
 use script_parse::{Command, Shown};
 use std::alloc::Global;
@@ -98,7 +100,7 @@ fn add_marks_there(
     Ok(())
 }
 
-/// What is shown of a site.
+/// What is shown of a site; its tables of procedures stand elsewhere.
 fn add_shown(
     lines: &mut Lines,
     alloc: Global,
@@ -107,7 +109,6 @@ fn add_shown(
     name: &SiteName,
     site: &Site<PageTables>,
 ) -> Result<(), NoMemory>
-    requires { is_built_show what ≡ true }
     ensures { OnOk result (lines.new.bytes ≡ lines.old.bytes ++ shown_text what name.now site.now environment.now) }
 {
     match what {
@@ -117,7 +118,55 @@ fn add_shown(
         Shown::Marks => add_marks_there(lines, alloc, environment, name, site),
         Shown::Journal => add_journal(lines, name, site),
         Shown::Log => add_log(lines, name, site),
-        Shown::Calls => unreachable!(),
+        Shown::Calls => Ok(()),
+    }
+}
+
+/// What is shown of the site of a name, where it is there.
+fn add_found(
+    lines: &mut Lines,
+    alloc: Global,
+    environment: &Environment,
+    what: Shown,
+    name: &SiteName,
+) -> Result<(), NoMemory>
+    ensures { OnOk result (lines.new.bytes ≡ lines.old.bytes ++ shown_found what name.now (site_of name.now environment.now.sites) environment.now) }
+{
+    let Some(place) = place_of(&environment.sites, name) else {
+        return Ok(());
+    };
+    let site = &environment.sites[place];
+    add_shown(lines, alloc, environment, what, name, site)?;
+    Ok(())
+}
+
+/// The tables of procedures of the site of a name, where it holds them.
+fn add_calls(lines: &mut Lines, sites: &[ProcSite], name: &SiteName) -> Result<(), NoMemory>
+    ensures { OnOk result (lines.new.bytes ≡ lines.old.bytes ++ shown_calls name.now (proc_of name.now sites.now)) }
+{
+    let Some(place) = proc_place_of(sites, name) else {
+        return Ok(());
+    };
+    let site = &sites[place];
+    site.laws();
+    add_proc_tables(lines, *name, site.store())?;
+    Ok(())
+}
+
+/// What a line shows.
+fn add_line(
+    lines: &mut Lines,
+    alloc: Global,
+    environment: &Environment,
+    what: Shown,
+    name: &SiteName,
+) -> Result<(), NoMemory>
+    ensures { OnOk result (lines.new.bytes ≡ lines.old.bytes ++ show_text what name.now environment.now) }
+{
+    match what {
+        Shown::Tables | Shown::Queue | Shown::Errors | Shown::Marks | Shown::Journal | Shown::Log =>
+            add_found(lines, alloc, environment, what, name),
+        Shown::Calls => add_calls(lines, &environment.procs.sites, name),
     }
 }
 
@@ -129,22 +178,11 @@ pub fn show(
     what: Shown,
     site: &SiteName,
 ) -> Result<Lines, Refused>
-    requires form { is_built (Command.Show what site.now) ≡ true }
-    requires passes { known_refusal (Command.Show what site.now) environment.now ≡ None }
+    requires { known_refusal (Command.Show what site.now) environment.now ≡ None }
     ensures { Does line (Command.Show what site.now) environment.now environment.now result }
 {
-    let Some(place) = place_of(&environment.sites, site) else {
-        unreachable!()
-    };
     let mut lines = Lines::make(alloc);
-    let Ok(()) = add_shown(
-        &mut lines,
-        alloc,
-        environment,
-        what,
-        site,
-        &environment.sites[place],
-    ) else {
+    let Ok(()) = add_line(&mut lines, alloc, environment, what, site) else {
         return Err(no_memory(line));
     };
     Ok(lines)

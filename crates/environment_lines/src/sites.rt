@@ -3,8 +3,7 @@ ghost use Rattle.std.specs.Prelude.{◌≡◌, None};
 ghost use Rattle.environment.specs.Known.{known_refusal};
 ghost use Rattle.environment.specs.Doing.{Does};
 
-use crate::room::{no_memory, room_for_line};
-use environment::{Environment, place_of};
+use environment::{Environment, no_memory, place_of, room_for_line};
 use rep_values::SiteName;
 use report_text::{Lines, drop_error_line, execute_line, purge_line};
 use script_parse::Command;

@@ -1,9 +1,9 @@
 -- What is taken in, one packet at a time.
-use Rattle.std.proofs.Common.{◌≡◌, ℕ, ◌<◌, List, [], ◌∷◌, length, drop, true, false, Some, None, refl, sym, ap, ◌∙◌, arith, subst}
+use Rattle.std.proofs.Common.{◌≡◌, ℕ, ◌<◌, List, [], ◌∷◌, length, drop, true, false, Some, None, refl, sym, ap, ◌∙◌, subst}
 use Rattle.std.specs.Prelude.{Option, option_map, is_some}
 use Rattle.rep_values.specs.declared.name.SiteName.{SiteName}
 use Rattle.packet_code.specs.declared.packet.Packet.{Packet}
-use Rattle.net_plan.specs.Directions.{at_direction, on_way_between, first_of, first_between, delivered}
+use Rattle.net_plan.specs.Directions.{at_direction, on_way_between, first_between, delivered}
 use Rattle.site_state.specs.State.{SiteState}
 use Rattle.site_state.specs.Packets.{site_accept}
 use Rattle.site_state.proofs.Changing.{accept_later}
@@ -11,7 +11,8 @@ use Rattle.event_laws.specs.Core.{site_of, at_site}
 use Rattle.event_laws.proofs.Sites.{at_split}
 use Rattle.world_state.specs.World.{WorldState, is_there}
 use Rattle.world_state.specs.Pushes.{taken_each, taken_one, world_take, world_send, world_send_each, world_deliver, positions_above, world_release, pushed_in}
-use Rattle.world_laws.proofs.Calling.{on_way_between-delivered, first_between-first, take_then_deliver, deliver_none}
+use Rattle.world_laws.proofs.Calling.{on_way_between-delivered, take_then_deliver, deliver_none}
+use Rattle.environment.proofs.Going.{none_on_way, fewer_on_way}
 
 -- nothing was on the way
 pub take-none : (from to : SiteName) (w : WorldState) → None ≡ first_between from to w.net → record w { net = at_direction from to delivered w.net } ≡ world_take from to w
@@ -26,35 +27,18 @@ take-some from to w packet sites some taken =
 
 -- ---- all of them
 
-first_of-None : (packets : List Packet) → first_of packets ≡ None → packets ≡ []
-first_of-None [] none = refl
-first_of-None (packet ∷ packets) none = absurd (cc none)
-
-drop-shorter : (packets : List Packet) → is_some (first_of packets) ≡ true → length (drop 1 packets) < length packets
-drop-shorter [] some = absurd (cc some)
-drop-shorter (packet ∷ packets) some = omega arith
-
 -- once there was no packet to take in, all are
 pub deliver-end : (from to : SiteName) (w : WorldState) → is_some (first_between from to w.net) ≡ false → world_take from to w ≡ world_deliver from to w
 deliver-end from to w none = sym (deliver_none from to (world_take from to w) empty) ∙ take_then_deliver from to w
   where
-    none_of : (o : Option Packet) → is_some o ≡ false → o ≡ None
-    none_of None is = refl
-    none_of (Some packet) is = absurd (cc is)
-
-    nothing : on_way_between from to w.net ≡ []
-    nothing = first_of-None _ (sym (first_between-first from to w.net) ∙ none_of _ none)
-
     empty : on_way_between from to (at_direction from to delivered w.net) ≡ []
-    empty = on_way_between-delivered from to w.net ∙ ap (drop 1) nothing
+    empty = on_way_between-delivered from to w.net ∙ ap (λ (packets : List Packet). drop 1 packets) (none_on_way from to w.net none)
 
 -- a packet that is taken in is no longer on the way
 pub way-shorter : (from to : SiteName) (w y : WorldState) → y ≡ world_take from to w → is_some (first_between from to w.net) ≡ true
     → length (on_way_between from to y.net) < length (on_way_between from to w.net)
 way-shorter from to w y is some =
-    let first : is_some (first_of (on_way_between from to w.net)) ≡ true = rw (← first_between-first from to w.net) some in
-    subst (λ (v : WorldState). length (on_way_between from to v.net) < length (on_way_between from to w.net)) (sym is)
-    (rw (on_way_between-delivered from to w.net) (drop-shorter (on_way_between from to w.net) first))
+    subst (λ (v : WorldState). length (on_way_between from to v.net) < length (on_way_between from to w.net)) (sym is) (fewer_on_way from to w.net some)
 
 -- what remains to be taken in is the same
 pub still-to_deliver : (from to : SiteName) (w y z : WorldState) → y ≡ world_take from to w → world_deliver from to w ≡ z → world_deliver from to y ≡ z

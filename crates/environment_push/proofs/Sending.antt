@@ -1,5 +1,5 @@
 -- What is sent, one position at a time.
-use Rattle.std.proofs.Common.{◌≡◌, ℕ, zero, suc, ◌+◌, ◌-◌, List, [], ◌∷◌, ◌++◌, length, map, Some, refl, sym, ap, ◌∙◌, arith, add-one, add-zero}
+use Rattle.std.proofs.Common.{◌≡◌, ℕ, ◌+◌, ◌-◌, List, [], ◌∷◌, length, map, Some, refl, sym, ap, ◌∙◌, add-one}
 use Rattle.std.specs.Prelude.{Option}
 use Rattle.std.specs.List.{range_with_len}
 use Rattle.rep_values.specs.declared.name.SiteName.{SiteName}
@@ -11,14 +11,9 @@ use Rattle.site_state.proofs.Deferring.{acked_by-marks}
 use Rattle.world_state.specs.World.{WorldState}
 use Rattle.world_state.specs.Pushes.{world_send, world_send_each, at_most, positions_in}
 use Rattle.world_laws.proofs.Calling.{send_more}
+use Rattle.environment.proofs.Going.{range_with_len-more}
 use Rattle.environment.specs.Following.{Send, steps_done, PushesInPart}
 use Rattle.environment.proofs.Following.{in_part}
-
-range_with_len-more : (a n : ℕ) → range_with_len a (suc n) ≡ range_with_len a n ++ (a + n) ∷ []
-range_with_len-more a zero = rw (add-zero a) refl
-range_with_len-more a (suc n) =
-    let same : a + 1 + n ≡ a + suc n = omega arith in
-    rw (← same) (ap (λ (ns : List ℕ). a ∷ ns) (range_with_len-more (a + 1) n))
 
 -- one position more
 pub send_each-more : (from to : SiteName) (first sent position : ℕ) (w y : WorldState) → y ≡ world_send_each from to (range_with_len first sent) w → position ≡ first + sent

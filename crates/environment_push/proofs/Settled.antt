@@ -1,26 +1,22 @@
 -- What a receiver tells of what it settled, and that what it does is a step of a push.
-use Rattle.std.proofs.Common.{◌≡◌, ℕ, zero, suc, ◌+◌, ◌-◌, ◌<◌, List, [], ◌∷◌, ◌++◌, length, take, Bool, true, false, cond, Option, Some, None, refl, sym, ap, ◌∙◌, arith, append_assoc, append-nil, get_or, set, inl, inr}
-use Rattle.std.specs.Prelude.{filter_map, flat_map}
+use Rattle.std.proofs.Common.{◌≡◌, ℕ, zero, suc, ◌<◌, List, [], ◌∷◌, ◌++◌, length, Option, Some, refl, sym, ap, ◌∙◌, arith, append_assoc, append-nil, get_or, set, inl, inr}
+use Rattle.std.specs.Prelude.{flat_map}
 use Rattle.std.specs.List.{insert, remove}
 use Rattle.rep_values.specs.declared.name.SiteName.{SiteName}
 use Rattle.error_queue.specs.declared.entry.ErrorEntry.{ErrorEntry}
 use Rattle.report_text.specs.Texts.{push_text}
-use Rattle.site_state.specs.declared.arrival.Arrival.{Arrival}
-use Rattle.site_state.specs.declared.entry.Entry.{Entry}
-use Rattle.site_state.specs.declared.entry.Entry.TheVariants.{Local, Done, Error, Executed, Dropped, Refreshed}
-use Rattle.site_state.specs.State.{SenderState, SiteState}
-use Rattle.site_state.specs.Journal.{is_position, error_at, low_water}
+use Rattle.site_state.specs.State.{SiteState}
+use Rattle.site_state.specs.Journal.{low_water}
 use Rattle.site_state.specs.Passes.{is_done, is_error, added_count}
-use Rattle.site_state.specs.Steps.{count_where}
-use Rattle.site_state.specs.Errors.{errors_from}
 use Rattle.event_laws.specs.Core.{site_of, at_site}
 use Rattle.world_state.specs.World.{WorldState}
 use Rattle.world_state.specs.Rounds.{site_settle}
 use Rattle.world_state.specs.Pushes.{world_settle}
-use Rattle.world_state.specs.PushAnswers.{count_in, entries_since, errors_in}
+use Rattle.world_state.specs.PushAnswers.{count_in, errors_in}
 use Rattle.site_rounds.specs.NewErrors.{error_entry_text, new_errors}
 use Rattle.site_rounds.specs.Parts.{PartlySettled, parts_done}
-use Rattle.site_rounds.proofs.Growing.{settle_grows, take-front, count_where-append}
+use Rattle.site_rounds.proofs.Growing.{settle_grows}
+use Rattle.site_rounds.proofs.NoErrors.{no_new_errors}
 use Rattle.site_rounds.proofs.Parts.{partly_settle}
 use Rattle.environment.specs.Finding.{IsAt}
 use Rattle.environment.specs.Following.{Settle, PushesInPart}
@@ -31,37 +27,9 @@ use Rattle.environment_push.specs.Settling.{told_text, IsSettling}
 
 -- ---- no errors
 
-either_none : (b : Bool) (o : Option ErrorEntry) → o ≡ None → cond b None o ≡ None
-either_none true o none = refl
-either_none false o none = none
-
--- entries without an error have none of any position
-error_at-none : (origin : SiteName) (position : ℕ) (es : List Entry) → count_where is_error es ≡ 0 → error_at origin position es ≡ None
-error_at-none origin position [] none = refl
-error_at-none origin position (Local number txn ∷ es) none = error_at-none origin position es none
-error_at-none origin position (Done o p onward txn ∷ es) none = error_at-none origin position es none
-error_at-none origin position (Error o p call error txn ∷ es) none = absurd (omega (arith, none))
-error_at-none origin position (Executed o p onward txn ∷ es) none = either_none (is_position origin position o p) (error_at origin position es) (error_at-none origin position es none)
-error_at-none origin position (Dropped o p ∷ es) none = either_none (is_position origin position o p) (error_at origin position es) (error_at-none origin position es none)
-error_at-none origin position (Refreshed moment ∷ es) none = error_at-none origin position es none
-
-arrived-none : (es : List Entry) (origin : SiteName) (arrived : List Arrival) → count_where is_error es ≡ 0 → filter_map (λ (a : Arrival). error_at origin a.position es) arrived ≡ []
-arrived-none es origin [] none = refl
-arrived-none es origin (a ∷ arrived) none = rw (error_at-none origin a.position es none) (arrived-none es origin arrived none)
-
-senders-none : (es : List Entry) (senders : List SenderState) → count_where is_error es ≡ 0 → flat_map (errors_from es) senders ≡ []
-senders-none es [] none = refl
-senders-none es (s ∷ senders) none = rw (arrived-none es s.origin s.arrived none) (senders-none es senders none)
-
 -- where no error was counted none is told
 errors_in-none : (origin : SiteName) (x : SiteState) → added_count is_error x (site_settle origin x) ≡ 0 → errors_in origin (Some x) ≡ []
-errors_in-none origin x none =
-    let y : SiteState = site_settle origin x in
-    let g = settle_grows origin x in
-    let since : entries_since x.journal y.journal ≡ g.front = ap (λ (es : List Entry). take (length es - length x.journal) es) g.is ∙ take-front g.front x.journal in
-    let counted : count_where is_error y.journal ≡ count_where is_error g.front + count_where is_error x.journal = ap (count_where is_error) g.is ∙ count_where-append is_error g.front x.journal in
-    let no : count_where is_error g.front ≡ 0 = omega (arith, counted, none) in
-    ap (λ (es : List Entry). flat_map (errors_from es) y.senders) since ∙ senders-none g.front y.senders no
+errors_in-none origin x none = no_new_errors x (site_settle origin x) (settle_grows origin x) none (site_settle origin x).senders
 
 -- ---- what is told
 

@@ -66,7 +66,7 @@ module _ (from to : SiteName) (count : Option ℕ) (w : WorldState) where
 
     -- a push for which there was no memory
     pub push_short : (number : ℕ) (new : WorldState) → PushesInPart from to w new → IsShort number (command.Push from to count) w new (record { line = number; refusal = refusal.Memory })
-    push_short number new part = record { memory = refl; line = refl; passes = λ untried. passes; kept = λ other. absurd (cc other); pushed = pushed_so new part }
+    push_short number new part = record { memory = refl; line = refl; passes = λ untried. passes; kept = λ other. absurd (cc other); pushed = pushed_so new part; called = λ a b other. absurd (cc other) }
 
   -- what is told of a push
   pub told-pushed : (sent : ℕ) (old bytes : List ℕ) (y : WorldState) → y ≡ pushed_in from to count w → sent ≡ length (positions_above from to count w)

@@ -47,11 +47,31 @@ execute_text site origin position = line (codes "execute") (site ∷ origin ∷ 
 abbrev pub drop_error_text : List ℕ → List ℕ → ℕ → List ℕ
 drop_error_text site origin position = line (codes "drop-error") (site ∷ origin ∷ decimal position ∷ [])
 
+-- A B sent N done D errors E low M
+abbrev pub push_words : List ℕ → List ℕ → PushCount → List (List ℕ)
+push_words from to count =
+    from ∷ to ∷ codes "sent" ∷ decimal count.sent ∷ codes "done" ∷ decimal count.done
+    ∷ codes "errors" ∷ decimal count.errors ∷ codes "low" ∷ decimal count.low ∷ []
+
 -- push A B sent N done D errors E low M
 abbrev pub push_text : List ℕ → List ℕ → PushCount → List ℕ
-push_text from to count =
-    line (codes "push") (from ∷ to ∷ codes "sent" ∷ decimal count.sent ∷ codes "done" ∷ decimal count.done
-    ∷ codes "errors" ∷ decimal count.errors ∷ codes "low" ∷ decimal count.low ∷ [])
+push_text from to count = line (codes "push") (push_words from to count)
+
+-- push-calls A B sent N done D errors E low M
+abbrev pub push_calls_text : List ℕ → List ℕ → PushCount → List ℕ
+push_calls_text from to count = line (codes "push-calls") (push_words from to count)
+
+-- sent SITE NUMBER
+abbrev pub sent_text : List ℕ → ℕ → List ℕ
+sent_text site number = line (codes "sent") (site ∷ decimal number ∷ [])
+
+-- sent SITE none
+abbrev pub nothing_sent_text : List ℕ → List ℕ
+nothing_sent_text site = line (codes "sent") (site ∷ codes "none" ∷ [])
+
+-- execute-calls SITE ORIGIN POSITION done
+abbrev pub execute_calls_text : List ℕ → List ℕ → ℕ → List ℕ
+execute_calls_text site origin position = line (codes "execute-calls") (site ∷ origin ∷ decimal position ∷ codes "done" ∷ [])
 
 -- malformed LINE RULE
 abbrev pub malformed_text : ℕ → ℕ → List ℕ
@@ -79,6 +99,16 @@ each_table held number (t ∷ ts) (r ∷ rs) = cond (has_table held number) (tab
 -- tables SITE, and each table that it holds in declared order
 abbrev pub tables_text : List ℕ → List Bool → Schema → List Rows → List ℕ
 tables_text site held schema tables = line (codes "tables") (site ∷ []) ++ each_table held 0 schema.tables tables
+
+-- each table, with its rows
+abbrev pub all_tables : List TableEntry → List Rows → List ℕ
+all_tables [] rows = []
+all_tables (t ∷ ts) [] = []
+all_tables (t ∷ ts) (r ∷ rs) = table_text t.name.0 r ++ all_tables ts rs
+
+-- calls SITE, and each table that procedures write in declared order
+abbrev pub proc_tables_text : List ℕ → Schema → List Rows → List ℕ
+proc_tables_text site schema tables = line (codes "calls") (site ∷ []) ++ all_tables schema.tables tables
 
 -- key VALUES moment M
 abbrev pub logged_key_text : List Value → ℕ → List ℕ

@@ -1,7 +1,7 @@
 //! Lines of at most 256 bytes, which are put into room that is there.
-ghost use Rattle.std.specs.Prelude.{◌≤◌};
-ghost use Rattle.report_text.specs.Sheet.{Appends, most_line};
-ghost use Rattle.report_text.specs.Texts.{commit_text, nothing_committed_text, purge_text, purge_log_text, execute_text, drop_error_text, push_text, refresh_fast_text, refresh_complete_text, join_text, malformed_text};
+ghost use Rattle.std.specs.Prelude.{◌≤◌, length};
+ghost use Rattle.report_text.specs.Sheet.{Appends, line, most_line};
+ghost use Rattle.report_text.specs.Texts.{commit_text, nothing_committed_text, purge_text, purge_log_text, execute_text, drop_error_text, push_words, push_text, push_calls_text, sent_text, nothing_sent_text, execute_calls_text, refresh_fast_text, refresh_complete_text, join_text, malformed_text};
 
 use crate::{Lines, Word};
 use rep_values::{SiteName, TableName};
@@ -133,13 +133,13 @@ pub fn drop_error_line(lines: &mut Lines, site: SiteName, origin: SiteName, posi
     );
 }
 
-/// `push A B sent N done D errors E low M`
-pub fn push_line(lines: &mut Lines, from: SiteName, to: SiteName, count: PushCount)
-    requires { most_line ≤ lines.old.room }
-    ensures { Appends lines.old lines.new (push_text from.0 to.0 count) }
+fn counted_line(lines: &mut Lines, first: &[u8], from: SiteName, to: SiteName, count: PushCount)
+    requires first { length first.now ≤ 10 }
+    requires room { most_line ≤ lines.old.room }
+    ensures { Appends lines.old lines.new (line first.now (push_words from.0 to.0 count)) }
 {
     lines.put_line(
-        b"push",
+        first,
         &[
             Word::Name(from.0),
             Word::Name(to.0),
@@ -151,6 +151,54 @@ pub fn push_line(lines: &mut Lines, from: SiteName, to: SiteName, count: PushCou
             Word::Number(count.errors),
             Word::Plain(b"low"),
             Word::Number(count.low),
+        ],
+    );
+}
+
+/// `push A B sent N done D errors E low M`
+pub fn push_line(lines: &mut Lines, from: SiteName, to: SiteName, count: PushCount)
+    requires { most_line ≤ lines.old.room }
+    ensures { Appends lines.old lines.new (push_text from.0 to.0 count) }
+{
+    counted_line(lines, b"push", from, to, count);
+}
+
+/// `push-calls A B sent N done D errors E low M`
+pub fn push_calls_line(lines: &mut Lines, from: SiteName, to: SiteName, count: PushCount)
+    requires { most_line ≤ lines.old.room }
+    ensures { Appends lines.old lines.new (push_calls_text from.0 to.0 count) }
+{
+    counted_line(lines, b"push-calls", from, to, count);
+}
+
+/// `sent SITE NUMBER`
+pub fn sent_line(lines: &mut Lines, site: SiteName, number: u64)
+    requires { most_line ≤ lines.old.room }
+    ensures { Appends lines.old lines.new (sent_text site.0 number) }
+{
+    lines.put_line(b"sent", &[Word::Name(site.0), Word::Number(number)]);
+}
+
+/// `sent SITE none`
+pub fn nothing_sent_line(lines: &mut Lines, site: SiteName)
+    requires { most_line ≤ lines.old.room }
+    ensures { Appends lines.old lines.new (nothing_sent_text site.0) }
+{
+    lines.put_line(b"sent", &[Word::Name(site.0), Word::Plain(b"none")]);
+}
+
+/// `execute-calls SITE ORIGIN POSITION done`
+pub fn execute_calls_line(lines: &mut Lines, site: SiteName, origin: SiteName, position: u64)
+    requires { most_line ≤ lines.old.room }
+    ensures { Appends lines.old lines.new (execute_calls_text site.0 origin.0 position) }
+{
+    lines.put_line(
+        b"execute-calls",
+        &[
+            Word::Name(site.0),
+            Word::Name(origin.0),
+            Word::Number(position),
+            Word::Plain(b"done"),
         ],
     );
 }

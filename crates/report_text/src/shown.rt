@@ -5,7 +5,7 @@ ghost use Rattle.rep_values.specs.Number.{IsRowLen};
 ghost use Rattle.rep_schema.specs.Tables.{rows_of};
 ghost use Rattle.rep_schema.specs.Sites.{has_table};
 ghost use Rattle.report_text.specs.Sheet.{Appends, StandBefore, spaced, most_value};
-ghost use Rattle.report_text.specs.Texts.{value_text, row_text, logged_key_text, table_text, tables_text};
+ghost use Rattle.report_text.specs.Texts.{value_text, row_text, logged_key_text, table_text, tables_text, proc_tables_text};
 
 use crate::lines::MOST_LINE;
 use crate::{Lines, Word};
@@ -131,6 +131,26 @@ pub fn add_tables<R: RowStore>(
             store,
             table as u32,
         )?;
+    }
+    Ok(())
+}
+
+/// What `show calls` prints of a site: its name, and each table that procedures write in declared order with its rows. Where there
+/// is no memory, what stood in the lines still stands in front, and part of this may stand behind it.
+pub fn add_proc_tables<R: RowStore>(
+    lines: &mut Lines,
+    site: SiteName,
+    store: &R,
+) -> Result<(), NoMemory>
+    requires { length (R.schema store.now).tables ≤ 32 }
+    ensures ok { OnOk result (lines.new.bytes ≡ lines.old.bytes ++ proc_tables_text site.0 (R.schema store.now) (R.tables store.now)) }
+    ensures err { OnErr result (StandBefore lines.old.bytes lines.new.bytes) }
+{
+    lines.reserve(MOST_LINE)?;
+    lines.put_line(b"calls", &[Word::Name(site.0)]);
+    let schema = store.schema();
+    for table in 0..schema.tables.len() {
+        add_table(lines, schema.tables.at(table).name, store, table as u32)?;
     }
     Ok(())
 }

@@ -1,5 +1,6 @@
 -- The lemmas of this crate.
 pub mod PartsAgain
+pub mod ProcPartsAgain
 pub mod ReadAgain
 pub mod ParsedLines
 mod WorkedLines

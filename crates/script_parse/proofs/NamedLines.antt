@@ -1,4 +1,4 @@
--- Whatever lines are read as: their forms are built, and the groups and constraints that they declare name columns.
+-- Whatever lines are read as: the groups and constraints that they declare name columns.
 use Rattle.std.proofs.Common.{◌≡◌, ℕ, ◌≤◌, List, [], ◌∷◌, length, Bool, true, false, Some, None, refl, ap, subst, arith}
 use Rattle.std.specs.Prelude.{if◌then◌else◌, Option, Result, Ok, Err, codes}
 use Rattle.rep_values.specs.declared.literal.Literal.{Literal}
@@ -22,12 +22,12 @@ use Rattle.script_parse.specs.declared.command.Command.TheVariants as command
 use Rattle.script_parse.specs.Named.{NamesColumn}
 use Rattle.script_parse.specs.Columns.{column}
 use Rattle.script_parse.specs.Methods.{method, unique_method}
-use Rattle.script_parse.specs.Parts.{site, table, rels, row_test, set_part, fates, links, refreshes, shown_words}
+use Rattle.script_parse.specs.Parts.{site, table, rels, where_tests, set_part, fates, links, refreshes, shown_words}
 use Rattle.script_parse.specs.Declarations.{declaration_of}
 use Rattle.script_parse.specs.Rows.{insert_of, update_of, delete_of, fates_behind, fate_row}
+use Rattle.script_parse.specs.ProcRows.{proc_row_of}
 use Rattle.script_parse.specs.Heads.{heads, row_of}
-use Rattle.script_parse.specs.Built.{is_built, gated}
-use Rattle.script_parse.specs.Parsed.{formed, form_of, command_of, parsed}
+use Rattle.script_parse.specs.Parsed.{formed, command_of, parsed}
 
 -- something holds of all that a reading gives
 abbrev Gives : {A : Type 0} → (A → Type 0) → Reading A → Type 0
@@ -61,9 +61,6 @@ none_read ts = Ok ([], ts)
 
 abbrev no_form : {A : Type 0} → Result A ℕ
 no_form = Err 6
-
-abbrev not_built : Result Command ℕ
-not_built = Err 5
 
 gives-row : {A : Type 0} (P : A → Type 0) (x : A) → P x → Gives P (row x)
 gives-row P x holds ts y rest is = let same : x ≡ y = ap (front_or x) is in subst P same holds
@@ -172,7 +169,7 @@ fates_name ts c rest is = first (site ts) is
 -- what stands behind each command word
 rows_name : (h : Head) → Gives NamesColumn (row_of h)
 rows_name (head.Declare d) = gives-both ColumnNamed NamesColumn (row command.Declare) (declaration_of d) (gives-row (λ f. (d' : Declare) → ColumnNamed d' → NamesColumn (f d')) command.Declare (λ a named. named)) (declarations_name d)
-rows_name head.Snapshot = gives-3 NamesColumn command.Snapshot site table (optional (codes "where") (separated (codes "and") row_test)) (λ a b c. tt)
+rows_name head.Snapshot = gives-3 NamesColumn command.Snapshot site table where_tests (λ a b c. tt)
 rows_name head.Row = gives-2 NamesColumn command.Row table (some_of is_valued value) (λ a b. tt)
 rows_name head.Resume = gives-row NamesColumn command.Resume tt
 rows_name head.Insert = gives-2 NamesColumn insert_of table (some_of is_valued value) (λ a b. tt)
@@ -195,25 +192,14 @@ rows_name head.PurgeLog = gives-2 NamesColumn command.PurgeLog site table (λ a 
 rows_name head.Suspend = gives-row NamesColumn command.Suspend tt
 rows_name head.Join = gives-2 NamesColumn command.Join site site (λ a b. tt)
 rows_name head.Show = gives-2 NamesColumn command.Show (choice shown_words) site (λ a b. tt)
+rows_name (head.Procedures h) = gives-1 NamesColumn command.Procedures (proc_row_of h) (λ a. tt)
 
 -- ---- a line
 
--- its form is built
-gated-built : (o : Result Command ℕ) (c : Command) → gated is_built o ≡ Ok c → (is_built c ≡ true) × (o ≡ Ok c)
-gated-built (Err rule) c is = absurd (cc is)
-gated-built (Ok read) c is = go (is_built read) refl is
-  where
-    as_read : Command → Result Command ℕ
-    as_read d = Ok d
-
-    go : (b : Bool) → is_built read ≡ b → (if b then as_read read else not_built) ≡ as_read c → (is_built c ≡ true) × (as_read read ≡ as_read c)
-    go false built is = absurd (cc is)
-    go true built is = let same : read ≡ c = cc is in (subst (λ (d : Command). is_built d ≡ true) same built, ap as_read same)
-
-form_of-named : (ts : List Token) (c : Command) → form_of ts ≡ Ok c → NamesColumn c
-unfolding form_of
-form_of-named [] c is = let same : command.Nothing ≡ c = cc is in subst NamesColumn same tt
-form_of-named (t ∷ ts) c is = go (choice_of heads t) is
+command_of-named : (ts : List Token) (c : Command) → command_of ts ≡ Ok c → NamesColumn c
+unfolding command_of
+command_of-named [] c is = let same : command.Nothing ≡ c = cc is in subst NamesColumn same tt
+command_of-named (t ∷ ts) c is = go (choice_of heads t) is
   where
     last : (h : Head) (o : Result (Command × List Token) ℕ) → row_of h ts ≡ o → (o >>= λ x. ended x.0 x.1) ≡ Ok c → NamesColumn c
     last h (Err e) found is = absurd (cc is)
@@ -227,14 +213,10 @@ form_of-named (t ∷ ts) c is = go (choice_of heads t) is
     go None is = absurd (cc is)
     go (Some h) is = last h (row_of h ts) refl is
 
-command_of-Ok : (ts : List Token) (c : Command) → command_of ts ≡ Ok c → (is_built c ≡ true) × NamesColumn c
-unfolding command_of
-command_of-Ok ts c is = let built = gated-built (form_of ts) c is in (built.0, form_of-named ts c built.1)
-
--- a command that is read is of a form that is built, and if it declares a group or a constraint, that names a column
-pub parsed-Ok : (line : List ℕ) (c : Command) → parsed line ≡ Ok c → (is_built c ≡ true) × NamesColumn c
+-- if a command that is read declares a group or a constraint, that names a column
+pub parsed-Ok : (line : List ℕ) (c : Command) → parsed line ≡ Ok c → NamesColumn c
 parsed-Ok line c is = go (lexed line) is
   where
-    go : (o : Result (List Token) ℕ) → (o >>= command_of) ≡ Ok c → (is_built c ≡ true) × NamesColumn c
+    go : (o : Result (List Token) ℕ) → (o >>= command_of) ≡ Ok c → NamesColumn c
     go (Err rule) is = absurd (cc is)
-    go (Ok ts) is = command_of-Ok ts c is
+    go (Ok ts) is = command_of-named ts c is

@@ -26,19 +26,19 @@ use Rattle.script_words.specs.Parts.{choice}
 use Rattle.script_words.proofs.ReadAgain.{all_again, all_separated_again}
 use Rattle.script_words.proofs.Again.{name_again, name_is_no_mark, value_again, number_again}
 use Rattle.script_parse.specs.declared.command.TestWords.{TestWords}
-use Rattle.script_parse.specs.Columns.{column_of, column}
+use Rattle.script_parse.specs.Columns.{column_of, column_among, column}
 use Rattle.script_parse.specs.Methods.{method, unique_method}
 use Rattle.script_parse.specs.Parts.{rels, row_test, setting, set_part, fates}
 use Rattle.script_parse.specs.Spelled.{rel_symbol, fate_word, column_tokens, method_tokens, unique_tokens, fate_tokens, test_tokens, how_tokens, set_tokens, separated_tokens, IsName, IsMethod, IsUniqueMethod, IsTest, IsHow, IsSet}
 
 -- Columns, which end where no colon follows.
 
-column_begins : (c : Column) (rest : List Token) → IsName c.name → begins is_named (column_tokens c ++ rest) ≡ true
+pub column_begins : (c : Column) (rest : List Token) → IsName c.name → begins is_named (column_tokens c ++ rest) ≡ true
 column_begins c rest formed = rw formed refl
 
 plain_again : (n : List ℕ) (k : Kind) (rest : List Token) → IsName n → at (codes ":") rest ≡ false
     → column (column_tokens (column_of n k false) ++ rest) ≡ Ok (column_of n k false, rest)
-unfolding one mark column
+unfolding one mark column_among
 plain_again n kind.Number rest formed none = rw (formed, none) refl
 plain_again n kind.Words rest formed none = rw (formed, none) refl
 plain_again n kind.Date rest formed none = rw (formed, none) refl
@@ -47,17 +47,17 @@ plain_again n kind.Site rest formed none = rw (formed, none) refl
 
 key_again : (n : List ℕ) (k : Kind) (rest : List Token) → IsName n
     → column (column_tokens (column_of n k true) ++ rest) ≡ Ok (column_of n k true, rest)
-unfolding one mark column
+unfolding one mark column_among
 key_again n kind.Number rest formed = rw formed refl
 key_again n kind.Words rest formed = rw formed refl
 key_again n kind.Date rest formed = rw formed refl
 key_again n kind.Stamp rest formed = rw formed refl
 key_again n kind.Site rest formed = rw formed refl
 
-abbrev ends_column : List Token → Bool
+abbrev pub ends_column : List Token → Bool
 ends_column rest = not (at (codes ":") rest)
 
-ends_so : (v : Bool) → not v ≡ true → v ≡ false
+pub ends_so : (v : Bool) → not v ≡ true → v ≡ false
 ends_so true is = cc
 ends_so false is = refl
 
@@ -68,7 +68,7 @@ column_again c rest formed ends = go c.name c.kind c.key formed
     go n k true named = key_again n k rest named
     go n k false named = plain_again n k rest named (ends_so (at (codes ":") rest) ends)
 
-next_ends_column : (c : Column) (rest : List Token) → IsName c.name → ends_column (column_tokens c ++ rest) ≡ true
+pub next_ends_column : (c : Column) (rest : List Token) → IsName c.name → ends_column (column_tokens c ++ rest) ≡ true
 next_ends_column c rest formed = rw (name_is_no_mark 58 [] c.name refl formed) refl
 
 pub columns_again : (c : Column) (cs : List Column) → AllByRecursion (λ d. IsName d.name) (c ∷ cs)

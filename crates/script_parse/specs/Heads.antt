@@ -2,11 +2,13 @@
 use Rattle.std.specs.Prelude.{ℕ, List, [], ◌∷◌, codes}
 use Rattle.script_words.specs.Reading.{Reading, row, ◌⊛◌}
 use Rattle.script_parse.specs.declared.heads.Declaring.TheVariants as declaring
+use Rattle.script_parse.specs.declared.heads.ProcHead.TheVariants as proc_head
 use Rattle.script_parse.specs.declared.heads.Head.{Head}
 use Rattle.script_parse.specs.declared.heads.Head.TheVariants as head
 use Rattle.script_parse.specs.declared.command.Command.{Command}
 use Rattle.script_parse.specs.declared.command.Command.TheVariants as command
 use Rattle.script_parse.specs.Declarations.{declaration_of}
+use Rattle.script_parse.specs.ProcRows.{proc_row_of}
 use Rattle.script_parse.specs.Rows.{snapshot_row, row_row, resume_row, insert_row, update_row, delete_row, txn_row, commit_row, abandon_row, push_row, fate_row, link_row, clock_row, purge_row, execute_row, drop_error_row, refresh_row, purge_log_row, suspend_row, join_row, show_row}
 
 -- the command words that have a form
@@ -45,6 +47,14 @@ heads =
     (codes "suspend", head.Suspend) ∷
     (codes "join", head.Join) ∷
     (codes "show", head.Show) ∷
+    (codes "proctable", head.Procedures proc_head.Table) ∷
+    (codes "procedure", head.Procedures proc_head.Procedure) ∷
+    (codes "calls", head.Procedures proc_head.Calls) ∷
+    (codes "call", head.Procedures proc_head.Call) ∷
+    (codes "send", head.Procedures proc_head.Send) ∷
+    (codes "push-calls", head.Procedures proc_head.Push) ∷
+    (codes "fate-calls", head.Procedures proc_head.Fates) ∷
+    (codes "execute-calls", head.Procedures proc_head.Execute) ∷
     []
 
 -- the form behind a command word
@@ -71,3 +81,4 @@ row_of head.PurgeLog = purge_log_row
 row_of head.Suspend = suspend_row
 row_of head.Join = join_row
 row_of head.Show = show_row
+row_of (head.Procedures h) = row command.Procedures ⊛ proc_row_of h

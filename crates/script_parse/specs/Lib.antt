@@ -2,10 +2,11 @@
 pub mod Columns
 pub mod Parts
 pub mod Methods
+pub mod Actions
 pub mod Declarations
 pub mod Rows
+pub mod ProcRows
 pub mod Heads
-pub mod Built
 pub mod Named
 pub mod Parsed
 pub mod Spelled

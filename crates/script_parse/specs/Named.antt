@@ -27,3 +27,4 @@ NamesColumn (command.PurgeLog master table) = Unit {0}
 NamesColumn command.Suspend = Unit {0}
 NamesColumn (command.Join site source) = Unit {0}
 NamesColumn (command.Show what site) = Unit {0}
+NamesColumn (command.Procedures line) = Unit {0}

@@ -7,7 +7,6 @@ use Rattle.script_words.specs.Reading.{◌>>=◌, whole}
 use Rattle.script_parse.specs.declared.heads.Head.{Head}
 use Rattle.script_parse.specs.declared.command.Command.{Command}
 use Rattle.script_parse.specs.declared.command.Command.TheVariants as command
-use Rattle.script_parse.specs.Built.{is_built, gated}
 use Rattle.script_parse.specs.Heads.{heads, row_of}
 
 -- rule 5: a command word; rule 6: its form
@@ -15,14 +14,10 @@ abbrev pub formed : Option Head → List Token → Result Command ℕ
 formed None ts = Err 5
 formed (Some h) ts = whole (row_of h) ts
 
--- the command that tokens are, of any form
-unfoldable pub form_of : List Token → Result Command ℕ
-form_of [] = Ok command.Nothing
-form_of (t ∷ ts) = formed (choice_of heads t) ts
-
--- the same of the forms that are built: any other is stopped by rule 5
+-- the command that tokens are
 unfoldable pub command_of : List Token → Result Command ℕ
-command_of ts = gated is_built (form_of ts)
+command_of [] = Ok command.Nothing
+command_of (t ∷ ts) = formed (choice_of heads t) ts
 
 -- the tokens begin with a command word, and the parts of its form stand behind it
 abbrev pub HasForm : List Token → Type 0

@@ -1,5 +1,5 @@
 -- The parts that forms share.
-use Rattle.std.specs.Prelude.{ℕ, ℤ, List, [], ◌∷◌, codes}
+use Rattle.std.specs.Prelude.{ℕ, ℤ, List, [], ◌∷◌, Option, codes}
 use Rattle.rep_values.specs.declared.literal.Literal.{Literal}
 use Rattle.rep_values.specs.declared.name.SiteName.{SiteName}
 use Rattle.rep_values.specs.declared.name.TableName.{TableName}
@@ -9,7 +9,7 @@ use Rattle.rep_calls.specs.declared.statement.Set.{Set}
 use Rattle.rep_calls.specs.declared.statement.How.TheVariants as how
 use Rattle.net_plan.specs.declared.fate.Fate.{Fate}
 use Rattle.net_plan.specs.declared.fate.Fate.TheVariants as fate
-use Rattle.script_words.specs.Reading.{Reading, ◌>>=◌, row, ◌⊛◌, ◌⊘◌, either}
+use Rattle.script_words.specs.Reading.{Reading, ◌>>=◌, row, ◌⊛◌, ◌⊘◌, optional, either, separated}
 use Rattle.script_words.specs.Parts.{name, number, value, choice}
 use Rattle.script_parse.specs.declared.command.TestWords.{TestWords}
 use Rattle.script_parse.specs.declared.command.Link.{Link}
@@ -53,6 +53,10 @@ test_of c r v = record { column = c; rel = r; value = v }
 -- TEST: NAME OP VALUE
 unfoldable pub row_test : Reading TestWords
 row_test = row test_of ⊛ name ⊛ choice rels ⊛ value
+
+-- [where TEST [and TEST]..]
+abbrev pub where_tests : Reading (Option (List TestWords))
+where_tests = optional (codes "where") (separated (codes "and") row_test)
 
 -- a column that gets a value
 abbrev pub to_value : List ℕ → Literal → Set

@@ -10,11 +10,11 @@ use Rattle.script_words.specs.Reading.{Reading, ◌>>=◌, row, ◌⊛◌, ◌�
 use Rattle.script_words.specs.Parts.{whole_number, value, choice}
 use Rattle.script_parse.specs.declared.command.Command.{Command}
 use Rattle.script_parse.specs.declared.command.Command.TheVariants as command
-use Rattle.script_parse.specs.Parts.{site, table, row_test, set_part, fates, links, refreshes, shown_words}
+use Rattle.script_parse.specs.Parts.{site, table, where_tests, set_part, fates, links, refreshes, shown_words}
 
 -- snapshot NAME NAME [where TEST [and TEST]..]
 abbrev pub snapshot_row : Reading Command
-snapshot_row = row command.Snapshot ⊛ site ⊛ table ⊛ optional (codes "where") (separated (codes "and") row_test)
+snapshot_row = row command.Snapshot ⊛ site ⊛ table ⊛ where_tests
 
 -- row NAME VALUE+
 abbrev pub row_row : Reading Command

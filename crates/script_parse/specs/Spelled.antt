@@ -4,9 +4,11 @@ use Rattle.std.specs.List.{AllByRecursion}
 use Rattle.rep_values.specs.Name.{is_name}
 use Rattle.rep_values.specs.declared.literal.Literal.{Literal}
 use Rattle.rep_values.specs.declared.literal.Literal.TheVariants as literal
+use Rattle.rep_values.specs.declared.name.SiteName.{SiteName}
 use Rattle.rep_schema.specs.declared.schema.Kind.{Kind}
 use Rattle.rep_schema.specs.declared.schema.Kind.TheVariants as kind
 use Rattle.rep_schema.specs.declared.schema.Column.{Column}
+use Rattle.rep_schema.specs.Kinds.{is_plain}
 use Rattle.rep_schema.specs.declared.check.Rel.{Rel}
 use Rattle.rep_schema.specs.declared.check.Rel.TheVariants as rel
 use Rattle.rep_declare.specs.declared.declaration.Declare.{Declare}
@@ -36,6 +38,10 @@ use Rattle.script_parse.specs.declared.command.Shown.{Shown}
 use Rattle.script_parse.specs.declared.command.Shown.TheVariants as shown
 use Rattle.script_parse.specs.declared.command.Command.{Command}
 use Rattle.script_parse.specs.declared.command.Command.TheVariants as command
+use Rattle.script_parse.specs.declared.proc_line.ActionWords.{ActionWords}
+use Rattle.script_parse.specs.declared.proc_line.ActionWords.TheVariants as action_words
+use Rattle.script_parse.specs.declared.proc_line.ProcLine.{ProcLine}
+use Rattle.script_parse.specs.declared.proc_line.ProcLine.TheVariants as proc_line
 
 -- Words and symbols of choices.
 
@@ -182,6 +188,28 @@ stated (statement.Update table key sets) =
     (value_tokens key ++ token.Symbol symbol.Colon ∷ separated_tokens (token.Symbol symbol.Comma) set_tokens sets)
 stated (statement.Delete table key) = token.Word (codes "delete") ∷ token.Word table.0 ∷ value_tokens key
 
+-- the tokens of sites in a row
+abbrev pub site_tokens : List SiteName → List Token
+site_tokens sites = flat_map (λ (s : SiteName). token.Word s.0 ∷ []) sites
+
+-- the tokens of what a procedure does
+abbrev pub action_tokens : ActionWords → List Token
+action_tokens action_words.Put = token.Word (codes "put") ∷ []
+action_tokens (action_words.Add column tests) = token.Word (codes "add") ∷ token.Word column ∷ where_tokens tests
+action_tokens (action_words.Drop tests) = token.Word (codes "drop") ∷ where_tokens tests
+
+-- the tokens of a line about procedures
+abbrev pub proc_spelled : ProcLine → List Token
+proc_spelled (proc_line.Table table columns) = token.Word (codes "proctable") ∷ token.Word table.0 ∷ flat_map column_tokens columns
+proc_spelled (proc_line.Procedure p table does) = token.Word (codes "procedure") ∷ token.Word p ∷ token.Word table.0 ∷ action_tokens does
+proc_spelled (proc_line.Calls site) = token.Word (codes "calls") ∷ token.Word site.0 ∷ []
+proc_spelled (proc_line.Call call) = token.Word (codes "call") ∷ token.Word call.procedure ∷ value_tokens call.values
+proc_spelled (proc_line.Send to) = token.Word (codes "send") ∷ site_tokens to
+proc_spelled (proc_line.Push from to) = token.Word (codes "push-calls") ∷ token.Word from.0 ∷ token.Word to.0 ∷ []
+proc_spelled (proc_line.Fates from to fates) = token.Word (codes "fate-calls") ∷ token.Word from.0 ∷ token.Word to.0 ∷ fate_tokens fates
+proc_spelled (proc_line.Execute site origin position) =
+    token.Word (codes "execute-calls") ∷ token.Word site.0 ∷ token.Word origin.0 ∷ token.Number false position ∷ []
+
 -- the tokens of a command
 abbrev pub spelled : Command → List Token
 spelled command.Nothing = []
@@ -208,6 +236,7 @@ spelled (command.PurgeLog master table) = token.Word (codes "purge-log") ∷ tok
 spelled command.Suspend = token.Word (codes "suspend") ∷ []
 spelled (command.Join site source) = token.Word (codes "join") ∷ token.Word site.0 ∷ token.Word source.0 ∷ []
 spelled (command.Show what site) = token.Word (codes "show") ∷ token.Word (shown_word what) ∷ token.Word site.0 ∷ []
+spelled (command.Procedures line) = proc_spelled line
 
 -- What a line can give: names have their form, numbers are small enough to be read, and no list of parts is empty.
 
@@ -285,6 +314,27 @@ IsStatement (statement.Insert table values) = IsName table.0 × AreValues values
 IsStatement (statement.Update table key sets) = IsName table.0 × AreValues key × (sets ≢ []) × AllByRecursion IsSet sets
 IsStatement (statement.Delete table key) = IsName table.0 × AreValues key
 
+-- a column that has a name, and that no site fills
+abbrev pub IsPlainColumn : Column → Type 0
+IsPlainColumn c = IsName c.name × (is_plain c.kind ≡ true)
+
+-- an action whose columns have names
+abbrev pub IsAction : ActionWords → Type 0
+IsAction action_words.Put = Unit {0}
+IsAction (action_words.Add column tests) = IsName column × AreTests tests
+IsAction (action_words.Drop tests) = AreTests tests
+
+-- a line about procedures that a line can give; a call may have no values, and a send no sites
+abbrev pub IsProcLine : ProcLine → Type 0
+IsProcLine (proc_line.Table table columns) = IsName table.0 × (columns ≢ []) × AllByRecursion IsPlainColumn columns
+IsProcLine (proc_line.Procedure p table does) = IsName p × IsName table.0 × IsAction does
+IsProcLine (proc_line.Calls site) = IsName site.0
+IsProcLine (proc_line.Call call) = IsName call.procedure × AllByRecursion IsSmall call.values
+IsProcLine (proc_line.Send to) = AllByRecursion (λ (s : SiteName). IsName s.0) to
+IsProcLine (proc_line.Push from to) = IsName from.0 × IsName to.0
+IsProcLine (proc_line.Fates from to fates) = IsName from.0 × IsName to.0 × (fates ≢ [])
+IsProcLine (proc_line.Execute site origin position) = IsName site.0 × IsName origin.0
+
 -- a command that a line can give
 abbrev pub IsWellFormed : Command → Type 0
 IsWellFormed command.Nothing = Unit {0}
@@ -309,3 +359,4 @@ IsWellFormed (command.PurgeLog master table) = IsName master.0 × IsName table.0
 IsWellFormed command.Suspend = Unit {0}
 IsWellFormed (command.Join site source) = IsName site.0 × IsName source.0
 IsWellFormed (command.Show what site) = IsName site.0
+IsWellFormed (command.Procedures line) = IsProcLine line

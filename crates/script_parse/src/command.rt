@@ -1,5 +1,6 @@
 //! What a line of a script asks for.
 
+use crate::ProcLine;
 use net_plan::Fate;
 use rep_calls::Statement;
 use rep_declare::Declare;
@@ -103,6 +104,8 @@ pub enum Command {
         what: Shown,
         site: SiteName,
     },
+    /// A line about procedures.
+    Procedures(ProcLine),
 }
 
 /// `NAME OP VALUE`, a test of a snapshot's rows.

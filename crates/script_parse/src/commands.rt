@@ -1,31 +1,20 @@
 //! The forms of all other commands.
 ghost use Rattle.std.specs.Prelude.{codes, IfOk};
-ghost use Rattle.script_words.specs.Reading.{optional, separated};
+ghost use Rattle.script_words.specs.Reading.{optional};
 ghost use Rattle.script_words.specs.Parts.{whole_number, choice};
 ghost use Rattle.script_words.specs.Readers.{ReadsExactly, Takes};
-ghost use Rattle.script_parse.specs.Parts.{row_test, links, refreshes, shown_words};
+ghost use Rattle.script_parse.specs.Parts.{links, refreshes, shown_words};
 ghost use Rattle.script_parse.specs.Named.{NamesColumn};
 ghost use Rattle.script_parse.specs.Rows.{snapshot_row, row_row, insert_row, update_row, delete_row, txn_row, push_row, fates_behind, fate_row, link_row, clock_row, purge_row, execute_row, drop_error_row, refresh_row, purge_log_row, join_row, show_row};
 
-use crate::parts::{FatePart, SetPart, TestPart, site, table};
-use crate::{Command, Link, Refresh, Shown, TestWords};
+use crate::conditions::where_tests;
+use crate::parts::{FatePart, SetPart, site, table};
+use crate::{Command, Link, Refresh, Shown};
 use rep_calls::Statement;
-use rep_lists::Items;
 use rep_values::SiteName;
 use script_lex::{BrokenRule, LineStop};
 use script_words::{Reader, ValuePart, separated, some_of};
 use std::alloc::Global;
-
-/// `[where TEST [and TEST]..]`
-fn where_group(alloc: Global, tokens: &mut Reader<'_>) -> Result<Option<Items<TestWords>>, LineStop>
-    ensures { Takes (optional (codes "where") (separated (codes "and") row_test)) result tokens.old tokens.new }
-{
-    if !tokens.is_at(b"where") {
-        return Ok(None);
-    }
-    tokens.pass(b"where")?;
-    Ok(Some(separated::<TestPart>(alloc, b"and", tokens)?))
-}
 
 /// `snapshot NAME NAME [where TEST [and TEST]..]`
 pub fn snapshot_form(alloc: Global, tokens: &mut Reader<'_>) -> Result<Command, LineStop>
@@ -34,7 +23,7 @@ pub fn snapshot_form(alloc: Global, tokens: &mut Reader<'_>) -> Result<Command, 
 {
     let site = site(tokens)?;
     let table = table(tokens)?;
-    let tests = where_group(alloc, tokens)?;
+    let tests = where_tests(alloc, tokens)?;
     Ok(Command::Snapshot { site, table, tests })
 }
 

@@ -6,10 +6,9 @@ ghost use Rattle.script_words.specs.Reading.{whole};
 ghost use Rattle.script_words.specs.Readers.{Takes};
 ghost use Rattle.script_parse.specs.Named.{NamesColumn};
 ghost use Rattle.script_parse.specs.Heads.{row_of};
-ghost use Rattle.script_parse.specs.Parsed.{form_of, command_of, parsed, HasForm};
+ghost use Rattle.script_parse.specs.Parsed.{command_of, parsed, HasForm};
 
 use crate::Command;
-use crate::built::built;
 use crate::commands::{
     clock_form, delete_form, drop_error_form, execute_form, fate_form, insert_form, join_form,
     link_form, purge_form, purge_log_form, push_form, refresh_form, row_form, show_form,
@@ -17,6 +16,7 @@ use crate::commands::{
 };
 use crate::declarations::declaration;
 use crate::heads::{Head, head_of};
+use crate::procedures::proc_line;
 use script_lex::{LineStop, lex};
 use script_words::Reader;
 use std::alloc::Global;
@@ -49,6 +49,7 @@ fn parts(alloc: Global, head: Head, tokens: &mut Reader<'_>) -> Result<Command, 
         Head::Suspend => Ok(Command::Suspend),
         Head::Join => Ok(join_form(tokens)?),
         Head::Show => Ok(show_form(tokens)?),
+        Head::Procedures(head) => Ok(Command::Procedures(proc_line(alloc, head, tokens)?)),
     }
 }
 
@@ -62,10 +63,10 @@ fn form(alloc: Global, head: Head, tokens: &mut Reader<'_>) -> Result<Command, L
     Ok(command)
 }
 
-/// The command that the tokens are, of any form.
-#[tactic(auto, unfolding(crate::specs::Parsed::form_of))]
-fn form_of(alloc: Global, tokens: &mut Reader<'_>) -> Result<Command, LineStop>
-    ensures read { Gives (HasForm tokens.old) (λ command. command) result (form_of tokens.old) }
+/// The command that the tokens are.
+#[tactic(auto, unfolding(crate::specs::Parsed::command_of))]
+fn command_of(alloc: Global, tokens: &mut Reader<'_>) -> Result<Command, LineStop>
+    ensures read { Gives (HasForm tokens.old) (λ command. command) result (command_of tokens.old) }
     ensures named { IfOk result NamesColumn }
 {
     let Some(first) = tokens.next() else {
@@ -77,20 +78,9 @@ fn form_of(alloc: Global, tokens: &mut Reader<'_>) -> Result<Command, LineStop>
     form(alloc, head, tokens)
 }
 
-/// The command that the tokens are, of the forms that are built.
-#[tactic(auto, unfolding(crate::specs::Parsed::command_of))]
-fn command_of(alloc: Global, tokens: &mut Reader<'_>) -> Result<Command, LineStop>
-    ensures read { Gives (HasForm tokens.old) (λ command. command) result (command_of tokens.old) }
-    ensures named { IfOk result NamesColumn }
-{
-    let command = form_of(alloc, tokens)?;
-    Ok(built(command)?)
-}
-
 /// The command that a line is, which has no end of line in it. It stops at the first of the rules 1, 3, 4, 5 and 6 that
-/// the line breaks. A line of a form that isn't built breaks rule 5. Want of memory is answered only where the line has
-/// tokens, that is, where it breaks none of the rules 1, 3 and 4 and isn't passed over. A declared group or constraint
-/// names a column.
+/// the line breaks. Want of memory is answered only where the line has tokens, that is, where it breaks none of the rules 1, 3
+/// and 4 and isn't passed over. A declared group or constraint names a column.
 pub fn parse_line(alloc: Global, line: &[u8]) -> Result<Command, LineStop>
     ensures read { Gives (HasTokens line.now) (λ command. command) result (parsed line.now) }
     ensures named { IfOk result NamesColumn }

@@ -23,6 +23,19 @@ pub enum Declaring {
     Convergent,
 }
 
+/// The first word of a line about procedures.
+#[derive(Clone, Copy, Debug, PartialEq, Eq)]
+pub enum ProcHead {
+    Table,
+    Procedure,
+    Calls,
+    Call,
+    Send,
+    Push,
+    Fates,
+    Execute,
+}
+
 /// The first word of a command.
 #[derive(Clone, Copy, Debug, PartialEq, Eq)]
 pub enum Head {
@@ -48,9 +61,10 @@ pub enum Head {
     Suspend,
     Join,
     Show,
+    Procedures(ProcHead),
 }
 
-const HEADS: [(&[u8], Head); 33] = [
+const HEADS: [(&[u8], Head); 41] = [
     (b"site", Head::Declare(Declaring::Site)),
     (b"latesite", Head::Declare(Declaring::LateSite)),
     (b"snapsite", Head::Declare(Declaring::SnapSite)),
@@ -84,6 +98,14 @@ const HEADS: [(&[u8], Head); 33] = [
     (b"suspend", Head::Suspend),
     (b"join", Head::Join),
     (b"show", Head::Show),
+    (b"proctable", Head::Procedures(ProcHead::Table)),
+    (b"procedure", Head::Procedures(ProcHead::Procedure)),
+    (b"calls", Head::Procedures(ProcHead::Calls)),
+    (b"call", Head::Procedures(ProcHead::Call)),
+    (b"send", Head::Procedures(ProcHead::Send)),
+    (b"push-calls", Head::Procedures(ProcHead::Push)),
+    (b"fate-calls", Head::Procedures(ProcHead::Fates)),
+    (b"execute-calls", Head::Procedures(ProcHead::Execute)),
 ];
 
 /// The command word that the token is, if it is one.

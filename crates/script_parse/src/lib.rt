@@ -1,17 +1,21 @@
 //! Lines of a script as commands.
 #![tactic(auto)]
 
-mod built;
+mod actions;
 mod column;
 mod command;
 mod commands;
+mod conditions;
 mod declarations;
 mod forms;
 mod heads;
 mod laws;
 mod methods;
 mod parts;
+mod proc_line;
+mod procedures;
 
 pub use command::{Command, Link, Refresh, Shown, TestWords};
 pub use forms::parse_line;
 pub use laws::form_laws;
+pub use proc_line::{ActionWords, CallWords, ProcLine};

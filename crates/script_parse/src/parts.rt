@@ -21,6 +21,25 @@ pub fn site(tokens: &mut Reader<'_>) -> Result<SiteName, BrokenRule>
     Ok(SiteName(tokens.name()?))
 }
 
+/// NAME, of a site.
+pub struct SitePart;
+
+impl Part for SitePart {
+    type Item = SiteName;
+
+    ghost starts = { is_named };
+
+    ghost reading = { site };
+
+    fn is_next(tokens: &Reader<'_>) -> bool {
+        tokens.is_at_name()
+    }
+
+    fn read(tokens: &mut Reader<'_>) -> Result<SiteName, BrokenRule> {
+        site(tokens)
+    }
+}
+
 /// NAME, of a table.
 pub fn table(tokens: &mut Reader<'_>) -> Result<TableName, BrokenRule>
     ensures { ReadsExactly table result tokens.old tokens.new }

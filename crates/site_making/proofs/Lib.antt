@@ -2,5 +2,6 @@
 mod MappedMore
 mod TablesMarked
 mod EarlySites
+mod EarlyMasters
 pub mod SenderDirections
 pub use Rattle.site_core.proofs.Sending

@@ -73,18 +73,19 @@ count_where-append test (x ∷ xs) ys = go (test x) (count_where-append test xs 
     go true later = omega (arith, later)
     go false later = later
 
-pass_count : (test : Entry → Bool) (origin : SiteName) (x : SiteState)
-    → count_where test (take (length (site_pass origin x).journal - length x.journal) (site_pass origin x).journal) ≡ added_count test x (site_pass origin x)
-pass_count test origin x =
-    let y : SiteState = site_pass origin x in
-    let g = pass_grows origin x in
+newest_count : (test : Entry → Bool) (x y : SiteState) → Grows x y → count_where test (take (length y.journal - length x.journal) y.journal) ≡ added_count test x y
+newest_count test x y g =
     let counted : count_where test y.journal ≡ count_where test g.front + count_where test x.journal = ap (count_where test) g.is ∙ count_where-append test g.front x.journal in
     let added : count_where test g.front ≡ added_count test x y = omega (arith, counted) in
     ap (λ (es : List Entry). count_where test (take (length es - length x.journal) es)) g.is ∙ ap (count_where test) (take-front g.front x.journal) ∙ added
 
--- the entries that a journal has more after a pass tell what the pass finished
+-- the entries that a journal has more tell what was finished
+pub newest_finish : (x y : SiteState) → Grows x y → finished_in (take (length y.journal - length x.journal) y.journal) ≡ record { done = added_count is_done x y; errors = added_count is_error x y }
+newest_finish x y g = λ i. record { done = newest_count is_done x y g i; errors = newest_count is_error x y g i }
+
+-- so it is after a pass
 pub pass_finishes : (origin : SiteName) (x : SiteState) → finished_in (take (length (site_pass origin x).journal - length x.journal) (site_pass origin x).journal) ≡ pass_answer origin x
-pass_finishes origin x = λ i. record { done = pass_count is_done origin x i; errors = pass_count is_error origin x i }
+pass_finishes origin x = newest_finish x (site_pass origin x) (pass_grows origin x)
 
 -- ---- entry by entry
 

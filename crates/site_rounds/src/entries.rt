@@ -4,17 +4,16 @@ ghost use Rattle.site_state.specs.Passes.{is_done, is_error};
 ghost use Rattle.site_state.specs.Steps.{count_where};
 ghost use Rattle.site_rounds.specs.Parts.{finished_in};
 
+use crate::Journalled;
 use crate::passed::NOTHING;
-use rep_schema::RowStore;
-use site_core::Site;
 use site_state::{Entry, PassCount};
 
 /// The entry that stands so many behind the newest.
-pub(crate) fn entry_behind<R: RowStore>(site: &Site<R>, behind: u64) -> &Entry
-    requires { behind < length site.now.journal }
-    ensures { drop behind site.now.journal ≡ result.now ∷ drop (behind + 1) site.now.journal }
+pub(crate) fn entry_behind<J: Journalled>(site: &J, behind: u64) -> &Entry
+    requires { behind < length (J.told_of site.now).journal }
+    ensures { drop behind (J.told_of site.now).journal ≡ result.now ∷ drop (behind + 1) (J.told_of site.now).journal }
 {
-    match site.journal(site.journal_len() - 1 - behind) {
+    match site.entry(site.entry_count() - 1 - behind) {
         Some(entry) => entry,
         None => unreachable!(),
     }
@@ -44,9 +43,9 @@ fn with_entry(count: PassCount, entry: &Entry) -> PassCount
 }
 
 /// How many transactions the newest entries, so many, finished.
-pub fn finished_by_newest<R: RowStore>(site: &Site<R>, count: u64) -> PassCount
-    requires { count ≤ length site.now.journal }
-    ensures { result ≡ finished_in (take count site.now.journal) }
+pub fn finished_by_newest<J: Journalled>(site: &J, count: u64) -> PassCount
+    requires { count ≤ length (J.told_of site.now).journal }
+    ensures { result ≡ finished_in (take count (J.told_of site.now).journal) }
 {
     let mut finished = NOTHING.count;
     for behind in 0..count {

@@ -5,13 +5,12 @@ ghost use Rattle.report_text.specs.Sheet.{StandBefore};
 ghost use Rattle.site_state.specs.Journal.{error_at, is_position, settles};
 ghost use Rattle.site_rounds.specs.NewErrors.{brings, error_entry_text, new_errors, text_where_new};
 
+use crate::Journalled;
 use crate::entries::entry_behind;
 use error_queue::{ErrorEntry, Errors};
 use rep_lists::NoMemory;
-use rep_schema::RowStore;
 use rep_values::SiteName;
 use report_text::{Lines, MOST_LINE, error_line};
-use site_core::Site;
 use site_state::Entry;
 
 /// Whether two positions of senders are the same.
@@ -59,9 +58,9 @@ fn settles(origin: &SiteName, position: u64, entry: &Entry) -> bool
 }
 
 /// Whether the newest entries, so many, bring the error of a position and don't settle it again.
-fn is_new<R: RowStore>(site: &Site<R>, origin: &SiteName, position: u64, count: u64) -> bool
-    requires { count ≤ length site.now.journal }
-    ensures { result ≡ is_some (error_at origin.now position (take count site.now.journal)) }
+fn is_new<J: Journalled>(site: &J, origin: &SiteName, position: u64, count: u64) -> bool
+    requires { count ≤ length (J.told_of site.now).journal }
+    ensures { result ≡ is_some (error_at origin.now position (take count (J.told_of site.now).journal)) }
 {
     for behind in 0..count {
         let entry = entry_behind(site, behind);
@@ -76,14 +75,14 @@ fn is_new<R: RowStore>(site: &Site<R>, origin: &SiteName, position: u64, count: 
 }
 
 /// The line of an error that stands, where the newest entries, so many, brought it.
-fn add_where_new<R: RowStore>(
+fn add_where_new<J: Journalled>(
     lines: &mut Lines,
-    site: &Site<R>,
+    site: &J,
     error: &ErrorEntry,
     count: u64,
 ) -> Result<(), NoMemory>
-    requires { count ≤ length site.now.journal }
-    ensures ok { OnOk result (lines.new.bytes ≡ lines.old.bytes ++ text_where_new (take count site.now.journal) error.now) }
+    requires { count ≤ length (J.told_of site.now).journal }
+    ensures ok { OnOk result (lines.new.bytes ≡ lines.old.bytes ++ text_where_new (take count (J.told_of site.now).journal) error.now) }
     ensures err { OnErr result (lines.new.bytes ≡ lines.old.bytes) }
 {
     if !is_new(site, &error.origin, error.position, count) {
@@ -114,17 +113,17 @@ fn error_at(errors: &Errors, place: u64) -> &ErrorEntry
 /// The line of each error that stands and was journalled behind the first entries, so many, by sender as declared, then by
 /// position. It looks through the newer entries once for each error that stands. Where there is no memory, what stood in the
 /// lines still stands in front, and part of this may stand behind it.
-pub fn add_new_errors<R: RowStore>(
+pub fn add_new_errors<J: Journalled>(
     lines: &mut Lines,
-    site: &Site<R>,
+    site: &J,
     before: u64,
 ) -> Result<(), NoMemory>
-    requires { before ≤ length site.now.journal }
-    ensures ok { OnOk result (lines.new.bytes ≡ lines.old.bytes ++ flat_map error_entry_text (new_errors before site.now)) }
+    requires { before ≤ length (J.told_of site.now).journal }
+    ensures ok { OnOk result (lines.new.bytes ≡ lines.old.bytes ++ flat_map error_entry_text (new_errors before (J.told_of site.now))) }
     ensures err { OnErr result (StandBefore lines.old.bytes lines.new.bytes) }
 {
-    let errors = site.errors();
-    let count = site.journal_len() - before;
+    let errors = site.standing();
+    let count = site.entry_count() - before;
     for place in 0..errors.len() {
         add_where_new(lines, site, error_at(errors, place), count)?;
     }

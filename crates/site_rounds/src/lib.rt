@@ -4,11 +4,13 @@
 
 mod entries;
 mod errors;
+mod journalled;
 mod passed;
 mod passing;
 mod rounds;
 
 pub use entries::finished_by_newest;
 pub use errors::add_new_errors;
+pub use journalled::Journalled;
 pub use passing::{By, Passing, Serial};
 pub use rounds::settle;

@@ -31,7 +31,8 @@ use Rattle.world_state.specs.declared.phase.Phase.{Phase}
 use Rattle.world_state.specs.declared.phase.Phase.TheVariants as phase
 use Rattle.world_state.specs.declared.declared_snapshot.DeclaredSnapshot.{DeclaredSnapshot}
 use Rattle.world_state.specs.World.{WorldState, first_world}
-use Rattle.world_state.specs.Phases.{is_setup, has_block, has_rows, setup_step, declare_step, behind_setup_step, resume_step, phase_step}
+use Rattle.world_state.specs.Phases.{is_setup, has_block, has_rows, setup_step, declare_step, behind_setup_step, broken_by, lowest_broken, resume_step, phase_step}
+use Rattle.world_state.proofs.LowestRules.{lower-None}
 use Rattle.world_state.specs.Declaring.{with_snapshot_at, tests_in}
 use Rattle.world_state.specs.Making.{world_made}
 use Rattle.world_state.specs.Refusals.{world_refusal}
@@ -126,8 +127,9 @@ no_rule : (o : Option ℕ) → option_map refusal.SchemaRule o ≡ None → o �
 no_rule None is = refl
 no_rule (Some rule) is = absurd (cc is)
 
-resumed_goes_on : (now : Phase) (w : WorldState) → is_setup now ≡ true → resume_step now w.schema ≡ None → IsInSetup w → Keeps w → IsOfSnapshots (resumed now w)
-resumed_goes_on phase.Setup w setup passes in_setup k = Goes (made_goes_on w (declares_well w in_setup.shape k.rows k.has (no_rule (broken_rule w.schema) passes)))
+resumed_goes_on : (now : Phase) (w : WorldState) → is_setup now ≡ true → resume_step now (lowest_broken w.schema w.procs.tables) ≡ None → IsInSetup w → Keeps w → IsOfSnapshots (resumed now w)
+resumed_goes_on phase.Setup w setup passes in_setup k =
+    Goes (made_goes_on w (declares_well w in_setup.shape k.rows k.has (lower-None (broken_rule w.schema) (broken_by w.procs.tables) (no_rule (lowest_broken w.schema w.procs.tables) passes)).0))
 resumed_goes_on phase.Running w setup passes in_setup k = absurd (cc setup)
 resumed_goes_on phase.Suspended w setup passes in_setup k = absurd (cc setup)
 
@@ -168,7 +170,7 @@ module _ (number : ℕ) (w : WorldState) (in_setup : IsInSetup w) (k : Keeps w) 
       declares (world_done number (command.Snapshot site table tests) w) (setup_snapshot w site (table_place w.schema table) (tests_in tests) ∙ in_setup.setup) is (keeps-Snapshot number site table tests w passes k)
   done_in_setup (command.Row table values) passes is = declares (world_done number (command.Row table values) w) in_setup.setup is (keeps-Row number table values w passes k)
   done_in_setup command.Resume passes is =
-      resumed_goes_on w.phase w in_setup.setup (or_then-None (refused (has_block w) refusal.WrongPhase) (resume_step w.phase w.schema) (or_then-None (phase_step command.Resume w) None passes).0).1 in_setup k
+      resumed_goes_on w.phase w in_setup.setup (or_then-None (refused (has_block w) refusal.WrongPhase) (resume_step w.phase (lowest_broken w.schema w.procs.tables)) (or_then-None (phase_step command.Resume w) None passes).0).1 in_setup k
   done_in_setup command.Suspend passes is = absurd (no_suspension w in_setup passes)
   done_in_setup command.Nothing passes is = plainly command.Nothing tt is
   done_in_setup (command.Statement statement) passes is = plainly (command.Statement statement) tt is
@@ -187,6 +189,7 @@ module _ (number : ℕ) (w : WorldState) (in_setup : IsInSetup w) (k : Keeps w) 
   done_in_setup (command.PurgeLog master table) passes is = plainly (command.PurgeLog master table) tt is
   done_in_setup (command.Join site source) passes is = plainly (command.Join site source) tt is
   done_in_setup (command.Show what site) passes is = plainly (command.Show what site) tt is
+  done_in_setup (command.Procedures line) passes is = plainly (command.Procedures line) tt is
 
   step_in_setup : (c : Command) → IsOfScript (world_step number c w) → IsOfSnapshots (world_step number c w)
   step_in_setup c is = go (world_refusal c w) refl is

@@ -86,6 +86,7 @@ IsPlain (command.PurgeLog master table) = Unit {0}
 IsPlain command.Suspend = ⊥
 IsPlain (command.Join site source) = Unit {0}
 IsPlain (command.Show what site) = Unit {0}
+IsPlain (command.Procedures line) = Unit {0}
 
 pub plain_stays : (number : ℕ) (c : Command) (w : WorldState) → IsPlain c → Stays w (world_done number c w)
 plain_stays number command.Nothing w plain = same w
@@ -110,6 +111,7 @@ plain_stays number (command.PurgeLog master table) w plain = stays_purged master
 plain_stays number command.Suspend w plain = absurd plain
 plain_stays number (command.Join site source) w plain = record { setup = refl; schema = refl; base = refl; snapshots = refl }
 plain_stays number (command.Show what site) w plain = same w
+plain_stays number (command.Procedures line) w plain = record { setup = refl; schema = refl; base = refl; snapshots = refl }
 
 -- a line that is refused
 pub refused_stays : (c : Command) (w : WorldState) → Stays w (world_refused c w)
@@ -154,6 +156,7 @@ schema_done number (command.Refresh site how) w behind passes = refl
 schema_done number (command.PurgeLog master table) w behind passes = (plain_stays number (command.PurgeLog master table) w tt).schema
 schema_done number (command.Join site source) w behind passes = refl
 schema_done number (command.Show what site) w behind passes = refl
+schema_done number (command.Procedures line) w behind passes = refl
 
 -- behind Setup the schema stays
 pub step_schema : (number : ℕ) (c : Command) (w : WorldState) → is_setup w.phase ≡ false → (world_step number c w).schema ≡ w.schema

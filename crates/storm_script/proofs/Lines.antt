@@ -43,36 +43,36 @@ below_limit limit from (suc number) within = (omega arith, below_limit limit (fr
 
 declarations_are_lines : AllByRecursion IsLine declarations
 declarations_are_lines = (
-  record { built = refl; named = tt; formed = refl },
+  record { named = tt; formed = refl },
   (
-    record { built = refl; named = tt; formed = refl },
+    record { named = tt; formed = refl },
     (
-      record { built = refl; named = tt; formed = refl },
+      record { named = tt; formed = refl },
       (
-        record { built = refl; named = tt; formed = (refl, (λ e. cc), (refl, (refl, (refl, (refl, (refl, (refl, (refl, tt)))))))) },
+        record { named = tt; formed = (refl, (λ e. cc), (refl, (refl, (refl, (refl, (refl, (refl, (refl, tt)))))))) },
         (
-          record { built = refl; named = lit≤ tt; formed = (refl, refl, ((λ e. cc), (refl, tt))) },
+          record { named = lit≤ tt; formed = (refl, refl, ((λ e. cc), (refl, tt))) },
           (
-            record { built = refl; named = tt; formed = (refl, refl, tt) },
+            record { named = tt; formed = (refl, refl, tt) },
             (
-              record { built = refl; named = lit≤ tt; formed = (refl, refl, ((λ e. cc), (refl, tt))) },
+              record { named = lit≤ tt; formed = (refl, refl, ((λ e. cc), (refl, tt))) },
               (
-                record { built = refl; named = tt; formed = (refl, refl, refl) },
+                record { named = tt; formed = (refl, refl, refl) },
                 (
-                  record { built = refl; named = tt; formed = (refl, refl, tt) },
+                  record { named = tt; formed = (refl, refl, tt) },
                   (
-                    record { built = refl; named = lit≤ tt; formed = (refl, refl, ((λ e. cc), (refl, (refl, (refl, tt))))) },
+                    record { named = lit≤ tt; formed = (refl, refl, ((λ e. cc), (refl, (refl, (refl, tt))))) },
                     (
-                      record { built = refl; named = tt; formed = (refl, refl, refl) },
+                      record { named = tt; formed = (refl, refl, refl) },
                       (
-                        record { built = refl; named = tt; formed = (refl, refl, refl) },
+                        record { named = tt; formed = (refl, refl, refl) },
                         (
-                          record { built = refl; named = tt; formed = (refl, refl) },
+                          record { named = tt; formed = (refl, refl) },
                           (
-                            record { built = refl; named = tt; formed = (refl, refl) },
+                            record { named = tt; formed = (refl, refl) },
                             (
-                              record { built = refl; named = tt; formed = (refl, refl) },
-                              (record { built = refl; named = tt; formed = refl }, tt),
+                              record { named = tt; formed = (refl, refl) },
+                              (record { named = tt; formed = refl }, tt),
                             ),
                           ),
                         ),
@@ -93,7 +93,7 @@ small : (n : ℕ) → n < 2 ^ 63 → IsSmall (literal.Num (pos n))
 small n below = grind (arith, nat_tests)
 
 row_is_line : (id : ℕ) → id < 100 → IsLine (row_line id)
-row_is_line id below = record { built = refl; named = tt; formed = (refl, ((λ e. cc), (refl, (small id (omega arith), (refl, (refl, (refl, tt))))))) }
+row_is_line id below = record { named = tt; formed = (refl, ((λ e. cc), (refl, (small id (omega arith), (refl, (refl, (refl, tt))))))) }
 
 -- each command of the opening is a line's
 pub opening_is_lines : AllByRecursion IsLine opening
@@ -102,7 +102,7 @@ opening_is_lines =
     all_append IsLine declarations (row_lines 100 ++ (command.Resume ∷ [])) declarations_are_lines
     (all_append IsLine (row_lines 100) (command.Resume ∷ [])
     (all_map (λ n. n < 100) IsLine row_line (range_with_len 0 100) row_is_line (below_limit 100 0 100 (omega arith)))
-    (record { built = refl; named = tt; formed = tt }, tt))
+    (record { named = tt; formed = tt }, tt))
 
 -- The rounds.
 
@@ -138,7 +138,6 @@ amount_small (suc (suc (suc (suc (suc (suc (suc (suc (suc n))))))))) below = abs
 
 update_is_line : (i id : ℕ) → i ≤ most_rounds → id < 100 → IsLine (command.Statement (stock_update i id))
 update_is_line i id within below = record {
-  built = refl;
   named = tt;
   formed = (
     refl,
@@ -150,13 +149,13 @@ update_is_line i id within below = record {
 
 transaction_is_lines : (i : ℕ) (site : SiteName) (id : ℕ) → i ≤ most_rounds → IsName site.0 → id < 100 → AllByRecursion IsLine (transaction i site id)
 transaction_is_lines i site id within named below =
-    (record { built = refl; named = tt; formed = named }, (update_is_line i id within below, (record { built = refl; named = tt; formed = tt }, tt)))
+    (record { named = tt; formed = named }, (update_is_line i id within below, (record { named = tt; formed = tt }, tt)))
 
 drawn_push_is_lines : (x : ℕ) → AllByRecursion IsLine (drawn_push x)
 drawn_push_is_lines x = go (way_at (drawn 6 (behind 1 x))) (way_named (drawn 6 (behind 1 x)))
   where
     go : (w : Way) → IsNamed w → AllByRecursion IsLine (fated_push w (three_fates (behind 1 x)))
-    go w named = (record { built = refl; named = tt; formed = (named.0, named.1, (λ e. cc)) }, (record { built = refl; named = tt; formed = named }, tt))
+    go w named = (record { named = tt; formed = (named.0, named.1, (λ e. cc)) }, (record { named = tt; formed = named }, tt))
 
 drawn_below : (bound x : ℕ) → 0 < bound → drawn bound x < bound
 unfolding drawn
@@ -189,8 +188,8 @@ pub closing_is_lines : AllByRecursion IsLine closing
 unfolding closing
 closing_is_lines =
     all_append IsLine (map clear_line ways) (map push_line ways)
-    (all_map IsNamed IsLine clear_line ways (λ w named. record { built = refl; named = tt; formed = named }) ways_named)
-    (all_map IsNamed IsLine push_line ways (λ w named. record { built = refl; named = tt; formed = named }) ways_named)
+    (all_map IsNamed IsLine clear_line ways (λ w named. record { named = tt; formed = named }) ways_named)
+    (all_map IsNamed IsLine push_line ways (λ w named. record { named = tt; formed = named }) ways_named)
 
 -- The storm.
 
@@ -200,7 +199,7 @@ storms_are_lines seed count within =
     (all_append IsLine (rounds count 1 seed) closing (rounds_are_lines count 1 seed (omega arith)) closing_is_lines)
 
 reads : ReadsAgain → (c : Command) → IsLine c → command_of (spelled c) ≡ Ok c
-reads law c line = rw line.built at (law c line.formed).1
+reads law c line = law c line.formed
 
 pub storms_read_again : ReadsAgain → StormsReadAgain
 storms_read_again law seed count within =

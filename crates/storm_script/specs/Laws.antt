@@ -1,16 +1,14 @@
 -- Laws of storms.
-use Rattle.std.specs.Prelude.{◌≡◌, ℕ, ◌≤◌, true, Ok}
+use Rattle.std.specs.Prelude.{◌≡◌, ℕ, ◌≤◌, Ok}
 use Rattle.std.specs.List.{AllByRecursion}
 use Rattle.script_parse.specs.declared.command.Command.{Command}
-use Rattle.script_parse.specs.Built.{is_built}
 use Rattle.script_parse.specs.Named.{NamesColumn}
 use Rattle.script_parse.specs.Parsed.{command_of}
 use Rattle.script_parse.specs.Spelled.{spelled, IsWellFormed}
 use Rattle.storm_script.specs.Storm.{storm_commands}
 
--- a command that a line can give, of a form that is built; a group that it declares names a column
+-- a command that a line can give; a group that it declares names a column
 pub record IsLine (c : Command) : Type 0 where
-  pub built : is_built c ≡ true
   pub named : NamesColumn c
   pub formed : IsWellFormed c
 

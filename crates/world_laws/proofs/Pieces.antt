@@ -26,9 +26,10 @@ use Rattle.world_state.specs.Declaring.{with_snapshot_at, tests_in}
 use Rattle.world_state.specs.Rounds.{site_settle}
 use Rattle.world_state.specs.Pushes.{world_release, sent_on, world_send, world_send_each, positions_above, world_send_above, taken_each, emptied, world_deliver, world_settle, world_send_mark, world_bring_mark, world_answer, pushed_in, world_push}
 use Rattle.world_state.specs.Blocks.{closed, is_commit, committed_block, world_commit}
+use Rattle.world_state.specs.CallBlocks.{sent_to}
 use Rattle.world_state.specs.Phases.{is_setup}
 use Rattle.world_state.specs.Refusals.{world_refusal}
-use Rattle.world_state.specs.Steps.{resumed, world_refresh, log_purged_at, is_up_word, world_done, world_refused}
+use Rattle.world_state.specs.Steps.{resumed, world_refresh, log_purged_at, is_up_word, world_done, left_by, world_refused}
 use Rattle.world_laws.specs.Simulation.{CarriesSent, Simulates, Leads, AreEvents, StepsAreEvents, StepsAreEventsHoweverRefused}
 use Rattle.world_laws.proofs.Links.{net_more, at_carries, way_sent, released_carries, emptied_carries, sent_carries}
 use Rattle.world_laws.proofs.SiteSteps.{run-append, Runs, taken_runs, SiteRuns, does_runs, settle_does}
@@ -216,13 +217,15 @@ done_leads number command.Suspend w v s = beside_lead w (record w { phase = phas
 done_leads number command.Resume w v s = resumed_leads w.phase w v refl s
 done_leads number (command.Join site source) w v s = join_leads site source w v s
 done_leads number (command.Show what site) w v s = none_lead w v s
+done_leads number (command.Procedures line) w v s = beside_lead w (world_done number (command.Procedures line) w) v s s.behind refl refl
 
 refused_leads : (c : Command) → AreEvents (world_refused c)
-refused_leads c w v s = go (is_commit c)
+refused_leads c w v s = go (is_commit c) (sent_to c)
   where
-    go : (b : Bool) → Leads (cond b (closed w) w) v
-    go true = closed_leads w v s
-    go false = none_lead w v s
+    go : (b : Bool) (to : Option (List SiteName)) → Leads (cond b (closed w) (left_by to w)) v
+    go true to = closed_leads w v s
+    go false None = none_lead w v s
+    go false (Some to) = beside_lead w (left_by (Some to) w) v s s.behind refl refl
 
 -- each line behind Setup is a list of events, whatever refusal it meets
 pub steps_are_events_however_refused : StepsAreEventsHoweverRefused

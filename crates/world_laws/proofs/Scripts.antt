@@ -25,6 +25,7 @@ use Rattle.world_state.specs.World.{WorldState, first_world, gets_from}
 use Rattle.world_state.specs.Declaring.{with_snapshot_at, tests_in}
 use Rattle.world_state.specs.Making.{world_made}
 use Rattle.world_state.specs.Phases.{is_setup, declare_step, block_step, behind_setup_step, phase_step}
+use Rattle.world_state.specs.ProcRefusals.{declaring_step}
 use Rattle.world_state.specs.Refusals.{has_sender, are_there, further_steps, world_refusal}
 use Rattle.world_state.specs.Steps.{resumed, world_done, step_by, world_step, world_steps}
 use Rattle.world_laws.specs.Simulation.{Simulates}
@@ -99,7 +100,7 @@ done_in_setup number (command.Declare declaration) w named in_setup passes = InS
   sites = in_setup.sites;
   block = in_setup.block;
   shape = HasShape-declared declaration w.schema in_setup.shape named
-      (or_then-None (refusal_of w.schema declaration) None (or_then-None (declare_step declaration w) _ passes).1).0;
+      (or_then-None (refusal_of w.schema declaration) None (or_then-None (declaring_step declaration w) _ (or_then-None (declare_step declaration w) _ passes).1).1).0;
 })
 done_in_setup number (command.Snapshot site table tests) w named in_setup passes = with_snapshot_in_setup w site (table_place w.schema table) (tests_in tests) in_setup
 done_in_setup number (command.Row table values) w named in_setup passes = InSetup (record { setup = in_setup.setup; sites = in_setup.sites; block = in_setup.block; shape = in_setup.shape })
@@ -121,6 +122,7 @@ done_in_setup number (command.PurgeLog master table) w named in_setup passes = n
 done_in_setup number command.Suspend w named in_setup passes = not_behind w (world_done number command.Suspend w) in_setup (or_then-None (behind_setup_step w) _ (or_then-None (phase_step command.Suspend w) _ passes).0).0
 done_in_setup number (command.Join site source) w named in_setup passes = not_behind w (world_done number (command.Join site source) w) in_setup (or_then-None (behind_setup_step w) _ (or_then-None (phase_step (command.Join site source) w) _ passes).0).0
 done_in_setup number (command.Show what site) w named in_setup passes = not_behind w (world_done number (command.Show what site) w) in_setup (or_then-None (behind_setup_step w) _ passes).0
+done_in_setup number (command.Procedures line) w named in_setup passes = InSetup (record { setup = in_setup.setup; sites = in_setup.sites; block = in_setup.block; shape = in_setup.shape })
 
 step_in_setup : (number : ℕ) (c : Command) (w : WorldState) → NamesColumn c → IsInSetup w → IsOfScript (world_step number c w)
 step_in_setup number c w named in_setup = go (world_refusal c w) refl

@@ -41,10 +41,10 @@ use Rattle.world_laws.proofs.Failures.{FailedSo, AllFailedSo, is_position-own, f
 -- ---- an error that stands has its entry
 
 -- where the entry stands
-record HasEntry (origin : SiteName) (position : ℕ) (journal : List Entry) (e : ErrorEntry) : Type 0 where
-  since : List Entry
-  before : List Entry
-  is : journal ≡ since ++ Error origin position e.call e.error e.txn ∷ before
+pub record HasEntry (origin : SiteName) (position : ℕ) (journal : List Entry) (e : ErrorEntry) : Type 0 where
+  pub since : List Entry
+  pub before : List Entry
+  pub is : journal ≡ since ++ Error origin position e.call e.error e.txn ∷ before
 
 has_behind : (origin : SiteName) (position : ℕ) (entry : Entry) (es : List Entry) (e : ErrorEntry) → HasEntry origin position es e → HasEntry origin position (entry ∷ es) e
 has_behind origin position entry es e has = record { since = entry ∷ has.since; before = has.before; is = ap (λ rest. entry ∷ rest) has.is }
@@ -53,7 +53,7 @@ unless_settled : (b : Bool) (o : Option ErrorEntry) (e : ErrorEntry) → cond b 
 unless_settled true o e found = absurd (cc found)
 unless_settled false o e found = found
 
-has_entry : (origin : SiteName) (position : ℕ) (journal : List Entry) (e : ErrorEntry) → error_at origin position journal ≡ Some e → HasEntry origin position journal e
+pub has_entry : (origin : SiteName) (position : ℕ) (journal : List Entry) (e : ErrorEntry) → error_at origin position journal ≡ Some e → HasEntry origin position journal e
 has_entry origin position [] e found = absurd (cc found)
 has_entry origin position (Local number txn ∷ es) e found = has_behind origin position (Local number txn) es e (has_entry origin position es e found)
 has_entry origin position (Done o p onward txn ∷ es) e found = has_behind origin position (Done o p onward txn) es e (has_entry origin position es e found)

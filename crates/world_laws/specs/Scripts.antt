@@ -8,8 +8,10 @@ use Rattle.site_state.specs.State.{SiteState}
 use Rattle.event_laws.specs.Core.{site_of}
 use Rattle.script_parse.specs.declared.command.Command.{Command}
 use Rattle.script_parse.specs.declared.command.Command.TheVariants as command
+use Rattle.script_parse.specs.declared.proc_line.ProcLine.TheVariants as proc_line
 use Rattle.script_parse.specs.Named.{NamesColumn}
 use Rattle.world_state.specs.World.{WorldState, first_world}
+use Rattle.world_state.specs.CallBlocks.{calls_closed}
 use Rattle.world_state.specs.Refusals.{world_refusal}
 use Rattle.world_state.specs.Steps.{world_step, world_steps}
 use Rattle.world_laws.specs.Worlds.{EachWaitsForNothing, WorldHolds, NothingReady}
@@ -31,7 +33,7 @@ abbrev pub ReportedPushesLeaveNothingReady : Type 0
 ReportedPushesLeaveNothingReady = (number : ℕ) (from to : SiteName) (count : Option ℕ) (w : WorldState) (x : SiteState) → HasShape w.schema
     → world_refusal (command.Push from to count) w ≡ None → site_of to (world_step number (command.Push from to count) w).sites ≡ Some x → NothingReady x
 
--- all but the open block is as before
+-- all but the open block is as before, be it of a transaction or of calls
 pub record LeavesAllButTheBlock (w y : WorldState) : Type 0 where
   pub phase : y.phase ≡ w.phase
   pub schema : y.schema ≡ w.schema
@@ -39,6 +41,7 @@ pub record LeavesAllButTheBlock (w y : WorldState) : Type 0 where
   pub snapshots : y.snapshots ≡ w.snapshots
   pub sites : y.sites ≡ w.sites
   pub net : y.net ≡ w.net
+  pub procs : calls_closed y.procs ≡ calls_closed w.procs
 
 -- a line that is refused leaves all but the open block
 abbrev pub RefusedLinesLeaveAllButTheBlock : Type 0
@@ -47,3 +50,8 @@ RefusedLinesLeaveAllButTheBlock = (number : ℕ) (c : Command) (w : WorldState) 
 -- a commit that is refused closes the open block
 abbrev pub RefusedCommitsCloseTheBlock : Type 0
 RefusedCommitsCloseTheBlock = (number : ℕ) (w : WorldState) (why : Refusal) → world_refusal command.Commit w ≡ Some why → (world_step number command.Commit w).block ≡ None
+
+-- and so does a send
+abbrev pub RefusedSendsCloseTheBlock : Type 0
+RefusedSendsCloseTheBlock = (number : ℕ) (to : List SiteName) (w : WorldState) (why : Refusal) → world_refusal (command.Procedures (proc_line.Send to)) w ≡ Some why
+    → (world_step number (command.Procedures (proc_line.Send to)) w).procs.block ≡ None

@@ -1,6 +1,6 @@
 //! Laws over all scripts. The functions are empty: their contracts are the laws.
 ghost use Rattle.world_laws.specs.Fitting.{EachCanPassInAnyOrder, EachFitsInWorlds};
-ghost use Rattle.world_laws.specs.Scripts.{NothingWaitsInScripts, RefusedCommitsCloseTheBlock, RefusedLinesLeaveAllButTheBlock, ReportedPushesLeaveNothingReady, ScriptsHold};
+ghost use Rattle.world_laws.specs.Scripts.{NothingWaitsInScripts, RefusedCommitsCloseTheBlock, RefusedLinesLeaveAllButTheBlock, RefusedSendsCloseTheBlock, ReportedPushesLeaveNothingReady, ScriptsHold};
 ghost use Rattle.world_laws.specs.Simulation.{StepsAreEvents, StepsAreEventsHoweverRefused};
 ghost use Rattle.world_laws.specs.Worlds.{NothingWaitsInWorlds, PushesLeaveNothingReady, WorldsHold};
 
@@ -11,10 +11,11 @@ pub fn steps_are_events()
     ensures refused { StepsAreEventsHoweverRefused }
 {}
 
-/// A line that is refused leaves all but the open block, and a commit that is refused closes that.
+/// A line that is refused leaves all but the open block, and a commit or a send that is refused closes that.
 pub fn refused_lines_leave_the_world()
     ensures kept { RefusedLinesLeaveAllButTheBlock }
     ensures closed { RefusedCommitsCloseTheBlock }
+    ensures ended { RefusedSendsCloseTheBlock }
 {}
 
 /// The laws over events hold of the world of every script, of which each group and constraint names a column, as the form

@@ -1,4 +1,4 @@
--- The world behind lines of a script is one of a script's, of forms that are built.
+-- The world behind lines of a script is one of a script's.
 use Rattle.std.proofs.Common.{arith, ◌≡◌, ℕ, ◌+◌, ◌<◌, ◌≤◌, ◌⊎◌, List, [], ◌∷◌, ◌++◌, length, Bool, true, false, Some, None, refl, sym, ap, ◌∙◌, subst, inl, inr}
 use Rattle.std.specs.Prelude.{take, nat_lt, if◌then◌else◌, Option, Result, Ok, Err}
 use Rattle.std.proofs.lemmas.Bool.{cases_lt}
@@ -14,15 +14,18 @@ use Rattle.report_text.specs.Texts.{malformed_text}
 use Rattle.script_lex.proofs.Steps.{line_long}
 use Rattle.script_parse.specs.declared.command.Command.{Command}
 use Rattle.script_parse.specs.declared.command.Command.TheVariants as command
-use Rattle.script_parse.specs.Built.{is_built}
+use Rattle.script_parse.specs.declared.proc_line.ProcLine.TheVariants as proc_line
 use Rattle.script_parse.specs.Named.{NamesColumn}
 use Rattle.script_parse.specs.Parsed.{parsed}
 use Rattle.script_parse.proofs.NamedLines.{parsed-Ok}
 use Rattle.event_laws.specs.Core.{site_of}
 use Rattle.world_state.specs.declared.refused.Refused.{Refused}
 use Rattle.world_state.specs.World.{WorldState, first_world}
+use Rattle.world_state.specs.Procs.{proc_of}
 use Rattle.world_state.specs.Refusals.{world_refusal}
 use Rattle.world_state.specs.Steps.{world_done, world_refused, world_step, step_by, told_by, told_line}
+use Rattle.procedure_worlds.proofs.QuietPushes.{push_leaves_none_ready}
+use Rattle.procedure_worlds.proofs.HoldingProcedures.{procedures_hold_of}
 use Rattle.environment_lines.proofs.Worlds.{of_script_holds, reported_pushes_leave_nothing_ready}
 use Rattle.environment_lines.proofs.Worlds.{snapshots_hold_of, refreshes_show_of}
 use Rattle.environment_lines.specs.Reached.{HoldsOfConvergence}
@@ -34,17 +37,17 @@ use Rattle.environment_lines.proofs.Keeping.{lines_keep_built, first_built}
 use Rattle.environment_lines.specs.Joining.{TakesOver}
 use Rattle.environment_lines.proofs.TakenOver.{step_takes_over}
 use Rattle.script_drive.specs.Lines.{most_lines, most_bytes, line_step}
-use Rattle.world_run.specs.Scripts.{stepped_by, script_step, world_behind, world_at, IsDoneAt, ReportedWorldsHold, ReportedSnapshotsHold, ReportedWorldsConverge, PushesOfScriptsLeaveNothingReady, RefreshesOfScriptsShowTheQuery, JoinsOfScriptsTakeOver, LinesOfScriptsHold}
+use Rattle.world_run.specs.Scripts.{stepped_by, script_step, world_behind, world_at, IsDoneAt, ReportedWorldsHold, ReportedSnapshotsHold, ReportedWorldsConverge, ReportedProceduresHold, PushesOfScriptsLeaveNothingReady, PushesOfCallsLeaveNothingReady, RefreshesOfScriptsShowTheQuery, JoinsOfScriptsTakeOver, LinesOfScriptsHold}
 
--- after a line of a form that is built, whatever refusal it meets
-step_built : (number : ℕ) (c : Command) (w : WorldState) → is_built c ≡ true → NamesColumn c → IsBuilt w → IsBuilt (world_step number c w)
-step_built number c w form named built = go (world_refusal c w) refl
+-- after a line, whatever refusal it meets
+step_built : (number : ℕ) (c : Command) (w : WorldState) → NamesColumn c → IsBuilt w → IsBuilt (world_step number c w)
+step_built number c w named built = go (world_refusal c w) refl
   where
     go : (o : Option Refusal) → world_refusal c w ≡ o → IsBuilt (step_by o number c w)
-    go None passes = lines_keep_built number c w (world_done number c w) (Ok (record { bytes = world_text c w; room = 0 })) form named (record { passes = passes; world = refl; text = refl }) built
+    go None passes = lines_keep_built number c w (world_done number c w) (Ok (record { bytes = world_text c w; room = 0 })) named (record { passes = passes; world = refl; text = refl }) built
     go (Some why) met =
         let told : Refused = record { line = told_line number c w; refusal = why } in
-        lines_keep_built number c w (world_refused c w) (Err told) form named (inr (record { told = ap (λ (o : Option Refusal). told_by o number c w) met; world = refl })) built
+        lines_keep_built number c w (world_refused c w) (Err told) named (inr (record { told = ap (λ (o : Option Refusal). told_by o number c w) met; world = refl })) built
 
 stepped_built : (w : WorldState) (number : ℕ) (line : List ℕ) → IsBuilt w → IsBuilt (script_step w number line).state
 unfolding script_step
@@ -52,7 +55,7 @@ stepped_built w number line built = go (parsed line) refl
   where
     go : (o : Result Command ℕ) → parsed line ≡ o → IsBuilt (stepped_by w number o).state
     go (Err rule) read = built
-    go (Ok c) read = step_built number c w (parsed-Ok line c read).0 (parsed-Ok line c read).1 built
+    go (Ok c) read = step_built number c w (parsed-Ok line c read) built
 
 limited_built : (w : WorldState) (number : ℕ) (line : List ℕ) → IsBuilt w → IsBuilt (line_step script_step w number line).state
 unfolding limited
@@ -78,6 +81,15 @@ unfolding script_step
 pushes_leave_nothing_ready lines number line from to count x read passes there =
     let found = rw read at there in
     reported_pushes_leave_nothing_ready number from to count (world_behind lines) x (behind_first lines).shape passes found
+
+pub pushes_of_calls_leave_nothing_ready : PushesOfCallsLeaveNothingReady
+unfolding script_step
+pushes_of_calls_leave_nothing_ready lines number line from to x read passes there =
+    let found = rw read at there in
+    push_leaves_none_ready (world_behind lines) (behind_first lines).procs number from to x passes found
+
+pub reported_procedures_hold : ReportedProceduresHold
+reported_procedures_hold lines = procedures_hold_of (world_behind lines) (behind_first lines).procs
 
 pub reported_snapshots_hold : ReportedSnapshotsHold
 reported_snapshots_hold lines = snapshots_hold_of _ (of_snapshots _ (behind_first lines).of_convergence)
@@ -124,10 +136,13 @@ pub lines_of_scripts_hold : HoldsOfConvergence → LinesOfScriptsHold
 lines_of_scripts_hold law script n =
     let front : List (List ℕ) = take n (lines_after [] script) in
     record {
-      laws = record { events = reported_worlds_hold front; snapshots = reported_snapshots_hold front; convergence = reported_worlds_converge law front };
+      laws = record { events = reported_worlds_hold front; snapshots = reported_snapshots_hold front; convergence = reported_worlds_converge law front; procedures = reported_procedures_hold front };
       pushed = λ from to count x done there.
           pushes_leave_nothing_ready front (1 + length front) done.line from to count x done.reads done.passes
           (subst (λ (w : WorldState). site_of to w.sites ≡ Some x) (world_at-next script n (command.Push from to count) done) there);
+      calls_pushed = λ from to x done there.
+          pushes_of_calls_leave_nothing_ready front (1 + length front) done.line from to x done.reads done.passes
+          (subst (λ (w : WorldState). proc_of to w.procs.sites ≡ Some x) (world_at-next script n (command.Procedures (proc_line.Push from to)) done) there);
       refreshed = λ site how done.
           subst (ShowsItsMaster site (world_at script n)) (sym (world_at-next script n (command.Refresh site how) done))
           (refreshes_show_the_query front (1 + length front) done.line site how done.reads done.passes);

@@ -5,10 +5,14 @@ use Rattle.report_text.specs.Sheet.{Sheet}
 use Rattle.script_parse.specs.declared.command.Refresh.{Refresh}
 use Rattle.script_parse.specs.declared.command.Command.{Command}
 use Rattle.script_parse.specs.declared.command.Command.TheVariants as command
+use Rattle.script_parse.specs.declared.proc_line.ProcLine.TheVariants as proc_line
 use Rattle.site_state.specs.State.{SiteState}
 use Rattle.event_laws.specs.Core.{site_of}
 use Rattle.world_state.specs.declared.refused.Refused.{Refused}
+use Rattle.proc_state.specs.State.{ProcState}
 use Rattle.world_state.specs.World.{WorldState}
+use Rattle.world_state.specs.Procs.{proc_of}
+use Rattle.procedure_worlds.specs.Worlds.{NoCallsReady}
 use Rattle.environment_lines.specs.Worlds.{NothingReady}
 use Rattle.environment_lines.specs.Worlds.{ShowsItsMaster}
 use Rattle.environment_lines.specs.Joining.{TakesOver}
@@ -17,6 +21,11 @@ use Rattle.environment_lines.specs.Joining.{TakesOver}
 abbrev pub PushLeavesNothingReady : Command → WorldState → Result Sheet Refused → Type 0
 PushLeavesNothingReady line new result = (from to : SiteName) (count : Option ℕ) (x : SiteState) → line ≡ command.Push from to count → IsOk result
     → site_of to new.sites ≡ Some x → NothingReady x
+
+-- so it is with a push of calls
+abbrev pub PushLeavesNoCallsReady : Command → WorldState → Result Sheet Refused → Type 0
+PushLeavesNoCallsReady line new result = (from to : SiteName) (x : ProcState) → line ≡ command.Procedures (proc_line.Push from to) → IsOk result
+    → proc_of to new.procs.sites ≡ Some x → NoCallsReady x
 
 -- once a refresh is reported each snapshot of the site is its query of its master's table, and the master is as before
 abbrev pub RefreshShowsTheQuery : Command → WorldState → WorldState → Result Sheet Refused → Type 0

@@ -8,12 +8,16 @@ use Rattle.report_text.specs.Texts.{malformed_text}
 use Rattle.script_parse.specs.declared.command.Refresh.{Refresh}
 use Rattle.script_parse.specs.declared.command.Command.{Command}
 use Rattle.script_parse.specs.declared.command.Command.TheVariants as command
+use Rattle.script_parse.specs.declared.proc_line.ProcLine.TheVariants as proc_line
 use Rattle.script_parse.specs.Parsed.{parsed}
 use Rattle.site_state.specs.State.{SiteState}
 use Rattle.event_laws.specs.Core.{site_of}
+use Rattle.proc_state.specs.State.{ProcState}
 use Rattle.world_state.specs.World.{WorldState, first_world}
+use Rattle.world_state.specs.Procs.{proc_of}
 use Rattle.world_state.specs.Refusals.{world_refusal}
 use Rattle.world_state.specs.Steps.{world_step}
+use Rattle.procedure_worlds.specs.Worlds.{ProceduresHold, NoCallsReady}
 use Rattle.environment_lines.specs.Worlds.{WorldHolds, NothingReady}
 use Rattle.environment_lines.specs.Worlds.{SnapshotsHold}
 use Rattle.environment_lines.specs.Worlds.{ShowsItsMaster}
@@ -48,6 +52,12 @@ PushesOfScriptsLeaveNothingReady = (lines : List (List ℕ)) (number : ℕ) (lin
     → parsed line ≡ Ok (command.Push from to count) → world_refusal (command.Push from to count) (world_behind lines) ≡ None
     → site_of to (script_step (world_behind lines) number line).state.sites ≡ Some x → NothingReady x
 
+-- so it is once a push of calls is
+abbrev pub PushesOfCallsLeaveNothingReady : Type 0
+PushesOfCallsLeaveNothingReady = (lines : List (List ℕ)) (number : ℕ) (line : List ℕ) (from to : SiteName) (x : ProcState)
+    → parsed line ≡ Ok (command.Procedures (proc_line.Push from to)) → world_refusal (command.Procedures (proc_line.Push from to)) (world_behind lines) ≡ None
+    → proc_of to (script_step (world_behind lines) number line).state.procs.sites ≡ Some x → NoCallsReady x
+
 -- behind lines of a script, once a refresh is reported each snapshot of the site is its query of its master's table, and the
 -- master is as before
 abbrev pub RefreshesOfScriptsShowTheQuery : Type 0
@@ -69,11 +79,16 @@ ReportedSnapshotsHold = (lines : List (List ℕ)) → SnapshotsHold (world_behin
 abbrev pub ReportedWorldsConverge : Type 0
 ReportedWorldsConverge = (lines : List (List ℕ)) → ConvergenceHolds (world_behind lines)
 
+-- and so do those of procedures
+abbrev pub ReportedProceduresHold : Type 0
+ReportedProceduresHold = (lines : List (List ℕ)) → ProceduresHold (world_behind lines)
+
 -- all of these laws hold of a world
 pub record AllLawsHold (w : WorldState) : Type 0 where
   pub events : WorldHolds w
   pub snapshots : SnapshotsHold w
   pub convergence : ConvergenceHolds w
+  pub procedures : ProceduresHold w
 
 -- the world behind the first n lines of a script
 abbrev pub world_at : List ℕ → ℕ → WorldState
@@ -88,13 +103,14 @@ pub record IsDoneAt (script : List ℕ) (n : ℕ) (c : Command) : Type 0 where
   pub passes : world_refusal c (world_at script n) ≡ None
 
 -- all of these laws hold of the world behind the first n lines of a script. Behind line n + 1, where it is a push that is done, no
--- position of any sender is ready at the receiver; where it is a refresh that is done, each snapshot of the site is its query of
+-- position of any sender is ready at the receiver, and so it is with a push of calls; where it is a refresh that is done, each snapshot of the site is its query of
 -- its master's table, and the master is as before; where it is a join that is done, the late master has taken over from the master
 -- that the line names
 pub record LineHolds (script : List ℕ) (n : ℕ) : Type 0 where
   pub laws : AllLawsHold (world_at script n)
   pub pushed : (from to : SiteName) (count : Option ℕ) (x : SiteState) → IsDoneAt script n (command.Push from to count)
       → site_of to (world_at script (n + 1)).sites ≡ Some x → NothingReady x
+  pub calls_pushed : (from to : SiteName) (x : ProcState) → IsDoneAt script n (command.Procedures (proc_line.Push from to)) → proc_of to (world_at script (n + 1)).procs.sites ≡ Some x → NoCallsReady x
   pub refreshed : (site : SiteName) (how : Refresh) → IsDoneAt script n (command.Refresh site how) → ShowsItsMaster site (world_at script n) (world_at script (n + 1))
   pub joined : (site source : SiteName) → IsDoneAt script n (command.Join site source) → TakesOver site source (world_at script n) (world_at script (n + 1))
 

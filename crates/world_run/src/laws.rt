@@ -1,17 +1,20 @@
 //! A law of reports. The function calls the law that its own stands on, and does nothing else.
-ghost use Rattle.world_run.specs.Scripts.{JoinsOfScriptsTakeOver, LinesOfScriptsHold, PushesOfScriptsLeaveNothingReady, RefreshesOfScriptsShowTheQuery, ReportedSnapshotsHold, ReportedWorldsConverge, ReportedWorldsHold};
+ghost use Rattle.world_run.specs.Scripts.{JoinsOfScriptsTakeOver, LinesOfScriptsHold, PushesOfCallsLeaveNothingReady, PushesOfScriptsLeaveNothingReady, RefreshesOfScriptsShowTheQuery, ReportedProceduresHold, ReportedSnapshotsHold, ReportedWorldsConverge, ReportedWorldsHold};
 
 use environment_lines::convergence_holds;
 
 /// The laws over events hold of the world behind whatever lines of whatever script: of each world that a report tells of; and
-/// so do those of snapshots and of convergence. Once a push is reported, no position of any sender is ready at the receiver; once a refresh is,
+/// so do those of snapshots, of convergence and of procedures. Once a push is reported, be it one of calls, no position of any sender is ready
+/// at the receiver; once a refresh is,
 /// each snapshot of the site is its query of its master's table; once a join is, the late master has taken over from the master that the
 /// line names. So it is with each line of every script.
 pub fn reported_worlds_hold()
     ensures worlds { ReportedWorldsHold }
     ensures snapshots { ReportedSnapshotsHold }
     ensures convergence { ReportedWorldsConverge }
+    ensures procedures { ReportedProceduresHold }
     ensures pushed { PushesOfScriptsLeaveNothingReady }
+    ensures calls_pushed { PushesOfCallsLeaveNothingReady }
     ensures refreshed { RefreshesOfScriptsShowTheQuery }
     ensures joined { JoinsOfScriptsTakeOver }
     ensures lines { LinesOfScriptsHold }

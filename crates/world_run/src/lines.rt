@@ -1,11 +1,11 @@
 //! Each line of a script by its command.
-ghost use Rattle.std.specs.Prelude.{◌≡◌, true, None};
-ghost use Rattle.script_parse.specs.Built.{is_built};
+ghost use Rattle.std.specs.Prelude.{◌≡◌, None};
 ghost use Rattle.script_parse.specs.Named.{NamesColumn};
 ghost use Rattle.environment_lines.specs.Following.{IsBuilt};
 ghost use Rattle.environment_lines.specs.Known.{known_refusal};
 ghost use Rattle.environment_lines.specs.Doing.{Does};
 
+use environment_calls::run_proc_line;
 use environment_lines::{
     Environment, abandon, add_fates, add_row, add_snapshot, clear_fates, commit, declare,
     drop_error, execute, join, open_block, purge, purge_log, refresh, resume, set_clock, set_link,
@@ -18,7 +18,7 @@ use site_rounds::Passing;
 use std::alloc::Global;
 use world_state::Refused;
 
-/// Runs a line of a form that is built, which meets no refusal that is known before it is tried. Passes are made as it is told.
+/// Runs a line that meets no refusal that is known before it is tried. Passes are made as it is told.
 pub fn run_line<P: Passing>(
     environment: &mut Environment,
     alloc: Global,
@@ -28,7 +28,6 @@ pub fn run_line<P: Passing>(
 ) -> Result<Lines, Refused>
     requires able { P.able passing.now }
     requires built { IsBuilt environment.old }
-    requires form { is_built command.now ≡ true }
     requires named { NamesColumn command.now }
     requires passes { known_refusal command.now environment.old ≡ None }
     ensures { Does line command.now environment.old environment.new result }
@@ -81,5 +80,6 @@ pub fn run_line<P: Passing>(
         Command::Suspend => suspend(environment, alloc, line),
         Command::Show { what, site } => show(environment, alloc, line, *what, site),
         Command::Join { site, source } => join(environment, alloc, line, site, source),
+        Command::Procedures(asked) => run_proc_line(environment, alloc, line, asked),
     }
 }

@@ -56,8 +56,8 @@ fn run_by<P: Passing + Drop, S, K: Sink, R: Reader<S, K>>(
 /// `ReadFault`, `WriteFault`, `Memory`: a front of the report was written; after a read fault it is the report of all whole
 /// lines read, of which none is malformed.
 ///
-/// The laws over events, of snapshots and of convergence hold of the world behind each line of the script. Behind a push that
-/// isn't refused no position of any sender is ready at the receiver, behind such a refresh each snapshot of the site is its query
+/// The laws over events, of snapshots, of convergence and of procedures hold of the world behind each line of the script. Behind a
+/// push that isn't refused, be it one of calls, no position of any sender is ready at the receiver, behind such a refresh each snapshot of the site is its query
 /// of its master's table, and behind such a join the late master is there as a copy of the master that the line names.
 pub fn run_alone<S: Source, K: Sink>(alloc: Global, source: &mut S, sink: &mut K) -> Status
     ensures told { Tells (Told (line_step script_step) first_world result) (S.left source.old) (S.left source.new) (K.taken sink.old) (K.taken sink.new) }

@@ -1,20 +1,23 @@
 //! The world of a script.
-ghost use Rattle.std.specs.Prelude.{◌≡◌, ◌≤◌, true, option_copied, IfOk};
-ghost use Rattle.script_parse.specs.Built.{is_built};
+ghost use Rattle.std.specs.Prelude.{◌≡◌, ◌≤◌, option_copied, IfOk};
 ghost use Rattle.script_parse.specs.Named.{NamesColumn};
 ghost use Rattle.event_laws.specs.Core.{site_of};
 ghost use Rattle.world_state.specs.World.{first_world};
+ghost use Rattle.world_state.specs.Procs.{proc_of};
+ghost use Rattle.procedure_worlds.specs.Worlds.{ProceduresHold};
 ghost use Rattle.environment_lines.specs.Worlds.{WorldHolds};
 ghost use Rattle.environment_lines.specs.Doing.{Does, AnswersKnown};
 ghost use Rattle.environment_lines.specs.Worlds.{SnapshotsHold};
 ghost use Rattle.environment_lines.specs.Convergence.{ConvergenceHolds};
 ghost use Rattle.site_rounds.specs.Passing.{TakesPass, AnswersPass};
-ghost use Rattle.world_run.specs.Reporting.{PushLeavesNothingReady, RefreshShowsTheQuery, JoinTakesOver};
+ghost use Rattle.world_run.specs.Reporting.{PushLeavesNothingReady, PushLeavesNoCallsReady, RefreshShowsTheQuery, JoinTakesOver};
 
 use crate::crew::crew_pass;
 use crate::lines::run_line;
+use environment_calls::proc_place_of;
 use environment_lines::{Environment, Site, convergence_holds, place_of};
 use page_tables::PageTables;
+use proc_calls::ProcSite;
 use rep_io::Watch;
 use rep_lists::NoMemory;
 use rep_values::SiteName;
@@ -57,27 +60,29 @@ impl World {
     }
 
     /// What the line of a number does, and what it prints. A line that is refused leaves the world, but that a refused commit
-    /// closes its block. Where there is no memory a push may be done in part, and any other line leaves the world; a refusal
-    /// that is known before the line is tried is answered all the same. Once a push is reported, no position of any sender is
-    /// ready at the receiver; once a refresh is, each snapshot of the site is its query of its master's table; once a join is, the
+    /// and a refused send close their block. Where there is no memory a push may be done in part, and any other line leaves the
+    /// world; a refusal that is known before the line is tried is answered all the same. Once a push is reported, no position of any
+    /// sender is ready at the receiver, and so it is with a push of calls; once a refresh is, each snapshot of the site is its query of its master's table; once a join is, the
     /// late master is there as a copy of the master that the line names, and each master that was there has opened its stream to it
     /// behind all that it had queued. Whatever came of the line, the laws over events hold of the world, and so do those of snapshots
     /// and of convergence: at each master each group of a row of a convergent table is the join of what was applied, each error
-    /// there is excused, and masters that are quiet agree.
+    /// there is excused, and masters that are quiet agree. At each site of procedures tables are what its journal leads to, each
+    /// position of a sender is finished at most once and of those that call on one table the earlier first, and each error that stands
+    /// holds its whole transaction and changed nothing.
     ///
-    /// The form of the line is one that is built, and a group or constraint that it declares names a column, as `parse_line`
-    /// says.
+    /// A group or constraint that the line declares names a column, as `parse_line` says.
     pub fn step(&mut self, alloc: Global, line: u32, command: &Command) -> Result<Lines, Refused>
-        requires form { is_built command.now ≡ true }
         requires named { NamesColumn command.now }
         ensures does { Does line command.now self.old self.new result }
         ensures known { AnswersKnown line command.now self.old result }
         ensures pushed { PushLeavesNothingReady command.now self.new result }
+        ensures calls_pushed { PushLeavesNoCallsReady command.now self.new result }
         ensures refreshed { RefreshShowsTheQuery command.now self.old self.new result }
         ensures joined { JoinTakesOver command.now self.old self.new result }
         ensures laws { WorldHolds self.new }
         ensures snapshots { SnapshotsHold self.new }
         ensures convergence { ConvergenceHolds self.new }
+        ensures procedures { ProceduresHold self.new }
     {
         self.step_by(alloc, &Serial, line, command)
     }
@@ -93,17 +98,18 @@ impl World {
         appliers: u32,
         watch: &W,
     ) -> Result<Lines, Refused>
-        requires form { is_built command.now ≡ true }
         requires named { NamesColumn command.now }
         requires appliers { (1 ≤ appliers) × (appliers ≤ 8) }
         ensures does { Does line command.now self.old self.new result }
         ensures known { AnswersKnown line command.now self.old result }
         ensures pushed { PushLeavesNothingReady command.now self.new result }
+        ensures calls_pushed { PushLeavesNoCallsReady command.now self.new result }
         ensures refreshed { RefreshShowsTheQuery command.now self.old self.new result }
         ensures joined { JoinTakesOver command.now self.old self.new result }
         ensures laws { WorldHolds self.new }
         ensures snapshots { SnapshotsHold self.new }
         ensures convergence { ConvergenceHolds self.new }
+        ensures procedures { ProceduresHold self.new }
     {
         let pass = |alloc: Global, site: Site<PageTables>, origin: SiteName| -> Result<
             (Site<PageTables>, PassCount),
@@ -125,19 +131,21 @@ impl World {
         command: &Command,
     ) -> Result<Lines, Refused>
         requires able { P.able passing.now }
-        requires form { is_built command.now ≡ true }
         requires named { NamesColumn command.now }
         ensures does { Does line command.now self.old self.new result }
         ensures known { AnswersKnown line command.now self.old result }
         ensures pushed { PushLeavesNothingReady command.now self.new result }
+        ensures calls_pushed { PushLeavesNoCallsReady command.now self.new result }
         ensures refreshed { RefreshShowsTheQuery command.now self.old self.new result }
         ensures joined { JoinTakesOver command.now self.old self.new result }
         ensures laws { WorldHolds self.new }
         ensures snapshots { SnapshotsHold self.new }
         ensures convergence { ConvergenceHolds self.new }
+        ensures procedures { ProceduresHold self.new }
     {
         convergence_holds();
         if let Some(refusal) = self.environment.refusal(command) {
+            self.environment.refuse(command);
             return Err(Refused { line, refusal });
         }
         run_line(&mut self.environment, alloc, passing, line, command)
@@ -149,5 +157,13 @@ impl World {
     {
         let place = place_of(&self.environment.sites, name)?;
         self.environment.sites.get(place)
+    }
+
+    /// The site of a name that holds tables of procedures, None exactly where it holds none.
+    pub fn proc_site(&self, name: &SiteName) -> Option<&ProcSite>
+        ensures { option_copied result ≡ proc_of name.now self.now.procs.sites }
+    {
+        let place = proc_place_of(&self.environment.procs.sites, name)?;
+        self.environment.procs.sites.get(place)
     }
 }

@@ -1,9 +1,12 @@
--- Worked worlds.
+-- Worked worlds, and what it tells that no rule is broken.
+pub mod LowestRules
 pub mod WorkedScripts
 mod WorkedSetups
 mod WorkedPushes
 mod WorkedRounds
 mod WorkedErrors
-mod WorkedRefusals
+pub mod WorkedRefusals
 mod WorkedSnapshots
 mod WorkedJoins
+pub mod WorkedCalls
+mod WorkedCallRefusals

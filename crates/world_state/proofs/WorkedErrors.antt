@@ -8,7 +8,6 @@ use Rattle.schema_rules.specs.Rules.{broken_rule}
 use Rattle.site_state.specs.declared.entry.Entry.TheVariants as entry
 use Rattle.site_state.proofs.WorkedSites.{a, b, row, set_to, moved, of_calls}
 use Rattle.script_parse.specs.declared.command.Command.{Command}
-use Rattle.script_parse.specs.declared.command.Command.TheVariants as command
 use Rattle.world_state.specs.World.{WorldState}
 use Rattle.world_state.specs.PushAnswers.{push_count, push_errors}
 use Rattle.world_state.proofs.WorkedScripts.{master_line, id_and_q, row_line, resume, block, push, execute, drop_error, after, then_lines, stepped, told, counted, journal_at, rows_at}

@@ -23,13 +23,13 @@ use Rattle.world_state.specs.Refusals.{world_refusal}
 use Rattle.world_state.specs.Answers.{commit_number}
 use Rattle.world_state.proofs.WorkedScripts.{t, master_line, table_line, id_and_q, row_line, resume, suspend, txn, commit, statement, push, execute, link_down, after, then_lines, stepped, told, shown}
 
-abbrev at_line : ℕ → Refusal → Refused
+abbrev pub at_line : ℕ → Refusal → Refused
 at_line number why = record { line = number; refusal = why }
 
 abbrev num : ℕ → Literal
 num k = literal.Num (pos k)
 
-abbrev text : List ℕ → Literal
+abbrev pub text : List ℕ → Literal
 text bytes = literal.Words bytes
 
 abbrev row_of : Literal → Literal → Command

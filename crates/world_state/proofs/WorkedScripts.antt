@@ -1,5 +1,5 @@
 -- What worked worlds have in common: the lines of scripts about a table T, and what is shown of a world after them.
-use Rattle.std.specs.Prelude.{ℕ, suc, codes, pos, true, false, List, [], ◌∷◌, ◌++◌, map, Option, Some, None}
+use Rattle.std.specs.Prelude.{ℕ, suc, codes, pos, List, [], ◌∷◌, ◌++◌, map, Option, Some, None}
 use Rattle.rep_values.specs.declared.name.SiteName.{SiteName}
 use Rattle.rep_values.specs.declared.name.TableName.{TableName}
 use Rattle.rep_values.specs.declared.literal.Literal.TheVariants as literal

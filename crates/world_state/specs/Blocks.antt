@@ -66,6 +66,7 @@ is_commit (command.PurgeLog master table) = false
 is_commit command.Suspend = false
 is_commit (command.Join site source) = false
 is_commit (command.Show what site) = false
+is_commit (command.Procedures line) = false
 
 -- ---- what a commit is refused for
 

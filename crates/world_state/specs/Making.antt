@@ -18,6 +18,7 @@ use Rattle.world_state.specs.declared.phase.Phase.TheVariants as phase
 use Rattle.world_state.specs.declared.declared_snapshot.DeclaredSnapshot.{DeclaredSnapshot}
 use Rattle.world_state.specs.World.{WorldState}
 use Rattle.world_state.specs.Declaring.{has_snapshot}
+use Rattle.world_state.specs.Procs.{procs_made}
 
 -- ---- rows
 
@@ -80,4 +81,4 @@ sites_made schema rows snapshots = map (entry_made schema rows snapshots) (filte
 
 -- the sites are made, and transactions may begin
 abbrev pub world_made : WorldState → WorldState
-world_made w = record w { phase = phase.Running; sites = sites_made w.schema (rows_made w.schema w.base) w.snapshots; net = net_of (linked_pairs w.schema.sites) }
+world_made w = record w { phase = phase.Running; sites = sites_made w.schema (rows_made w.schema w.base) w.snapshots; net = net_of (linked_pairs w.schema.sites); procs = procs_made w.schema w.procs }

@@ -7,12 +7,9 @@ use Rattle.rep_values.specs.declared.name.TableName.{TableName}
 use Rattle.rep_values.specs.declared.refusal.Refusal.{Refusal}
 use Rattle.rep_values.specs.declared.refusal.Refusal.TheVariants as refusal
 use Rattle.rep_values.specs.RefusalSteps.{refused, or_then, first_refusal, unknown, taken, known}
-use Rattle.rep_values.specs.Literal.{value_of_literal}
-use Rattle.rep_schema.specs.declared.schema.Column.{Column}
 use Rattle.rep_schema.specs.declared.schema.SiteEntry.{SiteEntry}
 use Rattle.rep_schema.specs.Tables.{columns_of}
-use Rattle.rep_schema.specs.Kinds.{is_of_kind, value_in_range, is_some_and}
-use Rattle.rep_schema.specs.Named.{table_place, has_column, column_named}
+use Rattle.rep_schema.specs.Named.{table_place}
 use Rattle.rep_declare.specs.Refusals.{out_of_range, refusal_of}
 use Rattle.local_txn.specs.BaseRows.{base_refusal}
 use Rattle.snapshot_query.specs.declared.snapshot.Snapshot.{Snapshot}
@@ -27,6 +24,8 @@ use Rattle.event_laws.specs.Quiet.{unquiet_at}
 use Rattle.event_laws.specs.Events.{is_all_acked, master_of, found_site, is_master_in}
 use Rattle.script_parse.specs.declared.command.Refresh.{Refresh}
 use Rattle.script_parse.specs.declared.command.Refresh.TheVariants as refresh
+use Rattle.script_parse.specs.declared.command.Shown.{Shown}
+use Rattle.script_parse.specs.declared.command.Shown.TheVariants as shown
 use Rattle.script_parse.specs.declared.command.TestWords.{TestWords}
 use Rattle.script_parse.specs.declared.command.Command.{Command}
 use Rattle.script_parse.specs.declared.command.Command.TheVariants as command
@@ -34,6 +33,9 @@ use Rattle.world_state.specs.World.{WorldState, is_there, gets_from}
 use Rattle.world_state.specs.Declaring.{has_snapshot, tests_in}
 use Rattle.world_state.specs.Blocks.{commit_refusal}
 use Rattle.world_state.specs.Phases.{phase_step}
+use Rattle.world_state.specs.Procs.{proc_of}
+use Rattle.world_state.specs.Testing.{has_columns, is_of_column, test_in_range}
+use Rattle.world_state.specs.ProcRefusals.{declaring_step, proc_steps}
 
 -- ---- names
 
@@ -92,15 +94,6 @@ quiet_step sites (e ∷ es) = or_then (unquiet_step sites (site_of e.name sites)
 
 -- ---- snapshots
 
-abbrev pub has_columns : List Column → List TestWords → Bool
-has_columns columns tests = list_all (λ (t : TestWords). has_column columns t.column) tests
-
-abbrev pub is_of_column : List Column → TestWords → Bool
-is_of_column columns t = is_some_and (λ (c : Column). is_of_kind c.kind t.value) (column_named columns t.column)
-
-abbrev pub test_in_range : TestWords → Bool
-test_in_range t = value_in_range (value_of_literal t.value)
-
 abbrev pub snapshot_steps : WorldState → SiteName → ℕ → List TestWords → List (Option Refusal)
 snapshot_steps w site table tests =
     refused (has_snapshot w.snapshots site table) refusal.NameTaken ∷
@@ -112,12 +105,24 @@ snapshot_steps w site table tests =
 abbrev pub named_snapshot_steps : WorldState → SiteName → TableName → List TestWords → List (Option Refusal)
 named_snapshot_steps w site table tests = known (master_of w.schema site) (λ master. known (table_place w.schema table) (λ place. snapshot_steps w site place tests))
 
+-- ---- what is shown
+
+-- a site whose calls are shown holds tables of procedures
+abbrev pub shown_step : Shown → SiteName → WorldState → Option Refusal
+shown_step shown.Tables site w = unknown (site_of site w.sites)
+shown_step shown.Queue site w = unknown (site_of site w.sites)
+shown_step shown.Errors site w = unknown (site_of site w.sites)
+shown_step shown.Marks site w = unknown (site_of site w.sites)
+shown_step shown.Journal site w = unknown (site_of site w.sites)
+shown_step shown.Log site w = unknown (site_of site w.sites)
+shown_step shown.Calls site w = unknown (proc_of site w.procs.sites)
+
 -- ---- a line
 
 -- the steps of a line behind the phase
 abbrev pub further_steps : Command → WorldState → List (Option Refusal)
 further_steps command.Nothing w = []
-further_steps (command.Declare declaration) w = refusal_of w.schema declaration ∷ []
+further_steps (command.Declare declaration) w = declaring_step declaration w ∷ refusal_of w.schema declaration ∷ []
 further_steps (command.Snapshot site table tests) w = named_snapshot_steps w site table (tests_in tests)
 further_steps (command.Row table values) w = base_refusal w.schema w.base table values ∷ []
 further_steps command.Resume w = []
@@ -145,7 +150,8 @@ further_steps (command.Join site source) w =
     taken (site_of site w.sites) ∷
     refused (not (is_master_in (site_of source w.sites))) refusal.UnknownName ∷
     quiet_step w.sites w.schema.sites ∷ []
-further_steps (command.Show what site) w = unknown (site_of site w.sites) ∷ []
+further_steps (command.Show what site) w = shown_step what site w ∷ []
+further_steps (command.Procedures line) w = proc_steps line w
 
 -- why a line is refused, if it is
 abbrev pub world_refusal : Command → WorldState → Option Refusal

@@ -20,6 +20,8 @@ use Rattle.world_state.specs.World.{WorldState, with_site}
 use Rattle.world_state.specs.Declaring.{with_declaration, with_snapshot, with_row, tests_in}
 use Rattle.world_state.specs.Making.{world_made}
 use Rattle.world_state.specs.Blocks.{opened, closed, with_statement, world_commit, is_commit, commit_line}
+use Rattle.world_state.specs.CallBlocks.{calls_closed, sent_to, send_line}
+use Rattle.world_state.specs.ProcSteps.{procs_done}
 use Rattle.world_state.specs.Pushes.{world_push}
 use Rattle.world_state.specs.Refusals.{world_refusal}
 
@@ -68,12 +70,17 @@ world_done number (command.PurgeLog master table) w = log_purged_at master (tabl
 world_done number command.Suspend w = record w { phase = phase.Suspended }
 world_done number (command.Join site source) w = record w { sites = joined site source w.sites }
 world_done number (command.Show what site) w = w
+world_done number (command.Procedures line) w = record w { procs = procs_done number line w.net w.procs }
 
 -- ---- what a refused one does
 
--- it leaves the world, but that a commit closes its block
+abbrev pub left_by : Option (List SiteName) → WorldState → WorldState
+left_by None w = w
+left_by (Some to) w = record w { procs = calls_closed w.procs }
+
+-- it leaves the world, but that a commit and a send close their block
 abbrev pub world_refused : Command → WorldState → WorldState
-world_refused command w = cond (is_commit command) (closed w) w
+world_refused command w = cond (is_commit command) (closed w) (left_by (sent_to command) w)
 
 -- ---- a step
 
@@ -93,9 +100,14 @@ world_steps number (command ∷ more) w = world_steps (suc number) more (world_s
 
 -- ---- what is told of a refusal
 
--- the line that is told: its own, and that of the refused statement where it is a commit
+abbrev pub told_at : Option (List SiteName) → ℕ → WorldState → ℕ
+told_at None number w = number
+told_at (Some to) number w = send_line number to w.procs
+
+-- the line that is told: its own; that of the refused statement where it is a commit, and that of the refused call where it is a
+-- send
 abbrev pub told_line : ℕ → Command → WorldState → ℕ
-told_line number command w = cond (is_commit command) (commit_line number w) number
+told_line number command w = cond (is_commit command) (commit_line number w) (told_at (sent_to command) number w)
 
 abbrev pub told_by : Option Refusal → ℕ → Command → WorldState → Option Refused
 told_by None number command w = None

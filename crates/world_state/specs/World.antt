@@ -12,9 +12,11 @@ use Rattle.world_state.specs.declared.phase.Phase.{Phase}
 use Rattle.world_state.specs.declared.phase.Phase.TheVariants as phase
 use Rattle.world_state.specs.declared.block.Block.{Block}
 use Rattle.world_state.specs.declared.declared_snapshot.DeclaredSnapshot.{DeclaredSnapshot}
+use Rattle.world_state.specs.Procs.{Procs, no_procs}
 
 -- the phase; what is declared: the schema, the rows that masters begin with and the snapshots, in the order of their lines;
--- the sites that are there and the directions between sites, which come to be when Setup ends; and the open block
+-- the sites that are there and the directions between sites, which come to be when Setup ends; the open block; and what there
+-- is of procedures
 pub record WorldState : Type 0 where
   pub phase : Phase
   pub schema : Schema
@@ -23,10 +25,11 @@ pub record WorldState : Type 0 where
   pub sites : List SiteState
   pub net : List Direction
   pub block : Option Block
+  pub procs : Procs
 
 -- nothing is declared
 abbrev pub first_world : WorldState
-first_world = record { phase = phase.Setup; schema = no_schema; base = []; snapshots = []; sites = []; net = []; block = None }
+first_world = record { phase = phase.Setup; schema = no_schema; base = []; snapshots = []; sites = []; net = []; block = None; procs = no_procs }
 
 -- ---- sites
 

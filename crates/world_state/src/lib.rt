@@ -2,11 +2,13 @@
 #![tactic(auto)]
 
 mod block;
+mod call_block;
 mod declared_snapshot;
 mod phase;
 mod refused;
 
 pub use block::Block;
+pub use call_block::{CallBlock, CallStop};
 pub use declared_snapshot::DeclaredSnapshot;
 pub use phase::Phase;
 pub use refused::Refused;

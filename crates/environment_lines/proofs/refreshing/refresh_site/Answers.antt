@@ -11,5 +11,5 @@ pub returns-clause-ok : goal.returns-clause-ok
 returns-clause-ok c =
     let kept = c.environment.inside in
     let all = as_many_sites c.args.environment.now c.requires.built c.args.site.now c.args.how c.requires.passes _ _ _ _ c.in-Some-master_of.master c.in-Some.place c.in-Some-place_of.there c.environment.view_is c.schema.ensures.value c.in-Some-master_of.ensures c.deref.ensures.value c.in-Some.ensures c.deref-2.ensures.value c.in-Some-place_of.ensures c.deref_mut.result.now c.refresh_at.new.sites c.deref_mut.ensures.value c.in_ok-told.ensures.ok ∙ ap length c.deref_mut.ensures.value ∙ sym kept.sites.ok.0 in
-    ap (λ sites. record { phase = kept.phase; schema = kept.store.schema; base = kept.store.tables; snapshots = kept.snapshots; sites = sites; net = kept.net; block = kept.block }) (with_items_is kept.sites c.refresh_at.new.sites all)
+    ap (λ sites. record { phase = kept.phase; schema = kept.store.schema; base = kept.store.tables; snapshots = kept.snapshots; sites = sites; net = kept.net; block = kept.block; procs = kept.procs }) (with_items_is kept.sites c.refresh_at.new.sites all)
     ∙ world_refreshed c.args.environment.now c.requires.built c.args.site.now c.args.how c.requires.passes _ _ _ _ c.in-Some-master_of.master c.in-Some.place c.in-Some-place_of.there c.environment.view_is c.schema.ensures.value c.in-Some-master_of.ensures c.deref.ensures.value c.in-Some.ensures c.deref-2.ensures.value c.in-Some-place_of.ensures c.deref_mut.result.now c.refresh_at.new.sites c.deref_mut.ensures.value c.in_ok-told.ensures.ok

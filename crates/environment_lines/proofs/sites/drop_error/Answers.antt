@@ -18,5 +18,5 @@ returns c =
       })
       | in-Err w ↦
           let kept = world-kept _ _ _ _ _ _ c.environment.view_is c.deref.ensures.value c.in-Some.ensures c.index_mut.ensures.value c.delete_error.new.self w.in-Err.ensures.kept in
-          rw w.result-is (inr (is_refused c.args.line _ _ _ _ refl (refused ∙ w.in-Err.ensures.err) kept))
+          rw w.result-is (inr (is_refused c.args.line _ _ _ _ refl refl (refused ∙ w.in-Err.ensures.err) kept))
     ]

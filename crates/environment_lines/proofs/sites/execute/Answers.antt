@@ -20,6 +20,6 @@ returns c =
           let kept = world-kept _ _ _ _ _ _ c.environment.view_is c.deref.ensures.value c.in-Some.ensures c.index_mut.ensures.value c.execute_error.new.self w.in-Err.ensures.kept in
           rw w.result-is (elim w.in-Err.ensures.err [
             | inl memory ↦ inl (is_short c.args.line _ _ _ _ (ap (λ refusal. record { line = c.args.line; refusal = refusal }) memory) (λ tried. cc) kept)
-            | inr why ↦ inr (is_refused c.args.line _ _ _ _ refl (refused ∙ why) kept)
+            | inr why ↦ inr (is_refused c.args.line _ _ _ _ refl refl (refused ∙ why) kept)
           ])
     ]

@@ -11,7 +11,7 @@ use Rattle.site_rounds.proofs.errors.add_new_errors.Given as goal
 abbrev pub invariant-loop-place : goal.invariant-loop-place
 invariant-loop-place g l = record {
   text :
-      l.lines.bytes ++ flat_map (text_where_new (take l.count l.site.journal)) (drop l.place (in_order l.errors.lists))
-      ≡ l.fn.lines.bytes ++ flat_map (text_where_new (take l.count l.site.journal)) (errors_of l.site);
+      l.lines.bytes ++ flat_map (text_where_new (take l.count (g.J.Journalled.told_of l.site).journal)) (drop l.place (in_order l.errors.lists))
+      ≡ l.fn.lines.bytes ++ flat_map (text_where_new (take l.count (g.J.Journalled.told_of l.site).journal)) (errors_of (g.J.Journalled.told_of l.site));
   front : StandBefore l.fn.lines.bytes l.lines.bytes;
 }

@@ -13,8 +13,8 @@ returns-in_err-command-clause-stop g c =
     let p = err_from_is_err_and c.from_residual.result c.from_residual.ensures.1 in
     rw (p.1, p.2) (λ choices may. script_step-broken (HasTokens c.args.line.now) c.args.self.now c.args.number c.args.line.now c.in_err-command.field-0.0 c.in_err-command.ensures.read)
 
-pub step_by-requires-clause-form : goal.step_by-requires-clause-form
-step_by-requires-clause-form g c = (parsed-Ok c.args.line.now c.in_ok-command.command c.in_ok-command.ensures.read).0
+pub step_by-requires-clause-named : goal.step_by-requires-clause-named
+step_by-requires-clause-named g c = parsed-Ok c.args.line.now c.in_ok-command.command c.in_ok-command.ensures.read
 
 pub returns-in-Ok-clause-ok : goal.returns-in-Ok-clause-ok
 returns-in-Ok-clause-ok g c =

@@ -1,0 +1,82 @@
+-- A push of calls that isn't refused: its masters are there, with directions each way, and what it does is the line's.
+use Rattle.std.proofs.Common.{◌≡◌, ℕ, List, ◌++◌, length, Bool, true, false, None, refl, sym, ap, ◌∙◌, subst}
+use Rattle.std.specs.Prelude.{Option, ◌||◌, not}
+use Rattle.rep_values.specs.declared.name.SiteName.{SiteName}
+use Rattle.rep_values.specs.declared.refusal.Refusal.TheVariants as refusal
+use Rattle.rep_values.specs.RefusalSteps.{refused}
+use Rattle.rep_values.proofs.RefusalSteps.{or_then-None, refused-None, refused_not-None}
+use Rattle.script_parse.specs.declared.command.Command.TheVariants as command
+use Rattle.script_parse.specs.declared.proc_line.ProcLine.TheVariants as proc_line
+use Rattle.net_plan.specs.Directions.{is_up}
+use Rattle.world_state.specs.World.{WorldState}
+use Rattle.world_state.specs.Phases.{is_setup, has_block, behind_setup_step}
+use Rattle.world_state.specs.Procs.{Procs, proc_of}
+use Rattle.world_state.specs.ProcRefusals.{are_two_masters}
+use Rattle.world_state.specs.CallPushes.{calls_positions, calls_pushed_in, calls_push}
+use Rattle.environment.specs.Following.{IsBuilt}
+use Rattle.environment.specs.Calling.{CallsPushInPart}
+use Rattle.environment.specs.Known.{known_refusal}
+use Rattle.environment.specs.Texts.{calls_pushed_text}
+use Rattle.environment.specs.Doing.{PushesCallsInPart, IsDone, IsShort}
+use Rattle.environment.proofs.TwoMasters.{AreLinked, two_masters_linked}
+use Rattle.environment_calls.specs.Settling.{told_calls_text}
+
+first_false : (b c : Bool) → (b || c) ≡ false → b ≡ false
+first_false true c is = absurd (cc is)
+first_false false c is = refl
+
+-- two masters, behind Setup
+masters_linked : (from to : SiteName) (w : WorldState) → IsBuilt w → behind_setup_step w ≡ None → are_two_masters from to w.procs ≡ true → AreLinked w from to
+masters_linked from to w built behind two =
+    two_masters_linked w built (first_false (is_setup w.phase) (has_block w) (refused-None (is_setup w.phase || has_block w) refusal.WrongPhase behind)) from to two
+
+module _ (from to : SiteName) (w : WorldState) where
+  -- of fates for calls
+  pub fates_linked : (fates : List _) → IsBuilt w → known_refusal (command.Procedures (proc_line.Fates from to fates)) w ≡ None → AreLinked w from to
+  fates_linked fates built passes =
+      let steps = or_then-None (behind_setup_step w) _ passes in
+      masters_linked from to w built steps.0 (refused_not-None (are_two_masters from to w.procs) refusal.UnknownName (or_then-None (refused (not (are_two_masters from to w.procs)) refusal.UnknownName) None steps.1).0)
+
+  module _ (passes : known_refusal (command.Procedures (proc_line.Push from to)) w ≡ None) where
+    -- of a push of calls
+    pub push_linked : IsBuilt w → AreLinked w from to
+    push_linked built =
+        let steps = or_then-None (behind_setup_step w) _ passes in
+        masters_linked from to w built steps.0 (refused_not-None (are_two_masters from to w.procs) refusal.UnknownName (or_then-None (refused (not (are_two_masters from to w.procs)) refusal.UnknownName) _ steps.1).0)
+
+    -- one that was done
+    pub push_done : (number : ℕ) (up : Bool) (q : Procs) (bytes : List ℕ) → up ≡ is_up to from w.net → q ≡ calls_push up from to w.procs → bytes ≡ calls_pushed_text from to w.procs
+        → IsDone number (command.Procedures (proc_line.Push from to)) w (record w { procs = q }) bytes
+    push_done number up q bytes up_is done text = record {
+      passes = passes;
+      world = ap (λ (p : Procs). record w { procs = p }) (done ∙ ap (λ (b : Bool). calls_push b from to w.procs) up_is);
+      text = text;
+    }
+
+    -- what is pushed is what the line says
+    pushed_so : (q : Procs) → CallsPushInPart from to w.procs q → (a b : SiteName) → command.Procedures (proc_line.Push from to) ≡ command.Procedures (proc_line.Push a b)
+        → PushesCallsInPart a b w (record w { procs = q })
+    pushed_so q part a b is =
+        let one : from ≡ a = cc is in
+        let other : to ≡ b = cc is in
+        subst (λ (name : SiteName). PushesCallsInPart a name w (record w { procs = q })) other
+        (subst (λ (name : SiteName). PushesCallsInPart name to w (record w { procs = q })) one (record { part = part; rest = refl }))
+
+    -- one for which there was no memory
+    pub push_short : (number : ℕ) (q : Procs) → CallsPushInPart from to w.procs q
+        → IsShort number (command.Procedures (proc_line.Push from to)) w (record w { procs = q }) (record { line = number; refusal = refusal.Memory })
+    push_short number q part = record {
+      memory = refl;
+      line = refl;
+      passes = λ untried. passes;
+      kept = λ other. absurd (cc other);
+      pushed = λ a b count other. absurd (cc other);
+      called = pushed_so q part;
+    }
+
+-- what is told of a push of calls
+pub told_pushed : (from to : SiteName) (p : Procs) (sent : ℕ) (old bytes : List ℕ) (q : Procs) → q ≡ calls_pushed_in from to p → sent ≡ length (calls_positions from to p)
+    → bytes ≡ old ++ told_calls_text from to sent (proc_of to q.sites) → bytes ≡ old ++ calls_pushed_text from to p
+told_pushed from to p sent old bytes q come is text =
+    text ∙ ap (λ (r : Procs). old ++ told_calls_text from to sent (proc_of to r.sites)) come
+    ∙ ap (λ (n : ℕ). old ++ told_calls_text from to n (proc_of to (calls_pushed_in from to p).sites)) is

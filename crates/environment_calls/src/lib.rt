@@ -1,0 +1,20 @@
+//! What lines about procedures do to a replication environment: tables and procedures are declared, calls are gathered and
+//! sent, pushed to another master and settled there, and errors of calls are executed again.
+#![tactic(auto)]
+
+mod answer;
+mod blocks;
+mod declaring;
+mod deliver;
+mod errors;
+mod fates;
+mod lines;
+mod literals;
+mod outbound;
+mod pushing;
+mod sending;
+mod settle;
+mod words;
+
+pub use environment::proc_place_of;
+pub use lines::run_proc_line;

@@ -1,0 +1,4 @@
+-- The definitions of this crate.
+pub mod Streams
+pub mod Built
+pub mod Worlds
