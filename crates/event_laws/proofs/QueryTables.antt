@@ -13,7 +13,7 @@ use Rattle.site_state.specs.State.{LogState}
 use Rattle.site_state.specs.Notes.{pending_keys, is_too_young}
 use Rattle.site_state.specs.Refreshes.{rows_shown, with_tables}
 use Rattle.site_state.specs.Fits.{AreWithin}
-use Rattle.event_laws.specs.Rules.{table_ruled, rows_ruled, parents_above, is_purged_above, is_young, looked_up, HaveNoParents, QueriesAreRules}
+use Rattle.event_laws.specs.Rules.{rows_ruled, parents_above, is_purged_above, is_young, looked_up, HaveNoParents, QueriesAreRules}
 
 pub AreTables-rows_ruled : (schema : Schema) (shows : List Rows) (ss : List Snapshot) (tables : List Rows) → AreTables schema shows → AreWithin schema ss → AreTables schema tables
     → AreTables schema (with_tables (rows_ruled schema shows ss) tables)
