@@ -107,4 +107,4 @@ module _ (w : WorldState) (so_far : DeclaresSoFar w) (g : GoesOn (world_made w))
       tables_at first.entry.name first.entry.master first.master (fits first.entry.name (entry_made w.schema rows w.snapshots first.entry) (made_entry w.schema rows w.snapshots first))
 
   pub declares_well : DeclaresWell w
-  declares_well = record { sound = record { sound = sound; rows = tables; snapshots = so_far.within }; once = so_far.once }
+  declares_well = record { sound = record { sound = sound; rows = tables; snapshots = so_far.within }; once = so_far.once; parents = so_far.parents }

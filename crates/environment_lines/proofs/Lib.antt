@@ -4,6 +4,7 @@ pub mod Printing
 mod Unbroken
 mod DeclaredApart
 mod GivenRows
+mod RuledRows
 mod ShownRows
 mod Parts
 mod RefreshedSites

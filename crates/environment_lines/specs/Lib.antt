@@ -1,4 +1,5 @@
 -- The definitions of this crate.
+pub mod Ruled
 pub mod Refreshing
 pub mod Joining
 pub use Rattle.environment.specs.Following

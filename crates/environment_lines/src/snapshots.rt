@@ -29,13 +29,14 @@ fn declared_snapshot(
     requires shape { HasShape schema.now }
     requires table { table < length schema.now.tables }
     ensures { IfOk result (λ snapshot. snapshot
-        ≡ record { site = site; table = table; query = record { tests = map (test_of (columns_of schema.now table)) words.now } }) }
+        ≡ record { site = site; table = table; query = record { tests = map (test_of (columns_of schema.now table)) words.now }; parent = None }) }
 {
     let tests = tests_of(alloc, columns_of(schema, table), words)?;
     Ok(DeclaredSnapshot {
         site,
         table,
         query: Query { tests },
+        parent: None,
     })
 }
 

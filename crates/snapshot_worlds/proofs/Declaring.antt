@@ -21,6 +21,8 @@ use Rattle.rep_declare.specs.Additions.{with_changed, declared}
 use Rattle.rep_declare.specs.Shaping.{table_shaped, ShapesNoRows}
 use Rattle.schema_rules.specs.Rules.{broken_rule}
 use Rattle.site_state.specs.Steps.{is_empty}
+use Rattle.snapshot_query.specs.declared.parent.Parent.{Parent}
+use Rattle.event_laws.specs.Rules.{IsParentWithin}
 use Rattle.event_laws.specs.Events.{master_of}
 use Rattle.script_parse.specs.declared.command.TestWords.{TestWords}
 use Rattle.snapshot_laws.proofs.Moves.{all_weaker}
@@ -29,7 +31,7 @@ use Rattle.world_state.specs.World.{WorldState}
 use Rattle.world_state.specs.Phases.{rows_at, has_rows}
 use Rattle.world_state.specs.Declaring.{has_snapshot, with_snapshot_at}
 use Rattle.world_state.specs.Refusals.{snapshot_steps}
-use Rattle.snapshot_worlds.specs.WellDeclared.{AreDeclaredOnce, DeclaresWell}
+use Rattle.snapshot_worlds.specs.WellDeclared.{AreDeclaredOnce, AreParentsWithin, DeclaresWell}
 use Rattle.snapshot_worlds.proofs.DeclaredSnapshots.{once-push}
 use Rattle.snapshot_worlds.proofs.FilledTables.{AreTables-rows_made}
 
@@ -85,11 +87,20 @@ pub of_tables-declared : (d : Declare) (schema : Schema) (ds : List DeclaredSnap
 of_tables-declared d schema ds all = all_weaker (λ (s : DeclaredSnapshot). s.table < length schema.tables) (λ (s : DeclaredSnapshot). s.table < length (declared d schema).tables) ds
     (λ s below. let more = tables_stay d schema in omega (arith, below, more)) all
 
+parent_within-declared : (d : Declare) (schema : Schema) (parent : Option Parent) → IsParentWithin schema parent → IsParentWithin (declared d schema) parent
+parent_within-declared d schema None within = tt
+parent_within-declared d schema (Some p) within = let more = tables_stay d schema in omega (arith, within, more)
+
+pub parents_within-declared : (d : Declare) (schema : Schema) (ds : List DeclaredSnapshot) → AreParentsWithin schema ds → AreParentsWithin (declared d schema) ds
+parents_within-declared d schema ds all = all_weaker (λ (s : DeclaredSnapshot). IsParentWithin schema s.parent) (λ (s : DeclaredSnapshot). IsParentWithin (declared d schema) s.parent) ds
+    (λ s within. parent_within-declared d schema s.parent within) all
+
 -- ---- a snapshot
 
 pub record HasSnapshots (w : WorldState) : Type 0 where
   pub within : AreOfTables w.schema w.snapshots
   pub once : AreDeclaredOnce w.snapshots
+  pub parents : AreParentsWithin w.schema w.snapshots
 
 pub has_snapshots-push : (w : WorldState) (site : SiteName) (name : TableName) (tests : List TestWords) → HasSnapshots w
     → first_refusal (known (master_of w.schema site) (λ master. known (table_place w.schema name) (λ place. snapshot_steps w site place tests))) ≡ None
@@ -103,6 +114,7 @@ has_snapshots-push w site name tests has none = by_master (master_of w.schema si
         record {
           within = each_push (λ (d : DeclaredSnapshot). d.table < length w.schema.tables) w.snapshots _ has.within (position-Some (is_table name) w.schema.tables table (plain_table name []) is).0;
           once = once-push w.snapshots _ has.once free;
+          parents = each_push (λ (d : DeclaredSnapshot). IsParentWithin w.schema d.parent) w.snapshots _ has.parents tt;
         }
 
     by_master : (found : Option SiteName) → first_refusal (known found (λ master. known (table_place w.schema name) (λ place. snapshot_steps w site place tests))) ≡ None
@@ -117,4 +129,5 @@ pub declares_well : (w : WorldState) → HasShape w.schema → AreTables w.schem
 declares_well w shape rows has unbroken = record {
   sound = record { sound = record { shape = shape; unbroken = unbroken }; rows = AreTables-rows_made w.schema w.base unbroken rows; snapshots = has.within };
   once = has.once;
+  parents = has.parents;
 }

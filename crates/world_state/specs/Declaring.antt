@@ -56,7 +56,7 @@ tests_in (Some tests) = tests
 
 abbrev pub with_snapshot_at : SiteName → Option ℕ → List TestWords → WorldState → WorldState
 with_snapshot_at site None tests w = w
-with_snapshot_at site (Some table) tests w = record w { snapshots = w.snapshots ++ record { site = site; table = table; query = record { tests = map (test_of (columns_of w.schema table)) tests } } ∷ [] }
+with_snapshot_at site (Some table) tests w = record w { snapshots = w.snapshots ++ record { site = site; table = table; query = record { tests = map (test_of (columns_of w.schema table)) tests }; parent = None } ∷ [] }
 
 -- a snapshot, behind those that are declared
 abbrev pub with_snapshot : SiteName → TableName → List TestWords → WorldState → WorldState

@@ -12,6 +12,7 @@ use Rattle.rep_schema.specs.Tables.{columns_of}
 use Rattle.rep_schema.specs.Named.{table_place}
 use Rattle.rep_declare.specs.Refusals.{out_of_range, refusal_of}
 use Rattle.local_txn.specs.BaseRows.{base_refusal}
+use Rattle.snapshot_query.specs.declared.parent.Parent.{Parent}
 use Rattle.snapshot_query.specs.declared.snapshot.Snapshot.{Snapshot}
 use Rattle.net_plan.specs.Directions.{is_up}
 use Rattle.site_state.specs.State.{DestinationState, LogState, SiteState}
@@ -59,10 +60,15 @@ waiting_for x d = length (stream_to d.site x) - d.acked
 abbrev pub waiting_count : SiteState → ℕ
 waiting_count x = sum (map (waiting_for x) x.destinations)
 
--- the first snapshot of which the log was purged above its mark
+-- the log of a snapshot's parents was purged above its mark
+abbrev pub young_parents_step : List LogState → ℕ → Option Parent → Option Refusal
+young_parents_step logs mark None = None
+young_parents_step logs mark (Some p) = refused (nat_lt mark (purged_of p.table logs)) (refusal.LogTooYoung (purged_of p.table logs) mark)
+
+-- the first snapshot of which a log was purged above its mark: of its table, or else of its parents
 abbrev pub young_step : List LogState → List Snapshot → Option Refusal
 young_step logs [] = None
-young_step logs (s ∷ ss) = or_then (refused (is_too_young logs s) (refusal.LogTooYoung (purged_of s.table logs) s.mark)) (young_step logs ss)
+young_step logs (s ∷ ss) = or_then (refused (is_too_young logs s) (refusal.LogTooYoung (purged_of s.table logs) s.mark)) (or_then (young_parents_step logs s.mark s.parent) (young_step logs ss))
 
 -- a refresh goes by logs alone where it is asked to
 abbrev pub log_step : Refresh → List LogState → List Snapshot → Option Refusal
