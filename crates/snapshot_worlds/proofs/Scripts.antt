@@ -24,6 +24,7 @@ use Rattle.event_laws.specs.Waiting.{AreMeshed}
 use Rattle.site_state.specs.State.{SiteState}
 use Rattle.script_parse.specs.declared.command.Command.{Command}
 use Rattle.script_parse.specs.declared.command.Command.TheVariants as command
+use Rattle.script_parse.specs.declared.command.ParentWords.{ParentWords}
 use Rattle.script_parse.specs.declared.command.TestWords.{TestWords}
 use Rattle.script_parse.specs.Named.{NamesColumn}
 use Rattle.snapshot_laws.specs.Starts.{IsSnapshotStart, IsLogStart}
@@ -139,13 +140,13 @@ no_suspension w in_setup passes =
     let wrong : behind_setup_step w ≡ Some refusal.WrongPhase = rw in_setup.setup refl in
     cc (wrong, (or_then-None (behind_setup_step w) _ (or_then-None (phase_step command.Suspend w) _ passes).0).0)
 
-setup_snapshot : (w : WorldState) (site : SiteName) (table : Option ℕ) (tests : List TestWords) → is_setup (with_snapshot_at site table tests w).phase ≡ is_setup w.phase
-setup_snapshot w site None tests = refl
-setup_snapshot w site (Some table) tests = refl
+setup_snapshot : (w : WorldState) (site : SiteName) (table : Option ℕ) (parent : Option ParentWords) (tests : List TestWords) → is_setup (with_snapshot_at site table parent tests w).phase ≡ is_setup w.phase
+setup_snapshot w site None parent tests = refl
+setup_snapshot w site (Some table) parent tests = refl
 
-rows_snapshot : (w : WorldState) (site : SiteName) (table : Option ℕ) (tests : List TestWords) → AreTables w.schema w.base → AreTables (with_snapshot_at site table tests w).schema (with_snapshot_at site table tests w).base
-rows_snapshot w site None tests are = are
-rows_snapshot w site (Some table) tests are = are
+rows_snapshot : (w : WorldState) (site : SiteName) (table : Option ℕ) (parent : Option ParentWords) (tests : List TestWords) → AreTables w.schema w.base → AreTables (with_snapshot_at site table parent tests w).schema (with_snapshot_at site table parent tests w).base
+rows_snapshot w site None parent tests are = are
+rows_snapshot w site (Some table) parent tests are = are
 
 keeps-Row : (number : ℕ) (table : TableName) (values : List Literal) (w : WorldState) → world_refusal (command.Row table values) w ≡ None → Keeps w → Keeps (world_done number (command.Row table values) w)
 keeps-Row number table values w passes k = record {
@@ -153,11 +154,11 @@ keeps-Row number table values w passes k = record {
   has = record { within = k.has.within; once = k.has.once; parents = k.has.parents };
 }
 
-keeps-Snapshot : (number : ℕ) (site : SiteName) (table : TableName) (tests : Option (List TestWords)) (w : WorldState) → world_refusal (command.Snapshot site table tests) w ≡ None → Keeps w
-    → Keeps (world_done number (command.Snapshot site table tests) w)
+keeps-Snapshot : (number : ℕ) (site : SiteName) (table : TableName) (parent : Option ParentWords) (tests : Option (List TestWords)) (w : WorldState) → world_refusal (command.Snapshot site table parent tests) w ≡ None → Keeps w
+    → Keeps (world_done number (command.Snapshot site table parent tests) w)
 keeps-Snapshot number site table tests w passes k = record {
-  rows = rows_snapshot w site (table_place w.schema table) (tests_in tests) k.rows;
-  has = has_snapshots-push w site table (tests_in tests) k.has (or_then-None (setup_step w) _ passes).1;
+  rows = rows_snapshot w site (table_place w.schema table) parent (tests_in tests) k.rows;
+  has = has_snapshots-push w site table parent (tests_in tests) k.has (or_then-None (setup_step w) _ passes).1;
 }
 
 module _ (number : ℕ) (w : WorldState) (in_setup : IsInSetup w) (k : Keeps w) where
@@ -167,8 +168,8 @@ module _ (number : ℕ) (w : WorldState) (in_setup : IsInSetup w) (k : Keeps w) 
   -- what comes of a line that isn't refused
   done_in_setup : (c : Command) → world_refusal c w ≡ None → IsOfScript (world_done number c w) → IsOfSnapshots (world_done number c w)
   done_in_setup (command.Declare d) passes is = declares (world_done number (command.Declare d) w) in_setup.setup is (keeps-Declare number d w passes k)
-  done_in_setup (command.Snapshot site table tests) passes is =
-      declares (world_done number (command.Snapshot site table tests) w) (setup_snapshot w site (table_place w.schema table) (tests_in tests) ∙ in_setup.setup) is (keeps-Snapshot number site table tests w passes k)
+  done_in_setup (command.Snapshot site table parent tests) passes is =
+      declares (world_done number (command.Snapshot site table parent tests) w) (setup_snapshot w site (table_place w.schema table) parent (tests_in tests) ∙ in_setup.setup) is (keeps-Snapshot number site table tests w passes k)
   done_in_setup (command.Row table values) passes is = declares (world_done number (command.Row table values) w) in_setup.setup is (keeps-Row number table values w passes k)
   done_in_setup command.Resume passes is =
       resumed_goes_on w.phase w in_setup.setup (or_then-None (refused (has_block w) refusal.WrongPhase) (resume_step w.phase (lowest_broken w.schema w.procs.tables)) (or_then-None (phase_step command.Resume w) None passes).0).1 in_setup k
