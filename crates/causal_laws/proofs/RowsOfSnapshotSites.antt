@@ -234,7 +234,7 @@ module _ (g : Setting) where
     -- a refresh brings its master's rows
     renewed : (v : SiteState) → IsRefreshed (After events) x v → Has g v → HomeHas (After events) x
     renewed _ happening.Not has = before.rows has
-    renewed _ (happening.From master there is) has = elim (shown_there (columns_of g.schema g.table) g.table g.key (tables_of master) rising x.snapshots (tables_of x) has) [
+    renewed _ (happening.From master there is) has = elim (shown_there x.schema (columns_of g.schema g.table) g.table g.key (tables_of master) rising x.snapshots (tables_of x) has) [
       | inl own ↦ before.rows own
       | inr theirs ↦ λ home z is_home found on.
           let at : site_of home (After events) ≡ Some master = by (master_of x.schema x.here.site) (ap (λ (s : Schema). master_of s x.here.site) (of events x.here.site x x_found).of_schema ∙ is_home) there in

@@ -19,7 +19,7 @@ use Rattle.site_state.specs.Packets.{site_packet, site_accept}
 use Rattle.site_state.specs.Passes.{site_apply}
 use Rattle.site_state.specs.Errors.{site_execute, site_drop}
 use Rattle.site_state.specs.Purges.{site_purge, site_purge_log}
-use Rattle.site_state.specs.Refreshes.{rows_shown, with_tables}
+use Rattle.site_state.specs.Refreshes.{with_tables}
 use Rattle.site_state.specs.Making.{master_here}
 use Rattle.site_state.specs.Joining.{sender_from, site_open, site_copy}
 use Rattle.site_state.specs.Fits.{SendersHave}
@@ -28,6 +28,7 @@ use Rattle.site_state.proofs.Stepping.{commit_steps, apply_steps, execute_steps,
 use Rattle.site_state.proofs.Changing.{accept_later}
 use Rattle.event_laws.specs.Core.{Core, site_of, at_site}
 use Rattle.event_laws.specs.Joins.{queue_counts, copied, may_join, with_joined, joined_by, joined}
+use Rattle.event_laws.specs.Rules.{rows_ruled}
 use Rattle.event_laws.specs.Events.{Event, Commit, SetClock, Send, SendMark, Deliver, Begin, Apply, Execute, Drop, Purge, PurgeLog, Refresh, Join, with_packet, packet_from, mark_from, receiver, delivered, may_apply, applied_where, refreshed, happens, run}
 use Rattle.event_laws.specs.Starts.{IsNewSite}
 use Rattle.event_laws.specs.Fitting.{IsFitStart, FitsHere, StartsFit}
@@ -80,7 +81,7 @@ module _ (schema : Schema) where
   refresh_keeps sites x _ (happening.From master there is) h = record {
     same = h.same;
     keeps = record {
-      queued = rw (queue_after-rebased x.schema x.here (with_tables (rows_shown (tables_of master) x.snapshots) (tables_of x)) x.base x.journal is) h.keeps.queued;
+      queued = rw (queue_after-rebased x.schema x.here (with_tables (rows_ruled x.schema (tables_of master) x.snapshots) (tables_of x)) x.base x.journal is) h.keeps.queued;
       senders = h.keeps.senders;
       journal = (tt, h.keeps.journal);
       base = λ master. absurd (true≢false (sym master ∙ is));

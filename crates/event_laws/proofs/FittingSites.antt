@@ -19,7 +19,8 @@ use Rattle.site_state.specs.Packets.{site_accept}
 use Rattle.site_state.specs.Passes.{site_apply}
 use Rattle.site_state.specs.Errors.{site_execute, site_drop}
 use Rattle.site_state.specs.Purges.{site_purge, site_purge_log}
-use Rattle.site_state.specs.Refreshes.{rows_shown, with_tables}
+use Rattle.site_state.specs.Refreshes.{with_tables}
+use Rattle.event_laws.specs.Rules.{rows_ruled}
 use Rattle.site_state.specs.Making.{master_here}
 use Rattle.site_state.specs.Joining.{sender_from, site_open, site_copy}
 use Rattle.site_state.proofs.Growing.{queue_after-rebased}
@@ -34,7 +35,7 @@ use Rattle.event_laws.proofs.Sites.{found_all, all_at, all_joined}
 use Rattle.event_laws.proofs.Happening.{IsRefreshed, refreshed_is}
 use Rattle.event_laws.proofs.Happening as happening
 use Rattle.event_laws.proofs.NewSites.{open_to_each_keeps}
-use Rattle.event_laws.proofs.QueryTables.{AreTables-rows_shown}
+use Rattle.event_laws.proofs.QueryTables.{AreTables-rows_ruled}
 use Rattle.site_state.specs.Fits.{SendersFit, AreWithin, SiteFits}
 use Rattle.site_state.proofs.FittingBlocks.{block_own}
 use Rattle.site_state.proofs.FittingSites.{within_renewed, commit_fits, apply_fits, execute_fits, drop_fits, accept_fits}
@@ -74,10 +75,10 @@ module _ (schema : Schema) where
     fits = record {
       keyed = h.fits.keyed;
       content = record {
-        tables = AreTables-rows_shown x.schema (tables_of master) x.snapshots (tables_of x) (by (master_of x.schema x.here.site) there) h.fits.within h.fits.content.tables;
+        tables = AreTables-rows_ruled x.schema (tables_of master) x.snapshots (tables_of x) (by (master_of x.schema x.here.site) there) h.fits.within h.fits.content.tables;
         counters = AreCounters-first x.schema;
       };
-      queued = rw (queue_after-rebased x.schema x.here (with_tables (rows_shown (tables_of master) x.snapshots) (tables_of x)) x.base x.journal is) h.fits.queued;
+      queued = rw (queue_after-rebased x.schema x.here (with_tables (rows_ruled x.schema (tables_of master) x.snapshots) (tables_of x)) x.base x.journal is) h.fits.queued;
       senders = h.fits.senders;
       journal = (tt, h.fits.journal);
       within = within_renewed x.schema master.moment x.snapshots h.fits.within;

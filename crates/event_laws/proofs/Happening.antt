@@ -8,7 +8,8 @@ use Rattle.site_state.specs.State.{SiteState}
 use Rattle.site_state.specs.Contents.{tables_of}
 use Rattle.site_state.specs.Packets.{site_accept}
 use Rattle.site_state.specs.Purges.{site_purge}
-use Rattle.site_state.specs.Refreshes.{rows_shown, site_refresh}
+use Rattle.site_state.specs.Refreshes.{site_refresh}
+use Rattle.event_laws.specs.Rules.{rows_ruled}
 use Rattle.site_state.proofs.Stepping.{Steps, clock_steps, begun_steps, purge_log_steps, commit_steps, apply_steps, execute_steps, drop_steps}
 use Rattle.event_laws.specs.Core.{Core, site_of, at_site}
 use Rattle.event_laws.specs.Joins.{may_join, with_joined, joined_by, joined}
@@ -18,7 +19,7 @@ use Rattle.event_laws.specs.Events.{Event, Commit, SetClock, Send, SendMark, Del
 pub data IsRefreshed (sites : List SiteState) (x : SiteState) : SiteState → Type 0 where
   Not : IsRefreshed sites x x
   From : (master : SiteState) → found_site sites (master_of x.schema x.here.site) ≡ Some master → x.here.is_master ≡ false
-      → IsRefreshed sites x (site_refresh (rows_shown (tables_of master) x.snapshots) master.moment x)
+      → IsRefreshed sites x (site_refresh (rows_ruled x.schema (tables_of master) x.snapshots) master.moment x)
 
 -- what is declared of it stays
 pub here-IsRefreshed : (sites : List SiteState) (x y : SiteState) → IsRefreshed sites x y → y.here ≡ x.here
@@ -42,7 +43,7 @@ pub refreshed_is : (sites : List SiteState) (x : SiteState) → IsRefreshed site
 refreshed_is sites x = go (found_site sites (master_of x.schema x.here.site)) refl
   where
     by : (master : SiteState) → found_site sites (master_of x.schema x.here.site) ≡ Some master → (b : Bool) → not x.here.is_master ≡ b
-        → IsRefreshed sites x (cond b (site_refresh (rows_shown (tables_of master) x.snapshots) master.moment x) x)
+        → IsRefreshed sites x (cond b (site_refresh (rows_ruled x.schema (tables_of master) x.snapshots) master.moment x) x)
     by master found true is = From master found (not-true x.here.is_master is)
     by master found false is = Not
 

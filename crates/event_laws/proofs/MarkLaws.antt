@@ -18,7 +18,8 @@ use Rattle.site_state.specs.Streams.{queue_of, stream_in, stream_to, dep_at, sha
 use Rattle.site_state.specs.Packets.{count_opened, number_at, carry_of, packet_found}
 use Rattle.site_state.specs.Purges.{site_purge}
 use Rattle.site_state.specs.Contents.{tables_of}
-use Rattle.site_state.specs.Refreshes.{rows_shown, site_refresh}
+use Rattle.site_state.specs.Refreshes.{site_refresh}
+use Rattle.event_laws.specs.Rules.{rows_ruled}
 use Rattle.site_state.specs.Joining.{site_open}
 use Rattle.site_state.proofs.LowWater.{low_water-below}
 use Rattle.site_state.proofs.Growing.{dep_at-covers}
@@ -80,7 +81,7 @@ marks_hold sites sent from to holds = by (site_of from sites) refl
 
 pub refreshed_later : (sites : List SiteState) (x y : SiteState) → IsRefreshed sites x y → Later x y
 refreshed_later sites x _ happening.Not = later_same x
-refreshed_later sites x _ (happening.From master found is) = refresh_later (rows_shown (tables_of master) x.snapshots) master.moment x is
+refreshed_later sites x _ (happening.From master found is) = refresh_later (rows_ruled x.schema (tables_of master) x.snapshots) master.moment x is
 
 refreshed_keeps : (sites : List SiteState) (name : SiteName) (change : SiteState → SiteState) → ((x : SiteState) → IsRefreshed sites x (change x)) → Keeps sites name change
 refreshed_keeps sites name change refreshed = record {
@@ -101,7 +102,7 @@ refreshed_keeps sites name change refreshed = record {
     purged : (x y : SiteState) → IsRefreshed sites x y → PurgedIsAcked x → PurgedIsAcked y
     purged x _ happening.Not holds = holds
     purged x _ (happening.From master found is) holds =
-        purged_kept x (site_refresh (rows_shown (tables_of master) x.snapshots) master.moment x) (refresh_later (rows_shown (tables_of master) x.snapshots) master.moment x is) refl refl holds
+        purged_kept x (site_refresh (rows_ruled x.schema (tables_of master) x.snapshots) master.moment x) (refresh_later (rows_ruled x.schema (tables_of master) x.snapshots) master.moment x is) refl refl holds
 
 -- ---- new sites, and one that joins
 

@@ -27,7 +27,7 @@ use Rattle.site_state.specs.Fits.{FinishedHaveArrived}
 use Rattle.site_state.proofs.Pasts.{arrived_at-put, finished_have_arrived, length-pasts_after}
 use Rattle.site_state.proofs.Queueing.{Adds, adds_nothing, steps_add, accept_adds, purge_adds, refresh_adds}
 use Rattle.site_state.specs.Contents.{tables_of}
-use Rattle.site_state.specs.Refreshes.{rows_shown}
+use Rattle.event_laws.specs.Rules.{rows_ruled}
 use Rattle.event_laws.specs.Core.{site_of, at_site}
 use Rattle.event_laws.specs.Events.{with_packet, packet_from, mark_from, receiver}
 use Rattle.event_laws.specs.Waiting.{IsFirst, AreFirsts, AbsentAreClosed}
@@ -301,7 +301,7 @@ refreshed_meets sites name change refreshed = record {
 
     adds : (x y : SiteState) → IsRefreshed sites x y → Adds x y
     adds x _ happening.Not = adds_nothing x
-    adds x _ (happening.From master found is) = refresh_adds (rows_shown (tables_of master) x.snapshots) master.moment x is
+    adds x _ (happening.From master found is) = refresh_adds (rows_ruled x.schema (tables_of master) x.snapshots) master.moment x is
 
     by : (x y : SiteState) → IsRefreshed sites x y → SiteMeets sites name x → SiteMeets sites name y
     by x _ happening.Not meets = meets

@@ -17,13 +17,13 @@ use Rattle.site_state.specs.declared.entry.Entry.TheVariants as entry
 use Rattle.site_state.specs.declared.answers.RefreshCount.{RefreshCount}
 use Rattle.site_state.specs.State.{SiteState}
 use Rattle.site_state.specs.Contents.{tables_of}
-use Rattle.site_state.specs.Notes.{pending_keys, is_too_young}
+use Rattle.site_state.specs.Notes.{pending_keys}
 use Rattle.site_state.specs.Packets.{site_packet}
 use Rattle.site_state.specs.Purges.{purge_log_answer}
-use Rattle.site_state.specs.Refreshes.{rows_shown, refresh_fast_answer}
 use Rattle.site_state.specs.Making.{new_site}
 use Rattle.site_state.proofs.WorkedSites.{a, b, s, master, snapshot_of, number_column, key_column, table_t, additive, n, row, at_first, add, moved, of_calls}
 use Rattle.event_laws.specs.Core.{Core}
+use Rattle.event_laws.specs.Rules.{rows_ruled, refresh_ruled_answer, is_young}
 use Rattle.event_laws.specs.Events.{Commit, PurgeLog, Refresh}
 use Rattle.event_laws.proofs.WorkedRuns.{then_run, pushed, shown, journal_at, rows_at}
 
@@ -115,7 +115,7 @@ none_counted = record { keys = 0; rows = 0 }
 
 -- what a refresh by the master's logs answers
 abbrev count_of_refresh : Core → RefreshCount
-count_of_refresh w = shown none_counted (λ m. shown none_counted (λ x. refresh_fast_answer m.logs (rows_shown (tables_of m) x.snapshots) x) s w) a w
+count_of_refresh w = shown none_counted (λ m. shown none_counted (λ x. refresh_ruled_answer m.logs (rows_ruled x.schema (tables_of m) x.snapshots) x) s w) a w
 
 -- the pending keys of the snapshot
 abbrev pending : Core → List Cells
@@ -181,7 +181,7 @@ unfolding group_columns_of
 one_key_to_purge = refl
 
 abbrev too_young : Core → List Bool
-too_young w = shown [] (λ m. shown [] (λ x. map (is_too_young m.logs) x.snapshots) s w) a w
+too_young w = shown [] (λ m. shown [] (λ x. map (is_young m.logs) x.snapshots) s w) a w
 
 log_tells_all : too_young acknowledged ≡ false ∷ []
 unfolding group_columns_of

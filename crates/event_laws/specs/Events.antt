@@ -19,7 +19,8 @@ use Rattle.site_state.specs.Packets.{site_packet, mark_of, site_accept}
 use Rattle.site_state.specs.Passes.{site_apply}
 use Rattle.site_state.specs.Errors.{site_execute, site_drop}
 use Rattle.site_state.specs.Purges.{site_purge, site_purge_log}
-use Rattle.site_state.specs.Refreshes.{rows_shown, site_refresh}
+use Rattle.site_state.specs.Refreshes.{site_refresh}
+use Rattle.event_laws.specs.Rules.{rows_ruled}
 use Rattle.event_laws.specs.Core.{Core, site_of, at_site}
 use Rattle.event_laws.specs.Joins.{joined}
 
@@ -97,14 +98,14 @@ is_all_acked x = list_all (has_acked_all x) x.destinations
 
 abbrev pub refreshed_from : Option SiteState → SiteState → SiteState
 refreshed_from None x = x
-refreshed_from (Some master) x = cond (not x.here.is_master) (site_refresh (rows_shown (tables_of master) x.snapshots) master.moment x) x
+refreshed_from (Some master) x = cond (not x.here.is_master) (site_refresh (rows_ruled x.schema (tables_of master) x.snapshots) master.moment x) x
 
 -- where the master of a site is there
 abbrev pub found_site : List SiteState → Option SiteName → Option SiteState
 found_site sites None = None
 found_site sites (Some name) = site_of name sites
 
--- a snapshot site gets what its queries pick of its master's tables now
+-- a snapshot site gets what its snapshots pick of its master's tables now
 abbrev pub refreshed : List SiteState → SiteState → SiteState
 refreshed sites x = refreshed_from (found_site sites (master_of x.schema x.here.site)) x
 

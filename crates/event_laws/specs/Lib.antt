@@ -2,6 +2,7 @@
 pub mod Core
 pub mod Quiet
 pub mod Joins
+pub mod Rules
 pub mod Events
 pub mod Starts
 pub mod Declared

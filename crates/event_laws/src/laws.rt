@@ -5,6 +5,7 @@ ghost use Rattle.event_laws.specs.Fitting.{EverySiteFits};
 ghost use Rattle.event_laws.specs.Marks.{AreWellNumbered, MarksAreLow, PurgedIsFinished};
 ghost use Rattle.event_laws.specs.Orders.{AreFinishedOnce, AreSettledOnce, EarlierComesFirst};
 ghost use Rattle.event_laws.specs.PassLaws.{EverySiteCanPass, LowWaterIsThatOfTheFinished, PassesLeaveNothingReady, PurgesTakeWhatIsAcknowledged};
+ghost use Rattle.event_laws.specs.Rules.{QueriesAreRules};
 ghost use Rattle.event_laws.specs.Starts.{InEveryRun};
 ghost use Rattle.event_laws.specs.Waiting.{NothingWaitsForEver};
 
@@ -67,4 +68,10 @@ pub fn nothing_waits_for_ever()
 /// a block changes its transaction changes, when it is applied to the same tables.
 pub fn every_site_fits()
     ensures { EverySiteFits }
+{}
+
+/// A refresh goes by the rules of snapshots. One without a parent shows what its query picks, and of the master's logs that of
+/// its table alone tells whether they are too young, and what is looked up.
+pub fn queries_are_rules()
+    ensures { QueriesAreRules }
 {}

@@ -1,5 +1,5 @@
 -- After every list of events each snapshot keeps up with its master.
-use Rattle.std.proofs.Common.{ℕ, List, ◌∷◌, true, refl, ◌∙◌, arith, inl}
+use Rattle.std.proofs.Common.{ℕ, List, ◌∷◌, true, refl, inl}
 use Rattle.rep_values.specs.declared.name.SiteName.{SiteName}
 use Rattle.rep_schema.specs.declared.schema.Schema.{Schema}
 use Rattle.site_state.specs.State.{SiteState}
@@ -8,12 +8,12 @@ use Rattle.site_state.specs.Purges.{site_purge_log}
 use Rattle.event_laws.specs.Core.{Core, site_of}
 use Rattle.event_laws.specs.Events.{Event, without, refreshed, begun_after, run}
 use Rattle.snapshot_laws.specs.Starts.{IsSnapshotStart}
-use Rattle.snapshot_laws.proofs.Keys.{is_some-purged, told-purged}
-use Rattle.snapshot_laws.proofs.Moves.{all_weaker, KeepsUp, own_moves}
+use Rattle.snapshot_laws.proofs.Moves.{all_weaker}
+use Rattle.snapshot_laws.proofs.KeepingUp.{KeepsUp, own_moves, fewer_begun, begin_master, purge_master, purge_own}
 use Rattle.snapshot_laws.proofs.Calls.{begun_quiet}
 use Rattle.snapshot_laws.proofs.Keeping.{HaveTables, SitesKeepUp, Keeps, keep_up_changed, moves_keep}
 use Rattle.snapshot_laws.proofs.Begun.{is_among-more, is_among-without}
-use Rattle.snapshot_laws.proofs.Refreshing.{fewer_begun, refresh_keeps}
+use Rattle.snapshot_laws.proofs.Refreshing.{refresh_keeps}
 use Rattle.snapshot_laws.proofs.RunsFit.{SitesFit}
 use Rattle.snapshot_laws.proofs.Starting.{start_keeps_up}
 use Rattle.snapshot_laws.proofs.SnapshotEvents.{Becomes, run_becomes}
@@ -28,8 +28,8 @@ module _ (schema : Schema) where
     here = λ x. refl;
     apart = λ x at_x apart. apart;
     none = λ x at_x none. none;
-    master = λ m x s at_m h. record { master = h.master; logged = h.logged; below = omega (arith, h.below); before = λ is. omega (arith, h.below); within = h.within; others = h.others };
-    other = λ m x s isnt h. record { master = h.master; logged = h.logged; below = h.below; before = λ is. h.before (is_among-more name m.here.site names isnt is); within = h.within; others = h.others };
+    master = λ m x s at_m h. begin_master schema names (name ∷ names) m x s h;
+    other = λ m x s isnt h. fewer_begun schema names (name ∷ names) m x s (is_among-more name m.here.site names isnt) h;
     own = λ x m n at_x there apart up either new. own_moves schema (name ∷ names) true n x (begun x) (inl (begun_quiet x)) (have name x at_x) new;
   }
 
@@ -40,17 +40,10 @@ module _ (schema : Schema) where
     here = λ x. refl;
     apart = λ x at_x apart. apart;
     none = λ x at_x none. none;
-    master = λ m x s at_m h. record {
-      master = h.master;
-      logged = is_some-purged table m.moment s.table m.logs ∙ h.logged;
-      below = h.below;
-      before = λ is. h.before (is_among-without name m.here.site names is);
-      within = h.within;
-      others = λ key le untold untouched. let both = told-purged table m.moment s.table s.mark key m.logs le untold in h.others key both.0 both.1 untouched;
-    };
+    master = λ m x s at_m h. purge_master schema names (without name names) table m x s (is_among-without name m.here.site names) h;
     other = λ m x s isnt h. fewer_begun schema names (without name names) m x s (is_among-without name m.here.site names) h;
     own = λ x m n at_x there apart up either new. all_weaker (KeepsUp schema (without name names) n x) (KeepsUp schema (without name names) n (site_purge_log table x)) x.snapshots
-        (λ s h. record { master = h.master; logged = h.logged; below = h.below; before = h.before; within = h.within; others = h.others }) new;
+        (λ s h. purge_own schema (without name names) table n x s h) new;
   }
 
   -- ---- every event

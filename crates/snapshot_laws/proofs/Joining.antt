@@ -13,7 +13,8 @@ use Rattle.event_laws.specs.Events.{master_of, found_site}
 use Rattle.event_laws.proofs.Sites.{found_or, site_of-joined}
 use Rattle.event_laws.proofs.NewSites.{open_to_each_keeps}
 use Rattle.site_state.specs.Fits.{AreApart}
-use Rattle.snapshot_laws.proofs.Moves.{all_weaker, KeepsUp, AllKeepUp, master_moves, own_moves}
+use Rattle.snapshot_laws.proofs.Moves.{all_weaker}
+use Rattle.snapshot_laws.proofs.KeepingUp.{KeepsUp, AllKeepUp, master_moves, own_moves}
 use Rattle.snapshot_laws.proofs.Calls.{open_quiet}
 use Rattle.snapshot_laws.proofs.Keeping.{HaveTables, KeepUpWith, SiteKeepsUp, KeepsUpAt, SitesKeepUp, master_in, found_keeps_up}
 

@@ -14,7 +14,8 @@ use Rattle.event_laws.specs.Core.{site_of, at_site}
 use Rattle.event_laws.specs.Events.{master_of, found_site}
 use Rattle.event_laws.proofs.Sites.{KeepsHere, found_name}
 use Rattle.site_state.specs.Fits.{AreApart}
-use Rattle.snapshot_laws.proofs.Moves.{all_weaker, Moves, apart_moves, none_moves, KeepsUp, AllKeepUp, master_moves, own_moves}
+use Rattle.snapshot_laws.proofs.Moves.{all_weaker, Moves, apart_moves, none_moves}
+use Rattle.snapshot_laws.proofs.KeepingUp.{KeepsUp, AllKeepUp, master_moves, own_moves}
 
 -- ---- the site of a name, where one site changed
 

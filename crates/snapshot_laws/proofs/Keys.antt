@@ -172,7 +172,7 @@ module _ (schema : Schema) (moment : ℕ) (changes : List Change) (table : ℕ) 
       go false is later there none = later there less none
 
 module _ (at moment : ℕ) where
-  table-purged_where : (log : LogState) → (purged_where at moment log).table ≡ log.table
+  pub table-purged_where : (log : LogState) → (purged_where at moment log).table ≡ log.table
   table-purged_where log = go (log.table == at)
     where
       go : (b : Bool) → (cond b (log_purged moment log) log).table ≡ log.table

@@ -3,6 +3,10 @@ pub mod Keys
 pub mod RowsFromKeys
 pub mod ChangedRows
 pub mod Moves
+pub mod Parents
+pub mod ParentKeys
+pub mod KeepingUp
+pub mod Settling
 pub mod Calls
 pub mod Keeping
 pub mod Begun
@@ -17,3 +21,5 @@ pub mod LogLaws
 pub mod RisingKeys
 mod WorkedSnapshots
 mod WorkedStarts
+mod WorkedSubqueries
+mod WorkedSubqueryStarts

@@ -8,56 +8,58 @@ use Rattle.rep_schema.specs.declared.schema.Schema.{Schema}
 use Rattle.rep_schema.specs.Tables.{Rows, columns_of, find_row, rows_of, AreTables}
 use Rattle.rep_schema.proofs.FilteredRows.{find_row-filter}
 use Rattle.snapshot_query.specs.declared.snapshot.Snapshot.{Snapshot}
-use Rattle.snapshot_query.specs.Queries.{matches, query_rows}
+use Rattle.snapshot_query.specs.Parents.{picks, rule_rows}
 use Rattle.site_state.specs.State.{SiteState, is_among}
 use Rattle.site_state.specs.Contents.{tables_of}
-use Rattle.site_state.specs.Refreshes.{rows_shown, with_tables, renewed, site_refresh}
+use Rattle.site_state.specs.Refreshes.{with_tables, renewed, site_refresh}
 use Rattle.event_laws.specs.Core.{site_of}
+use Rattle.event_laws.specs.Rules.{rows_ruled}
 use Rattle.event_laws.specs.Events.{master_of, found_site, refreshed, without_found, begun_after}
 use Rattle.event_laws.proofs.Sites.{KeepsHere, found_name}
 use Rattle.event_laws.proofs.Happening.{IsRefreshed, refreshed_is}
 use Rattle.event_laws.proofs.Happening as happening
 use Rattle.event_laws.proofs.DeclaredSites.{refreshed_names}
 use Rattle.site_state.specs.Fits.{AreApart}
-use Rattle.snapshot_laws.specs.Refreshed.{IsQueried, RefreshedTablesAreTheQueries}
-use Rattle.snapshot_laws.proofs.Moves.{all_map, all_weaker, KeepsUp, AllKeepUp}
+use Rattle.snapshot_laws.specs.Refreshed.{IsRuled, RefreshedTablesAreTheRules}
+use Rattle.snapshot_laws.proofs.Moves.{all_map, all_weaker}
+use Rattle.snapshot_laws.proofs.KeepingUp.{KeepsUp, AllKeepUp, fewer_begun}
 use Rattle.snapshot_laws.proofs.Keeping.{HaveTables, master_in, Keeps}
 use Rattle.snapshot_laws.proofs.Begun.{is_among-gone, is_among-refresh}
 
 -- ---- the tables that a refresh makes
 
-module _ (shows : List Rows) where
+module _ (schema : Schema) (shows : List Rows) where
   -- a table of which there is no snapshot stays
-  rows_of-elsewhere : (ss : List Snapshot) (tables : List Rows) (k : ℕ) → AllByRecursion (λ (t : Snapshot). t.table ≢ k) ss → rows_of (with_tables (rows_shown shows ss) tables) k ≡ rows_of tables k
+  rows_of-elsewhere : (ss : List Snapshot) (tables : List Rows) (k : ℕ) → AllByRecursion (λ (t : Snapshot). t.table ≢ k) ss → rows_of (with_tables (rows_ruled schema shows ss) tables) k ≡ rows_of tables k
   rows_of-elsewhere [] tables k apart = refl
-  rows_of-elsewhere (s ∷ ss) tables k apart = rows_of-elsewhere ss (set tables s.table (query_rows s.query (rows_of shows s.table))) k apart.1
-      ∙ get_or-set_other tables s.table k (query_rows s.query (rows_of shows s.table)) [] (λ e. apart.0 (sym e))
+  rows_of-elsewhere (s ∷ ss) tables k apart = rows_of-elsewhere ss (set tables s.table (rule_rows schema shows s)) k apart.1
+      ∙ get_or-set_other tables s.table k (rule_rows schema shows s) [] (λ e. apart.0 (sym e))
 
-  -- each snapshot's table is what its query picks
-  pub rows_are_shown : (ss : List Snapshot) (tables : List Rows) → AreApart ss → AllByRecursion (λ (s : Snapshot). s.table < length tables) ss
-      → AllByRecursion (λ (s : Snapshot). rows_of (with_tables (rows_shown shows ss) tables) s.table ≡ query_rows s.query (rows_of shows s.table)) ss
-  rows_are_shown [] tables apart within = tt
-  rows_are_shown (s ∷ ss) tables apart within = (
-    rows_of-elsewhere ss (set tables s.table (query_rows s.query (rows_of shows s.table))) s.table apart.0
-        ∙ get_or-set_same tables s.table (query_rows s.query (rows_of shows s.table)) [] within.0,
-    rows_are_shown ss (set tables s.table (query_rows s.query (rows_of shows s.table))) apart.1
-        (all_weaker (λ (t : Snapshot). t.table < length tables) (λ (t : Snapshot). t.table < length (set tables s.table (query_rows s.query (rows_of shows s.table)))) ss
-        (λ t less. rw (length-set tables s.table (query_rows s.query (rows_of shows s.table))) less) within.1),
+  -- each snapshot's table has the rows that it picks
+  pub rows_are_ruled : (ss : List Snapshot) (tables : List Rows) → AreApart ss → AllByRecursion (λ (s : Snapshot). s.table < length tables) ss
+      → AllByRecursion (λ (s : Snapshot). rows_of (with_tables (rows_ruled schema shows ss) tables) s.table ≡ rule_rows schema shows s) ss
+  rows_are_ruled [] tables apart within = tt
+  rows_are_ruled (s ∷ ss) tables apart within = (
+    rows_of-elsewhere ss (set tables s.table (rule_rows schema shows s)) s.table apart.0
+        ∙ get_or-set_same tables s.table (rule_rows schema shows s) [] within.0,
+    rows_are_ruled ss (set tables s.table (rule_rows schema shows s)) apart.1
+        (all_weaker (λ (t : Snapshot). t.table < length tables) (λ (t : Snapshot). t.table < length (set tables s.table (rule_rows schema shows s))) ss
+        (λ t less. rw (length-set tables s.table (rule_rows schema shows s)) less) within.1),
   )
 
--- where each snapshot's table is there it is what its query picks
-pub all_queried : (x : SiteState) (master : List Rows) (moment : ℕ) → AreApart x.snapshots → AllByRecursion (λ (s : Snapshot). s.table < length (tables_of x)) x.snapshots
-    → AllByRecursion (IsQueried master moment (tables_of (site_refresh (rows_shown master x.snapshots) moment x))) (map (renewed moment) x.snapshots)
-all_queried x master moment apart within = all_map
-    (λ (s : Snapshot). rows_of (with_tables (rows_shown master x.snapshots) (tables_of x)) s.table ≡ query_rows s.query (rows_of master s.table))
-    (IsQueried master moment (tables_of (site_refresh (rows_shown master x.snapshots) moment x))) (renewed moment) x.snapshots
-    (λ s rows. record { rows = rows; mark = refl; touched = refl }) (rows_are_shown master x.snapshots (tables_of x) apart within)
+-- where each snapshot's table is there it has the rows that it picks
+pub all_ruled : (x : SiteState) (master : List Rows) (moment : ℕ) → AreApart x.snapshots → AllByRecursion (λ (s : Snapshot). s.table < length (tables_of x)) x.snapshots
+    → AllByRecursion (IsRuled x.schema master moment (tables_of (site_refresh (rows_ruled x.schema master x.snapshots) moment x))) (map (renewed moment) x.snapshots)
+all_ruled x master moment apart within = all_map
+    (λ (s : Snapshot). rows_of (with_tables (rows_ruled x.schema master x.snapshots) (tables_of x)) s.table ≡ rule_rows x.schema master s)
+    (IsRuled x.schema master moment (tables_of (site_refresh (rows_ruled x.schema master x.snapshots) moment x))) (renewed moment) x.snapshots
+    (λ s rows. record { rows = rows; mark = refl; touched = refl }) (rows_are_ruled x.schema master x.snapshots (tables_of x) apart within)
 
-pub refreshed_tables_are_the_queries : RefreshedTablesAreTheQueries
-refreshed_tables_are_the_queries x master moment number within apart = record {
-  queried = all_queried x master moment apart
+pub refreshed_tables_are_the_rules : RefreshedTablesAreTheRules
+refreshed_tables_are_the_rules x master moment number within apart = record {
+  ruled = all_ruled x master moment apart
       (all_weaker (λ (s : Snapshot). s.table < length x.schema.tables) (λ (s : Snapshot). s.table < length (tables_of x)) x.snapshots (λ s less. subst (λ n. s.table < n) (sym number) less) within);
-  others = λ table none. rows_of-elsewhere master x.snapshots (tables_of x) table none;
+  others = λ table none. rows_of-elsewhere x.schema master x.snapshots (tables_of x) table none;
 }
 
 apart_renewed : (moment : ℕ) (ss : List Snapshot) → AreApart ss → AreApart (map (renewed moment) ss)
@@ -80,10 +82,6 @@ abbrev pub AreOfSchema : Schema → List SiteState → Type 0
 AreOfSchema schema sites = (name : SiteName) (x : SiteState) → site_of name sites ≡ Some x → x.schema ≡ schema
 
 module _ (schema : Schema) where
-  -- a snapshot keeps up, where fewer passes are begun
-  pub fewer_begun : (begun later : List SiteName) (m x : SiteState) (s : Snapshot) → (is_among later m.here.site ≡ true → is_among begun m.here.site ≡ true) → KeepsUp schema begun m x s → KeepsUp schema later m x s
-  fewer_begun begun later m x s fewer h = record { master = h.master; logged = h.logged; below = h.below; before = λ is. h.before (fewer is); within = h.within; others = h.others }
-
   -- the tables of a site's master are tables
   pub masters_tables : (sites : List SiteState) (x m : SiteState) → HaveTables schema sites → master_in schema sites x ≡ Some m → AreTables schema (tables_of m)
   masters_tables sites x m have there = go (master_of schema x.here.site) there
@@ -126,16 +124,19 @@ module _ (schema : Schema) where
 
     -- the snapshots that were refreshed show their master's tables of this moment
     renewed_keeps_up : (m x : SiteState) (s : Snapshot) → AreTables schema (tables_of m) → is_among later m.here.site ≡ false → KeepsUp schema begun m x s
-        → rows_of (with_tables (rows_shown (tables_of m) x.snapshots) (tables_of x)) s.table ≡ query_rows s.query (rows_of (tables_of m) s.table)
-        → KeepsUp schema later m (site_refresh (rows_shown (tables_of m) x.snapshots) m.moment x) (renewed m.moment s)
+        → rows_of (with_tables (rows_ruled schema (tables_of m) x.snapshots) (tables_of x)) s.table ≡ rule_rows schema (tables_of m) s
+        → KeepsUp schema later m (site_refresh (rows_ruled schema (tables_of m) x.snapshots) m.moment x) (renewed m.moment s)
     renewed_keeps_up m x s are end h rows = record {
       master = h.master;
       logged = h.logged;
+      parent_logged = h.parent_logged;
+      parents_rise = h.parents_rise;
       below = omega arith;
       before = λ is. absurd (cc (end, is));
       within = h.within;
-      others = λ key le untold untouched.
-          ap (find_row (columns_of schema s.table) key) rows ∙ find_row-filter (columns_of schema s.table) (matches s.query) key (rows_of (tables_of m) s.table) (are.each s.table h.within).rising;
+      parent_within = h.parent_within;
+      others = λ key le old untold untouched settled.
+          ap (find_row (columns_of schema s.table) key) rows ∙ find_row-filter (columns_of schema s.table) (picks schema (tables_of m) s) key (rows_of (tables_of m) s.table) (are.each s.table h.within).rising;
     }
 
     -- the master is the one from before
@@ -153,13 +154,14 @@ module _ (schema : Schema) where
     own_by x m n y (happening.From master found isnt) at_x there apart up (inl none) new = none_keep_up n _ (ap (map (renewed master.moment)) none)
     own_by x m n _ (happening.From master found isnt) at_x there apart up (inr stays) new =
         let is : master ≡ m = cc (sym found ∙ ap (λ (s : Schema). found_site sites (master_of s x.here.site)) (of_schema name x at_x) ∙ there) in
-        subst (λ (k : SiteState). AllKeepUp schema later n (site_refresh (rows_shown (tables_of k) x.snapshots) k.moment x) (map (renewed k.moment) x.snapshots)) (sym is)
-        (subst (λ (k : SiteState). AllKeepUp schema later k (site_refresh (rows_shown (tables_of m) x.snapshots) m.moment x) (map (renewed m.moment) x.snapshots)) (sym stays)
+        subst (λ (c : Schema). AllKeepUp schema later n (site_refresh (rows_ruled c (tables_of master) x.snapshots) master.moment x) (map (renewed master.moment) x.snapshots)) (sym (of_schema name x at_x))
+        (subst (λ (k : SiteState). AllKeepUp schema later n (site_refresh (rows_ruled schema (tables_of k) x.snapshots) k.moment x) (map (renewed k.moment) x.snapshots)) (sym is)
+        (subst (λ (k : SiteState). AllKeepUp schema later k (site_refresh (rows_ruled schema (tables_of m) x.snapshots) m.moment x) (map (renewed m.moment) x.snapshots)) (sym stays)
         (all_both (KeepsUp schema begun m x)
-        (λ (s : Snapshot). rows_of (with_tables (rows_shown (tables_of m) x.snapshots) (tables_of x)) s.table ≡ query_rows s.query (rows_of (tables_of m) s.table))
-        (KeepsUp schema later m (site_refresh (rows_shown (tables_of m) x.snapshots) m.moment x)) (renewed m.moment) x.snapshots
+        (λ (s : Snapshot). rows_of (with_tables (rows_ruled schema (tables_of m) x.snapshots) (tables_of x)) s.table ≡ rule_rows schema (tables_of m) s)
+        (KeepsUp schema later m (site_refresh (rows_ruled schema (tables_of m) x.snapshots) m.moment x)) (renewed m.moment) x.snapshots
         (λ s one rows. renewed_keeps_up m x s (masters_tables sites x m have there) (ended x m at_x there) one rows)
-        up (rows_are_shown (tables_of m) x.snapshots (tables_of x) apart (within_tables begun m x (tables_of x) (have name x at_x) x.snapshots up))))
+        up (rows_are_ruled schema (tables_of m) x.snapshots (tables_of x) apart (within_tables begun m x (tables_of x) (have name x at_x) x.snapshots up)))))
 
     pub refresh_keeps : Keeps schema sites begun later name (refreshed sites)
     refresh_keeps = record {
@@ -167,7 +169,7 @@ module _ (schema : Schema) where
       apart = λ x at_x. apart_by x (refreshed sites x) (refreshed_is sites x);
       none = λ x at_x. none_by x (refreshed sites x) (refreshed_is sites x);
       master = λ m x s at_m one. subst (λ (k : SiteState). KeepsUp schema later k x s) (sym (refreshed-master m (refreshed sites m) one.master (refreshed_is sites m)))
-          (fewer_begun begun later m x s (is_among-refresh name m.here.site (site_of name sites) begun) one);
-      other = λ m x s isnt one. fewer_begun begun later m x s (is_among-refresh name m.here.site (site_of name sites) begun) one;
+          (fewer_begun schema begun later m x s (is_among-refresh name m.here.site (site_of name sites) begun) one);
+      other = λ m x s isnt one. fewer_begun schema begun later m x s (is_among-refresh name m.here.site (site_of name sites) begun) one;
       own = λ x m n at_x there apart up either new. own_by x m n (refreshed sites x) (refreshed_is sites x) at_x there apart up (master_stays x m n x.snapshots up either) new;
     }

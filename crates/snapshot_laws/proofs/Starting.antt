@@ -7,18 +7,19 @@ use Rattle.rep_schema.specs.declared.schema.Schema.{Schema}
 use Rattle.rep_schema.specs.Tables.{Rows, columns_of, find_row, rows_of, AreTables}
 use Rattle.rep_schema.proofs.FilteredRows.{find_row-filter}
 use Rattle.snapshot_query.specs.declared.snapshot.Snapshot.{Snapshot}
-use Rattle.snapshot_query.specs.Queries.{matches, query_rows}
+use Rattle.snapshot_query.specs.Parents.{picks, rule_rows}
 use Rattle.site_state.specs.declared.entry.Entry.{Entry}
 use Rattle.site_state.specs.State.{SiteState, is_among}
 use Rattle.site_state.specs.Contents.{journal_content, tables_of}
 use Rattle.site_state.specs.Fits.{AreWithin}
 use Rattle.event_laws.specs.Core.{Core, site_of}
+use Rattle.event_laws.specs.Rules.{IsParentWithin}
 use Rattle.event_laws.specs.Events.{master_of, found_site}
 use Rattle.event_laws.specs.Starts.{IsNewSite}
 use Rattle.event_laws.specs.Fitting.{StartsFit}
 use Rattle.event_laws.proofs.Sites.{found_all}
 use Rattle.snapshot_laws.specs.Starts.{StartsShown, StartsFrom, StartsWithSnapshots, IsSnapshotStart}
-use Rattle.snapshot_laws.proofs.Moves.{KeepsUp, AllKeepUp}
+use Rattle.snapshot_laws.proofs.KeepingUp.{KeepsUp, AllKeepUp}
 use Rattle.snapshot_laws.proofs.Keeping.{KeepUpWith, SitesKeepUp, KeepsUpAt}
 use Rattle.snapshot_laws.proofs.RunsFit.{run_fits}
 
@@ -32,15 +33,19 @@ module _ (schema : Schema) where
     shown_keeps_up m x s new_m new are within shows = record {
       master = shows.master;
       logged = shows.logged;
+      parent_logged = shows.parent_logged;
+      parents_rise = shows.parents_rise;
       below = shows.below;
       before = λ among. absurd (cc (ap (λ (names : List SiteName). is_among names m.here.site) is.begun, among));
       within = within;
-      others = λ key le untold untouched.
-          ap (find_row (columns_of schema s.table) key) rows ∙ find_row-filter (columns_of schema s.table) (matches s.query) key (rows_of (tables_of m) s.table) (are.each s.table within).rising;
+      parent_within = subst (λ (c : Schema). IsParentWithin c s.parent) new.schema_is shows.parent_within;
+      others = λ key le old untold untouched settled.
+          ap (find_row (columns_of schema s.table) key) rows ∙ find_row-filter (columns_of schema s.table) (picks schema (tables_of m) s) key (rows_of (tables_of m) s.table) (are.each s.table within).rising;
     }
       where
-        rows : rows_of (tables_of x) s.table ≡ query_rows s.query (rows_of (tables_of m) s.table)
-        rows = ap (λ (tables : List Rows). rows_of tables s.table) (tables_of-new x new) ∙ shows.rows ∙ ap (λ (tables : List Rows). query_rows s.query (rows_of tables s.table)) (sym (tables_of-new m new_m))
+        rows : rows_of (tables_of x) s.table ≡ rule_rows schema (tables_of m) s
+        rows = ap (λ (tables : List Rows). rows_of tables s.table) (tables_of-new x new) ∙ shows.rows ∙ ap (λ (c : Schema). rule_rows c m.base s) new.schema_is
+            ∙ ap (λ (tables : List Rows). rule_rows schema tables s) (sym (tables_of-new m new_m))
 
     all_shown : (m x : SiteState) → IsNewSite schema m → IsNewSite schema x → AreTables schema (tables_of m) → (ss : List Snapshot) → AreWithin schema ss → AllByRecursion (StartsShown m x) ss → AllKeepUp schema start.begun m x ss
     all_shown m x new_m new are [] within shows = tt

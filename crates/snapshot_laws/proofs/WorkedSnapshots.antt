@@ -12,11 +12,11 @@ use Rattle.snapshot_query.specs.declared.query.Op.TheVariants.{Eq}
 use Rattle.site_state.specs.declared.rows.TableRows.{TableRows}
 use Rattle.site_state.specs.State.{SiteState}
 use Rattle.site_state.specs.Contents.{tables_of}
-use Rattle.site_state.specs.Notes.{pending_keys, is_too_young}
-use Rattle.site_state.specs.Refreshes.{rows_shown}
+use Rattle.site_state.specs.Notes.{pending_keys}
 use Rattle.site_state.specs.Making.{new_site}
 use Rattle.site_state.proofs.WorkedSites.{a, s, master, snapshot_of, number_column, key_column, table_t, n, at_first}
 use Rattle.event_laws.specs.Core.{Core, site_of}
+use Rattle.event_laws.specs.Rules.{rows_ruled, is_young}
 use Rattle.event_laws.specs.Events.{Commit, Send, SendMark, Deliver, Begin, Apply, PurgeLog, Refresh, run}
 use Rattle.snapshot_laws.specs.Pending.{pending_rows}
 
@@ -64,13 +64,13 @@ abbrev made_rows : Core → List TableRows
 made_rows w = both [] pending_rows w
 
 abbrev queried_rows : Core → List TableRows
-queried_rows w = both [] (λ m x. rows_shown (tables_of m) x.snapshots) w
+queried_rows w = both [] (λ m x. rows_ruled x.schema (tables_of m) x.snapshots) w
 
 abbrev pending : Core → List Cells
 pending w = both [] (λ m x. flat_map (pending_keys m.logs) x.snapshots) w
 
 abbrev are_too_young : Core → List Bool
-are_too_young w = both [] (λ m x. map (is_too_young m.logs) x.snapshots) w
+are_too_young w = both [] (λ m x. map (is_young m.logs) x.snapshots) w
 
 abbrev snapshot_rows : Core → List Rows
 snapshot_rows w = both [] (λ m x. tables_of x) w

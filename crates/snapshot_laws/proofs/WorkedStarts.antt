@@ -136,7 +136,7 @@ is_a_snapshot_start = record {
   fit = is_a_fit_start;
   sites = (
     record { apart = tt; shown = tt },
-    (record { apart = (tt, tt); shown = (record { master = refl; logged = refl; below = omega arith; rows = refl; touched = tt }, tt) }, tt),
+    (record { apart = (tt, tt); shown = (record { master = refl; logged = refl; parent_logged = tt; parent_within = tt; parents_rise = tt; below = omega arith; rows = refl; touched = tt }, tt) }, tt),
   );
   begun = refl;
 }

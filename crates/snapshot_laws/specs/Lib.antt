@@ -1,4 +1,5 @@
 -- The definitions of this crate.
+pub mod Waiting
 pub mod Pending
 pub mod Starts
 pub mod Refreshed

@@ -6,25 +6,30 @@ use Rattle.rep_values.specs.Order.{key_cmp}
 use Rattle.rep_schema.specs.declared.schema.Schema.{Schema}
 use Rattle.rep_schema.specs.Tables.{rows_of}
 use Rattle.snapshot_query.specs.declared.snapshot.Snapshot.{Snapshot}
-use Rattle.snapshot_query.specs.Queries.{query_rows}
+use Rattle.snapshot_query.specs.Parents.{rule_rows}
 use Rattle.site_state.specs.State.{LogState, SiteState}
 use Rattle.site_state.specs.Notes.{log_of}
 use Rattle.site_state.specs.Fits.{AreApart}
 use Rattle.event_laws.specs.Core.{Core}
+use Rattle.event_laws.specs.Rules.{IsParentWithin, IsParentLogged}
 use Rattle.event_laws.specs.Events.{master_of, found_site}
 use Rattle.event_laws.specs.Fitting.{IsFitStart}
+use Rattle.snapshot_laws.specs.Waiting.{DoParentsRise}
 
 -- the master of a site, where it is there
 abbrev pub master_at : List SiteState → SiteState → Option SiteState
 master_at sites x = found_site sites (master_of x.schema x.here.site)
 
--- a snapshot as it is made: its master is a master and has a log of its table, its rows are the query of the master's, and the
--- keys that its site has touched rise, if there are any
+-- a snapshot as it is made: its master is a master and has logs of its table and of its parents' table, the keys of which rise; its
+-- rows are those that it picks of the master's; and the keys that its site has touched rise, if there are any
 pub record StartsShown (m x : SiteState) (s : Snapshot) : Type 0 where
   pub master : m.here.is_master ≡ true
   pub logged : is_some (log_of s.table m.logs) ≡ true
+  pub parent_logged : IsParentLogged m.logs s.parent
+  pub parent_within : IsParentWithin x.schema s.parent
+  pub parents_rise : DoParentsRise m.logs s.parent
   pub below : s.mark ≤ m.moment
-  pub rows : rows_of x.base s.table ≡ query_rows s.query (rows_of m.base s.table)
+  pub rows : rows_of x.base s.table ≡ rule_rows x.schema m.base s
   pub touched : IsRising key_cmp s.touched
 
 -- and its master is there
