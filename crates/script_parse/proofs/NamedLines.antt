@@ -3,6 +3,7 @@ use Rattle.std.proofs.Common.{◌≡◌, ℕ, ◌≤◌, List, [], ◌∷◌, le
 use Rattle.std.specs.Prelude.{if◌then◌else◌, Option, Result, Ok, Err, codes}
 use Rattle.rep_values.specs.declared.literal.Literal.{Literal}
 use Rattle.rep_values.specs.declared.name.SiteName.{SiteName}
+use Rattle.rep_values.specs.declared.name.TableName.{TableName}
 use Rattle.rep_schema.specs.declared.check.Rel.{Rel}
 use Rattle.rep_calls.specs.declared.statement.Set.{Set}
 use Rattle.rep_declare.specs.declared.declaration.Declare.{Declare}
@@ -17,6 +18,7 @@ use Rattle.script_parse.specs.declared.heads.Declaring.{Declaring}
 use Rattle.script_parse.specs.declared.heads.Declaring.TheVariants as declaring
 use Rattle.script_parse.specs.declared.heads.Head.{Head}
 use Rattle.script_parse.specs.declared.heads.Head.TheVariants as head
+use Rattle.script_parse.specs.declared.command.TestWords.{TestWords}
 use Rattle.script_parse.specs.declared.command.Command.{Command}
 use Rattle.script_parse.specs.declared.command.Command.TheVariants as command
 use Rattle.script_parse.specs.Named.{NamesColumn}
@@ -24,7 +26,7 @@ use Rattle.script_parse.specs.Columns.{column}
 use Rattle.script_parse.specs.Methods.{method, unique_method}
 use Rattle.script_parse.specs.Parts.{site, table, rels, where_tests, set_part, fates, links, refreshes, shown_words}
 use Rattle.script_parse.specs.Declarations.{declaration_of}
-use Rattle.script_parse.specs.Rows.{insert_of, update_of, delete_of, fates_behind, fate_row}
+use Rattle.script_parse.specs.Rows.{snapshot_of, subsnapshot_of, is_column_name, insert_of, update_of, delete_of, fates_behind, fate_row}
 use Rattle.script_parse.specs.ProcRows.{proc_row_of}
 use Rattle.script_parse.specs.Heads.{heads, row_of}
 use Rattle.script_parse.specs.Parsed.{formed, command_of, parsed}
@@ -169,7 +171,13 @@ fates_name ts c rest is = first (site ts) is
 -- what stands behind each command word
 rows_name : (h : Head) → Gives NamesColumn (row_of h)
 rows_name (head.Declare d) = gives-both ColumnNamed NamesColumn (row command.Declare) (declaration_of d) (gives-row (λ f. (d' : Declare) → ColumnNamed d' → NamesColumn (f d')) command.Declare (λ a named. named)) (declarations_name d)
-rows_name head.Snapshot = gives-3 NamesColumn command.Snapshot site table where_tests (λ a b c. tt)
+rows_name head.Snapshot = gives-3 NamesColumn snapshot_of site table where_tests (λ a b c. tt)
+rows_name head.Subsnapshot = gives-then NamesColumn (row subsnapshot_of ⊛ site ⊛ table ⊘ codes "parent" ⊛ table ⊘ codes "by" ⊛ some_of is_column_name name) where_tests
+    (gives-then (λ f. (tests : Option (List TestWords)) → NamesColumn (f tests)) (row subsnapshot_of ⊛ site ⊛ table ⊘ codes "parent" ⊛ table ⊘ codes "by") (some_of is_column_name name)
+    (gives-mark (λ f. (columns : List (List ℕ)) (tests : Option (List TestWords)) → NamesColumn (f columns tests)) (row subsnapshot_of ⊛ site ⊛ table ⊘ codes "parent" ⊛ table) (codes "by")
+    (gives-then (λ f. (columns : List (List ℕ)) (tests : Option (List TestWords)) → NamesColumn (f columns tests)) (row subsnapshot_of ⊛ site ⊛ table ⊘ codes "parent") table
+    (gives-mark (λ f. (parents : TableName) (columns : List (List ℕ)) (tests : Option (List TestWords)) → NamesColumn (f parents columns tests)) (row subsnapshot_of ⊛ site ⊛ table) (codes "parent")
+    (gives-2 (λ f. (parents : TableName) (columns : List (List ℕ)) (tests : Option (List TestWords)) → NamesColumn (f parents columns tests)) subsnapshot_of site table (λ a b c d e. tt))))))
 rows_name head.Row = gives-2 NamesColumn command.Row table (some_of is_valued value) (λ a b. tt)
 rows_name head.Resume = gives-row NamesColumn command.Resume tt
 rows_name head.Insert = gives-2 NamesColumn insert_of table (some_of is_valued value) (λ a b. tt)

@@ -22,14 +22,15 @@ use Rattle.script_lex.specs.declared.token.Token.TheVariants as token
 use Rattle.script_words.specs.Words.{is_named, is_chosen}
 use Rattle.script_words.specs.Reading.{one, mark, at, begins, some_of, separated}
 use Rattle.script_words.specs.Spelled.{value_token}
-use Rattle.script_words.specs.Parts.{choice}
-use Rattle.script_words.proofs.ReadAgain.{all_again, all_separated_again}
+use Rattle.script_words.specs.Parts.{name, choice}
+use Rattle.script_words.proofs.ReadAgain.{some_again, all_again, all_separated_again}
 use Rattle.script_words.proofs.Again.{name_again, name_is_no_mark, value_again, number_again}
 use Rattle.script_parse.specs.declared.command.TestWords.{TestWords}
 use Rattle.script_parse.specs.Columns.{column_of, column_among, column}
 use Rattle.script_parse.specs.Methods.{method, unique_method}
+use Rattle.script_parse.specs.Rows.{is_column_name}
 use Rattle.script_parse.specs.Parts.{rels, row_test, setting, set_part, fates}
-use Rattle.script_parse.specs.Spelled.{rel_symbol, fate_word, column_tokens, method_tokens, unique_tokens, fate_tokens, test_tokens, how_tokens, set_tokens, separated_tokens, IsName, IsMethod, IsUniqueMethod, IsTest, IsHow, IsSet}
+use Rattle.script_parse.specs.Spelled.{rel_symbol, fate_word, column_tokens, method_tokens, unique_tokens, fate_tokens, test_tokens, how_tokens, set_tokens, separated_tokens, IsName, IsColumnName, IsMethod, IsUniqueMethod, IsTest, IsHow, IsSet}
 
 -- Columns, which end where no colon follows.
 
@@ -96,6 +97,17 @@ unfolding one
 unique_method_again (unique_words.AppendSite column) formed = rw formed refl
 unique_method_again (unique_words.AppendSequence column) formed = rw formed refl
 unique_method_again unique_words.Discard formed = refl
+
+-- Names of columns, in front of the word where.
+
+column_name_begins : (n : List ℕ) (rest : List Token) → IsColumnName n → begins is_column_name (token.Word n ∷ rest) ≡ true
+column_name_begins n rest formed = rw (formed.0, formed.1) refl
+
+pub column_names_again : (n : List ℕ) (ns : List (List ℕ)) (rest : List Token) → AllByRecursion IsColumnName (n ∷ ns) → begins is_column_name rest ≡ false
+    → some_of is_column_name name (flat_map (λ m. token.Word m ∷ []) (n ∷ ns) ++ rest) ≡ Ok (n ∷ ns, rest)
+column_names_again n ns rest formed none =
+    some_again is_column_name name (λ m. token.Word m ∷ []) IsColumnName (λ ts. true)
+    column_name_begins (λ m ts named stop. name_again m ts named.0) (λ m ts named. refl) n ns rest formed refl none
 
 -- Relations, and tests of snapshots.
 

@@ -17,6 +17,7 @@ use Rattle.script_lex.specs.declared.token.Token.TheVariants as token
 use Rattle.script_words.specs.Reading.{one, mark}
 use Rattle.script_words.specs.Spelled.{value_token}
 use Rattle.script_words.proofs.Again.{value_again, number_again, values_again, all_values_again, all_names_again}
+use Rattle.script_parse.specs.declared.command.ParentWords.{ParentWords}
 use Rattle.script_parse.specs.declared.command.TestWords.{TestWords}
 use Rattle.script_parse.specs.declared.command.Link.{Link}
 use Rattle.script_parse.specs.declared.command.Link.TheVariants as link
@@ -31,9 +32,9 @@ use Rattle.script_parse.specs.declared.proc_line.CallWords.{CallWords}
 use Rattle.script_parse.specs.declared.proc_line.ProcLine.{ProcLine}
 use Rattle.script_parse.specs.declared.proc_line.ProcLine.TheVariants as proc_line
 use Rattle.script_parse.specs.Parsed.{command_of}
-use Rattle.script_parse.specs.Spelled.{number_token, set_tokens, separated_tokens, spelled, IsName, IsSmall, AreNames, AreValues, AreTests, IsSet, IsDeclaration, IsStatement, IsPlainColumn, IsAction, IsProcLine, IsWellFormed}
+use Rattle.script_parse.specs.Spelled.{number_token, where_tokens, set_tokens, separated_tokens, spelled, IsName, IsSmall, AreNames, AreValues, AreTests, IsColumnName, AreParents, IsSet, IsDeclaration, IsStatement, IsPlainColumn, IsAction, IsProcLine, IsWellFormed}
 use Rattle.script_parse.proofs.ProcPartsAgain.{plain_columns_again, action_again, any_values_again, any_sites_again}
-use Rattle.script_parse.proofs.PartsAgain.{columns_again, method_again, unique_method_again, rel_again, tests_again, sets_again, fates_again, fate_is_no_clear}
+use Rattle.script_parse.proofs.PartsAgain.{column_names_again, columns_again, method_again, unique_method_again, rel_again, tests_again, sets_again, fates_again, fate_is_no_clear}
 
 -- Declarations.
 
@@ -108,12 +109,27 @@ statement_again (statement.Delete table key) formed = delete_again table key for
 
 -- Other commands with a choice, a list or a group.
 
-snapshot_again : (site : SiteName) (table : TableName) (tests : Option (List TestWords)) → IsName site.0 → IsName table.0 → AreTests tests
-    → command_of (spelled (command.Snapshot site table tests)) ≡ Ok (command.Snapshot site table tests)
+plain_snapshot_again : (site : SiteName) (table : TableName) (tests : Option (List TestWords)) → IsName site.0 → IsName table.0 → AreTests tests
+    → command_of (spelled (command.Snapshot site table None tests)) ≡ Ok (command.Snapshot site table None tests)
 unfolding one mark command_of
-snapshot_again site table None here of formed = rw (here, of) refl
-snapshot_again site table (Some []) here of formed = absurd (formed.0 refl)
-snapshot_again site table (Some (t ∷ ts)) here of formed = rw (here, of, tests_again t ts formed.1) refl
+plain_snapshot_again site table None here of formed = rw (here, of) refl
+plain_snapshot_again site table (Some []) here of formed = absurd (formed.0 refl)
+plain_snapshot_again site table (Some (t ∷ ts)) here of formed = rw (here, of, tests_again t ts formed.1) refl
+
+subsnapshot_again : (site : SiteName) (table : TableName) (parents : TableName) (columns : List (List ℕ)) (tests : Option (List TestWords)) → IsName site.0 → IsName table.0 → IsName parents.0
+    → (columns ≢ []) × AllByRecursion IsColumnName columns → AreTests tests
+    → command_of (spelled (command.Snapshot site table (Some (record { table = parents; columns = columns })) tests)) ≡ Ok (command.Snapshot site table (Some (record { table = parents; columns = columns })) tests)
+unfolding one mark command_of
+subsnapshot_again site table parents [] tests here of its named formed = absurd (named.0 refl)
+subsnapshot_again site table parents (c ∷ cs) None here of its named formed = rw (here, of, its, column_names_again c cs [] named.1 refl) refl
+subsnapshot_again site table parents (c ∷ cs) (Some []) here of its named formed = absurd (formed.0 refl)
+subsnapshot_again site table parents (c ∷ cs) (Some (t ∷ ts)) here of its named formed =
+    rw (here, of, its, column_names_again c cs (where_tokens (Some (t ∷ ts))) named.1 refl, tests_again t ts formed.1) refl
+
+snapshot_again : (site : SiteName) (table : TableName) (parent : Option ParentWords) (tests : Option (List TestWords)) → IsName site.0 → IsName table.0 → AreParents parent → AreTests tests
+    → command_of (spelled (command.Snapshot site table parent tests)) ≡ Ok (command.Snapshot site table parent tests)
+snapshot_again site table None tests here of are formed = plain_snapshot_again site table tests here of formed
+snapshot_again site table (Some p) tests here of are formed = subsnapshot_again site table p.table p.columns tests here of are.0 (are.1, are.2) formed
 
 push_again : (from to : SiteName) (count : Option ℕ) → IsName from.0 → IsName to.0
     → command_of (spelled (command.Push from to count)) ≡ Ok (command.Push from to count)
@@ -193,7 +209,7 @@ pub reads_again : (c : Command) → IsWellFormed c → command_of (spelled c) �
 unfolding one mark command_of
 reads_again command.Nothing formed = refl
 reads_again (command.Declare d) formed = declaration_again d formed
-reads_again (command.Snapshot site table tests) formed = snapshot_again site table tests formed.0 formed.1 formed.2
+reads_again (command.Snapshot site table parent tests) formed = snapshot_again site table parent tests formed.0 formed.1 formed.2 formed.3
 reads_again (command.Row table values) formed = row_again table values formed.0 formed.1
 reads_again command.Resume formed = refl
 reads_again (command.Statement s) formed = statement_again s formed

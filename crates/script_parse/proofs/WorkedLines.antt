@@ -270,10 +270,20 @@ snapshot_site : parsed (codes "snapsite S A") ≡ Ok (command.Declare (declare.S
 unfolding lexed tokens_from longest_up_to has_form token_of one mark many command_of column_among row_test set_part
 snapshot_site = refl
 
-snapshot : parsed (codes "snapshot S T where Q > 5 and Q < 9") ≡ Ok (command.Snapshot (site_of (codes "S")) (table_of (codes "T")) (Some (
+snapshot : parsed (codes "snapshot S T where Q > 5 and Q < 9") ≡ Ok (command.Snapshot (site_of (codes "S")) (table_of (codes "T")) None (Some (
     record { column = codes "Q"; rel = rel.Gt; value = literal.Num (pos 5) } ∷ record { column = codes "Q"; rel = rel.Lt; value = literal.Num (pos 9) } ∷ [])))
 unfolding lexed tokens_from longest_up_to has_form token_of one mark many command_of column_among row_test set_part
 snapshot = refl
+
+subsnapshot : parsed (codes "subsnapshot S ORD parent CUST by AREA CUST where ZONE = 1") ≡ Ok (command.Snapshot (site_of (codes "S")) (table_of (codes "ORD"))
+    (Some (record { table = table_of (codes "CUST"); columns = codes "AREA" ∷ codes "CUST" ∷ [] })) (Some (record { column = codes "ZONE"; rel = rel.Eq; value = literal.Num (pos 1) } ∷ [])))
+unfolding lexed tokens_from longest_up_to has_form token_of one mark many command_of column_among row_test set_part
+subsnapshot = refl
+
+-- the names end at the word where, and one has to stand in front of it
+no_columns : parsed (codes "subsnapshot S ORD parent CUST by where ZONE = 1") ≡ Err 6
+unfolding lexed tokens_from longest_up_to has_form token_of one mark many command_of column_among row_test set_part
+no_columns = refl
 
 snapshot_word : parsed (codes "snapshot") ≡ Err 6
 unfolding lexed tokens_from longest_up_to has_form token_of one mark many command_of column_among row_test set_part

@@ -9,7 +9,7 @@ use Rattle.script_parse.specs.declared.command.Command.{Command}
 use Rattle.script_parse.specs.declared.command.Command.TheVariants as command
 use Rattle.script_parse.specs.Declarations.{declaration_of}
 use Rattle.script_parse.specs.ProcRows.{proc_row_of}
-use Rattle.script_parse.specs.Rows.{snapshot_row, row_row, resume_row, insert_row, update_row, delete_row, txn_row, commit_row, abandon_row, push_row, fate_row, link_row, clock_row, purge_row, execute_row, drop_error_row, refresh_row, purge_log_row, suspend_row, join_row, show_row}
+use Rattle.script_parse.specs.Rows.{snapshot_row, subsnapshot_row, row_row, resume_row, insert_row, update_row, delete_row, txn_row, commit_row, abandon_row, push_row, fate_row, link_row, clock_row, purge_row, execute_row, drop_error_row, refresh_row, purge_log_row, suspend_row, join_row, show_row}
 
 -- the command words that have a form
 abbrev pub heads : List (List ℕ × Head)
@@ -27,6 +27,7 @@ heads =
     (codes "check", head.Declare declaring.Check) ∷
     (codes "convergent", head.Declare declaring.Convergent) ∷
     (codes "snapshot", head.Snapshot) ∷
+    (codes "subsnapshot", head.Subsnapshot) ∷
     (codes "row", head.Row) ∷
     (codes "resume", head.Resume) ∷
     (codes "insert", head.Insert) ∷
@@ -61,6 +62,7 @@ heads =
 abbrev pub row_of : Head → Reading Command
 row_of (head.Declare d) = row command.Declare ⊛ declaration_of d
 row_of head.Snapshot = snapshot_row
+row_of head.Subsnapshot = subsnapshot_row
 row_of head.Row = row_row
 row_of head.Resume = resume_row
 row_of head.Insert = insert_row

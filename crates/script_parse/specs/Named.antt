@@ -7,7 +7,7 @@ use Rattle.script_parse.specs.declared.command.Command.TheVariants as command
 abbrev pub NamesColumn : Command → Type 0
 NamesColumn command.Nothing = Unit {0}
 NamesColumn (command.Declare declaration) = ColumnNamed declaration
-NamesColumn (command.Snapshot site table tests) = Unit {0}
+NamesColumn (command.Snapshot site table parent tests) = Unit {0}
 NamesColumn (command.Row table values) = Unit {0}
 NamesColumn command.Resume = Unit {0}
 NamesColumn (command.Statement statement) = Unit {0}

@@ -1,20 +1,38 @@
 -- The forms of all other commands, one row each, with what stands behind the first word.
-use Rattle.std.specs.Prelude.{List, codes}
+use Rattle.std.specs.Prelude.{ℕ, ◌&&◌, Bool, not, List, Option, Some, None, codes}
 use Rattle.rep_values.specs.declared.literal.Literal.{Literal}
 use Rattle.rep_values.specs.declared.name.SiteName.{SiteName}
 use Rattle.rep_values.specs.declared.name.TableName.{TableName}
 use Rattle.rep_calls.specs.declared.statement.Set.{Set}
 use Rattle.rep_calls.specs.declared.statement.Statement.TheVariants as statement
-use Rattle.script_words.specs.Words.{is_valued, is_chosen}
+use Rattle.script_lex.specs.declared.token.Token.{Token}
+use Rattle.script_words.specs.Words.{is_mark, is_named, is_valued, is_chosen}
 use Rattle.script_words.specs.Reading.{Reading, ◌>>=◌, row, ◌⊛◌, ◌⊘◌, optional, either, some_of, separated}
-use Rattle.script_words.specs.Parts.{whole_number, value, choice}
+use Rattle.script_words.specs.Parts.{name, whole_number, value, choice}
+use Rattle.script_parse.specs.declared.command.TestWords.{TestWords}
 use Rattle.script_parse.specs.declared.command.Command.{Command}
 use Rattle.script_parse.specs.declared.command.Command.TheVariants as command
 use Rattle.script_parse.specs.Parts.{site, table, where_tests, set_part, fates, links, refreshes, shown_words}
 
+-- a snapshot of a table, with tests of its rows
+abbrev pub snapshot_of : SiteName → TableName → Option (List TestWords) → Command
+snapshot_of site table tests = command.Snapshot site table None tests
+
 -- snapshot NAME NAME [where TEST [and TEST]..]
 abbrev pub snapshot_row : Reading Command
-snapshot_row = row command.Snapshot ⊛ site ⊛ table ⊛ where_tests
+snapshot_row = row snapshot_of ⊛ site ⊛ table ⊛ where_tests
+
+-- a snapshot of a table, with tests of the rows of the parents' table
+abbrev pub subsnapshot_of : SiteName → TableName → TableName → List (List ℕ) → Option (List TestWords) → Command
+subsnapshot_of site table parents columns tests = command.Snapshot site table (Some (record { table = parents; columns = columns })) tests
+
+-- a name in front of the word where
+abbrev pub is_column_name : Token → Bool
+is_column_name t = is_named t && not (is_mark (codes "where") t)
+
+-- subsnapshot NAME NAME parent NAME by NAME+ [where TEST [and TEST]..]
+abbrev pub subsnapshot_row : Reading Command
+subsnapshot_row = row subsnapshot_of ⊛ site ⊛ table ⊘ codes "parent" ⊛ table ⊘ codes "by" ⊛ some_of is_column_name name ⊛ where_tests
 
 -- row NAME VALUE+
 abbrev pub row_row : Reading Command

@@ -5,6 +5,7 @@ use Rattle.rep_values.specs.Name.{is_name}
 use Rattle.rep_values.specs.declared.literal.Literal.{Literal}
 use Rattle.rep_values.specs.declared.literal.Literal.TheVariants as literal
 use Rattle.rep_values.specs.declared.name.SiteName.{SiteName}
+use Rattle.rep_values.specs.declared.name.TableName.{TableName}
 use Rattle.rep_schema.specs.declared.schema.Kind.{Kind}
 use Rattle.rep_schema.specs.declared.schema.Kind.TheVariants as kind
 use Rattle.rep_schema.specs.declared.schema.Column.{Column}
@@ -28,8 +29,10 @@ use Rattle.script_lex.specs.declared.token.Symbol.{Symbol}
 use Rattle.script_lex.specs.declared.token.Symbol.TheVariants as symbol
 use Rattle.script_lex.specs.declared.token.Token.{Token}
 use Rattle.script_lex.specs.declared.token.Token.TheVariants as token
+use Rattle.script_words.specs.Words.{is_mark}
 use Rattle.script_words.specs.Spelled.{value_token, is_small}
 use Rattle.script_parse.specs.declared.command.TestWords.{TestWords}
+use Rattle.script_parse.specs.declared.command.ParentWords.{ParentWords}
 use Rattle.script_parse.specs.declared.command.Link.{Link}
 use Rattle.script_parse.specs.declared.command.Link.TheVariants as link
 use Rattle.script_parse.specs.declared.command.Refresh.{Refresh}
@@ -210,11 +213,18 @@ proc_spelled (proc_line.Fates from to fates) = token.Word (codes "fate-calls") �
 proc_spelled (proc_line.Execute site origin position) =
     token.Word (codes "execute-calls") ∷ token.Word site.0 ∷ token.Word origin.0 ∷ token.Number false position ∷ []
 
+-- the tokens of a snapshot
+abbrev pub snapshot_tokens : SiteName → TableName → Option ParentWords → Option (List TestWords) → List Token
+snapshot_tokens site table None tests = token.Word (codes "snapshot") ∷ token.Word site.0 ∷ token.Word table.0 ∷ where_tokens tests
+snapshot_tokens site table (Some p) tests =
+    token.Word (codes "subsnapshot") ∷ token.Word site.0 ∷ token.Word table.0 ∷ token.Word (codes "parent") ∷ token.Word p.table.0 ∷ token.Word (codes "by") ∷
+    (name_tokens p.columns ++ where_tokens tests)
+
 -- the tokens of a command
 abbrev pub spelled : Command → List Token
 spelled command.Nothing = []
 spelled (command.Declare d) = declared d
-spelled (command.Snapshot site table tests) = token.Word (codes "snapshot") ∷ token.Word site.0 ∷ token.Word table.0 ∷ where_tokens tests
+spelled (command.Snapshot site table parent tests) = snapshot_tokens site table parent tests
 spelled (command.Row table values) = token.Word (codes "row") ∷ token.Word table.0 ∷ value_tokens values
 spelled command.Resume = token.Word (codes "resume") ∷ []
 spelled (command.Statement s) = stated s
@@ -335,11 +345,20 @@ IsProcLine (proc_line.Push from to) = IsName from.0 × IsName to.0
 IsProcLine (proc_line.Fates from to fates) = IsName from.0 × IsName to.0 × (fates ≢ [])
 IsProcLine (proc_line.Execute site origin position) = IsName site.0 × IsName origin.0
 
+-- a name that isn't the word where
+abbrev pub IsColumnName : List ℕ → Type 0
+IsColumnName bytes = (is_name bytes ≡ true) × (is_mark (codes "where") (token.Word bytes) ≡ false)
+
+-- a table of parents that has a name, and columns whose names end at the word where
+abbrev pub AreParents : Option ParentWords → Type 0
+AreParents None = Unit {0}
+AreParents (Some p) = IsName p.table.0 × (p.columns ≢ []) × AllByRecursion IsColumnName p.columns
+
 -- a command that a line can give
 abbrev pub IsWellFormed : Command → Type 0
 IsWellFormed command.Nothing = Unit {0}
 IsWellFormed (command.Declare d) = IsDeclaration d
-IsWellFormed (command.Snapshot site table tests) = IsName site.0 × IsName table.0 × AreTests tests
+IsWellFormed (command.Snapshot site table parent tests) = IsName site.0 × IsName table.0 × AreParents parent × AreTests tests
 IsWellFormed (command.Row table values) = IsName table.0 × AreValues values
 IsWellFormed command.Resume = Unit {0}
 IsWellFormed (command.Statement s) = IsStatement s

@@ -15,10 +15,12 @@ pub enum Command {
     Nothing,
     /// A line that adds to the schema.
     Declare(Declare),
-    /// `snapshot NAME NAME [where TEST [and TEST]..]`
+    /// `snapshot NAME NAME [where TEST [and TEST]..]`, or
+    /// `subsnapshot NAME NAME parent NAME by NAME+ [where TEST [and TEST]..]`, whose tests are of the rows of the parents' table
     Snapshot {
         site: SiteName,
         table: TableName,
+        parent: Option<ParentWords>,
         tests: Option<Items<TestWords>>,
     },
     /// `row NAME VALUE+`
@@ -106,6 +108,13 @@ pub enum Command {
     },
     /// A line about procedures.
     Procedures(ProcLine),
+}
+
+/// `parent NAME by NAME+`: the table of a snapshot's parents, and the columns of its own table that hold their keys.
+#[derive(Drop)]
+pub struct ParentWords {
+    pub table: TableName,
+    pub columns: Items<Name>,
 }
 
 /// `NAME OP VALUE`, a test of a snapshot's rows.

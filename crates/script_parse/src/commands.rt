@@ -1,19 +1,19 @@
 //! The forms of all other commands.
 ghost use Rattle.std.specs.Prelude.{codes, IfOk};
 ghost use Rattle.script_words.specs.Reading.{optional};
-ghost use Rattle.script_words.specs.Parts.{whole_number, choice};
+ghost use Rattle.script_words.specs.Parts.{name, whole_number, choice};
 ghost use Rattle.script_words.specs.Readers.{ReadsExactly, Takes};
 ghost use Rattle.script_parse.specs.Parts.{links, refreshes, shown_words};
 ghost use Rattle.script_parse.specs.Named.{NamesColumn};
-ghost use Rattle.script_parse.specs.Rows.{snapshot_row, row_row, insert_row, update_row, delete_row, txn_row, push_row, fates_behind, fate_row, link_row, clock_row, purge_row, execute_row, drop_error_row, refresh_row, purge_log_row, join_row, show_row};
+ghost use Rattle.script_parse.specs.Rows.{snapshot_row, subsnapshot_row, is_column_name, row_row, insert_row, update_row, delete_row, txn_row, push_row, fates_behind, fate_row, link_row, clock_row, purge_row, execute_row, drop_error_row, refresh_row, purge_log_row, join_row, show_row};
 
 use crate::conditions::where_tests;
 use crate::parts::{FatePart, SetPart, site, table};
-use crate::{Command, Link, Refresh, Shown};
+use crate::{Command, Link, ParentWords, Refresh, Shown};
 use rep_calls::Statement;
-use rep_values::SiteName;
+use rep_values::{Name, SiteName};
 use script_lex::{BrokenRule, LineStop};
-use script_words::{Reader, ValuePart, separated, some_of};
+use script_words::{Part, Reader, ValuePart, separated, some_of};
 use std::alloc::Global;
 
 /// `snapshot NAME NAME [where TEST [and TEST]..]`
@@ -24,7 +24,58 @@ pub fn snapshot_form(alloc: Global, tokens: &mut Reader<'_>) -> Result<Command, 
     let site = site(tokens)?;
     let table = table(tokens)?;
     let tests = where_tests(alloc, tokens)?;
-    Ok(Command::Snapshot { site, table, tests })
+    Ok(Command::Snapshot {
+        site,
+        table,
+        parent: None,
+        tests,
+    })
+}
+
+/// A name in front of the word `where`.
+struct ColumnPart;
+
+impl Part for ColumnPart {
+    type Item = Name;
+
+    ghost starts = { is_column_name };
+
+    ghost reading = { name };
+
+    fn is_next(tokens: &Reader<'_>) -> bool {
+        tokens.is_at_name() && !tokens.is_at(b"where")
+    }
+
+    fn read(tokens: &mut Reader<'_>) -> Result<Name, BrokenRule> {
+        tokens.name()
+    }
+}
+
+/// `subsnapshot NAME NAME parent NAME by NAME+ [where TEST [and TEST]..]`
+pub fn subsnapshot_form(alloc: Global, tokens: &mut Reader<'_>) -> Result<Command, LineStop>
+    ensures read { Takes subsnapshot_row result tokens.old tokens.new }
+    ensures named { IfOk result NamesColumn }
+{
+    let site = site(tokens)?;
+    let own = table(tokens)?;
+    tokens.pass(b"parent")?;
+    let parents = table(tokens)?;
+    tokens.pass(b"by")?;
+    let columns = some_of::<ColumnPart>(alloc, tokens);
+    if let Err(LineStop::Rule(rule)) = columns {
+        return Err(LineStop::Rule(rule));
+    }
+    let tests = where_tests(alloc, tokens)?;
+    let columns = columns?;
+    Ok(Command::Snapshot {
+        site,
+        table: own,
+        parent: Some(ParentWords {
+            table: parents,
+            columns,
+        }),
+        tests,
+    })
 }
 
 /// `row NAME VALUE+`

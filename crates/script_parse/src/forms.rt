@@ -12,7 +12,7 @@ use crate::Command;
 use crate::commands::{
     clock_form, delete_form, drop_error_form, execute_form, fate_form, insert_form, join_form,
     link_form, purge_form, purge_log_form, push_form, refresh_form, row_form, show_form,
-    snapshot_form, txn_form, update_form,
+    snapshot_form, subsnapshot_form, txn_form, update_form,
 };
 use crate::declarations::declaration;
 use crate::heads::{Head, head_of};
@@ -29,6 +29,7 @@ fn parts(alloc: Global, head: Head, tokens: &mut Reader<'_>) -> Result<Command, 
     match head {
         Head::Declare(declaring) => Ok(Command::Declare(declaration(alloc, declaring, tokens)?)),
         Head::Snapshot => snapshot_form(alloc, tokens),
+        Head::Subsnapshot => subsnapshot_form(alloc, tokens),
         Head::Row => row_form(alloc, tokens),
         Head::Resume => Ok(Command::Resume),
         Head::Insert => insert_form(alloc, tokens),

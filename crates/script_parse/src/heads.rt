@@ -41,6 +41,7 @@ pub enum ProcHead {
 pub enum Head {
     Declare(Declaring),
     Snapshot,
+    Subsnapshot,
     Row,
     Resume,
     Insert,
@@ -64,7 +65,7 @@ pub enum Head {
     Procedures(ProcHead),
 }
 
-const HEADS: [(&[u8], Head); 41] = [
+const HEADS: [(&[u8], Head); 42] = [
     (b"site", Head::Declare(Declaring::Site)),
     (b"latesite", Head::Declare(Declaring::LateSite)),
     (b"snapsite", Head::Declare(Declaring::SnapSite)),
@@ -78,6 +79,7 @@ const HEADS: [(&[u8], Head); 41] = [
     (b"check", Head::Declare(Declaring::Check)),
     (b"convergent", Head::Declare(Declaring::Convergent)),
     (b"snapshot", Head::Snapshot),
+    (b"subsnapshot", Head::Subsnapshot),
     (b"row", Head::Row),
     (b"resume", Head::Resume),
     (b"insert", Head::Insert),

@@ -15,7 +15,7 @@ mod parts;
 mod proc_line;
 mod procedures;
 
-pub use command::{Command, Link, Refresh, Shown, TestWords};
+pub use command::{Command, Link, ParentWords, Refresh, Shown, TestWords};
 pub use forms::parse_line;
 pub use laws::form_laws;
 pub use proc_line::{ActionWords, CallWords, ProcLine};
