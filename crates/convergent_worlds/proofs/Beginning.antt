@@ -100,7 +100,7 @@ module _ (w : WorldState) (well : DeclaresWell w) where
       by ss is None at = refl
       by ss is (Some row) at =
           let there : find_row (columns_of w.schema table) key (rows_of (rows_of_snapshots w.schema rows ss) table) ≡ Some row = subst (λ (ts : List Rows). find_row (columns_of w.schema table) key (rows_of ts table) ≡ Some row) is at in
-          elim (shown_there (columns_of w.schema table) table key rows rising ss (replicate (length w.schema.tables) []) (λ nothing. cc (sym there ∙ nothing))) [
+          elim (shown_there w.schema (columns_of w.schema table) table key rows rising ss (replicate (length w.schema.tables) []) (λ nothing. cc (sym there ∙ nothing))) [
             | inl own ↦ absurd (own (no_row (columns_of w.schema table) key (length w.schema.tables) table))
             | inr theirs ↦ absurd (theirs in_rows)
           ]

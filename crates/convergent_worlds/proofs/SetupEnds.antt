@@ -13,6 +13,7 @@ use Rattle.event_laws.specs.Fitting.{FitsHere}
 use Rattle.event_laws.proofs.FittingSites.{every_site_fits}
 use Rattle.script_parse.specs.declared.command.Command.{Command}
 use Rattle.script_parse.specs.declared.command.Command.TheVariants as command
+use Rattle.script_parse.specs.declared.command.ParentWords.{ParentWords}
 use Rattle.script_parse.specs.declared.command.TestWords.{TestWords}
 use Rattle.world_state.specs.declared.phase.Phase.{Phase}
 use Rattle.world_state.specs.declared.phase.Phase.TheVariants as phase
@@ -46,16 +47,16 @@ module _ (number : ℕ) (w : WorldState) (in_setup : IsInSetup w) where
   stays_setup : (y : WorldState) → y.phase ≡ w.phase → is_setup y.phase ≡ false → ⊥
   stays_setup y same behind = let setup : is_setup y.phase ≡ true = ap is_setup same ∙ in_setup.setup in cc (setup, behind)
 
-  snapshot_phase : (site : SiteName) (table : Option ℕ) (tests : List TestWords) → (with_snapshot_at site table tests w).phase ≡ w.phase
-  snapshot_phase site None tests = refl
-  snapshot_phase site (Some table) tests = refl
+  snapshot_phase : (site : SiteName) (table : Option ℕ) (parent : Option ParentWords) (tests : List TestWords) → (with_snapshot_at site table parent tests w).phase ≡ w.phase
+  snapshot_phase site None parent tests = refl
+  snapshot_phase site (Some table) parent tests = refl
 
   done_ends : (c : Command) → phase_step c w ≡ None → is_setup (world_done number c w).phase ≡ false → world_done number c w ≡ world_made w
   done_ends command.Resume passes behind = is_made w.phase in_setup.setup
   done_ends command.Nothing passes behind = absurd (stays_setup w refl behind)
   done_ends (command.Declare d) passes behind = absurd (stays_setup (world_done number (command.Declare d) w) refl behind)
-  done_ends (command.Snapshot site table tests) passes behind =
-      absurd (stays_setup (world_done number (command.Snapshot site table tests) w) (snapshot_phase site (table_place w.schema table) (tests_in tests)) behind)
+  done_ends (command.Snapshot site table parent tests) passes behind =
+      absurd (stays_setup (world_done number (command.Snapshot site table parent tests) w) (snapshot_phase site (table_place w.schema table) parent (tests_in tests)) behind)
   done_ends (command.Row table values) passes behind = absurd (stays_setup (world_done number (command.Row table values) w) refl behind)
   done_ends (command.Statement statement) passes behind = absurd (no_block passes)
   done_ends command.Commit passes behind = absurd (no_block passes)
@@ -107,4 +108,4 @@ module _ (w : WorldState) (so_far : DeclaresSoFar w) (g : GoesOn (world_made w))
       tables_at first.entry.name first.entry.master first.master (fits first.entry.name (entry_made w.schema rows w.snapshots first.entry) (made_entry w.schema rows w.snapshots first))
 
   pub declares_well : DeclaresWell w
-  declares_well = record { sound = record { sound = sound; rows = tables; snapshots = so_far.within }; once = so_far.once }
+  declares_well = record { sound = record { sound = sound; rows = tables; snapshots = so_far.within }; once = so_far.once; parents = so_far.parents }

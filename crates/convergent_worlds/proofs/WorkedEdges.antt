@@ -50,7 +50,7 @@ abbrev declared_lines : List Command
 declared_lines =
     master_line a ∷ master_line b ∷ snapshot_site_line s a ∷ level_line a 1 ∷ level_line b 2 ∷ level_line s 3 ∷
     table_line (record { name = codes "HOME"; kind = kind.Site; key = true } ∷ key_column (codes "ID") ∷ number_column (codes "Q") ∷ []) ∷ [] ++ added_up ++
-    command.Declare (declare.Convergent t) ∷ command.Snapshot s t None ∷
+    command.Declare (declare.Convergent t) ∷ command.Snapshot s t None None ∷
     command.Row t (literal.Words a.0 ∷ literal.Num (pos 1) ∷ literal.Num (pos 999999999999990) ∷ []) ∷ resume ∷ []
 
 abbrev amount : ℕ → ℕ → Cells

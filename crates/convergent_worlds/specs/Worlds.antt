@@ -1,6 +1,6 @@
 -- What the laws over events and of snapshots say of worlds, for the crates above.
 pub use Rattle.world_laws.specs.Worlds.{WorldHolds, NothingReady}
-pub use Rattle.snapshot_worlds.specs.Sites.{CanRefreshFrom, SnapshotsHold}
+pub use Rattle.snapshot_worlds.specs.Sites.{CanRefreshFrom, IsShown, SnapshotsHold}
 pub use Rattle.snapshot_worlds.specs.Refreshes.{ShowsItsMaster}
-pub use Rattle.snapshot_worlds.specs.WellDeclared.{AreDeclaredOnce}
+pub use Rattle.snapshot_worlds.specs.WellDeclared.{AreDeclaredOnce, AreParentsWithin}
 pub use Rattle.snapshot_worlds.specs.Reached.{DeclaresSoFar, GoesOn}

@@ -22,6 +22,7 @@ use Rattle.proc_state.specs.State.{ProcState, no_mark}
 use Rattle.proc_state.specs.Events.{Call, AreCalls}
 use Rattle.script_parse.specs.declared.command.Command.{Command}
 use Rattle.script_parse.specs.declared.command.Command.TheVariants as command
+use Rattle.script_parse.specs.declared.command.ParentWords.{ParentWords}
 use Rattle.script_parse.specs.declared.command.TestWords.{TestWords}
 use Rattle.script_parse.specs.declared.proc_line.CallWords.{CallWords}
 use Rattle.script_parse.specs.declared.proc_line.ProcLine.{ProcLine}
@@ -322,9 +323,9 @@ beside_then w y z first second = record { phase = second.phase ∙ first.phase; 
 beside_built : (w y : WorldState) → Beside w y → AreProcsBuilt w → AreProcsBuilt y
 beside_built w y beside b = same_procs w y beside.phase beside.schema beside.procs b
 
-snapshot_beside : (site : SiteName) (table : Option ℕ) (tests : List TestWords) (w : WorldState) → Beside w (with_snapshot_at site table tests w)
-snapshot_beside site None tests w = beside_same w
-snapshot_beside site (Some table) tests w = record { phase = refl; schema = refl; procs = refl }
+snapshot_beside : (site : SiteName) (table : Option ℕ) (parent : Option ParentWords) (tests : List TestWords) (w : WorldState) → Beside w (with_snapshot_at site table parent tests w)
+snapshot_beside site None parent tests w = beside_same w
+snapshot_beside site (Some table) parent tests w = record { phase = refl; schema = refl; procs = refl }
 
 commit_beside : (block : Option Block) (w : WorldState) → Beside w (committed_block block w)
 commit_beside None w = beside_same w
@@ -357,7 +358,7 @@ done_procs : (number : ℕ) (c : Command) (w : WorldState) → (is_setup w.phase
 done_procs number command.Nothing w shape passes b = b
 done_procs number (command.Declare d) w shape passes b =
     setup_procs w (world_done number (command.Declare d) w) (in_setup w (or_then-None (setup_step w) _ (or_then-None (declare_step d w) _ passes).0).0) refl refl b
-done_procs number (command.Snapshot site table tests) w shape passes b = beside_built w _ (snapshot_beside site (table_place w.schema table) (tests_in tests) w) b
+done_procs number (command.Snapshot site table parent tests) w shape passes b = beside_built w _ (snapshot_beside site (table_place w.schema table) parent (tests_in tests) w) b
 done_procs number (command.Row table values) w shape passes b = same_procs w (world_done number (command.Row table values) w) refl refl refl b
 done_procs number command.Resume w shape passes b =
     resumed_procs w.phase w refl shape (or_then-None (refused (has_block w) refusal.WrongPhase) (resume_step w.phase (lowest_broken w.schema w.procs.tables)) (or_then-None (phase_step command.Resume w) _ passes).0).1 b

@@ -1,23 +1,25 @@
 -- A site's snapshots, of those that are declared.
-use Rattle.std.proofs.Common.{◌≡◌, ◌≢◌, ℕ, ◌==◌, List, [], ◌∷◌, ◌++◌, map, Bool, true, false, cond, None, refl, sym, ap, ◌∙◌, arith, subst}
-use Rattle.std.specs.Prelude.{◌&&◌, filter}
+use Rattle.std.proofs.Common.{◌≡◌, ◌≢◌, ℕ, ◌==◌, List, [], ◌∷◌, ◌++◌, map, Bool, true, false, cond, Some, None, refl, sym, ap, ◌∙◌, arith, subst}
+use Rattle.std.specs.Prelude.{◌&&◌, ◌||◌, Option, filter}
 use Rattle.std.specs.List.{AllByRecursion}
-use Rattle.std.proofs.lemmas.Bool.{or_parts, or_from, or_right}
+use Rattle.std.proofs.lemmas.Bool.{and_from, or_parts, or_from, or_right}
 use Rattle.std.proofs.lemmas.Bool.Decides.{nat_tests}
 use Rattle.rep_values.specs.declared.name.SiteName.{SiteName}
 use Rattle.deferred_queue.specs.Streams.{is_same_site}
 use Rattle.deferred_queue.proofs.Sites.{is_same_site-true, is_same_site-refl, eq_true}
+use Rattle.snapshot_query.specs.declared.parent.Parent.{Parent}
 use Rattle.snapshot_query.specs.declared.snapshot.Snapshot.{Snapshot}
 use Rattle.site_state.specs.Fits.{AreApart}
 use Rattle.snapshot_laws.proofs.Moves.{all_weaker}
 use Rattle.world_state.specs.declared.declared_snapshot.DeclaredSnapshot.{DeclaredSnapshot}
 use Rattle.world_state.specs.Declaring.{is_snapshot_of, has_snapshot}
-use Rattle.world_state.specs.Making.{snapshots_at}
+use Rattle.world_state.specs.Making.{is_of_parents, goes_by_log, needs_log, snapshots_at}
 use Rattle.snapshot_worlds.specs.WellDeclared.{AreDeclaredOnce}
+use Rattle.snapshot_worlds.proofs.Logging.{ParentNeedsLog}
 
 -- a declared snapshot as its site has it
 abbrev as_made : DeclaredSnapshot → Snapshot
-as_made d = record { table = d.table; query = d.query; parent = None; mark = 0; touched = [] }
+as_made d = record { table = d.table; query = d.query; parent = d.parent; mark = 0; touched = [] }
 
 abbrev is_at : SiteName → DeclaredSnapshot → Bool
 is_at site d = is_same_site d.site site
@@ -31,19 +33,40 @@ each_at P Q (d ∷ ds) site each all = go (is_same_site d.site site) (each_at P 
     go true later = (each d all.0, later)
     go false later = later
 
--- each of them is declared
-pub each_has : (ds : List DeclaredSnapshot) (site : SiteName) → AllByRecursion (λ (s : Snapshot). has_snapshot ds site s.table ≡ true) (snapshots_at ds site)
-each_has [] site = tt
-each_has (d ∷ ds) site = go (is_same_site d.site site) refl
-    (all_weaker (λ (s : Snapshot). has_snapshot ds site s.table ≡ true) (λ (s : Snapshot). has_snapshot (d ∷ ds) site s.table ≡ true) (snapshots_at ds site)
-    (λ s has. or_right (is_snapshot_of site s.table d) (has_snapshot ds site s.table) has) (each_has ds site))
-  where
-    own : is_same_site d.site site ≡ true → has_snapshot (d ∷ ds) site d.table ≡ true
-    own is = rw (is, eq_true d.table d.table refl) refl
+-- the logs that a snapshot of a site goes by are needed
+pub record NeedsLogs (ds : List DeclaredSnapshot) (site : SiteName) (s : Snapshot) : Type 0 where
+  pub own : needs_log ds site s.table ≡ true
+  pub parents : ParentNeedsLog ds site s.parent
 
-    go : (b : Bool) → is_same_site d.site site ≡ b → AllByRecursion (λ (s : Snapshot). has_snapshot (d ∷ ds) site s.table ≡ true) (snapshots_at ds site)
-        → AllByRecursion (λ (s : Snapshot). has_snapshot (d ∷ ds) site s.table ≡ true) (map as_made (cond b (d ∷ filter (is_at site) ds) (filter (is_at site) ds)))
-    go true is later = (own is, later)
+module _ (d : DeclaredSnapshot) (ds : List DeclaredSnapshot) (site : SiteName) where
+  -- by one more they still are
+  needs_more : (s : Snapshot) → NeedsLogs ds site s → NeedsLogs (d ∷ ds) site s
+  needs_more s needs = record { own = or_right (goes_by_log site s.table d) (needs_log ds site s.table) needs.own; parents = more s.parent needs.parents }
+    where
+      more : (parent : Option Parent) → ParentNeedsLog ds site parent → ParentNeedsLog (d ∷ ds) site parent
+      more None needs = tt
+      more (Some p) needs = or_right (goes_by_log site p.table d) (needs_log ds site p.table) needs
+
+  -- and so are those of the first
+  needs_first : is_same_site d.site site ≡ true → NeedsLogs (d ∷ ds) site (as_made d)
+  needs_first is = record { own = rw (is, eq_true d.table d.table refl) refl; parents = first d.parent refl }
+    where
+      goes : (p : Parent) → d.parent ≡ Some p → goes_by_log site p.table d ≡ true
+      goes p has = and_from (is_same_site d.site site) (d.table == p.table || is_of_parents p.table d.parent) is
+          (or_right (d.table == p.table) (is_of_parents p.table d.parent) (ap (is_of_parents p.table) has ∙ eq_true p.table p.table refl))
+
+      first : (parent : Option Parent) → d.parent ≡ parent → ParentNeedsLog (d ∷ ds) site parent
+      first None has = tt
+      first (Some p) has = ap (λ (b : Bool). b || needs_log ds site p.table) (goes p has)
+
+-- so it is with each of them
+pub each_needs : (ds : List DeclaredSnapshot) (site : SiteName) → AllByRecursion (NeedsLogs ds site) (snapshots_at ds site)
+each_needs [] site = tt
+each_needs (d ∷ ds) site = go (is_same_site d.site site) refl (all_weaker (NeedsLogs ds site) (NeedsLogs (d ∷ ds) site) (snapshots_at ds site) (needs_more d ds site) (each_needs ds site))
+  where
+    go : (b : Bool) → is_same_site d.site site ≡ b → AllByRecursion (NeedsLogs (d ∷ ds) site) (snapshots_at ds site)
+        → AllByRecursion (NeedsLogs (d ∷ ds) site) (map as_made (cond b (d ∷ filter (is_at site) ds) (filter (is_at site) ds)))
+    go true is later = (needs_first d ds site is, later)
     go false is later = later
 
 -- where none is declared of a table, none is of it

@@ -21,15 +21,18 @@ use Rattle.rep_declare.specs.Additions.{with_changed, declared}
 use Rattle.rep_declare.specs.Shaping.{table_shaped, ShapesNoRows}
 use Rattle.schema_rules.specs.Rules.{broken_rule}
 use Rattle.site_state.specs.Steps.{is_empty}
+use Rattle.snapshot_query.specs.declared.parent.Parent.{Parent}
+use Rattle.event_laws.specs.Rules.{IsParentWithin}
 use Rattle.event_laws.specs.Events.{master_of}
+use Rattle.script_parse.specs.declared.command.ParentWords.{ParentWords}
 use Rattle.script_parse.specs.declared.command.TestWords.{TestWords}
 use Rattle.snapshot_laws.proofs.Moves.{all_weaker}
 use Rattle.world_state.specs.declared.declared_snapshot.DeclaredSnapshot.{DeclaredSnapshot}
 use Rattle.world_state.specs.World.{WorldState}
 use Rattle.world_state.specs.Phases.{rows_at, has_rows}
-use Rattle.world_state.specs.Declaring.{has_snapshot, with_snapshot_at}
-use Rattle.world_state.specs.Refusals.{snapshot_steps}
-use Rattle.snapshot_worlds.specs.WellDeclared.{AreDeclaredOnce, DeclaresWell}
+use Rattle.world_state.specs.Declaring.{has_snapshot, parent_at, parent_of, with_snapshot_at}
+use Rattle.world_state.specs.Refusals.{snapshot_steps_by, named_snapshot_steps}
+use Rattle.snapshot_worlds.specs.WellDeclared.{AreDeclaredOnce, AreParentsWithin, DeclaresWell}
 use Rattle.snapshot_worlds.proofs.DeclaredSnapshots.{once-push}
 use Rattle.snapshot_worlds.proofs.FilledTables.{AreTables-rows_made}
 
@@ -85,28 +88,51 @@ pub of_tables-declared : (d : Declare) (schema : Schema) (ds : List DeclaredSnap
 of_tables-declared d schema ds all = all_weaker (λ (s : DeclaredSnapshot). s.table < length schema.tables) (λ (s : DeclaredSnapshot). s.table < length (declared d schema).tables) ds
     (λ s below. let more = tables_stay d schema in omega (arith, below, more)) all
 
+parent_within-declared : (d : Declare) (schema : Schema) (parent : Option Parent) → IsParentWithin schema parent → IsParentWithin (declared d schema) parent
+parent_within-declared d schema None within = tt
+parent_within-declared d schema (Some p) within = let more = tables_stay d schema in omega (arith, within, more)
+
+pub parents_within-declared : (d : Declare) (schema : Schema) (ds : List DeclaredSnapshot) → AreParentsWithin schema ds → AreParentsWithin (declared d schema) ds
+parents_within-declared d schema ds all = all_weaker (λ (s : DeclaredSnapshot). IsParentWithin schema s.parent) (λ (s : DeclaredSnapshot). IsParentWithin (declared d schema) s.parent) ds
+    (λ s within. parent_within-declared d schema s.parent within) all
+
 -- ---- a snapshot
 
 pub record HasSnapshots (w : WorldState) : Type 0 where
   pub within : AreOfTables w.schema w.snapshots
   pub once : AreDeclaredOnce w.snapshots
+  pub parents : AreParentsWithin w.schema w.snapshots
 
-pub has_snapshots-push : (w : WorldState) (site : SiteName) (name : TableName) (tests : List TestWords) → HasSnapshots w
-    → first_refusal (known (master_of w.schema site) (λ master. known (table_place w.schema name) (λ place. snapshot_steps w site place tests))) ≡ None
-    → HasSnapshots (with_snapshot_at site (table_place w.schema name) tests w)
-has_snapshots-push w site name tests has none = by_master (master_of w.schema site) none
+module _ (w : WorldState) (site : SiteName) (tests : List TestWords) where
+  -- a snapshot that isn't refused is the first of its table at its site
+  not_taken : (table : ℕ) (parent : Option ParentWords) → first_refusal (snapshot_steps_by w site table parent tests) ≡ None → has_snapshot w.snapshots site table ≡ false
+  not_taken table None none = refused-None (has_snapshot w.snapshots site table) refusal.NameTaken (or_then-None _ _ none).0
+  not_taken table (Some p) none = refused-None (has_snapshot w.snapshots site table) refusal.NameTaken (or_then-None _ _ none).0
+
+  -- the table of its parents is there
+  parent_there : (table : ℕ) (parent : Option ParentWords) → IsParentWithin w.schema (parent_of w.schema table parent tests)
+  parent_there table None = tt
+  parent_there table (Some p) = go (table_place w.schema p.table) refl
+    where
+      go : (found : Option ℕ) → table_place w.schema p.table ≡ found → IsParentWithin w.schema (parent_at w.schema table found p.columns tests)
+      go None is = tt
+      go (Some place) is = (position-Some (is_table p.table) w.schema.tables place (plain_table p.table []) is).0
+
+pub has_snapshots-push : (w : WorldState) (site : SiteName) (name : TableName) (parent : Option ParentWords) (tests : List TestWords) → HasSnapshots w
+    → first_refusal (named_snapshot_steps w site name parent tests) ≡ None → HasSnapshots (with_snapshot_at site (table_place w.schema name) parent tests w)
+has_snapshots-push w site name parent tests has none = by_master (master_of w.schema site) none
   where
-    by_table : (found : Option ℕ) → table_place w.schema name ≡ found → first_refusal (known found (λ place. snapshot_steps w site place tests)) ≡ None → HasSnapshots (with_snapshot_at site found tests w)
+    by_table : (found : Option ℕ) → table_place w.schema name ≡ found → first_refusal (known found (λ place. snapshot_steps_by w site place parent tests)) ≡ None
+        → HasSnapshots (with_snapshot_at site found parent tests w)
     by_table None is none = has
-    by_table (Some table) is none =
-        let free = refused-None (has_snapshot w.snapshots site table) refusal.NameTaken (or_then-None _ _ none).0 in
-        record {
-          within = each_push (λ (d : DeclaredSnapshot). d.table < length w.schema.tables) w.snapshots _ has.within (position-Some (is_table name) w.schema.tables table (plain_table name []) is).0;
-          once = once-push w.snapshots _ has.once free;
-        }
+    by_table (Some table) is none = record {
+      within = each_push (λ (d : DeclaredSnapshot). d.table < length w.schema.tables) w.snapshots _ has.within (position-Some (is_table name) w.schema.tables table (plain_table name []) is).0;
+      once = once-push w.snapshots _ has.once (not_taken w site tests table parent none);
+      parents = each_push (λ (d : DeclaredSnapshot). IsParentWithin w.schema d.parent) w.snapshots _ has.parents (parent_there w site tests table parent);
+    }
 
-    by_master : (found : Option SiteName) → first_refusal (known found (λ master. known (table_place w.schema name) (λ place. snapshot_steps w site place tests))) ≡ None
-        → HasSnapshots (with_snapshot_at site (table_place w.schema name) tests w)
+    by_master : (found : Option SiteName) → first_refusal (known found (λ master. known (table_place w.schema name) (λ place. snapshot_steps_by w site place parent tests))) ≡ None
+        → HasSnapshots (with_snapshot_at site (table_place w.schema name) parent tests w)
     by_master None none = absurd (cc none)
     by_master (Some master) none = by_table (table_place w.schema name) refl none
 
@@ -117,4 +143,5 @@ pub declares_well : (w : WorldState) → HasShape w.schema → AreTables w.schem
 declares_well w shape rows has unbroken = record {
   sound = record { sound = record { shape = shape; unbroken = unbroken }; rows = AreTables-rows_made w.schema w.base unbroken rows; snapshots = has.within };
   once = has.once;
+  parents = has.parents;
 }

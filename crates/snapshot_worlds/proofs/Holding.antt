@@ -1,64 +1,74 @@
 -- What holds of the sites of a world that goes on from where the laws of snapshots begin, and of a refresh there.
-use Rattle.std.proofs.Common.{◌≡◌, ◌<◌, List, [], ◌∷◌, length, map, false, Some, None, refl, sym, ap, ◌∙◌, subst}
-use Rattle.std.specs.Prelude.{Option}
+use Rattle.std.proofs.Common.{◌≡◌, ℕ, ◌<◌, List, [], ◌∷◌, length, map, false, Some, None, refl, sym, ap, ◌∙◌, subst}
+use Rattle.std.specs.Prelude.{Option, nat_lt}
 use Rattle.std.specs.List.{AllByRecursion}
 use Rattle.rep_values.specs.declared.name.SiteName.{SiteName}
 use Rattle.rep_values.specs.declared.refusal.Refusal.{Refusal}
 use Rattle.rep_values.specs.declared.refusal.Refusal.TheVariants as refusal
-use Rattle.rep_values.specs.RefusalSteps.{refused, first_refusal, known}
+use Rattle.rep_values.specs.RefusalSteps.{refused, or_then, first_refusal, known}
 use Rattle.rep_values.proofs.RefusalSteps.{or_then-None, refused-None}
 use Rattle.rep_schema.specs.declared.schema.Schema.{Schema}
 use Rattle.rep_schema.specs.Shape.{HasShape}
-use Rattle.rep_schema.specs.Tables.{columns_of, rows_of, IsTable, AreTables}
+use Rattle.rep_schema.specs.Tables.{rows_of, IsTable, AreTables}
 use Rattle.rep_schema.proofs.FilteredRows.{IsTable-filter}
+use Rattle.snapshot_query.specs.declared.parent.Parent.{Parent}
 use Rattle.snapshot_query.specs.declared.snapshot.Snapshot.{Snapshot}
-use Rattle.snapshot_query.specs.Queries.{matches, query_rows}
+use Rattle.snapshot_query.specs.Parents.{picks}
 use Rattle.site_state.specs.declared.rows.TableRows.{TableRows}
 use Rattle.site_state.specs.State.{LogState, SiteState, is_master_site}
 use Rattle.site_state.specs.Contents.{tables_of}
-use Rattle.site_state.specs.Notes.{pending_keys, purged_of, is_too_young}
-use Rattle.site_state.specs.Refreshes.{rows_shown, renewed}
+use Rattle.site_state.specs.Notes.{purged_of, is_too_young}
+use Rattle.site_state.specs.Refreshes.{renewed}
 use Rattle.site_state.specs.Fits.{AreWithin}
 use Rattle.event_laws.specs.Core.{Core, site_of, at_site}
+use Rattle.event_laws.specs.Rules.{table_ruled, rows_ruled, is_purged_above, has_young_parents, is_young}
 use Rattle.event_laws.specs.Events.{Event, master_of, found_site, refreshed, run}
 use Rattle.event_laws.specs.Starts.{IsStart}
 use Rattle.event_laws.specs.Declared.{AreDeclared}
 use Rattle.event_laws.proofs.Sites.{found_name, found_all}
 use Rattle.event_laws.proofs.Happening.{run_keeps}
 use Rattle.event_laws.proofs.DeclaredSites.{IsSiteOf, becomes_sites_of, start_sites_of}
-use Rattle.fast_refresh.specs.Showing.{ShowsOthers}
 use Rattle.script_parse.specs.declared.command.Refresh.{Refresh}
 use Rattle.script_parse.specs.declared.command.Command.TheVariants as command
 use Rattle.snapshot_laws.specs.Starts.{master_at}
 use Rattle.snapshot_laws.specs.Laws as law
 use Rattle.snapshot_laws.specs.Laws.{ShowsTheMaster}
-use Rattle.snapshot_laws.proofs.Moves.{all_map, all_weaker, KeepsUp, AllKeepUp}
+use Rattle.snapshot_laws.proofs.Moves.{all_map, all_weaker}
+use Rattle.snapshot_laws.proofs.Keys.{both_fail}
+use Rattle.snapshot_laws.proofs.KeepingUp.{KeepsUp, AllKeepUp}
 use Rattle.snapshot_laws.proofs.Keeping.{KeepUpWith, SiteKeepsUp, found_keeps_up}
 use Rattle.snapshot_laws.proofs.Keeping as keeping
 use Rattle.snapshot_laws.proofs.Refreshing.{refreshed_here}
 use Rattle.snapshot_laws.proofs.RunsFit.{SitesFit, run_fits}
 use Rattle.snapshot_laws.proofs.Events.{run_keeps_up}
-use Rattle.snapshot_laws.proofs.SnapshotLaws.{other_keys_are_the_masters, refreshed_is_the_query}
+use Rattle.snapshot_laws.proofs.SnapshotLaws.{other_keys_are_the_masters, refreshed_is_the_rule, pending_parents_rise}
 use Rattle.snapshot_laws.proofs.RisingKeys.{snapshot_keys_rise}
 use Rattle.snapshot_laws.proofs.LogLaws.{noted_are_above_purged}
 use Rattle.world_state.specs.World.{WorldState}
 use Rattle.world_state.specs.Phases.{behind_setup_step}
-use Rattle.world_state.specs.Refusals.{young_step, refresh_steps, world_refusal}
+use Rattle.world_state.specs.Refusals.{young_parents_step, young_step, refresh_steps, world_refusal}
 use Rattle.world_state.specs.Steps.{step_by}
 use Rattle.world_laws.proofs.Finding.{of_at, of_other}
 use Rattle.world_laws.proofs.UnrefusedLines.{refreshed-made}
-use Rattle.snapshot_worlds.specs.Sites.{master_in, OthersAreShown, CanRefreshFrom, EachCanRefresh, EachKeyComesOnce, EachIsNotedSince, EachIsOfSchema, SnapshotsHold}
+use Rattle.snapshot_worlds.specs.Sites.{master_in, IsShown, OthersAreShown, CanRefreshFrom, EachCanRefresh, EachKeyComesOnce, EachIsNotedSince, EachIsOfSchema, SnapshotsHold}
 use Rattle.snapshot_worlds.specs.Refreshes.{ShowsItsMaster, RefreshesShowTheQuery}
 use Rattle.snapshot_worlds.specs.Reached.{GoesOn}
 use Rattle.snapshot_worlds.proofs.Each.{all_both}
 use Rattle.snapshot_worlds.proofs.Entries.{no_master, another}
 
 -- where no log is found too young none is
-none_young : (logs : List LogState) (ss : List Snapshot) → young_step logs ss ≡ None → AllByRecursion (λ (s : Snapshot). is_too_young logs s ≡ false) ss
+old_parents : (logs : List LogState) (mark : ℕ) (parent : Option Parent) → young_parents_step logs mark parent ≡ None → is_purged_above logs mark parent ≡ false
+old_parents logs mark None none = refl
+old_parents logs mark (Some p) none = refused-None (nat_lt mark (purged_of p.table logs)) (refusal.LogTooYoung (purged_of p.table logs) mark) none
+
+none_young : (logs : List LogState) (ss : List Snapshot) → young_step logs ss ≡ None → AllByRecursion (λ (s : Snapshot). is_young logs s ≡ false) ss
 none_young logs [] none = tt
 none_young logs (s ∷ ss) none =
-    let parts = or_then-None (refused (is_too_young logs s) (refusal.LogTooYoung (purged_of s.table logs) s.mark)) (young_step logs ss) none in
-    (refused-None (is_too_young logs s) (refusal.LogTooYoung (purged_of s.table logs) s.mark) parts.0, none_young logs ss parts.1)
+    let own = or_then-None (refused (is_too_young logs s) (refusal.LogTooYoung (purged_of s.table logs) s.mark)) (or_then (young_parents_step logs s.mark s.parent) (young_step logs ss)) none in
+    let rest = or_then-None (young_parents_step logs s.mark s.parent) (young_step logs ss) own.1 in (
+      both_fail (is_too_young logs s) (has_young_parents logs s) (refused-None (is_too_young logs s) (refusal.LogTooYoung (purged_of s.table logs) s.mark) own.0) (old_parents logs s.mark s.parent rest.0),
+      none_young logs ss rest.1,
+    )
 
 -- the sites of a run are as the schema declares them
 run_sites_of : (schema : Schema) (start : Core) (events : List Event) → IsStart schema start → AreDeclared schema start.sites → AllByRecursion (IsSiteOf schema) (run events start).sites
@@ -149,14 +159,13 @@ module _ (w : WorldState) (g : GoesOn w) where
     masters = fit.have named.name m (there named.name m named.found)
 
     -- what it shows is a table
-    picked : AllByRecursion (λ (t : TableRows). IsTable w.schema t.table t.rows) (rows_shown (tables_of m) x.snapshots)
+    picked : AllByRecursion (λ (t : TableRows). IsTable w.schema t.table t.rows) (rows_ruled w.schema (tables_of m) x.snapshots)
     picked = all_map (KeepsUp w.schema later.begun m x) (λ (t : TableRows). IsTable w.schema t.table t.rows)
-        (λ (s : Snapshot). record { table = s.table; rows = query_rows s.query (rows_of (tables_of m) s.table) }) x.snapshots
-        (λ s one. IsTable-filter w.schema s.table (matches s.query) (rows_of (tables_of m) s.table) (masters.each s.table one.within)) up
+        (table_ruled w.schema (tables_of m)) x.snapshots
+        (λ s one. IsTable-filter w.schema s.table (picks w.schema (tables_of m) s) (rows_of (tables_of m) s.table) (masters.each s.table one.within)) up
 
     shown : young_step m.logs x.snapshots ≡ None → OthersAreShown m x
-    shown none = all_both (law.OthersAreShown m x) (λ (s : Snapshot). is_too_young m.logs s ≡ false)
-        (λ (s : Snapshot). ShowsOthers (columns_of x.schema s.table) (matches s.query) (pending_keys m.logs s) (rows_of (tables_of m) s.table) (rows_of (tables_of x) s.table)) x.snapshots
+    shown none = all_both (law.OthersAreShown m x) (λ (s : Snapshot). is_young m.logs s ≡ false) (IsShown m x) x.snapshots
         (λ s others young. others young)
         (other_keys_are_the_masters w.schema g.start g.leads.events g.snapshots site x m (there site x at_x) served) (none_young m.logs x.snapshots none)
 
@@ -169,7 +178,8 @@ module _ (w : WorldState) (g : GoesOn w) where
       master = subst (λ (s : Schema). AreTables s (tables_of m)) (sym x_is) masters;
       within = subst (λ (s : Schema). AreWithin s x.snapshots) (sym x_is) (all_weaker (KeepsUp w.schema later.begun m x) (λ (s : Snapshot). s.table < length w.schema.tables) x.snapshots (λ s one. one.within) up);
       apart = held.apart;
-      picked = subst (λ (s : Schema). AllByRecursion (λ (t : TableRows). IsTable s t.table t.rows) (rows_shown (tables_of m) x.snapshots)) (sym x_is) picked;
+      picked = subst (λ (s : Schema). AllByRecursion (λ (t : TableRows). IsTable s t.table t.rows) (rows_ruled s (tables_of m) x.snapshots)) (sym x_is) picked;
+      parents = pending_parents_rise w.schema g.start g.leads.events g.snapshots site x m (there site x at_x) served;
       others = shown;
     }
 
@@ -178,7 +188,7 @@ module _ (w : WorldState) (g : GoesOn w) where
     y = refreshed w.sites x
 
     shows : AllByRecursion (ShowsTheMaster m y) y.snapshots
-    shows = refreshed_is_the_query w.schema g.start g.leads.events g.snapshots site x m y (there site x at_x) served isnt_master
+    shows = refreshed_is_the_rule w.schema g.start g.leads.events g.snapshots site x m y (there site x at_x) served isnt_master
         (ap (λ (xs : List SiteState). site_of site (at_site site (refreshed xs) xs)) (sym same) ∙ of_at site (refreshed w.sites) w.sites x (refreshed_here w.sites) at_x)
 
     kept : y.snapshots ≡ map (renewed m.moment) x.snapshots

@@ -3,8 +3,8 @@ mod Each
 mod WrittenRows
 mod FilledTables
 mod Entries
-mod DeclaredSnapshots
 mod Logging
+mod DeclaredSnapshots
 pub mod Starting
 mod Holding
 pub mod Staying

@@ -1,23 +1,26 @@
--- A master logs each table of which one of its snapshot sites has a snapshot.
-use Rattle.std.proofs.Common.{◌≡◌, ℕ, zero, suc, ◌+◌, ◌<◌, ◌≤◌, ◌==◌, List, ◌∷◌, length, map, Bool, true, false, cond, Some, refl, sym, ap, ◌∙◌, arith, add-zero}
-use Rattle.std.specs.Prelude.{◌&&◌, filter, is_some}
+-- A master logs each table by the log of which a snapshot of one of its snapshot sites goes. The log is new.
+use Rattle.std.proofs.Common.{◌≡◌, ℕ, zero, suc, ◌+◌, ◌<◌, ◌≤◌, ◌==◌, List, [], ◌∷◌, length, map, Bool, true, false, cond, Some, None, refl, sym, ap, ◌∙◌, arith, add-zero, subst}
+use Rattle.std.specs.Prelude.{◌&&◌, Option, filter, is_some}
 use Rattle.std.specs.List.{range_with_len}
 use Rattle.std.proofs.lemmas.Bool.{and_from}
 use Rattle.std.proofs.lemmas.Bool.Decides.{nat_tests}
 use Rattle.rep_values.specs.declared.name.SiteName.{SiteName}
+use Rattle.rep_lists.specs.Rising.{IsRising}
 use Rattle.rep_schema.specs.declared.schema.Schema.{Schema}
 use Rattle.rep_schema.specs.declared.schema.SiteEntry.{SiteEntry}
 use Rattle.rep_schema.specs.Shape.{HasShape}
 use Rattle.rep_schema.specs.Named.{is_site}
 use Rattle.rep_schema.specs.Sites.{has_table}
 use Rattle.deferred_queue.proofs.Sites.{is_same_site-refl}
+use Rattle.snapshot_query.specs.declared.parent.Parent.{Parent}
 use Rattle.site_state.specs.State.{LogState}
-use Rattle.site_state.specs.Notes.{log_of}
+use Rattle.site_state.specs.Notes.{log_of, keys_in}
 use Rattle.site_state.specs.Making.{new_log, tables_in}
+use Rattle.event_laws.specs.Rules.{IsParentWithin, IsParentLogged}
 use Rattle.event_laws.specs.Events.{master_of}
+use Rattle.snapshot_laws.specs.Waiting.{logged_cmp, DoParentsRise}
 use Rattle.world_state.specs.declared.declared_snapshot.DeclaredSnapshot.{DeclaredSnapshot}
-use Rattle.world_state.specs.Declaring.{has_snapshot}
-use Rattle.world_state.specs.Making.{is_snapshot_site_of, is_logged, logged_at}
+use Rattle.world_state.specs.Making.{is_snapshot_site_of, needs_log, is_logged, logged_at}
 use Rattle.snapshot_worlds.proofs.Entries.{any_found_passes, HasEntry, entry_of}
 
 has_table-range : (f : ℕ → Bool) (a n table : ℕ) → table < n → has_table (map f (range_with_len a n)) table ≡ f (a + table)
@@ -54,9 +57,9 @@ log_of-new keep a (suc n) table from below kept = go (keep a) refl (a == table) 
     go false is false is_c later = later (next is_c) (omega (arith, below)) kept
 
 module _ (schema : Schema) (shape : HasShape schema) (snapshots : List DeclaredSnapshot) (site master : SiteName) (of_site : master_of schema site ≡ Some master) (table : ℕ) where
-  is_logged_there : has_snapshot snapshots site table ≡ true → is_logged schema.sites snapshots master table ≡ true
-  is_logged_there has = any_found_passes (is_site site) (λ (e : SiteEntry). is_snapshot_site_of master e.master && has_snapshot snapshots e.name table) schema.sites e.entry e.found
-      (and_from (is_snapshot_site_of master e.entry.master) (has_snapshot snapshots e.entry.name table) own named)
+  is_logged_there : needs_log snapshots site table ≡ true → is_logged schema.sites snapshots master table ≡ true
+  is_logged_there has = any_found_passes (is_site site) (λ (e : SiteEntry). is_snapshot_site_of master e.master && needs_log snapshots e.name table) schema.sites e.entry e.found
+      (and_from (is_snapshot_site_of master e.entry.master) (needs_log snapshots e.entry.name table) own named)
     where
       e : HasEntry schema shape site master
       e = entry_of schema shape site master of_site
@@ -64,10 +67,10 @@ module _ (schema : Schema) (shape : HasShape schema) (snapshots : List DeclaredS
       own : is_snapshot_site_of master e.entry.master ≡ true
       own = ap (is_snapshot_site_of master) e.is ∙ is_same_site-refl master
 
-      named : has_snapshot snapshots e.entry.name table ≡ true
-      named = ap (λ (n : SiteName). has_snapshot snapshots n table) e.named ∙ has
+      named : needs_log snapshots e.entry.name table ≡ true
+      named = ap (λ (n : SiteName). needs_log snapshots n table) e.named ∙ has
 
-  pub has_log : table < length schema.tables → has_snapshot snapshots site table ≡ true → is_some (log_of table (map new_log (tables_in (logged_at schema snapshots master)))) ≡ true
+  pub has_log : table < length schema.tables → needs_log snapshots site table ≡ true → is_some (log_of table (map new_log (tables_in (logged_at schema snapshots master)))) ≡ true
   has_log below has = log_of-new (has_table (logged_at schema snapshots master)) 0 (length (logged_at schema snapshots master)) table (omega arith) (omega (arith, within, long)) kept
     where
       within : table < 32
@@ -78,3 +81,27 @@ module _ (schema : Schema) (shape : HasShape schema) (snapshots : List DeclaredS
 
       kept : has_table (logged_at schema snapshots master) table ≡ true
       kept = let same : 0 + table ≡ table = omega arith in has_table-range (is_logged schema.sites snapshots master) 0 32 table within ∙ ap (is_logged schema.sites snapshots master) same ∙ is_logged_there has
+
+-- ---- the log of the parents
+
+-- the log of the parents is needed
+abbrev pub ParentNeedsLog : List DeclaredSnapshot → SiteName → Option Parent → Type 0
+ParentNeedsLog snapshots site None = Unit {0}
+ParentNeedsLog snapshots site (Some p) = needs_log snapshots site p.table ≡ true
+
+pub has_parent_log : (schema : Schema) → HasShape schema → (snapshots : List DeclaredSnapshot) (site master : SiteName) → master_of schema site ≡ Some master → (parent : Option Parent)
+    → IsParentWithin schema parent → ParentNeedsLog snapshots site parent → IsParentLogged (map new_log (tables_in (logged_at schema snapshots master))) parent
+has_parent_log schema shape snapshots site master of_site None within needs = tt
+has_parent_log schema shape snapshots site master of_site (Some p) within needs = has_log schema shape snapshots site master of_site p.table within needs
+
+no_keys : (table : ℕ) (numbers : List ℕ) → keys_in (log_of table (map new_log numbers)) ≡ []
+no_keys table [] = refl
+no_keys table (n ∷ numbers) = go (n == table) (no_keys table numbers)
+  where
+    go : (b : Bool) → keys_in (log_of table (map new_log numbers)) ≡ [] → keys_in (cond b (Some (new_log n)) (log_of table (map new_log numbers))) ≡ []
+    go true later = refl
+    go false later = later
+
+pub new_parents_rise : (numbers : List ℕ) (parent : Option Parent) → DoParentsRise (map new_log numbers) parent
+new_parents_rise numbers None = tt
+new_parents_rise numbers (Some p) = subst (IsRising logged_cmp) (sym (no_keys p.table numbers)) tt

@@ -24,6 +24,7 @@ use Rattle.event_laws.specs.Waiting.{AreMeshed}
 use Rattle.site_state.specs.State.{SiteState}
 use Rattle.script_parse.specs.declared.command.Command.{Command}
 use Rattle.script_parse.specs.declared.command.Command.TheVariants as command
+use Rattle.script_parse.specs.declared.command.ParentWords.{ParentWords}
 use Rattle.script_parse.specs.declared.command.TestWords.{TestWords}
 use Rattle.script_parse.specs.Named.{NamesColumn}
 use Rattle.snapshot_laws.specs.Starts.{IsSnapshotStart, IsLogStart}
@@ -44,7 +45,7 @@ use Rattle.world_laws.proofs.SiteSteps.{run-append}
 use Rattle.world_laws.proofs.Pieces.{none_lead, steps_are_events}
 use Rattle.world_laws.proofs.Starting.{made_simulates, made_meshed}
 use Rattle.world_laws.proofs.Scripts.{HasShape-no_schema, step_of_script}
-use Rattle.snapshot_worlds.specs.WellDeclared.{AreDeclaredOnce, DeclaresWell, ScriptsDeclareWell}
+use Rattle.snapshot_worlds.specs.WellDeclared.{AreDeclaredOnce, AreParentsWithin, DeclaresWell, ScriptsDeclareWell}
 use Rattle.snapshot_worlds.specs.Starts.{start_of}
 use Rattle.snapshot_worlds.specs.Sites.{EachCanRefresh, EachKeyComesOnce, EachIsNotedSince, SnapshotsHold}
 use Rattle.snapshot_worlds.specs.Refreshes.{RefreshesShowTheQuery}
@@ -54,7 +55,7 @@ use Rattle.snapshot_worlds.proofs.WrittenRows.{AreTables-with_row}
 use Rattle.snapshot_worlds.proofs.Starting.{made_snapshot_start, made_log_start}
 use Rattle.snapshot_worlds.proofs.Holding.{holds, refreshes_show}
 use Rattle.snapshot_worlds.proofs.Staying.{Stays, IsPlain, plain_stays, refused_stays, step_schema}
-use Rattle.snapshot_worlds.proofs.Declaring.{shapes_no_rows, of_tables-declared, HasSnapshots, has_snapshots-push, declares_well}
+use Rattle.snapshot_worlds.proofs.Declaring.{shapes_no_rows, of_tables-declared, parents_within-declared, HasSnapshots, has_snapshots-push, declares_well}
 
 -- ---- behind Setup
 
@@ -93,11 +94,11 @@ record Keeps (w : WorldState) : Type 0 where
   has : HasSnapshots w
 
 keeps_so_far : (w : WorldState) → DeclaresSoFar w → Keeps w
-keeps_so_far w so_far = record { rows = so_far.rows; has = record { within = so_far.within; once = so_far.once } }
+keeps_so_far w so_far = record { rows = so_far.rows; has = record { within = so_far.within; once = so_far.once; parents = so_far.parents } }
 
 -- such a world in Setup is one of a script; behind Setup is none
 declares : (y : WorldState) → is_setup y.phase ≡ true → IsOfScript y → Keeps y → IsOfSnapshots y
-declares y setup (InSetup in_setup) k = Declares (record { setup = in_setup; rows = k.rows; within = k.has.within; once = k.has.once })
+declares y setup (InSetup in_setup) k = Declares (record { setup = in_setup; rows = k.rows; within = k.has.within; once = k.has.once; parents = k.has.parents })
 declares y setup (Behind r) k = absurd (cc (setup, r.leads.simulates.behind))
 
 keeps-Stays : (w y : WorldState) → Stays w y → Keeps w → Keeps y
@@ -107,6 +108,7 @@ keeps-Stays w y stays k = record {
     within = subst (λ (ds : List DeclaredSnapshot). AllByRecursion (λ (d : DeclaredSnapshot). d.table < length y.schema.tables) ds) (sym stays.snapshots)
         (subst (λ (s : Schema). AllByRecursion (λ (d : DeclaredSnapshot). d.table < length s.tables) w.snapshots) (sym stays.schema) k.has.within);
     once = subst AreDeclaredOnce (sym stays.snapshots) k.has.once;
+    parents = subst (AreParentsWithin y.schema) (sym stays.snapshots) (subst (λ (s : Schema). AreParentsWithin s w.snapshots) (sym stays.schema) k.has.parents);
   };
 }
 
@@ -120,7 +122,7 @@ keeps-Declare number d w passes k =
     let none = refused-None (has_rows w (table_shaped d)) refusal.WrongPhase (or_then-None (setup_step w) _ (or_then-None (declare_step d w) _ passes).0).1 in
     record {
       rows = AreTables-declared d w.schema w.base k.rows (shapes_no_rows w d none);
-      has = record { within = of_tables-declared d w.schema w.snapshots k.has.within; once = k.has.once };
+      has = record { within = of_tables-declared d w.schema w.snapshots k.has.within; once = k.has.once; parents = parents_within-declared d w.schema w.snapshots k.has.parents };
     }
 
 no_rule : (o : Option ℕ) → option_map refusal.SchemaRule o ≡ None → o ≡ None
@@ -138,25 +140,25 @@ no_suspension w in_setup passes =
     let wrong : behind_setup_step w ≡ Some refusal.WrongPhase = rw in_setup.setup refl in
     cc (wrong, (or_then-None (behind_setup_step w) _ (or_then-None (phase_step command.Suspend w) _ passes).0).0)
 
-setup_snapshot : (w : WorldState) (site : SiteName) (table : Option ℕ) (tests : List TestWords) → is_setup (with_snapshot_at site table tests w).phase ≡ is_setup w.phase
-setup_snapshot w site None tests = refl
-setup_snapshot w site (Some table) tests = refl
+setup_snapshot : (w : WorldState) (site : SiteName) (table : Option ℕ) (parent : Option ParentWords) (tests : List TestWords) → is_setup (with_snapshot_at site table parent tests w).phase ≡ is_setup w.phase
+setup_snapshot w site None parent tests = refl
+setup_snapshot w site (Some table) parent tests = refl
 
-rows_snapshot : (w : WorldState) (site : SiteName) (table : Option ℕ) (tests : List TestWords) → AreTables w.schema w.base → AreTables (with_snapshot_at site table tests w).schema (with_snapshot_at site table tests w).base
-rows_snapshot w site None tests are = are
-rows_snapshot w site (Some table) tests are = are
+rows_snapshot : (w : WorldState) (site : SiteName) (table : Option ℕ) (parent : Option ParentWords) (tests : List TestWords) → AreTables w.schema w.base → AreTables (with_snapshot_at site table parent tests w).schema (with_snapshot_at site table parent tests w).base
+rows_snapshot w site None parent tests are = are
+rows_snapshot w site (Some table) parent tests are = are
 
 keeps-Row : (number : ℕ) (table : TableName) (values : List Literal) (w : WorldState) → world_refusal (command.Row table values) w ≡ None → Keeps w → Keeps (world_done number (command.Row table values) w)
 keeps-Row number table values w passes k = record {
   rows = AreTables-with_row w.schema w.base values k.rows table (or_then-None (base_refusal w.schema w.base table values) None (or_then-None (setup_step w) _ passes).1).0;
-  has = record { within = k.has.within; once = k.has.once };
+  has = record { within = k.has.within; once = k.has.once; parents = k.has.parents };
 }
 
-keeps-Snapshot : (number : ℕ) (site : SiteName) (table : TableName) (tests : Option (List TestWords)) (w : WorldState) → world_refusal (command.Snapshot site table tests) w ≡ None → Keeps w
-    → Keeps (world_done number (command.Snapshot site table tests) w)
-keeps-Snapshot number site table tests w passes k = record {
-  rows = rows_snapshot w site (table_place w.schema table) (tests_in tests) k.rows;
-  has = has_snapshots-push w site table (tests_in tests) k.has (or_then-None (setup_step w) _ passes).1;
+keeps-Snapshot : (number : ℕ) (site : SiteName) (table : TableName) (parent : Option ParentWords) (tests : Option (List TestWords)) (w : WorldState) → world_refusal (command.Snapshot site table parent tests) w ≡ None → Keeps w
+    → Keeps (world_done number (command.Snapshot site table parent tests) w)
+keeps-Snapshot number site table parent tests w passes k = record {
+  rows = rows_snapshot w site (table_place w.schema table) parent (tests_in tests) k.rows;
+  has = has_snapshots-push w site table parent (tests_in tests) k.has (or_then-None (setup_step w) _ passes).1;
 }
 
 module _ (number : ℕ) (w : WorldState) (in_setup : IsInSetup w) (k : Keeps w) where
@@ -166,8 +168,8 @@ module _ (number : ℕ) (w : WorldState) (in_setup : IsInSetup w) (k : Keeps w) 
   -- what comes of a line that isn't refused
   done_in_setup : (c : Command) → world_refusal c w ≡ None → IsOfScript (world_done number c w) → IsOfSnapshots (world_done number c w)
   done_in_setup (command.Declare d) passes is = declares (world_done number (command.Declare d) w) in_setup.setup is (keeps-Declare number d w passes k)
-  done_in_setup (command.Snapshot site table tests) passes is =
-      declares (world_done number (command.Snapshot site table tests) w) (setup_snapshot w site (table_place w.schema table) (tests_in tests) ∙ in_setup.setup) is (keeps-Snapshot number site table tests w passes k)
+  done_in_setup (command.Snapshot site table parent tests) passes is =
+      declares (world_done number (command.Snapshot site table parent tests) w) (setup_snapshot w site (table_place w.schema table) parent (tests_in tests) ∙ in_setup.setup) is (keeps-Snapshot number site table parent tests w passes k)
   done_in_setup (command.Row table values) passes is = declares (world_done number (command.Row table values) w) in_setup.setup is (keeps-Row number table values w passes k)
   done_in_setup command.Resume passes is =
       resumed_goes_on w.phase w in_setup.setup (or_then-None (refused (has_block w) refusal.WrongPhase) (resume_step w.phase (lowest_broken w.schema w.procs.tables)) (or_then-None (phase_step command.Resume w) None passes).0).1 in_setup k
@@ -214,6 +216,7 @@ first_of_snapshots = Declares (record {
   rows = record { number = refl; each = λ k below. absurd (omega (arith, below)) };
   within = tt;
   once = tt;
+  parents = tt;
 })
 
 script_is : (lines : List Command) → AllByRecursion NamesColumn lines → IsOfSnapshots (script_world lines)

@@ -10,27 +10,27 @@ use Rattle.rep_schema.specs.Shape.{HasShape}
 use Rattle.rep_schema.specs.Tables.{Rows, rows_of}
 use Rattle.rep_schema.specs.Named.{site_named}
 use Rattle.snapshot_query.specs.declared.snapshot.Snapshot.{Snapshot}
-use Rattle.snapshot_query.specs.Queries.{query_rows}
+use Rattle.snapshot_query.specs.Parents.{rule_rows}
 use Rattle.site_state.specs.State.{SiteState}
 use Rattle.site_state.specs.Notes.{log_of}
 use Rattle.site_state.specs.Making.{is_late_master, new_log, tables_in}
 use Rattle.site_state.specs.Fits.{AreApart}
+use Rattle.event_laws.specs.Rules.{IsParentWithin}
 use Rattle.event_laws.specs.Events.{master_of, found_site}
 use Rattle.event_laws.specs.Fitting.{IsFitStart}
 use Rattle.snapshot_laws.specs.Starts.{StartsShown, StartsFrom, StartsWithSnapshots, IsNewLog}
 use Rattle.snapshot_laws.proofs.Moves.{all_weaker}
-use Rattle.snapshot_laws.proofs.Refreshing.{rows_are_shown}
+use Rattle.snapshot_laws.proofs.Refreshing.{rows_are_ruled}
 use Rattle.world_state.specs.declared.declared_snapshot.DeclaredSnapshot.{DeclaredSnapshot}
 use Rattle.world_state.specs.World.{WorldState}
-use Rattle.world_state.specs.Declaring.{has_snapshot}
 use Rattle.world_state.specs.Making.{rows_made, logged_at, snapshots_at, site_made, entry_made, is_early, sites_made, world_made}
 use Rattle.world_laws.proofs.FittingWorlds.{made_fit_start}
 use Rattle.snapshot_worlds.specs.WellDeclared.{DeclaresWell}
 use Rattle.snapshot_worlds.specs.Starts.{start_of, MadeWorldsAreSnapshotStarts, MadeWorldsAreLogStarts}
 use Rattle.snapshot_worlds.proofs.Each.{all_both}
 use Rattle.snapshot_worlds.proofs.Entries.{each_found, master_found, made_found}
-use Rattle.snapshot_worlds.proofs.DeclaredSnapshots.{each_at, each_has, apart_at}
-use Rattle.snapshot_worlds.proofs.Logging.{has_log}
+use Rattle.snapshot_worlds.proofs.Logging.{has_log, has_parent_log, new_parents_rise}
+use Rattle.snapshot_worlds.proofs.DeclaredSnapshots.{each_at, NeedsLogs, each_needs, apart_at}
 
 -- a snapshot of one of so many tables that wasn't refreshed yet, and of which no key was touched
 abbrev IsNew : ℕ → Snapshot → Type 0
@@ -72,22 +72,37 @@ module _ (w : WorldState) (well : DeclaresWell w) where
     apart : AreApart (snapshots_at w.snapshots site)
     apart = apart_at w.snapshots site well.once
 
-    shown : AllByRecursion (λ (s : Snapshot). rows_of x.base s.table ≡ query_rows s.query (rows_of rows s.table)) (snapshots_at w.snapshots site)
-    shown = rows_are_shown rows (snapshots_at w.snapshots site) (replicate (length w.schema.tables) []) apart
+    within : AllByRecursion (λ (s : Snapshot). IsParentWithin w.schema s.parent) (snapshots_at w.snapshots site)
+    within = each_at (λ (d : DeclaredSnapshot). IsParentWithin w.schema d.parent) (λ (s : Snapshot). IsParentWithin w.schema s.parent) w.snapshots site (λ d is. is) well.parents
+
+    shown : AllByRecursion (λ (s : Snapshot). rows_of x.base s.table ≡ rule_rows w.schema rows s) (snapshots_at w.snapshots site)
+    shown = rows_are_ruled w.schema rows (snapshots_at w.snapshots site) (replicate (length w.schema.tables) []) apart
         (all_weaker (IsNew (length w.schema.tables)) (λ (s : Snapshot). s.table < length (replicate (length w.schema.tables) [])) (snapshots_at w.snapshots site)
         (λ s is. let same = length-replicate {A = Rows} (length w.schema.tables) [] in omega (arith, same, is.0)) new)
 
-    logged : AllByRecursion (λ (s : Snapshot). is_some (log_of s.table m.logs) ≡ true) (snapshots_at w.snapshots site)
-    logged = all_both (IsNew (length w.schema.tables)) (λ (s : Snapshot). has_snapshot w.snapshots site s.table ≡ true) (λ (s : Snapshot). is_some (log_of s.table m.logs) ≡ true)
-        (snapshots_at w.snapshots site) (λ s is has. has_log w.schema shape w.snapshots site master of_site s.table is.0 has) new (each_has w.snapshots site)
+    -- its rows are there, and the logs that it goes by
+    abbrev IsReady : Snapshot → Type 0
+    IsReady s = (rows_of x.base s.table ≡ rule_rows w.schema rows s) × NeedsLogs w.snapshots site s
 
-    abbrev IsNewAndShown : Snapshot → Type 0
-    IsNewAndShown s = (rows_of x.base s.table ≡ query_rows s.query (rows_of rows s.table)) × (s.mark ≡ 0) × (s.touched ≡ [])
+    abbrev IsNewWithin : Snapshot → Type 0
+    IsNewWithin s = IsNew (length w.schema.tables) s × IsParentWithin w.schema s.parent
+
+    one_starts : (s : Snapshot) → IsReady s → IsNewWithin s → StartsShown m x s
+    one_starts s ready is = record {
+      master = refl;
+      logged = has_log w.schema shape w.snapshots site master of_site s.table is.0.0 ready.1.own;
+      parent_logged = has_parent_log w.schema shape w.snapshots site master of_site s.parent is.1 ready.1.parents;
+      parent_within = is.1;
+      parents_rise = new_parents_rise (tables_in (logged_at w.schema w.snapshots master)) s.parent;
+      below = rw is.0.1 (omega arith);
+      rows = ready.0;
+      touched = rw is.0.2 tt;
+    }
 
     starts_shown : AllByRecursion (StartsShown m x) (snapshots_at w.snapshots site)
-    starts_shown = all_both (λ (s : Snapshot). is_some (log_of s.table m.logs) ≡ true) IsNewAndShown (StartsShown m x)
-        (snapshots_at w.snapshots site) (λ s has all. record { master = refl; logged = has; below = rw all.1 (omega arith); rows = all.0; touched = rw all.2 tt }) logged
-        (all_both (λ (s : Snapshot). rows_of x.base s.table ≡ query_rows s.query (rows_of rows s.table)) (IsNew (length w.schema.tables)) IsNewAndShown (snapshots_at w.snapshots site) (λ s rows is. (rows, is.1, is.2)) shown new)
+    starts_shown = all_both IsReady IsNewWithin (StartsShown m x) (snapshots_at w.snapshots site) one_starts
+        (all_both (λ (s : Snapshot). rows_of x.base s.table ≡ rule_rows w.schema rows s) (NeedsLogs w.snapshots site) IsReady (snapshots_at w.snapshots site) (λ s rows needs. (rows, needs)) shown (each_needs w.snapshots site))
+        (all_both (IsNew (length w.schema.tables)) (λ (s : Snapshot). IsParentWithin w.schema s.parent) IsNewWithin (snapshots_at w.snapshots site) (λ s one is. (one, is)) new within)
 
   starts_at : (site : SiteName) (master : Option SiteName) → master_of w.schema site ≡ master → StartsWithSnapshots sites (site_made w.schema rows w.snapshots site master)
   starts_at site None is = record { apart = tt; shown = tt }

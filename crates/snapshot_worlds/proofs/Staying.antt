@@ -10,6 +10,7 @@ use Rattle.rep_schema.specs.Named.{table_place}
 use Rattle.net_plan.specs.Directions.{is_up}
 use Rattle.script_parse.specs.declared.command.Command.{Command}
 use Rattle.script_parse.specs.declared.command.Command.TheVariants as command
+use Rattle.script_parse.specs.declared.command.ParentWords.{ParentWords}
 use Rattle.script_parse.specs.declared.command.TestWords.{TestWords}
 use Rattle.world_state.specs.declared.phase.Phase.{Phase}
 use Rattle.world_state.specs.declared.phase.Phase.TheVariants as phase
@@ -66,7 +67,7 @@ stays_purged site (Some table) w = record { setup = refl; schema = refl; base = 
 abbrev pub IsPlain : Command → Type 0
 IsPlain command.Nothing = Unit {0}
 IsPlain (command.Declare declaration) = ⊥
-IsPlain (command.Snapshot site table tests) = ⊥
+IsPlain (command.Snapshot site table parent tests) = ⊥
 IsPlain (command.Row table values) = ⊥
 IsPlain command.Resume = ⊥
 IsPlain (command.Statement statement) = Unit {0}
@@ -91,7 +92,7 @@ IsPlain (command.Procedures line) = Unit {0}
 pub plain_stays : (number : ℕ) (c : Command) (w : WorldState) → IsPlain c → Stays w (world_done number c w)
 plain_stays number command.Nothing w plain = same w
 plain_stays number (command.Declare declaration) w plain = absurd plain
-plain_stays number (command.Snapshot site table tests) w plain = absurd plain
+plain_stays number (command.Snapshot site table parent tests) w plain = absurd plain
 plain_stays number (command.Row table values) w plain = absurd plain
 plain_stays number command.Resume w plain = absurd plain
 plain_stays number (command.Statement statement) w plain = record { setup = refl; schema = refl; base = refl; snapshots = refl }
@@ -124,9 +125,9 @@ no_setup phase.Setup block behind none = cc
 no_setup phase.Running block behind none = cc
 no_setup phase.Suspended block behind none = cc
 
-schema_snapshot : (site : SiteName) (table : Option ℕ) (tests : List TestWords) (w : WorldState) → (with_snapshot_at site table tests w).schema ≡ w.schema
-schema_snapshot site None tests w = refl
-schema_snapshot site (Some table) tests w = refl
+schema_snapshot : (site : SiteName) (table : Option ℕ) (parent : Option ParentWords) (tests : List TestWords) (w : WorldState) → (with_snapshot_at site table parent tests w).schema ≡ w.schema
+schema_snapshot site None parent tests w = refl
+schema_snapshot site (Some table) parent tests w = refl
 
 schema_resumed : (now : Phase) (w : WorldState) → (resumed now w).schema ≡ w.schema
 schema_resumed phase.Setup w = refl
@@ -135,7 +136,7 @@ schema_resumed phase.Suspended w = refl
 
 schema_done : (number : ℕ) (c : Command) (w : WorldState) → is_setup w.phase ≡ false → world_refusal c w ≡ None → (world_done number c w).schema ≡ w.schema
 schema_done number (command.Declare declaration) w behind passes = absurd (no_setup w.phase (has_block w) behind (or_then-None (setup_step w) _ (or_then-None (declare_step declaration w) _ passes).0).0)
-schema_done number (command.Snapshot site table tests) w behind passes = schema_snapshot site (table_place w.schema table) (tests_in tests) w
+schema_done number (command.Snapshot site table parent tests) w behind passes = schema_snapshot site (table_place w.schema table) parent (tests_in tests) w
 schema_done number (command.Row table values) w behind passes = refl
 schema_done number command.Resume w behind passes = schema_resumed w.phase w
 schema_done number command.Suspend w behind passes = refl

@@ -27,7 +27,7 @@ use Rattle.snapshot_worlds.proofs.Scripts.{scripts_declare_well, refreshes_show_
 
 -- a snapshot of the rows whose Q is above 5
 abbrev snapshot_line : Command
-snapshot_line = command.Snapshot s t (Some (record { column = codes "Q"; rel = rel.Gt; value = literal.Num (pos 5) } ∷ []))
+snapshot_line = command.Snapshot s t None (Some (record { column = codes "Q"; rel = rel.Gt; value = literal.Num (pos 5) } ∷ []))
 
 abbrev declared_lines : List Command
 declared_lines = master_line a ∷ snapshot_site_line s a ∷ id_and_q ∷ snapshot_line ∷ row_line 1 10 ∷ row_line 2 20 ∷ row_line 3 3 ∷ []

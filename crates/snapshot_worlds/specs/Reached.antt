@@ -9,14 +9,15 @@ use Rattle.world_state.specs.World.{WorldState}
 use Rattle.world_laws.specs.Simulation.{Leads}
 use Rattle.world_laws.specs.Reached.{IsInSetup}
 use Rattle.snapshot_laws.specs.Starts.{IsSnapshotStart, IsLogStart}
-use Rattle.snapshot_worlds.specs.WellDeclared.{AreDeclaredOnce}
+use Rattle.snapshot_worlds.specs.WellDeclared.{AreDeclaredOnce, AreParentsWithin}
 
--- in Setup the rows are tables, the snapshots are of tables of the schema, and no site has two of one
+-- in Setup the rows are tables, the snapshots and their parents are of tables of the schema, and no site has two of one
 pub record DeclaresSoFar (w : WorldState) : Type 0 where
   pub setup : IsInSetup w
   pub rows : AreTables w.schema w.base
   pub within : AllByRecursion (λ (s : DeclaredSnapshot). s.table < length w.schema.tables) w.snapshots
   pub once : AreDeclaredOnce w.snapshots
+  pub parents : AreParentsWithin w.schema w.snapshots
 
 -- behind Setup events lead here from where the laws of snapshots and of logs begin, with sites as the schema declares them
 pub record GoesOn (w : WorldState) : Type 0 where

@@ -4,17 +4,17 @@ use Rattle.std.specs.List.{AllByRecursion}
 use Rattle.rep_values.specs.declared.name.SiteName.{SiteName}
 use Rattle.rep_schema.specs.Tables.{columns_of, rows_of, IsTable, AreTables}
 use Rattle.snapshot_query.specs.declared.snapshot.Snapshot.{Snapshot}
-use Rattle.snapshot_query.specs.Queries.{matches}
+use Rattle.snapshot_query.specs.Parents.{picks}
 use Rattle.site_state.specs.declared.rows.TableRows.{TableRows}
 use Rattle.site_state.specs.State.{SiteState}
 use Rattle.site_state.specs.Contents.{tables_of}
-use Rattle.site_state.specs.Notes.{pending_keys}
-use Rattle.site_state.specs.Refreshes.{rows_shown}
 use Rattle.site_state.specs.Fits.{IsKeyed, AreApart, AreWithin}
 use Rattle.event_laws.specs.Core.{site_of}
+use Rattle.event_laws.specs.Rules.{rows_ruled}
 use Rattle.event_laws.specs.Events.{master_of, found_site}
 use Rattle.fast_refresh.specs.Showing.{ShowsOthers}
-use Rattle.snapshot_laws.specs.Laws.{KeysRise}
+use Rattle.snapshot_laws.specs.Waiting.{unsettled_keys}
+use Rattle.snapshot_laws.specs.Laws.{KeysRise, ParentsRise}
 use Rattle.snapshot_laws.specs.Logs.{AreNotedSince}
 use Rattle.world_state.specs.World.{WorldState}
 use Rattle.world_state.specs.Refusals.{young_step}
@@ -25,14 +25,17 @@ master_in site w = found_site w.sites (master_of w.schema site)
 
 -- ---- what a refresh goes by
 
--- each snapshot's table has, under each key that isn't pending by the master's logs, what the snapshot shows of the
--- master's row
+-- a snapshot's table has, under each key that is settled by the master's logs, what the snapshot shows of the master's
+-- row
+abbrev pub IsShown : SiteState → SiteState → Snapshot → Type 0
+IsShown m x s = ShowsOthers (columns_of x.schema s.table) (picks x.schema (tables_of m) s) (unsettled_keys x.schema m.logs (tables_of m) s) (rows_of (tables_of m) s.table) (rows_of (tables_of x) s.table)
+
 abbrev pub OthersAreShown : SiteState → SiteState → Type 0
-OthersAreShown m x = AllByRecursion
-    (λ (s : Snapshot). ShowsOthers (columns_of x.schema s.table) (matches s.query) (pending_keys m.logs s) (rows_of (tables_of m) s.table) (rows_of (tables_of x) s.table)) x.snapshots
+OthersAreShown m x = AllByRecursion (IsShown m x) x.snapshots
 
 -- a snapshot site and its master have one schema and tables of it, and no table has two snapshots; what each snapshot picks
--- is a table; and where no log is too young the others are shown
+-- is a table; the tables of parents are there, and each pending parent comes once; and where no log is too young the others are
+-- shown
 pub record CanRefreshFrom (m x : SiteState) : Type 0 where
   pub keyed : IsKeyed x.schema
   pub no_master : x.here.is_master ≡ false
@@ -41,7 +44,8 @@ pub record CanRefreshFrom (m x : SiteState) : Type 0 where
   pub master : AreTables x.schema (tables_of m)
   pub within : AreWithin x.schema x.snapshots
   pub apart : AreApart x.snapshots
-  pub picked : AllByRecursion (λ (t : TableRows). IsTable x.schema t.table t.rows) (rows_shown (tables_of m) x.snapshots)
+  pub picked : AllByRecursion (λ (t : TableRows). IsTable x.schema t.table t.rows) (rows_ruled x.schema (tables_of m) x.snapshots)
+  pub parents : AllByRecursion (ParentsRise x.schema m) x.snapshots
   pub others : young_step m.logs x.snapshots ≡ None → OthersAreShown m x
 
 -- so it is with each site of a world whose master is there

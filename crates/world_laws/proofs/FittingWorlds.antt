@@ -11,7 +11,7 @@ use Rattle.deferred_queue.specs.Streams.{is_same_site}
 use Rattle.site_state.specs.Fits.{AreWithin}
 use Rattle.event_laws.specs.Core.{site_of}
 use Rattle.event_laws.specs.Fitting.{StartsFit, IsFitStart}
-use Rattle.event_laws.proofs.QueryTables.{AreTables-rows_shown}
+use Rattle.event_laws.proofs.QueryTables.{AreTables-rows_ruled}
 use Rattle.event_laws.proofs.FittingSites.{every_site_fits}
 use Rattle.event_laws.proofs.Confluence.{every_site_can_pass_in_any_order}
 use Rattle.world_state.specs.declared.declared_snapshot.DeclaredSnapshot.{DeclaredSnapshot}
@@ -32,8 +32,8 @@ AreWithin-snapshots_at schema (s ∷ ss) site all = go (is_same_site s.site site
     rest : List DeclaredSnapshot
     rest = filter (λ (s : DeclaredSnapshot). is_same_site s.site site) ss
 
-    go : (b : Bool) → AreWithin schema (map (λ (s : DeclaredSnapshot). record { table = s.table; query = s.query; parent = None; mark = 0; touched = [] }) rest)
-        → AreWithin schema (map (λ (s : DeclaredSnapshot). record { table = s.table; query = s.query; parent = None; mark = 0; touched = [] }) (cond b (s ∷ rest) rest))
+    go : (b : Bool) → AreWithin schema (map (λ (s : DeclaredSnapshot). record { table = s.table; query = s.query; parent = s.parent; mark = 0; touched = [] }) rest)
+        → AreWithin schema (map (λ (s : DeclaredSnapshot). record { table = s.table; query = s.query; parent = s.parent; mark = 0; touched = [] }) (cond b (s ∷ rest) rest))
     go true later = (all.0, later)
     go false later = later
 
@@ -41,7 +41,7 @@ made_fits : (schema : Schema) (rows : List Rows) (snapshots : List DeclaredSnaps
     → StartsFit schema (site_made schema rows snapshots site master)
 made_fits schema rows snapshots site None are all = record { base = are; within = tt }
 made_fits schema rows snapshots site (Some master) are all = record {
-  base = AreTables-rows_shown schema rows (snapshots_at snapshots site) (replicate (length schema.tables) []) are (AreWithin-snapshots_at schema snapshots site all) (AreTables-empty schema);
+  base = AreTables-rows_ruled schema rows (snapshots_at snapshots site) (replicate (length schema.tables) []) are (AreWithin-snapshots_at schema snapshots site all) (AreTables-empty schema);
   within = AreWithin-snapshots_at schema snapshots site all;
 }
 

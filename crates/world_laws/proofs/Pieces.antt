@@ -20,6 +20,7 @@ use Rattle.world_state.specs.declared.phase.Phase.TheVariants as phase
 use Rattle.world_state.specs.declared.block.Block.{Block}
 use Rattle.script_parse.specs.declared.command.Command.{Command}
 use Rattle.script_parse.specs.declared.command.Command.TheVariants as command
+use Rattle.script_parse.specs.declared.command.ParentWords.{ParentWords}
 use Rattle.script_parse.specs.declared.command.TestWords.{TestWords}
 use Rattle.world_state.specs.World.{WorldState, with_site}
 use Rattle.world_state.specs.Declaring.{with_snapshot_at, tests_in}
@@ -190,14 +191,14 @@ resumed_leads phase.Running w v is s = none_lead w v s
 resumed_leads phase.Suspended w v is s = beside_lead w (record w { phase = phase.Running }) v s refl refl refl
 
 -- declarations are beside what events look at
-declared_leads : (site : SiteName) (table : Option ℕ) (tests : List TestWords) → AreEvents (with_snapshot_at site table tests)
-declared_leads site None tests w v s = none_lead w v s
-declared_leads site (Some table) tests w v s = beside_lead w (with_snapshot_at site (Some table) tests w) v s s.behind refl refl
+declared_leads : (site : SiteName) (table : Option ℕ) (parent : Option ParentWords) (tests : List TestWords) → AreEvents (with_snapshot_at site table parent tests)
+declared_leads site None parent tests w v s = none_lead w v s
+declared_leads site (Some table) parent tests w v s = beside_lead w (with_snapshot_at site (Some table) parent tests w) v s s.behind refl refl
 
 pub done_leads : (number : ℕ) (c : Command) → AreEvents (world_done number c)
 done_leads number command.Nothing w v s = none_lead w v s
 done_leads number (command.Declare declaration) w v s = beside_lead w (world_done number (command.Declare declaration) w) v s s.behind refl refl
-done_leads number (command.Snapshot site table tests) w v s = declared_leads site (table_place w.schema table) (tests_in tests) w v s
+done_leads number (command.Snapshot site table parent tests) w v s = declared_leads site (table_place w.schema table) parent (tests_in tests) w v s
 done_leads number (command.Row table values) w v s = beside_lead w (world_done number (command.Row table values) w) v s s.behind refl refl
 done_leads number (command.Txn site) w v s = beside_lead w (world_done number (command.Txn site) w) v s s.behind refl refl
 done_leads number (command.Statement statement) w v s = beside_lead w (world_done number (command.Statement statement) w) v s s.behind refl refl

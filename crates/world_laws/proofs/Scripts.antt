@@ -19,6 +19,7 @@ use Rattle.world_state.specs.declared.phase.Phase.{Phase}
 use Rattle.world_state.specs.declared.phase.Phase.TheVariants as phase
 use Rattle.script_parse.specs.declared.command.Command.{Command}
 use Rattle.script_parse.specs.declared.command.Command.TheVariants as command
+use Rattle.script_parse.specs.declared.command.ParentWords.{ParentWords}
 use Rattle.script_parse.specs.declared.command.TestWords.{TestWords}
 use Rattle.script_parse.specs.Named.{NamesColumn}
 use Rattle.world_state.specs.World.{WorldState, first_world, gets_from}
@@ -88,9 +89,9 @@ resumed_of_script phase.Setup w setup shape = Behind (made_reaches w shape)
 resumed_of_script phase.Running w setup shape = absurd (cc setup)
 resumed_of_script phase.Suspended w setup shape = absurd (cc setup)
 
-with_snapshot_in_setup : (w : WorldState) (site : SiteName) (table : Option ℕ) (tests : List TestWords) → IsInSetup w → IsOfScript (with_snapshot_at site table tests w)
-with_snapshot_in_setup w site None tests in_setup = InSetup in_setup
-with_snapshot_in_setup w site (Some table) tests in_setup = InSetup (record { setup = in_setup.setup; sites = in_setup.sites; block = in_setup.block; shape = in_setup.shape })
+with_snapshot_in_setup : (w : WorldState) (site : SiteName) (table : Option ℕ) (parent : Option ParentWords) (tests : List TestWords) → IsInSetup w → IsOfScript (with_snapshot_at site table parent tests w)
+with_snapshot_in_setup w site None parent tests in_setup = InSetup in_setup
+with_snapshot_in_setup w site (Some table) parent tests in_setup = InSetup (record { setup = in_setup.setup; sites = in_setup.sites; block = in_setup.block; shape = in_setup.shape })
 
 -- what comes of a line that isn't refused
 done_in_setup : (number : ℕ) (c : Command) (w : WorldState) → NamesColumn c → IsInSetup w → world_refusal c w ≡ None → IsOfScript (world_done number c w)
@@ -102,7 +103,7 @@ done_in_setup number (command.Declare declaration) w named in_setup passes = InS
   shape = HasShape-declared declaration w.schema in_setup.shape named
       (or_then-None (refusal_of w.schema declaration) None (or_then-None (declaring_step declaration w) _ (or_then-None (declare_step declaration w) _ passes).1).1).0;
 })
-done_in_setup number (command.Snapshot site table tests) w named in_setup passes = with_snapshot_in_setup w site (table_place w.schema table) (tests_in tests) in_setup
+done_in_setup number (command.Snapshot site table parent tests) w named in_setup passes = with_snapshot_in_setup w site (table_place w.schema table) parent (tests_in tests) in_setup
 done_in_setup number (command.Row table values) w named in_setup passes = InSetup (record { setup = in_setup.setup; sites = in_setup.sites; block = in_setup.block; shape = in_setup.shape })
 done_in_setup number command.Resume w named in_setup passes = resumed_of_script w.phase w in_setup.setup in_setup.shape
 done_in_setup number (command.Statement statement) w named in_setup passes = in_no_block w (world_done number (command.Statement statement) w) in_setup (or_then-None (block_step w) _ passes).0

@@ -12,19 +12,20 @@ use Rattle.deferred_queue.specs.Streams.{is_same_site}
 use Rattle.deferred_queue.proofs.Sites.{is_same_site-true}
 use Rattle.site_state.specs.State.{SiteState, is_among}
 use Rattle.site_state.specs.Contents.{tables_of}
-use Rattle.site_state.specs.Refreshes.{rows_shown, site_refresh}
+use Rattle.site_state.specs.Refreshes.{site_refresh}
 use Rattle.site_state.specs.Making.{is_late_master}
 use Rattle.event_laws.specs.Core.{site_of}
 use Rattle.event_laws.specs.Quiet.{unquiet_at, is_quiet_at, are_quiet}
 use Rattle.event_laws.specs.Joins.{with_joined, joined}
+use Rattle.event_laws.specs.Rules.{rows_ruled}
 use Rattle.event_laws.specs.Events.{master_of, found_site, refreshed_from, refreshed}
 use Rattle.world_state.specs.Refusals.{unquiet_told, unquiet_step, quiet_step}
 
 -- a snapshot site gets its rows from its master
 pub refreshed-made : (sites : List SiteState) (x master : SiteState) → found_site sites (master_of x.schema x.here.site) ≡ Some master → x.here.is_master ≡ false
-    → refreshed sites x ≡ site_refresh (rows_shown (tables_of master) x.snapshots) master.moment x
+    → refreshed sites x ≡ site_refresh (rows_ruled x.schema (tables_of master) x.snapshots) master.moment x
 refreshed-made sites x master found none =
-    ap (λ (o : Option SiteState). refreshed_from o x) found ∙ ap (λ (b : Bool). cond b (site_refresh (rows_shown (tables_of master) x.snapshots) master.moment x) x) (ap not none)
+    ap (λ (o : Option SiteState). refreshed_from o x) found ∙ ap (λ (b : Bool). cond b (site_refresh (rows_ruled x.schema (tables_of master) x.snapshots) master.moment x) x) (ap not none)
 
 -- where no master hinders a join, each that the schema names is quiet
 quiet_found : (sites : List SiteState) (es : List SiteEntry) (x : SiteState) → is_among (names_of es) x.here.site ≡ true → site_of x.here.site sites ≡ Some x → quiet_step sites es ≡ None

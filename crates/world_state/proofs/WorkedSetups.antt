@@ -20,7 +20,7 @@ use Rattle.world_state.proofs.WorkedScripts.{t, master_line, late_line, snapshot
 
 -- two masters, a snapshot site of the first, and a late master
 abbrev setup_lines : List Command
-setup_lines = master_line a ∷ late_line d ∷ master_line b ∷ snapshot_site_line s a ∷ id_and_q ∷ command.Snapshot s t None ∷ row_line 1 10 ∷ resume ∷ []
+setup_lines = master_line a ∷ late_line d ∷ master_line b ∷ snapshot_site_line s a ∷ id_and_q ∷ command.Snapshot s t None None ∷ row_line 1 10 ∷ resume ∷ []
 
 abbrev made : WorldState
 made = after setup_lines

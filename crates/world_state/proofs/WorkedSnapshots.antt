@@ -27,7 +27,7 @@ abbrev above : ℕ → List TestWords
 above k = record { column = codes "Q"; rel = rel.Gt; value = literal.Num (pos k) } ∷ []
 
 abbrev snapshot : List TestWords → Command
-snapshot tests = command.Snapshot s t (Some tests)
+snapshot tests = command.Snapshot s t None (Some tests)
 
 abbrev refresh : Refresh → Command
 refresh mode = command.Refresh s mode
@@ -120,7 +120,7 @@ test value = record { column = codes "Q"; rel = rel.Eq; value = value } ∷ []
 abbrev nowhere : List TestWords
 nowhere = record { column = codes "NOCOL"; rel = rel.Eq; value = literal.Num (pos 1) } ∷ []
 
-no_snapshot_at_a_master : world_refusal (command.Snapshot a t None) before_resume ≡ Some refusal.UnknownName
+no_snapshot_at_a_master : world_refusal (command.Snapshot a t None None) before_resume ≡ Some refusal.UnknownName
 unfolding group_columns_of columns_step broken_rule
 no_snapshot_at_a_master = refl
 

@@ -11,8 +11,9 @@ use Rattle.site_state.specs.State.{LogState, SiteState}
 use Rattle.site_state.specs.Contents.{tables_of}
 use Rattle.site_state.specs.Commits.{commit_answer}
 use Rattle.site_state.specs.Purges.{purge_answer, purge_log_answer}
-use Rattle.site_state.specs.Refreshes.{rows_shown, refresh_complete_answer, refresh_fast_answer}
+use Rattle.site_state.specs.Refreshes.{refresh_complete_answer}
 use Rattle.event_laws.specs.Core.{site_of}
+use Rattle.event_laws.specs.Rules.{rows_ruled, refresh_ruled_answer}
 use Rattle.event_laws.specs.Events.{master_of, found_site}
 use Rattle.world_state.specs.declared.block.Block.{Block}
 use Rattle.world_state.specs.World.{WorldState}
@@ -61,8 +62,8 @@ pub record RefreshTold : Type 0 where
   pub count : RefreshCount
 
 abbrev pub count_of_refresh : Bool → SiteState → SiteState → RefreshCount
-count_of_refresh true x master = refresh_fast_answer master.logs (rows_shown (tables_of master) x.snapshots) x
-count_of_refresh false x master = refresh_complete_answer (rows_shown (tables_of master) x.snapshots)
+count_of_refresh true x master = refresh_ruled_answer master.logs (rows_ruled x.schema (tables_of master) x.snapshots) x
+count_of_refresh false x master = refresh_complete_answer (rows_ruled x.schema (tables_of master) x.snapshots)
 
 abbrev pub refresh_told : Refresh → SiteState → SiteState → RefreshTold
 refresh_told mode x master = record { by_logs = goes_by_logs mode master.logs x.snapshots; count = count_of_refresh (goes_by_logs mode master.logs x.snapshots) x master }

@@ -46,7 +46,7 @@ world_commit w = committed_block w.block w
 abbrev pub is_commit : Command → Bool
 is_commit command.Nothing = false
 is_commit (command.Declare declaration) = false
-is_commit (command.Snapshot site table tests) = false
+is_commit (command.Snapshot site table parent tests) = false
 is_commit (command.Row table values) = false
 is_commit command.Resume = false
 is_commit (command.Statement statement) = false

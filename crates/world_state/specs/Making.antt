@@ -1,5 +1,5 @@
 -- The sites and the net as Setup's end makes them.
-use Rattle.std.specs.Prelude.{ℕ, ◌&&◌, Bool, false, not, List, [], map, filter, replicate, length, Option, Some, None}
+use Rattle.std.specs.Prelude.{ℕ, ◌==◌, ◌&&◌, ◌||◌, Bool, false, not, List, [], map, filter, replicate, length, Option, Some, None}
 use Rattle.std.specs.List.{list_any, range_with_len}
 use Rattle.rep_values.specs.declared.name.SiteName.{SiteName}
 use Rattle.rep_schema.specs.declared.schema.Schema.{Schema}
@@ -9,11 +9,13 @@ use Rattle.rep_schema.specs.Sites.{first_master, linked_pairs}
 use Rattle.deferred_queue.specs.Streams.{is_same_site}
 use Rattle.local_txn.specs.declared.local.Here.{Here}
 use Rattle.local_txn.specs.BaseRows.{filled_tables}
+use Rattle.snapshot_query.specs.declared.parent.Parent.{Parent}
 use Rattle.snapshot_query.specs.declared.snapshot.Snapshot.{Snapshot}
 use Rattle.net_plan.specs.Directions.{net_of}
 use Rattle.site_state.specs.State.{SiteState}
 use Rattle.site_state.specs.Making.{is_late_master, master_here, new_site}
-use Rattle.site_state.specs.Refreshes.{rows_shown, with_tables}
+use Rattle.site_state.specs.Refreshes.{with_tables}
+use Rattle.event_laws.specs.Rules.{rows_ruled}
 use Rattle.world_state.specs.declared.phase.Phase.TheVariants as phase
 use Rattle.world_state.specs.declared.declared_snapshot.DeclaredSnapshot.{DeclaredSnapshot}
 use Rattle.world_state.specs.World.{WorldState}
@@ -37,9 +39,21 @@ abbrev pub is_snapshot_site_of : SiteName → Option SiteName → Bool
 is_snapshot_site_of name None = false
 is_snapshot_site_of name (Some master) = is_same_site master name
 
--- some snapshot site of a master has a snapshot of a table
+abbrev pub is_of_parents : ℕ → Option Parent → Bool
+is_of_parents table None = false
+is_of_parents table (Some p) = p.table == table
+
+-- a declared snapshot of a site goes by the log of a table: of its own table, or of its parents'
+abbrev pub goes_by_log : SiteName → ℕ → DeclaredSnapshot → Bool
+goes_by_log site table s = is_same_site s.site site && (s.table == table || is_of_parents table s.parent)
+
+-- some snapshot of a site does
+abbrev pub needs_log : List DeclaredSnapshot → SiteName → ℕ → Bool
+needs_log snapshots site table = list_any (goes_by_log site table) snapshots
+
+-- some snapshot of a snapshot site of a master goes by the log of a table
 abbrev pub is_logged : List SiteEntry → List DeclaredSnapshot → SiteName → ℕ → Bool
-is_logged entries snapshots master table = list_any (λ (e : SiteEntry). is_snapshot_site_of master e.master && has_snapshot snapshots e.name table) entries
+is_logged entries snapshots master table = list_any (λ (e : SiteEntry). is_snapshot_site_of master e.master && needs_log snapshots e.name table) entries
 
 -- the tables that a master logs
 abbrev pub logged_at : Schema → List DeclaredSnapshot → SiteName → List Bool
@@ -48,15 +62,15 @@ logged_at schema snapshots master = map (is_logged schema.sites snapshots master
 -- the snapshots of a site, none of them refreshed yet
 abbrev pub snapshots_at : List DeclaredSnapshot → SiteName → List Snapshot
 snapshots_at snapshots site =
-    map (λ (s : DeclaredSnapshot). record { table = s.table; query = s.query; parent = None; mark = 0; touched = [] }) (filter (λ (s : DeclaredSnapshot). is_same_site s.site site) snapshots)
+    map (λ (s : DeclaredSnapshot). record { table = s.table; query = s.query; parent = s.parent; mark = 0; touched = [] }) (filter (λ (s : DeclaredSnapshot). is_same_site s.site site) snapshots)
 
 -- a snapshot site, which holds the tables of its snapshots
 abbrev pub snapshot_here : List DeclaredSnapshot → SiteName → Here
 snapshot_here snapshots site = record { site = site; is_master = false; tables = map (has_snapshot snapshots site) (range_with_len 0 32) }
 
--- the rows that snapshots show, and no others
+-- the rows that snapshots pick, and no others
 abbrev pub rows_of_snapshots : Schema → List Rows → List Snapshot → List Rows
-rows_of_snapshots schema rows snapshots = with_tables (rows_shown rows snapshots) (replicate (length schema.tables) [])
+rows_of_snapshots schema rows snapshots = with_tables (rows_ruled schema rows snapshots) (replicate (length schema.tables) [])
 
 -- ---- sites
 

@@ -108,7 +108,7 @@ proc_phase_step (proc_line.Execute site origin position) w = behind_setup_step w
 abbrev pub phase_step : Command → WorldState → Option Refusal
 phase_step command.Nothing w = None
 phase_step (command.Declare declaration) w = declare_step declaration w
-phase_step (command.Snapshot site table tests) w = setup_step w
+phase_step (command.Snapshot site table parent tests) w = setup_step w
 phase_step (command.Row table values) w = setup_step w
 phase_step command.Resume w = or_then (refused (has_block w) refusal.WrongPhase) (resume_step w.phase (lowest_broken w.schema w.procs.tables))
 phase_step (command.Statement statement) w = block_step w

@@ -1,6 +1,6 @@
 -- Why a line is refused: the first of its steps that refuses it. The phase comes first, then names from left to right, and
 -- then links, queues, logs, shapes, errors and ranges.
-use Rattle.std.specs.Prelude.{ℕ, ◌-◌, ◌^◌, min, ◌&&◌, ◌||◌, Bool, not, nat_lt, pos, List, [], ◌∷◌, map, sum, length, Option, Some, None}
+use Rattle.std.specs.Prelude.{ℕ, ◌-◌, ◌^◌, min, ◌&&◌, ◌||◌, Bool, true, false, not, cond, nat_lt, pos, List, [], ◌∷◌, map, sum, length, Option, Some, None}
 use Rattle.std.specs.List.{list_all}
 use Rattle.rep_values.specs.declared.name.SiteName.{SiteName}
 use Rattle.rep_values.specs.declared.name.TableName.{TableName}
@@ -8,10 +8,14 @@ use Rattle.rep_values.specs.declared.refusal.Refusal.{Refusal}
 use Rattle.rep_values.specs.declared.refusal.Refusal.TheVariants as refusal
 use Rattle.rep_values.specs.RefusalSteps.{refused, or_then, first_refusal, unknown, taken, known}
 use Rattle.rep_schema.specs.declared.schema.SiteEntry.{SiteEntry}
-use Rattle.rep_schema.specs.Tables.{columns_of}
-use Rattle.rep_schema.specs.Named.{table_place}
+use Rattle.rep_schema.specs.declared.schema.Column.{Column}
+use Rattle.rep_schema.specs.declared.schema.Kind.{Kind}
+use Rattle.rep_schema.specs.Tables.{columns_of, key_columns}
+use Rattle.rep_schema.specs.Kinds.{is_some_and, takes_numbers}
+use Rattle.rep_schema.specs.Named.{has_column, column_named, table_place}
 use Rattle.rep_declare.specs.Refusals.{out_of_range, refusal_of}
 use Rattle.local_txn.specs.BaseRows.{base_refusal}
+use Rattle.snapshot_query.specs.declared.parent.Parent.{Parent}
 use Rattle.snapshot_query.specs.declared.snapshot.Snapshot.{Snapshot}
 use Rattle.net_plan.specs.Directions.{is_up}
 use Rattle.site_state.specs.State.{DestinationState, LogState, SiteState}
@@ -26,6 +30,7 @@ use Rattle.script_parse.specs.declared.command.Refresh.{Refresh}
 use Rattle.script_parse.specs.declared.command.Refresh.TheVariants as refresh
 use Rattle.script_parse.specs.declared.command.Shown.{Shown}
 use Rattle.script_parse.specs.declared.command.Shown.TheVariants as shown
+use Rattle.script_parse.specs.declared.command.ParentWords.{ParentWords}
 use Rattle.script_parse.specs.declared.command.TestWords.{TestWords}
 use Rattle.script_parse.specs.declared.command.Command.{Command}
 use Rattle.script_parse.specs.declared.command.Command.TheVariants as command
@@ -35,7 +40,7 @@ use Rattle.world_state.specs.Blocks.{commit_refusal}
 use Rattle.world_state.specs.Phases.{phase_step}
 use Rattle.world_state.specs.Procs.{proc_of}
 use Rattle.world_state.specs.Testing.{has_columns, is_of_column, test_in_range}
-use Rattle.world_state.specs.ProcRefusals.{declaring_step, proc_steps}
+use Rattle.world_state.specs.ProcRefusals.{test_steps, declaring_step, proc_steps}
 
 -- ---- names
 
@@ -59,10 +64,15 @@ waiting_for x d = length (stream_to d.site x) - d.acked
 abbrev pub waiting_count : SiteState → ℕ
 waiting_count x = sum (map (waiting_for x) x.destinations)
 
--- the first snapshot of which the log was purged above its mark
+-- the log of a snapshot's parents was purged above its mark
+abbrev pub young_parents_step : List LogState → ℕ → Option Parent → Option Refusal
+young_parents_step logs mark None = None
+young_parents_step logs mark (Some p) = refused (nat_lt mark (purged_of p.table logs)) (refusal.LogTooYoung (purged_of p.table logs) mark)
+
+-- the first snapshot of which a log was purged above its mark: of its table, or else of its parents
 abbrev pub young_step : List LogState → List Snapshot → Option Refusal
 young_step logs [] = None
-young_step logs (s ∷ ss) = or_then (refused (is_too_young logs s) (refusal.LogTooYoung (purged_of s.table logs) s.mark)) (young_step logs ss)
+young_step logs (s ∷ ss) = or_then (refused (is_too_young logs s) (refusal.LogTooYoung (purged_of s.table logs) s.mark)) (or_then (young_parents_step logs s.mark s.parent) (young_step logs ss))
 
 -- a refresh goes by logs alone where it is asked to
 abbrev pub log_step : Refresh → List LogState → List Snapshot → Option Refusal
@@ -101,9 +111,35 @@ snapshot_steps w site table tests =
     refused (not (list_all (is_of_column (columns_of w.schema table)) tests)) refusal.RowShape ∷
     refused (not (list_all test_in_range tests)) refusal.ValueRange ∷ []
 
+-- of two kinds both take numbers, or both take texts
+abbrev pub are_alike : Kind → Kind → Bool
+are_alike k l = cond (takes_numbers k) (takes_numbers l) (not (takes_numbers l))
+
+-- columns hold keys: they are as many as the key columns, and alike in kind
+abbrev pub hold_keys : List Column → List (List ℕ) → List Column → Bool
+hold_keys columns [] [] = true
+hold_keys columns [] (k ∷ ks) = false
+hold_keys columns (n ∷ ns) [] = false
+hold_keys columns (n ∷ ns) (k ∷ ks) = is_some_and (λ (c : Column). are_alike c.kind k.kind) (column_named columns n) && hold_keys columns ns ks
+
+-- the columns that hold the keys of parents, and the tests of these
+abbrev pub parent_steps : List Column → List Column → List (List ℕ) → List TestWords → List (Option Refusal)
+parent_steps own parents columns tests =
+    refused (not (list_all (has_column own) columns)) refusal.UnknownName ∷
+    first_refusal (test_steps (hold_keys own columns (key_columns parents)) parents tests) ∷ []
+
+abbrev pub subsnapshot_steps : WorldState → SiteName → ℕ → ParentWords → List TestWords → List (Option Refusal)
+subsnapshot_steps w site table p tests =
+    refused (has_snapshot w.snapshots site table) refusal.NameTaken ∷
+    first_refusal (known (table_place w.schema p.table) (λ place. parent_steps (columns_of w.schema table) (columns_of w.schema place) p.columns tests)) ∷ []
+
+abbrev pub snapshot_steps_by : WorldState → SiteName → ℕ → Option ParentWords → List TestWords → List (Option Refusal)
+snapshot_steps_by w site table None tests = snapshot_steps w site table tests
+snapshot_steps_by w site table (Some p) tests = subsnapshot_steps w site table p tests
+
 -- a snapshot of a table at a snapshot site
-abbrev pub named_snapshot_steps : WorldState → SiteName → TableName → List TestWords → List (Option Refusal)
-named_snapshot_steps w site table tests = known (master_of w.schema site) (λ master. known (table_place w.schema table) (λ place. snapshot_steps w site place tests))
+abbrev pub named_snapshot_steps : WorldState → SiteName → TableName → Option ParentWords → List TestWords → List (Option Refusal)
+named_snapshot_steps w site table parent tests = known (master_of w.schema site) (λ master. known (table_place w.schema table) (λ place. snapshot_steps_by w site place parent tests))
 
 -- ---- what is shown
 
@@ -123,7 +159,7 @@ shown_step shown.Calls site w = unknown (proc_of site w.procs.sites)
 abbrev pub further_steps : Command → WorldState → List (Option Refusal)
 further_steps command.Nothing w = []
 further_steps (command.Declare declaration) w = declaring_step declaration w ∷ refusal_of w.schema declaration ∷ []
-further_steps (command.Snapshot site table tests) w = named_snapshot_steps w site table (tests_in tests)
+further_steps (command.Snapshot site table parent tests) w = named_snapshot_steps w site table parent (tests_in tests)
 further_steps (command.Row table values) w = base_refusal w.schema w.base table values ∷ []
 further_steps command.Resume w = []
 further_steps (command.Statement statement) w = []

@@ -50,7 +50,7 @@ is_up_word link.Down = false
 abbrev pub world_done : ℕ → Command → WorldState → WorldState
 world_done number command.Nothing w = w
 world_done number (command.Declare declaration) w = with_declaration declaration w
-world_done number (command.Snapshot site table tests) w = with_snapshot site table (tests_in tests) w
+world_done number (command.Snapshot site table parent tests) w = with_snapshot site table parent (tests_in tests) w
 world_done number (command.Row table values) w = with_row table values w
 world_done number command.Resume w = resumed w.phase w
 world_done number (command.Statement statement) w = with_statement number statement w
