@@ -85,6 +85,6 @@ AreWithin-snapshots_at schema site [] all = tt
 AreWithin-snapshots_at schema site (s ∷ ss) all = go (is_same_site s.site site) (AreWithin-snapshots_at schema site ss all.1)
   where
     go : (b : Bool) → AreWithin schema (snapshots_at ss site)
-        → AreWithin schema (map (λ (s : DeclaredSnapshot). record { table = s.table; query = s.query; parent = None; mark = 0; touched = [] }) (cond b (s ∷ filter (λ (t : DeclaredSnapshot). is_same_site t.site site) ss) (filter (λ (t : DeclaredSnapshot). is_same_site t.site site) ss)))
+        → AreWithin schema (map (λ (s : DeclaredSnapshot). record { table = s.table; query = s.query; parent = s.parent; mark = 0; touched = [] }) (cond b (s ∷ filter (λ (t : DeclaredSnapshot). is_same_site t.site site) ss) (filter (λ (t : DeclaredSnapshot). is_same_site t.site site) ss)))
     go true later = (all.0, later)
     go false later = later

@@ -7,6 +7,7 @@ ghost use Rattle.rep_laws.specs.Commuting.{IsSound};
 ghost use Rattle.site_state.specs.State.{is_master_site};
 ghost use Rattle.site_state.specs.Making.{master_here, new_site};
 ghost use Rattle.site_state.specs.Fits.{IsKeyed, AreWithin, AreApart};
+ghost use Rattle.event_laws.specs.Rules.{IsParentWithin};
 ghost use Rattle.world_state.specs.Making.{rows_made, snapshots_at, snapshot_here, rows_of_snapshots, site_made, entry_made, is_early, sites_made};
 ghost use Rattle.site_making.specs.Entries.{IsEntryOf};
 
@@ -90,8 +91,8 @@ fn new_site(
     )
 }
 
-/// A master site with the rows of a store, at which nothing happened yet. It logs the tables of which a snapshot site of
-/// its has a snapshot.
+/// A master site with the rows of a store, at which nothing happened yet. It logs the tables by the logs of which snapshots of
+/// its snapshot sites go.
 fn master_made(
     alloc: Global,
     filled: &PageTables,
@@ -118,6 +119,7 @@ fn snapshot_site_made(
     requires keyed { IsKeyed filled.now.schema }
     requires master { is_master_site filled.now.schema site ≡ false }
     requires within { AllByRecursion (λ s. s.table < length filled.now.schema.tables) snapshots.now }
+    requires parents { AllByRecursion (λ s. IsParentWithin filled.now.schema s.parent) snapshots.now }
     requires apart { AreApart (snapshots_at snapshots.now site) }
     ensures { IfOk result (λ made. made ≡ new_site filled.now.schema (snapshot_here snapshots.now site) [] (snapshots_at snapshots.now site)
         (rows_of_snapshots filled.now.schema filled.now.tables (snapshots_at snapshots.now site))) }
@@ -138,6 +140,7 @@ fn entry_made(
     requires keyed { IsKeyed filled.now.schema }
     requires entry { IsEntryOf filled.now.schema entry.now }
     requires within { AllByRecursion (λ s. s.table < length filled.now.schema.tables) snapshots.now }
+    requires parents { AllByRecursion (λ s. IsParentWithin filled.now.schema s.parent) snapshots.now }
     requires apart { AreApart (snapshots_at snapshots.now entry.now.name) }
     ensures { IfOk result (λ made. made ≡ entry_made filled.now.schema filled.now.tables snapshots.now entry.now) }
 {
@@ -157,6 +160,7 @@ fn entries_made(
     requires keyed { IsKeyed filled.now.schema }
     requires entries { AllByRecursion (IsEntryOf filled.now.schema) entries.now }
     requires within { AllByRecursion (λ s. s.table < length filled.now.schema.tables) snapshots.now }
+    requires parents { AllByRecursion (λ s. IsParentWithin filled.now.schema s.parent) snapshots.now }
     requires apart { (site : SiteNameValue) → AreApart (snapshots_at snapshots.now site) }
     ensures { IfOk result (λ made. made.items ≡ map (entry_made filled.now.schema filled.now.tables snapshots.now) entries.now) }
 {
@@ -199,6 +203,7 @@ fn early_sites(
 ) -> Result<Vec<Site<PageTables>>, NoMemory>
     requires keyed { IsKeyed filled.now.schema }
     requires within { AllByRecursion (λ s. s.table < length filled.now.schema.tables) snapshots.now }
+    requires parents { AllByRecursion (λ s. IsParentWithin filled.now.schema s.parent) snapshots.now }
     requires apart { (site : SiteNameValue) → AreApart (snapshots_at snapshots.now site) }
     ensures { IfOk result (λ made. made.items ≡ sites_made filled.now.schema filled.now.tables snapshots.now) }
 {
@@ -210,8 +215,8 @@ fn early_sites(
 }
 
 /// The declared sites that are there from the start, in declared order, made of a store whose rows are filled in with stamp 0
-/// and the first declared master: masters have all of them, and log the tables of which a snapshot site of theirs has a
-/// snapshot, snapshot sites have what their snapshots show. The store stays as it is.
+/// and the first declared master: masters have all of them, and log the tables by the logs of which snapshots
+/// of theirs go, snapshot sites have what their snapshots show. The store stays as it is.
 pub fn make_sites(
     alloc: Global,
     store: &PageTables,
@@ -219,6 +224,7 @@ pub fn make_sites(
 ) -> Result<Vec<Site<PageTables>>, NoMemory>
     requires sound { IsSound store.now.schema }
     requires within { AllByRecursion (λ s. s.table < length store.now.schema.tables) snapshots.now }
+    requires parents { AllByRecursion (λ s. IsParentWithin store.now.schema s.parent) snapshots.now }
     requires apart { (site : SiteNameValue) → AreApart (snapshots_at snapshots.now site) }
     ensures { IfOk result (λ sites. sites.items ≡ sites_made store.now.schema (rows_made store.now.schema store.now.tables) snapshots.now) }
 {

@@ -3,12 +3,13 @@ ghost use Rattle.std.specs.Prelude.{◌≡◌, ◌&&◌, ◌<◌, ◌==◌, ℕ,
 ghost use Rattle.std.specs.List.{AllByRecursion, list_any};
 ghost use Rattle.rep_schema.specs.Sites.{has_table};
 ghost use Rattle.world_state.specs.Declaring.{is_snapshot_of, has_snapshot};
-ghost use Rattle.world_state.specs.Making.{is_snapshot_site_of, is_logged, logged_at, snapshot_here};
+ghost use Rattle.world_state.specs.Making.{is_of_parents, goes_by_log, needs_log, is_snapshot_site_of, is_logged, logged_at, snapshot_here};
 
 use local_txn::Here;
 use rep_lists::NoMemory;
 use rep_schema::{Schema, SiteEntry, TableSet};
 use rep_values::SiteName;
+use snapshot_query::Parent;
 use std::alloc::Global;
 use world_state::DeclaredSnapshot;
 
@@ -28,6 +29,33 @@ fn has_snapshot(snapshots: &[DeclaredSnapshot], site: &SiteName, table: u32) -> 
         .any(|declared| is_snapshot_of(declared, site, table))
 }
 
+/// Whether parents stand in a table.
+fn is_of_parents(parent: &Option<Parent>, table: u32) -> bool
+    ensures { result ≡ is_of_parents table parent.now }
+{
+    match parent {
+        Some(parent) => parent.table == table,
+        None => false,
+    }
+}
+
+/// Whether a declared snapshot is one at a site that goes by the log of a table.
+fn goes_by_log(declared: &DeclaredSnapshot, site: &SiteName, table: u32) -> bool
+    ensures { result ≡ goes_by_log site.now table declared.now }
+{
+    declared.site.is_same(site)
+        && (declared.table == table || is_of_parents(&declared.parent, table))
+}
+
+/// Whether some snapshot of a site goes by the log of a table.
+fn needs_log(snapshots: &[DeclaredSnapshot], site: &SiteName, table: u32) -> bool
+    ensures { result ≡ needs_log snapshots.now site.now table }
+{
+    snapshots
+        .iter()
+        .any(|declared| goes_by_log(declared, site, table))
+}
+
 /// Whether a site is a snapshot site of a master.
 fn is_snapshot_site_of(entry: &SiteEntry, master: &SiteName) -> bool
     ensures { result ≡ is_snapshot_site_of master.now entry.now.master }
@@ -38,16 +66,16 @@ fn is_snapshot_site_of(entry: &SiteEntry, master: &SiteName) -> bool
     }
 }
 
-/// Whether a snapshot site of a master has a snapshot of a table.
+/// Whether some snapshot of a snapshot site of a master goes by the log of a table.
 fn logs_for(
     entry: &SiteEntry,
     snapshots: &[DeclaredSnapshot],
     master: &SiteName,
     table: u32,
 ) -> bool
-    ensures { result ≡ (is_snapshot_site_of master.now entry.now.master && has_snapshot snapshots.now entry.now.name table) }
+    ensures { result ≡ (is_snapshot_site_of master.now entry.now.master && needs_log snapshots.now entry.now.name table) }
 {
-    is_snapshot_site_of(entry, master) && has_snapshot(snapshots, &entry.name, table)
+    is_snapshot_site_of(entry, master) && needs_log(snapshots, &entry.name, table)
 }
 
 /// Whether a master logs a table.

@@ -75,6 +75,13 @@ impl Watched {
         &self.query
     }
 
+    /// The parent by which it shows rows, if it has one.
+    pub fn parent(&self) -> Option<&Parent>
+        ensures { option_copied result ≡ self.now.snapshot.parent }
+    {
+        self.parent.as_ref()
+    }
+
     /// The master's moment at its last refresh.
     pub fn mark(&self) -> u64
         ensures { result ≡ self.now.snapshot.mark }
