@@ -20,6 +20,7 @@ use Rattle.script_parse.specs.declared.command.Command.{Command}
 use Rattle.script_parse.specs.declared.command.Command.TheVariants as command
 use Rattle.script_parse.specs.declared.proc_line.ProcLine.{ProcLine}
 use Rattle.script_parse.specs.declared.proc_line.ProcLine.TheVariants as proc_line
+use Rattle.script_parse.specs.declared.command.ParentWords.{ParentWords}
 use Rattle.script_parse.specs.declared.command.TestWords.{TestWords}
 use Rattle.script_parse.specs.Named.{NamesColumn}
 use Rattle.site_state.specs.State.{is_among}
@@ -80,9 +81,9 @@ keeps_committed : (block : Option Block) (w : WorldState) → Keeps w (committed
 keeps_committed None w = same w
 keeps_committed (Some block) w = record { schema = refl; setup = refl; net = λ a b. refl; calls = λ a b. refl }
 
-keeps_snapshot : (site : SiteName) (table : Option ℕ) (tests : List TestWords) (w : WorldState) → Keeps w (with_snapshot_at site table tests w)
-keeps_snapshot site None tests w = same w
-keeps_snapshot site (Some table) tests w = record { schema = refl; setup = refl; net = λ a b. refl; calls = λ a b. refl }
+keeps_snapshot : (site : SiteName) (table : Option ℕ) (parent : Option ParentWords) (tests : List TestWords) (w : WorldState) → Keeps w (with_snapshot_at site table parent tests w)
+keeps_snapshot site None parent tests w = same w
+keeps_snapshot site (Some table) parent tests w = record { schema = refl; setup = refl; net = λ a b. refl; calls = λ a b. refl }
 
 keeps_log_purged : (site : SiteName) (table : Option ℕ) (w : WorldState) → Keeps w (log_purged_at site table w)
 keeps_log_purged site None w = same w
@@ -152,7 +153,7 @@ stay_procs number (proc_line.Execute site origin position) net p a b = refl
 abbrev IsPlain : Command → WorldState → Type 0
 IsPlain command.Nothing w = Unit {0}
 IsPlain (command.Declare declaration) w = ⊥
-IsPlain (command.Snapshot site table tests) w = Unit {0}
+IsPlain (command.Snapshot site table parent tests) w = Unit {0}
 IsPlain (command.Row table values) w = Unit {0}
 IsPlain command.Resume w = is_setup w.phase ≡ false
 IsPlain (command.Statement statement) w = Unit {0}
@@ -177,7 +178,7 @@ IsPlain (command.Procedures line) w = Unit {0}
 keeps_done : (number : ℕ) (c : Command) (w : WorldState) → IsPlain c w → Keeps w (world_done number c w)
 keeps_done number command.Nothing w plain = same w
 keeps_done number (command.Declare declaration) w plain = absurd plain
-keeps_done number (command.Snapshot site table tests) w plain = keeps_snapshot site (table_place w.schema table) (tests_in tests) w
+keeps_done number (command.Snapshot site table parent tests) w plain = keeps_snapshot site (table_place w.schema table) parent (tests_in tests) w
 keeps_done number (command.Row table values) w plain = record { schema = refl; setup = refl; net = λ a b. refl; calls = λ a b. refl }
 keeps_done number command.Resume w plain = keeps_resumed w.phase w refl plain
 keeps_done number (command.Statement statement) w plain = record { schema = refl; setup = refl; net = λ a b. refl; calls = λ a b. refl }
@@ -301,7 +302,7 @@ plain_done number c w plain named passes built = built_kept w (world_done number
 built_done : (number : ℕ) (c : Command) (w : WorldState) → NamesColumn c → world_refusal c w ≡ None → IsBuilt w → IsBuilt (world_done number c w)
 built_done number (command.Declare declaration) w named passes built = built_declared number declaration w named passes built
 built_done number command.Resume w named passes built = built_resumed number w passes built
-built_done number (command.Snapshot site table tests) w named passes built = plain_done number (command.Snapshot site table tests) w tt named passes built
+built_done number (command.Snapshot site table parent tests) w named passes built = plain_done number (command.Snapshot site table parent tests) w tt named passes built
 built_done number (command.Refresh site how) w named passes built = plain_done number (command.Refresh site how) w tt named passes built
 built_done number (command.PurgeLog master table) w named passes built = plain_done number (command.PurgeLog master table) w tt named passes built
 built_done number (command.Join site source) w named passes built = plain_done number (command.Join site source) w tt named passes built
@@ -355,7 +356,7 @@ built_pushed number (command.Push from to count) old new r is short built =
     built_in_part from to old new (behind_of old.phase (has_block old) (or_then-None (behind_setup_step old) _ (short.passes refl)).0) built (short.pushed from to count refl)
 built_pushed number command.Nothing old new r is _ _ = absurd (cc is)
 built_pushed number (command.Declare declaration) old new r is _ _ = absurd (cc is)
-built_pushed number (command.Snapshot site table tests) old new r is _ _ = absurd (cc is)
+built_pushed number (command.Snapshot site table parent tests) old new r is _ _ = absurd (cc is)
 built_pushed number (command.Row table values) old new r is _ _ = absurd (cc is)
 built_pushed number command.Resume old new r is _ _ = absurd (cc is)
 built_pushed number (command.Statement statement) old new r is _ _ = absurd (cc is)

@@ -86,7 +86,7 @@ known_proc_line number (proc_line.Execute site origin position) w why is = refl
 known_met : (c : Command) (w : WorldState) (why : Refusal) → known_refusal c w ≡ Some why → world_refusal c w ≡ Some why
 known_met command.Nothing w why is = is
 known_met (command.Declare declaration) w why is = is
-known_met (command.Snapshot site table tests) w why is = is
+known_met (command.Snapshot site table parent tests) w why is = is
 known_met (command.Row table values) w why is = or_first (phase_step (command.Row table values) w) _ why is
 known_met command.Resume w why is = is
 known_met (command.Statement statement) w why is = is
@@ -120,7 +120,7 @@ no_block w why is = go w.block refl
 known_line : (number : ℕ) (c : Command) (w : WorldState) (why : Refusal) → known_refusal c w ≡ Some why → told_line number c w ≡ number
 known_line number command.Nothing w why is = refl
 known_line number (command.Declare declaration) w why is = refl
-known_line number (command.Snapshot site table tests) w why is = refl
+known_line number (command.Snapshot site table parent tests) w why is = refl
 known_line number (command.Row table values) w why is = refl
 known_line number command.Resume w why is = refl
 known_line number (command.Statement statement) w why is = refl

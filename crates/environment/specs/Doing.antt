@@ -33,7 +33,7 @@ is_push_of_calls (proc_line.Execute site origin position) = false
 abbrev pub is_push : Command → Bool
 is_push command.Nothing = false
 is_push (command.Declare declaration) = false
-is_push (command.Snapshot site table tests) = false
+is_push (command.Snapshot site table parent tests) = false
 is_push (command.Row table values) = false
 is_push command.Resume = false
 is_push (command.Statement statement) = false

@@ -46,7 +46,7 @@ known_proc_steps (proc_line.Execute site origin position) w = known (proc_of sit
 abbrev pub is_tried : Command → Bool
 is_tried command.Nothing = false
 is_tried (command.Declare declaration) = false
-is_tried (command.Snapshot site table tests) = false
+is_tried (command.Snapshot site table parent tests) = false
 is_tried (command.Row table values) = true
 is_tried command.Resume = false
 is_tried (command.Statement statement) = false
@@ -72,7 +72,7 @@ is_tried (command.Procedures line) = is_tried_call line
 abbrev pub known_steps : Command → WorldState → List (Option Refusal)
 known_steps command.Nothing w = further_steps command.Nothing w
 known_steps (command.Declare declaration) w = further_steps (command.Declare declaration) w
-known_steps (command.Snapshot site table tests) w = further_steps (command.Snapshot site table tests) w
+known_steps (command.Snapshot site table parent tests) w = further_steps (command.Snapshot site table parent tests) w
 known_steps (command.Row table values) w = []
 known_steps command.Resume w = further_steps command.Resume w
 known_steps (command.Statement statement) w = further_steps (command.Statement statement) w

@@ -123,7 +123,7 @@ show_text shown.Calls site w = shown_calls site (proc_of site w.procs.sites)
 abbrev pub world_text : Command → WorldState → List ℕ
 world_text command.Nothing w = []
 world_text (command.Declare declaration) w = []
-world_text (command.Snapshot site table tests) w = []
+world_text (command.Snapshot site table parent tests) w = []
 world_text (command.Row table values) w = []
 world_text command.Resume w = []
 world_text (command.Statement statement) w = []

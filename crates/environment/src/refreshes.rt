@@ -1,13 +1,13 @@
 //! Why a refresh, or a purge of a log, is refused.
-ghost use Rattle.std.specs.Prelude.{◌≡◌, ◌∷◌, false, [], map, not};
-ghost use Rattle.rep_values.specs.RefusalSteps.{refused, first_refusal};
+ghost use Rattle.std.specs.Prelude.{◌≡◌, ◌∷◌, false, [], map, nat_lt, not};
+ghost use Rattle.rep_values.specs.RefusalSteps.{refused, or_then, first_refusal};
 ghost use Rattle.rep_schema.specs.Shape.{HasShape};
 ghost use Rattle.net_plan.specs.Directions.{HasDirection};
 ghost use Rattle.site_state.specs.State.{DestinationState};
 ghost use Rattle.site_state.specs.Notes.{purged_of, is_too_young};
 ghost use Rattle.event_laws.specs.Events.{is_all_acked};
 ghost use Rattle.world_state.specs.Phases.{is_setup};
-ghost use Rattle.world_state.specs.Refusals.{waiting_count, young_step, log_step, refresh_steps};
+ghost use Rattle.world_state.specs.Refusals.{waiting_count, young_parents_step, young_step, log_step, refresh_steps};
 ghost use Rattle.environment.specs.Following.{IsBuilt};
 ghost use Rattle.environment.specs.Known.{known_steps};
 
@@ -31,20 +31,41 @@ fn purged_of(logs: &Notes, table: u32) -> u64
     }
 }
 
-// Whether the log of a snapshot's table was purged above its mark.
-fn too_young(logs: &Notes, snapshot: &Watched) -> Option<Refusal>
-    ensures { result
-        ≡ refused (is_too_young logs.now.logs snapshot.now.snapshot) (Refusal.LogTooYoung (purged_of snapshot.now.snapshot.table logs.now.logs) snapshot.now.snapshot.mark) }
+// Whether the log of a table was purged above a mark.
+fn purged_step(logs: &Notes, table: u32, mark: u64) -> Option<Refusal>
+    ensures { result ≡ refused (nat_lt mark (purged_of table logs.now.logs)) (Refusal.LogTooYoung (purged_of table logs.now.logs) mark) }
 {
-    let purged = purged_of(logs, snapshot.table());
-    if snapshot.mark() < purged {
-        Some(Refusal::LogTooYoung(purged, snapshot.mark()))
+    let purged = purged_of(logs, table);
+    if mark < purged {
+        Some(Refusal::LogTooYoung(purged, mark))
     } else {
         None
     }
 }
 
-/// The first snapshot of a site of which its master's log was purged above its mark.
+// Whether the log of a snapshot's parents was purged above its mark.
+fn young_parents(logs: &Notes, snapshot: &Watched) -> Option<Refusal>
+    ensures { result ≡ young_parents_step logs.now.logs snapshot.now.snapshot.mark snapshot.now.snapshot.parent }
+{
+    match snapshot.parent() {
+        Some(parent) => purged_step(logs, parent.table, snapshot.mark()),
+        None => None,
+    }
+}
+
+// Whether the log of a snapshot's table was purged above its mark, or else that of its parents.
+fn too_young(logs: &Notes, snapshot: &Watched) -> Option<Refusal>
+    ensures { result ≡ or_then (refused (is_too_young logs.now.logs snapshot.now.snapshot) (Refusal.LogTooYoung (purged_of snapshot.now.snapshot.table logs.now.logs) snapshot.now.snapshot.mark))
+        (young_parents_step logs.now.logs snapshot.now.snapshot.mark snapshot.now.snapshot.parent) }
+{
+    match purged_step(logs, snapshot.table(), snapshot.mark()) {
+        Some(refusal) => Some(refusal),
+        None => young_parents(logs, snapshot),
+    }
+}
+
+/// The first snapshot of a site of which its master's log was purged above its mark: that of its table, or else that of its
+/// parents.
 pub fn young_step(logs: &Notes, snapshots: &Notes) -> Option<Refusal>
     ensures { result ≡ young_step logs.now.logs snapshots.now.snapshots }
 {

@@ -118,11 +118,12 @@ impl Environment {
                 self.error_refusal(site, origin),
             Command::Txn { site } | Command::Purge { site } => self.unknown_site(site),
             Command::Show { what, site } => self.shown_step(*what, site),
-            Command::Snapshot { site, table, tests } => self.snapshot_refusal(
+            Command::Snapshot {
                 site,
                 table,
-                tests_in(tests),
-            ),
+                parent,
+                tests,
+            } => self.snapshot_refusal(site, table, parent, tests_in(tests)),
             Command::Refresh { site, how } => self.refresh_refusal(site, *how),
             Command::PurgeLog { master, table } => self.purge_log_refusal(master, table),
             Command::Nothing

@@ -1,5 +1,5 @@
 -- What Setup has declared when it ends: snapshots of the schema's tables, at most one of a table at each site.
-use Rattle.std.proofs.Common.{◌≡◌, ◌≢◌, ℕ, ◌==◌, List, [], ◌∷◌, map, Bool, true, false, cond, None, refl, subst}
+use Rattle.std.proofs.Common.{◌≡◌, ◌≢◌, ℕ, ◌==◌, List, [], ◌∷◌, map, Bool, true, false, cond, refl, subst}
 use Rattle.std.specs.Prelude.{filter}
 use Rattle.std.specs.List.{AllByRecursion}
 use Rattle.std.proofs.lemmas.Bool.{or_parts}
@@ -18,7 +18,7 @@ use Rattle.environment.specs.Reached.{IsOfConvergence, Declaring, Going}
 
 -- a declared snapshot as its site has it
 abbrev as_made : DeclaredSnapshot → Snapshot
-as_made d = record { table = d.table; query = d.query; parent = None; mark = 0; touched = [] }
+as_made d = record { table = d.table; query = d.query; parent = d.parent; mark = 0; touched = [] }
 
 abbrev is_at : SiteName → DeclaredSnapshot → Bool
 is_at site d = is_same_site d.site site
@@ -51,7 +51,7 @@ apart_at (d ∷ ds) site once = go (is_same_site d.site site) refl (apart_at ds 
     go true is later = (none_of ds site d.table (subst (λ (n : SiteName). has_snapshot ds n d.table ≡ false) (is_same_site-true d.site site is) once.0), later)
     go false is later = later
 
-declared_so_far : (w : WorldState) → IsOfConvergence w → is_setup w.phase ≡ true → DeclaresSoFar w
+pub declared_so_far : (w : WorldState) → IsOfConvergence w → is_setup w.phase ≡ true → DeclaresSoFar w
 declared_so_far w (Declaring so_far) setup = so_far
 declared_so_far w (Going a) setup = absurd (cc (setup, a.leads.simulates.behind))
 

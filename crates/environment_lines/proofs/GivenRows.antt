@@ -1,12 +1,11 @@
 -- What snapshots show of a master's tables is given for the table of each of them.
-use Rattle.std.proofs.Common.{◌≡◌, ◌≢◌, ℕ, zero, suc, List, [], ◌∷◌, map, refl, sym, arith}
+use Rattle.std.proofs.Common.{◌≡◌, ◌≢◌, zero, suc, List, [], ◌∷◌, map, refl, arith}
 use Rattle.std.specs.List.{Any, AllByRecursion}
 use Rattle.rep_schema.specs.declared.schema.Schema.{Schema}
-use Rattle.rep_schema.specs.Tables.{Rows, rows_of, IsTable}
+use Rattle.rep_schema.specs.Tables.{Rows, IsTable}
 use Rattle.snapshot_query.specs.declared.snapshot.Snapshot.{Snapshot}
-use Rattle.snapshot_query.specs.Queries.{query_rows}
 use Rattle.site_state.specs.declared.rows.TableRows.{TableRows}
-use Rattle.site_state.specs.Refreshes.{rows_shown}
+use Rattle.event_laws.specs.Rules.{table_ruled, rows_ruled}
 use Rattle.site_state.specs.Fits.{AreApart}
 use Rattle.site_refresh.specs.Refreshing.{AreGivenOnce, AreGivenFor}
 
@@ -20,10 +19,10 @@ all_then : {X : Type 0} (P Q : X → Type 0) → ((x : X) → P x → Q x) → (
 all_then P Q each [] all = tt
 all_then P Q each (x ∷ xs) all = (each x all.0, all_then P Q each xs all.1)
 
-module _ (tables : List Rows) where
+module _ (schema : Schema) (tables : List Rows) where
   -- what one of them shows
   abbrev shown_of : Snapshot → TableRows
-  shown_of s = record { table = s.table; rows = query_rows s.query (rows_of tables s.table) }
+  shown_of s = table_ruled schema tables s
 
   abbrev IsOf : Snapshot → TableRows → Type 0
   IsOf s t = t.table ≡ s.table
@@ -54,5 +53,5 @@ module _ (tables : List Rows) where
   given_once (s ∷ ss) apart = (others_given s ss apart.0, given_once ss apart.1)
 
   -- so a refresh may go by them, where no table has two snapshots and what is shown is a table
-  pub shown_are_given : (schema : Schema) (ss : List Snapshot) → AreApart ss → AllByRecursion (λ (t : TableRows). IsTable schema t.table t.rows) (rows_shown tables ss) → AreGivenFor schema ss (rows_shown tables ss)
-  shown_are_given schema ss apart picked = record { each = each_given ss; others = no_others ss; once = given_once ss apart; tables = picked }
+  pub shown_are_given : (ss : List Snapshot) → AreApart ss → AllByRecursion (λ (t : TableRows). IsTable schema t.table t.rows) (rows_ruled schema tables ss) → AreGivenFor schema ss (rows_ruled schema tables ss)
+  shown_are_given ss apart picked = record { each = each_given ss; others = no_others ss; once = given_once ss apart; tables = picked }

@@ -5,6 +5,8 @@ mod Unbroken
 mod FewTables
 mod DeclaredApart
 mod GivenRows
+mod NoParents
+mod RuledRows
 mod ShownRows
 mod Parts
 mod RefreshedSites

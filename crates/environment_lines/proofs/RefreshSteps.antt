@@ -4,7 +4,7 @@ use Rattle.std.specs.Prelude.{◌||◌, not, slice_get, slice_set}
 use Rattle.std.proofs.lemmas.List.{length-set}
 use Rattle.rep_values.specs.declared.name.SiteName.{SiteName}
 use Rattle.rep_values.specs.declared.refusal.Refusal.TheVariants as refusal
-use Rattle.rep_values.specs.RefusalSteps.{refused, or_then, first_refusal, known}
+use Rattle.rep_values.specs.RefusalSteps.{refused, or_then, first_refusal}
 use Rattle.rep_values.proofs.RefusalSteps.{or_then-None}
 use Rattle.rep_schema.specs.declared.schema.Schema.{Schema}
 use Rattle.script_parse.specs.declared.command.Refresh.{Refresh}

@@ -1,4 +1,6 @@
 -- The definitions of this crate.
+pub mod Declaring
+pub mod Ruled
 pub mod Refreshing
 pub mod Joining
 pub use Rattle.environment.specs.Following

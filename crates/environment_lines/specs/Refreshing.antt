@@ -2,7 +2,8 @@
 use Rattle.std.specs.Prelude.{◌≡◌, ◌≢◌, ℕ, List, Option, Some, None, slice_get, slice_set}
 use Rattle.site_state.specs.State.{SiteState}
 use Rattle.site_state.specs.Contents.{tables_of}
-use Rattle.site_state.specs.Refreshes.{rows_shown, site_refresh}
+use Rattle.site_state.specs.Refreshes.{site_refresh}
+use Rattle.event_laws.specs.Rules.{rows_ruled}
 use Rattle.script_parse.specs.declared.command.Refresh.{Refresh}
 use Rattle.world_state.specs.Refusals.{log_step}
 use Rattle.world_state.specs.Answers.{RefreshTold, refresh_between}
@@ -25,7 +26,7 @@ pub record CanRefreshAt (how : Refresh) (sites : List SiteState) (place master :
 
 -- a site as its refresh from a master leaves it
 abbrev pub refreshed_by : SiteState → SiteState → SiteState
-refreshed_by m x = site_refresh (rows_shown (tables_of m) x.snapshots) m.moment x
+refreshed_by m x = site_refresh (rows_ruled x.schema (tables_of m) x.snapshots) m.moment x
 
 abbrev pub written_between : List SiteState → ℕ → Option SiteState → Option SiteState → List SiteState
 written_between sites place None there = sites

@@ -5,6 +5,7 @@ mod blocks;
 mod joins;
 mod links;
 mod refreshing;
+mod ruled;
 mod setup;
 mod shown;
 mod sites;

@@ -2,8 +2,8 @@
 ghost use Rattle.std.specs.Prelude.{◌≡◌, ◌≤◌, ◌<◌, Some, None, IfOk, OnOk, OnErr};
 ghost use Rattle.report_text.specs.Sheet.{Appends, most_line};
 ghost use Rattle.site_state.specs.Contents.{tables_of};
-ghost use Rattle.site_state.specs.Fits.{AreWithin};
-ghost use Rattle.site_state.specs.Refreshes.{rows_shown, site_refresh, refresh_fast_answer, refresh_complete_answer};
+ghost use Rattle.site_state.specs.Refreshes.{refresh_complete_answer};
+ghost use Rattle.event_laws.specs.Rules.{rows_ruled, refresh_ruled_answer, HaveNoParents};
 ghost use Rattle.world_state.specs.Refusals.{young_step, log_step};
 ghost use Rattle.world_state.specs.Answers.{goes_by_logs, refresh_told, refresh_answer};
 ghost use Rattle.world_state.specs.Steps.{world_refresh};
@@ -12,19 +12,21 @@ ghost use Rattle.environment.specs.Following.{IsBuilt};
 ghost use Rattle.environment.specs.Known.{known_refusal};
 ghost use Rattle.environment.specs.Texts.{refreshed_text};
 ghost use Rattle.environment.specs.Doing.{Does};
-ghost use Rattle.environment_lines.specs.Refreshing.{CanRefreshAt, refreshed_at, told_at, told_of};
+ghost use Rattle.environment_lines.specs.Refreshing.{CanRefreshAt, refreshed_by, refreshed_at, told_at, told_of};
 
+use crate::ruled::{have_parents, rows_of_each, rows_of_each_by_logs};
 use environment::{Environment, Site, master_of, no_memory, place_of, room_for_line, young_step};
-use fast_refresh::{CountedView, rows_shown};
+use event_laws::queries_are_rules;
+use fast_refresh::CountedView;
 use page_tables::PageTables;
-use rep_lists::{Items, NoMemory};
+use rep_lists::NoMemory;
 use rep_schema::RowStore;
 use rep_values::{SiteName, TableName};
 use report_text::{Lines, purge_log_line, refresh_complete_line, refresh_fast_line};
 use schema_names::table_place;
 use script_parse::{Command, Refresh};
 use site_notes::Notes;
-use site_state::{RefreshCount, TableRows};
+use site_state::RefreshCount;
 use std::alloc::Global;
 use world_state::Refused;
 
@@ -46,23 +48,49 @@ fn goes_by_logs(how: Refresh, logs: &Notes, snapshots: &Notes) -> bool
     }
 }
 
-/// What snapshots show of a master's tables.
-fn rows_of_each(
+/// Refreshes a site by its master's logs, where no snapshot has a parent.
+fn refresh_by_keys(
+    site: &mut Site<PageTables>,
     alloc: Global,
-    snapshots: &Notes,
-    master: &PageTables,
-) -> Result<Items<TableRows>, NoMemory>
-    requires { AreWithin master.now.schema snapshots.now.snapshots }
-    ensures { IfOk result (λ rows. rows ≡ rows_shown master.now.tables snapshots.now.snapshots) }
+    master: &Site<PageTables>,
+) -> Result<RefreshCount, NoMemory>
+    requires can { CanRefreshFrom master.now site.old }
+    requires reach { young_step master.now.logs site.old.snapshots ≡ None }
+    requires none { HaveNoParents site.old.snapshots }
+    ensures ok { OnOk result (site.new ≡ refreshed_by master.now site.old) }
+    ensures count { IfOk result (λ count. count ≡ refresh_ruled_answer master.now.logs (rows_ruled site.old.schema (tables_of master.now) site.old.snapshots) site.old) }
+    ensures kept { OnErr result (site.new ≡ site.old) }
 {
-    let mut shown = Items::new(alloc);
-    for place in 0..snapshots.snapshot_count() {
-        let snapshot = snapshots.snapshot_at(place);
-        let table = snapshot.table();
-        let rows = rows_shown(alloc, snapshot.query(), master, table)?;
-        shown.push(TableRows { table, rows })?;
-    }
-    Ok(shown)
+    queries_are_rules();
+    let mut view = CountedView::of(master.store());
+    let count = site.refresh_fast_from(alloc, &mut view, master.notes(), master.moment())?;
+    Ok(count)
+}
+
+/// Refreshes a site by its master's logs, where snapshots may have parents.
+fn refresh_by_rules(
+    site: &mut Site<PageTables>,
+    alloc: Global,
+    master: &Site<PageTables>,
+) -> Result<RefreshCount, NoMemory>
+    requires can { CanRefreshFrom master.now site.old }
+    requires reach { young_step master.now.logs site.old.snapshots ≡ None }
+    ensures ok { OnOk result (site.new ≡ refreshed_by master.now site.old) }
+    ensures count { IfOk result (λ count. count ≡ refresh_ruled_answer master.now.logs (rows_ruled site.old.schema (tables_of master.now) site.old.snapshots) site.old) }
+    ensures kept { OnErr result (site.new ≡ site.old) }
+{
+    let made = rows_of_each_by_logs(
+        alloc,
+        site.notes(),
+        site.store(),
+        master.store(),
+        master.notes(),
+    )?;
+    let count = site.refresh_complete_from(alloc, made.rows.as_slice(), master.moment())?;
+    Ok(RefreshCount {
+        keys: made.looked_up,
+        rows: count.rows,
+    })
 }
 
 /// Refreshes a site by its master's logs.
@@ -73,23 +101,26 @@ fn refresh_fast(
 ) -> Result<RefreshCount, NoMemory>
     requires can { CanRefreshFrom master.now site.old }
     requires reach { young_step master.now.logs site.old.snapshots ≡ None }
-    ensures ok { OnOk result (site.new ≡ site_refresh (rows_shown (tables_of master.now) site.old.snapshots) master.now.moment site.old) }
-    ensures count { IfOk result (λ count. count ≡ refresh_fast_answer master.now.logs (rows_shown (tables_of master.now) site.old.snapshots) site.old) }
+    ensures ok { OnOk result (site.new ≡ refreshed_by master.now site.old) }
+    ensures count { IfOk result (λ count. count ≡ refresh_ruled_answer master.now.logs (rows_ruled site.old.schema (tables_of master.now) site.old.snapshots) site.old) }
     ensures kept { OnErr result (site.new ≡ site.old) }
 {
-    let mut view = CountedView::of(master.store());
-    site.refresh_fast_from(alloc, &mut view, master.notes(), master.moment())
+    if have_parents(site.notes()) {
+        refresh_by_rules(site, alloc, master)
+    } else {
+        refresh_by_keys(site, alloc, master)
+    }
 }
 
-/// Refreshes a site by its queries of its master's tables.
+/// Refreshes a site by what its snapshots pick of its master's tables.
 fn refresh_complete(
     site: &mut Site<PageTables>,
     alloc: Global,
     master: &Site<PageTables>,
 ) -> Result<RefreshCount, NoMemory>
     requires { CanRefreshFrom master.now site.old }
-    ensures ok { OnOk result (site.new ≡ site_refresh (rows_shown (tables_of master.now) site.old.snapshots) master.now.moment site.old) }
-    ensures count { IfOk result (λ count. count ≡ refresh_complete_answer (rows_shown (tables_of master.now) site.old.snapshots)) }
+    ensures ok { OnOk result (site.new ≡ refreshed_by master.now site.old) }
+    ensures count { IfOk result (λ count. count ≡ refresh_complete_answer (rows_ruled site.old.schema (tables_of master.now) site.old.snapshots)) }
     ensures kept { OnErr result (site.new ≡ site.old) }
 {
     let rows = rows_of_each(alloc, site.notes(), master.store())?;
@@ -106,7 +137,7 @@ fn refresh_from(
 ) -> Result<Told, NoMemory>
     requires can { CanRefreshFrom master.now site.old }
     requires reach { log_step how master.now.logs site.old.snapshots ≡ None }
-    ensures ok { OnOk result (site.new ≡ site_refresh (rows_shown (tables_of master.now) site.old.snapshots) master.now.moment site.old) }
+    ensures ok { OnOk result (site.new ≡ refreshed_by master.now site.old) }
     ensures told { IfOk result (λ told. told_of told ≡ refresh_told how site.old master.now) }
     ensures kept { OnErr result (site.new ≡ site.old) }
 {

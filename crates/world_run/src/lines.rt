@@ -59,9 +59,12 @@ pub fn run_line<P: Passing>(
             origin,
             position,
         } => drop_error(environment, alloc, line, site, origin, *position),
-        Command::Snapshot { site, table, tests } => {
-            add_snapshot(environment, alloc, line, site, table, tests)
-        }
+        Command::Snapshot {
+            site,
+            table,
+            parent,
+            tests,
+        } => add_snapshot(environment, alloc, line, site, table, parent, tests),
         Command::Refresh { site, how } => refresh(environment, alloc, line, site, *how),
         Command::PurgeLog { master, table } => purge_log(environment, alloc, line, master, table),
         Command::Suspend => suspend(environment, alloc, line),

@@ -7,12 +7,17 @@ use Rattle.world_state.specs.Making.{snapshots_at}
 use Rattle.world_state.specs.Procs.{proc_schema}
 use Rattle.world_state.proofs.LowestRules.{broken_by-None}
 use Rattle.procedure_worlds.proofs.Declared.{proc_keyed, procedures_beside}
-use Rattle.environment_lines.proofs.DeclaredApart.{declared_apart}
+use Rattle.environment.specs.Worlds.{AreParentsWithin}
+use Rattle.environment_lines.proofs.DeclaredApart.{declared_apart, declared_so_far}
 use Rattle.environment_lines.proofs.setup.end_setup.Goals as goal
 
 pub make_sites-requires-clause-apart : goal.make_sites-requires-clause-apart
 make_sites-requires-clause-apart c = λ site. rw c.as_slice.ensures (subst (λ (w : WorldState). AreApart (snapshots_at w.snapshots site)) (sym c.environment.view_is)
     (declared_apart c.args.environment.now c.requires.built.of_convergence c.requires.setup site))
+
+pub make_sites-requires-clause-parents : goal.make_sites-requires-clause-parents
+make_sites-requires-clause-parents c = rw c.as_slice.ensures (subst (λ (w : WorldState). AreParentsWithin w.schema w.snapshots) (sym c.environment.view_is)
+    (declared_so_far c.args.environment.now c.requires.built.of_convergence c.requires.setup).parents)
 
 pub end_procs-requires-clause-keyed : goal.end_procs-requires-clause-keyed
 end_procs-requires-clause-keyed c =

@@ -3,7 +3,7 @@ use Rattle.std.proofs.Common.{◌++◌, List, Option, append-nil, refl, sym, ap,
 use Rattle.rep_schema.specs.declared.schema.Schema.{Schema}
 use Rattle.rep_schema.specs.Tables.{Rows}
 use Rattle.report_text.specs.Texts.{proc_tables_text}
-use Rattle.proc_state.specs.State.{ProcState, proc_tables}
+use Rattle.proc_state.specs.State.{ProcState}
 use Rattle.environment.specs.Texts.{shown_calls}
 use Rattle.environment.proofs.ProcPlaces.{proc_of-read}
 use Rattle.environment_lines.proofs.shown.add_calls.Goals as goal
