@@ -241,8 +241,12 @@ fn wrong_outcomes<R: Threads + Wait + Sync>(
     let backward = wrong_word(rt, alloc, told, turns, WrongBody::LastBackward)?;
     let before = wrong_word(rt, alloc, told, turns, WrongBody::CallsBefore)?;
     let behind = wrong_word(rt, alloc, told, turns, WrongBody::CallsBehind)?;
-    let in_turn = format!(in alloc; "first session first\n{onward}\nlast session first\n{backward}")?;
-    let calls = format!(in alloc; "commits behind the calls\n{before}\ncommits before the calls\n{behind}")?;
+    let in_turn = format!(in alloc;
+        "first session first\n{onward}\nlast session first\n{backward}"
+    )?;
+    let calls = format!(in alloc;
+        "commits behind the calls\n{before}\ncommits before the calls\n{behind}"
+    )?;
     Ok(format!(in alloc; "{in_turn}\n{calls}")?)
 }
 
