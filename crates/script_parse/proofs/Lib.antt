@@ -4,4 +4,6 @@ pub mod ProcPartsAgain
 pub mod ReadAgain
 pub mod ParsedLines
 mod WorkedLines
+pub mod LiveLinesAgain
+mod WorkedLiveLines
 pub mod NamedLines

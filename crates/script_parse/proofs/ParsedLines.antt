@@ -7,10 +7,9 @@ use Rattle.script_lex.specs.Stop.{Gives}
 use Rattle.script_lex.specs.Lines.{lexed, HasTokens}
 use Rattle.script_lex.proofs.Steps.{has_tokens}
 use Rattle.script_words.specs.Reading.{◌>>=◌}
-use Rattle.script_parse.specs.declared.command.Command.{Command}
 use Rattle.script_parse.specs.Parsed.{HasForm}
 
-pub line_gives : (f : List Token → Result Command ℕ) (line : List ℕ) (tokens : List Token) (r : Result Command LineStop) → lexed line ≡ Ok tokens
+pub line_gives : {A : Type 0} (f : List Token → Result A ℕ) (line : List ℕ) (tokens : List Token) (r : Result A LineStop) → lexed line ≡ Ok tokens
     → Gives (HasForm tokens) (λ command. command) r (f tokens) → Gives (HasTokens line) (λ command. command) r (lexed line >>= f)
 line_gives f line tokens (Ok command) read gives = rw read gives
 line_gives f line [] (Err stop.Memory) read gives = absurd gives

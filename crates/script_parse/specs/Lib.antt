@@ -11,3 +11,5 @@ pub mod Named
 pub mod Parsed
 pub mod Spelled
 pub mod Laws
+pub mod LiveLines
+pub mod LiveLaws

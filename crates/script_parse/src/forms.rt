@@ -66,7 +66,7 @@ fn form(alloc: Global, head: Head, tokens: &mut Reader<'_>) -> Result<Command, L
 
 /// The command that the tokens are.
 #[tactic(auto, unfolding(crate::specs::Parsed::command_of))]
-fn command_of(alloc: Global, tokens: &mut Reader<'_>) -> Result<Command, LineStop>
+pub(crate) fn command_of(alloc: Global, tokens: &mut Reader<'_>) -> Result<Command, LineStop>
     ensures read { Gives (HasForm tokens.old) (λ command. command) result (command_of tokens.old) }
     ensures named { IfOk result NamesColumn }
 {
