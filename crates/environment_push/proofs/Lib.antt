@@ -5,3 +5,6 @@ pub mod Delivering
 pub mod Settled
 pub mod Masters
 pub mod Whole
+pub mod Lending
+pub mod LiveParts
+mod WorkedLendings
