@@ -7,4 +7,5 @@ pub mod Masters
 pub mod Whole
 pub mod Lending
 pub mod LiveParts
+pub mod OneAfterAnother
 mod WorkedLendings
