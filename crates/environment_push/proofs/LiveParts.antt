@@ -29,7 +29,7 @@ use Rattle.environment.specs.Following.{IsBuilt}
 use Rattle.environment.proofs.Apart.{apart_behind}
 use Rattle.environment.proofs.Following.{of_script_leads, of_convergence_leads}
 use Rattle.environment_push.specs.Lending.{live_phase_step, live_refusal, reaching, brought_from, live_opened, answered_to, live_closed, given_back, LendingsAreEvents, LendingsKeepWorldsBuilt, LivePartsKeepWorldsBuilt, ReturnsKeepWorldsBuilt}
-use Rattle.environment_push.proofs.Lending.{brought_in_part, answered_each_in_part, behind_each, built_each}
+use Rattle.environment_push.proofs.PartlyPushed.{brought_in_part, answered_each_in_part, behind_each, built_each}
 
 -- ---- events
 

@@ -65,9 +65,8 @@ fn bring_mark(
     Ok(())
 }
 
-/// The mark for what came from a site is brought to it, where the direction is up. Where there is no memory, some of this may be
-/// done, and a packet on the way may be lost.
-pub fn answer(
+/// The mark for what came from a site is brought to it, where the direction is up.
+pub(crate) fn answer(
     environment: &mut Environment,
     alloc: Global,
     from: &SiteName,

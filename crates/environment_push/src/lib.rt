@@ -10,7 +10,6 @@ mod pushing;
 mod send;
 mod settle;
 
-pub use answer::answer;
 pub use laws::live_parts_keep_worlds_built;
 pub use lending::{live_close, live_open, live_refusal};
-pub use pushing::{bring, push};
+pub use pushing::push;

@@ -23,9 +23,8 @@ use site_rounds::Passing;
 use std::alloc::Global;
 use world_state::Refused;
 
-/// What is held is released, what isn't acknowledged is sent, and all is taken in. It answers how many positions were sent. Where
-/// there is no memory, some of this may be done, and a packet on the way may be lost.
-pub fn bring(
+/// What is held is released, what isn't acknowledged is sent, and all is taken in. It answers how many positions were sent.
+pub(crate) fn bring(
     environment: &mut Environment,
     alloc: Global,
     from: &SiteName,

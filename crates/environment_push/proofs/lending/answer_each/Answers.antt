@@ -3,7 +3,7 @@ use Rattle.std.proofs.Common.{List, refl, sym, ap, ◌∙◌, subst}
 use Rattle.std.proofs.lemmas.List.{drop_all}
 use Rattle.rep_values.specs.declared.name.SiteName.{SiteName}
 use Rattle.environment_push.specs.Lending.{answered_to, PushEachInPart}
-use Rattle.environment_push.proofs.Lending.{push_none_in_part}
+use Rattle.environment_push.proofs.PartlyPushed.{push_none_in_part}
 use Rattle.environment_push.proofs.OneAfterAnother.{next_among, answered_next, parts_next, linked_next}
 use Rattle.environment_push.proofs.lending.answer_each.Goals as goal
 
