@@ -7,10 +7,12 @@ use Rattle.rep_values.specs.declared.name.SiteName.{SiteName}
 use Rattle.rep_schema.specs.Sites.{senders_of}
 use Rattle.deferred_queue.specs.Streams.{is_same_site}
 use Rattle.deferred_queue.proofs.Sites.{is_same_site-refl}
-use Rattle.site_state.specs.State.{is_among}
-use Rattle.world_state.specs.World.{WorldState, gets_from}
+use Rattle.site_state.specs.State.{SiteState, is_among}
+use Rattle.event_laws.specs.Core.{site_of}
+use Rattle.world_state.specs.World.{WorldState, with_site}
 use Rattle.world_state.specs.Phases.{is_setup}
 use Rattle.world_state.specs.Pushes.{pushed_in, world_answer}
+use Rattle.world_laws.proofs.Finding.{at_none}
 use Rattle.environment.specs.Following.{PushesInPart, IsBuilt}
 use Rattle.environment.proofs.Following.{in_part_linked}
 use Rattle.environment_push.specs.Lending.{reaches, reaching, brought_from, answered_to, PushEachInPart, AreLinkedTo}
@@ -82,3 +84,11 @@ module _ (names : List SiteName) (name : SiteName) (place : ℕ) (from : SiteNam
   pub linked_next : (w y : WorldState) → PushesInPart from name w y → AreLinkedTo names name w → AreLinkedTo names name y
   linked_next w y part linked other among =
       let both = linked other among in (in_part_linked from name other name w y part both.0, in_part_linked from name name other w y part both.1)
+
+-- ---- a site that isn't there
+
+-- it doesn't change
+pub absent_as_before : (name : SiteName) (change : SiteState → SiteState) (w old : WorldState) (seen : List SiteState) → w ≡ old → seen ≡ w.sites → site_of name seen ≡ None → old ≡ with_site name change old
+absent_as_before name change w old seen old_is seen_is none =
+    let same : seen ≡ old.sites = seen_is ∙ ap (λ (v : WorldState). v.sites) old_is in
+    sym (ap (λ (sites : List SiteState). record old { sites = sites }) (at_none name change old.sites (ap (site_of name) (sym same) ∙ none)))

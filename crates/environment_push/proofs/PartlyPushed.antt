@@ -44,10 +44,10 @@ travels_all from to w = so_many_travel (length (on_way_between from to w.net)) f
 -- that all comes to the receiver is a part of a push
 pub pushed_in_part : (from to : SiteName) (count : Option ℕ) (w : WorldState) → PushesInPart from to w (pushed_in from to count w)
 pushed_in_part from to count w =
-    let open : WorldState = world_release from to w in
-    let sent : WorldState = world_send_above from to count open in
+    let freed : WorldState = world_release from to w in
+    let sent : WorldState = world_send_above from to count freed in
     in_part_then from to w sent (world_deliver from to sent)
-    (in_part_then from to w open sent (in_part_one from to (There Release) w open refl) (sent_in_part from to (positions_above from to count open) open sent refl))
+    (in_part_then from to w freed sent (in_part_one from to (There Release) w freed refl) (sent_in_part from to (positions_above from to count freed) freed sent refl))
     (travels_there from to sent (world_deliver from to sent) (travels_all from to sent))
 
 -- and so it is that the mark goes back
@@ -56,10 +56,10 @@ answered_in_part from to w = go (is_up from to w.net)
   where
     marked : PushesInPart to from w (world_bring_mark from to w)
     marked =
-        let open : WorldState = world_release from to w in
-        let sent : WorldState = world_send_mark from to open in
+        let freed : WorldState = world_release from to w in
+        let sent : WorldState = world_send_mark from to freed in
         in_part_then to from w sent (world_deliver from to sent)
-        (in_part_then to from w open sent (in_part_one to from (Back Release) w open refl) (in_part_one to from SendMark open sent refl))
+        (in_part_then to from w freed sent (in_part_one to from (Back Release) w freed refl) (in_part_one to from SendMark freed sent refl))
         (travels_back to from sent (world_deliver from to sent) (travels_all from to sent))
 
     go : (b : Bool) → PushesInPart to from w (cond b (world_bring_mark from to w) w)
