@@ -88,16 +88,21 @@ first_false : (b c : Bool) → (b || c) ≡ false → b ≡ false
 first_false true c is = absurd (cc is)
 first_false false c is = refl
 
-running_behind : (p : Phase) → not (is_running p) ≡ false → is_setup p ≡ false
+-- while it is Running Setup is over
+pub running_behind : (p : Phase) → is_running p ≡ true → is_setup p ≡ false
 running_behind phase.Setup is = absurd (cc is)
 running_behind phase.Running is = refl
 running_behind phase.Suspended is = refl
+
+not_false : (b : Bool) → not b ≡ false → b ≡ true
+not_false true is = refl
+not_false false is = absurd (cc is)
 
 -- where a site may be lent out Setup is over
 pub lent_behind : (name : SiteName) (w : WorldState) → live_refusal name w ≡ None → is_setup w.phase ≡ false
 lent_behind name w passes =
     let first : live_phase_step w ≡ None = (or_then-None (live_phase_step w) (refused (not (is_master_in (site_of name w.sites))) refusal.UnknownName) passes).0 in
-    running_behind w.phase (first_false (not (is_running w.phase)) (has_block w) (refused-None (not (is_running w.phase) || has_block w) refusal.WrongPhase first))
+    running_behind w.phase (not_false (is_running w.phase) (first_false (not (is_running w.phase)) (has_block w) (refused-None (not (is_running w.phase) || has_block w) refusal.WrongPhase first)))
 
 module _ (name : SiteName) (w : WorldState) (built : IsBuilt w) (behind : is_setup w.phase ≡ false) where
   came_built : IsBuilt (brought_from (reaching name w) name w)
@@ -130,4 +135,4 @@ pub live_parts_keep_worlds_built : LivePartsKeepWorldsBuilt
 live_parts_keep_worlds_built name w x sessions turns built passes found = part_built name w built (lent_behind name w passes) x sessions turns found
 
 pub returns_keep_worlds_built : ReturnsKeepWorldsBuilt
-returns_keep_worlds_built name w built running = closed_built name w built (running_behind w.phase (ap not running))
+returns_keep_worlds_built name w built running = closed_built name w built (running_behind w.phase running)
