@@ -43,9 +43,9 @@ pub live_part_does : (name : SiteName) (sessions : List Session) (turns : List L
 live_part_does name sessions turns = record {
   keeps = λ x. turns_here sessions turns (begun x);
   runs = λ x v found. record {
-      events = events_of name sessions turns ++ Begin name ∷ [];
-      sites = ap (λ (u : Core). u.sites) (live_parts_are_events name sessions turns v);
-      sent = ap (λ (u : Core). u.sent) (live_parts_are_events name sessions turns v);
+    events = events_of name sessions turns ++ Begin name ∷ [];
+    sites = ap (λ (u : Core). u.sites) (live_parts_are_events name sessions turns v);
+    sent = ap (λ (u : Core). u.sent) (live_parts_are_events name sessions turns v);
   };
 }
 
