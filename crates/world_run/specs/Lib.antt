@@ -1,4 +1,5 @@
 -- The definitions of this crate.
+pub mod Lent
 pub mod Reporting
 pub mod Scripts
 pub mod Completeness
