@@ -5,3 +5,7 @@ pub mod Delivering
 pub mod Settled
 pub mod Masters
 pub mod Whole
+pub mod PartlyPushed
+pub mod LiveParts
+pub mod OneAfterAnother
+mod WorkedLendings

@@ -1,3 +1,4 @@
 -- The definitions of this crate.
 pub mod Travelling
 pub mod Settling
+pub mod Lending

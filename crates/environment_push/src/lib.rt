@@ -1,11 +1,15 @@
 //! A push from one site of an environment to another: what isn't acknowledged is sent and taken in, the receiver settles it and
-//! tells what came of it, and its mark goes back.
+//! tells what came of it, and its mark goes back. Pieces of it stand before and behind a live part at a master.
 #![tactic(auto)]
 
 mod answer;
 mod deliver;
+mod laws;
+mod lending;
 mod pushing;
 mod send;
 mod settle;
 
+pub use laws::live_parts_keep_worlds_built;
+pub use lending::{live_close, live_open, live_refusal};
 pub use pushing::push;

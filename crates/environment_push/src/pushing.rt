@@ -24,7 +24,7 @@ use std::alloc::Global;
 use world_state::Refused;
 
 /// What is held is released, what isn't acknowledged is sent, and all is taken in. It answers how many positions were sent.
-fn bring(
+pub(crate) fn bring(
     environment: &mut Environment,
     alloc: Global,
     from: &SiteName,
