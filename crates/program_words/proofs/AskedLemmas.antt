@@ -3,10 +3,10 @@ use Rattle.std.proofs.Common.{◌≡◌, ℕ, List, [], ◌∷◌, ◌++◌, cod
 use Rattle.std.specs.Prelude.{◌&&◌, ◌||◌}
 use Rattle.std.specs.Cmp.Lexicographic.{pointwise}
 use Rattle.program_words.specs.Words.{asked_in, is_joined, is_option, most_appliers, most_count, most_seed}
-use Rattle.program_words.specs.Forms.{are_appliers, has_appliers, is_appliers, is_count, are_seed_and_count, is_run, is_seed, is_storm}
-use Rattle.program_words.proofs.FormLemmas.{is_run-run_by, is_storm-storm_by}
-use Rattle.program_words.proofs.ReadLemmas.{IsRead, read_run, read_run-apart, read_run-joined, read_storm, read_storm-apart_between, read_storm-apart_first, read_storm-apart_last, read_storm-joined_between, read_storm-joined_first, read_storm-joined_last}
-use Rattle.program_words.proofs.WordLemmas.{IsPlain, at_joined, at_number, at_option, same_text}
+use Rattle.program_words.specs.Forms.{are_appliers, has_appliers, is_appliers, is_count, are_seed_and_count, is_live, is_run, is_seed, is_storm}
+use Rattle.program_words.proofs.FormLemmas.{is_live-live_by, is_run-run_by, is_storm-storm_by}
+use Rattle.program_words.proofs.ReadLemmas.{IsRead, read_live, read_live-flag, read_run, read_run-apart, read_run-joined, read_storm, read_storm-apart_between, read_storm-apart_first, read_storm-apart_last, read_storm-joined_between, read_storm-joined_first, read_storm-joined_last}
+use Rattle.program_words.proofs.WordLemmas.{IsPlain, at_flag, at_joined, at_number, at_option, same_text}
 use Rattle.program_words.proofs.NumeralLemmas.{both_true}
 
 run_read : (words : List (List ℕ)) → is_run words ≡ true → IsRead (codes "run" ∷ words)
@@ -59,12 +59,19 @@ storm_reads (a ∷ b ∷ c ∷ d ∷ []) e = either_of _ _ _ _ e
     (λ h. at_apart_storm (λ o v s n. IsRead (codes "storm" ∷ s ∷ n ∷ o ∷ v ∷ [])) c d a b h read_storm-apart_last)
 storm_reads (a ∷ b ∷ c ∷ d ∷ e ∷ words) is = absurd (cc is)
 
+live_reads : (words : List (List ℕ)) → is_live words ≡ true → IsRead (codes "live" ∷ words)
+live_reads [] e = read_live
+live_reads (a ∷ []) e = at_flag (λ w. IsRead (codes "live" ∷ w ∷ [])) a e read_live-flag
+live_reads (a ∷ b ∷ words) e = absurd (cc e)
+
 -- words that ask for something are read as what they ask for
 pub asked-read : (words : List (List ℕ)) → is_some (asked_in words) ≡ true → IsRead words
 asked-read [] e = absurd (cc e)
-asked-read (name ∷ words) e = go (pointwise nat_eq name (codes "run")) (pointwise nat_eq name (codes "storm")) refl refl
+asked-read (name ∷ words) e = go (pointwise nat_eq name (codes "run")) (pointwise nat_eq name (codes "storm")) (pointwise nat_eq name (codes "live")) refl refl refl
   where
-    go : (r s : Bool) → pointwise nat_eq name (codes "run") ≡ r → pointwise nat_eq name (codes "storm") ≡ s → IsRead (name ∷ words)
-    go true s run storm = rw (same_text name (codes "run") run) (run_read words (is_run-run_by words ∙ rw run at e))
-    go false true run storm = rw (same_text name (codes "storm") storm) (storm_reads words (is_storm-storm_by words ∙ rw (run, storm) at e))
-    go false false run storm = let bad : false ≡ true = rw (run, storm) at e in absurd (cc bad)
+    go : (r s l : Bool) → pointwise nat_eq name (codes "run") ≡ r → pointwise nat_eq name (codes "storm") ≡ s → pointwise nat_eq name (codes "live") ≡ l
+        → IsRead (name ∷ words)
+    go true s l run storm live = rw (same_text name (codes "run") run) (run_read words (is_run-run_by words ∙ rw run at e))
+    go false true l run storm live = rw (same_text name (codes "storm") storm) (storm_reads words (is_storm-storm_by words ∙ rw (run, storm) at e))
+    go false false true run storm live = rw (same_text name (codes "live") live) (live_reads words (is_live-live_by words ∙ rw (run, storm, live) at e))
+    go false false false run storm live = let bad : false ≡ true = rw (run, storm, live) at e in absurd (cc bad)

@@ -1,11 +1,13 @@
--- Where an option may stand, by the words without it.
-use Rattle.std.proofs.Common.{◌≡◌, ◌≤◌, ◌<◌, true, false, Bool, ℕ, length, List, [], ◌∷◌, refl, arith, is_some, nat_eq, codes}
-use Rattle.std.specs.Prelude.{◌&&◌, ◌||◌, Option, Some, None}
+-- What may stand behind the first word, by what words ask for.
+use Rattle.std.proofs.Common.{◌≡◌, ◌≢◌, ◌≤◌, ◌<◌, true, false, Bool, ℕ, length, List, [], ◌∷◌, refl, arith, is_some, nat_eq, codes}
+use Rattle.std.specs.Prelude.{◌&&◌, ◌||◌, cond, Option, Some, None, Result, Ok, Err, IfErr}
 use Rattle.std.specs.Borrow.{Bor}
 use Rattle.std.specs.Cmp.Lexicographic.{pointwise}
 use Rattle.program_words.specs.Numerals.{number_in}
-use Rattle.program_words.specs.Words.{appliers_in, asked_by, is_joined, is_option, joined_value, most_appliers, most_count, most_seed, run_by, run_of, storm_by, storm_of, without_option}
-use Rattle.program_words.specs.Forms.{are_seed_and_count, is_run, is_seed, is_storm, texts}
+use Rattle.program_words.specs.Words.{appliers_in, asked_by, is_flag, is_joined, is_option, joined_value, live_by, most_appliers, most_count, most_seed, run_by, run_of, storm_by, storm_of, without_option}
+use Rattle.program_words.specs.declared.words.Asked.{Asked}
+use Rattle.program_words.specs.declared.words.Asked.TheVariants as asked
+use Rattle.program_words.specs.Forms.{are_seed_and_count, is_live, is_run, is_seed, is_storm, texts}
 use Rattle.program_words.proofs.WordLemmas.{joined-option, number-joined, number-option}
 
 -- few or many words stand behind `storm` in no form
@@ -143,6 +145,16 @@ is_storm-storm_by (a ∷ b ∷ c ∷ []) = three a b c (kind a) (kind b) (kind c
 is_storm-storm_by (a ∷ b ∷ c ∷ d ∷ []) = four a b c d (kind a) (kind b) (kind c)
 is_storm-storm_by (a ∷ b ∷ c ∷ d ∷ e ∷ words) = more a b c d e words (kind a) (kind b) (kind c)
 
+-- the words behind `live` are in a form exactly where they ask for live parts
+pub is_live-live_by : (words : List (List ℕ)) → is_live words ≡ is_some (live_by words)
+is_live-live_by [] = refl
+is_live-live_by (a ∷ []) = go (is_flag a)
+  where
+    go : (b : Bool) → b ≡ is_some (cond b (Some (asked.Live true)) None)
+    go true = refl
+    go false = refl
+is_live-live_by (a ∷ b ∷ words) = refl
+
 module _ (words rest : List (Bor (List ℕ))) (name : Bor (List ℕ)) (is : words ≡ name ∷ rest) where
   -- words that begin with `run` are in a form exactly where they ask for something
   pub asked-run : pointwise nat_eq name.now (codes "run") ≡ true → is_run (texts rest) ≡ is_some (asked_by words)
@@ -151,3 +163,14 @@ module _ (words rest : List (Bor (List ℕ))) (name : Bor (List ℕ)) (is : word
   -- and so are words that begin with `storm`
   pub asked-storm : pointwise nat_eq name.now (codes "run") ≡ false → pointwise nat_eq name.now (codes "storm") ≡ true → is_storm (texts rest) ≡ is_some (asked_by words)
   asked-storm run storm = rw (is, run, storm) (is_storm-storm_by (texts rest))
+
+-- words in no form ask for nothing
+pub asks_nothing : (asked : Option Asked) → is_some asked ≡ false → None ≡ asked
+asks_nothing None e = refl
+asks_nothing (Some a) e = absurd (cc e)
+
+-- where words in a form are refused, they ask for something
+pub asks_something : (asked : Option Asked) {T E : Type 0} (r : Result T E) → is_some asked ≡ true → IfErr r (λ _. asked ≢ None)
+asks_something asked (Ok x) e = tt
+asks_something None (Err x) e = absurd (cc e)
+asks_something (Some a) (Err x) e = λ is. absurd (cc is)

@@ -5,3 +5,4 @@ mod FormLemmas
 mod WalkLemmas
 mod ReadLemmas
 mod AskedLemmas
+mod WorkedWords

@@ -1,10 +1,10 @@
 -- What `clap` reads of words in each form.
-use Rattle.std.proofs.Common.{◌≡◌, ℕ, List, [], ◌∷◌, ◌++◌, codes, true, refl, Some, Bool, map, Option, is_some, sym, ◌∙◌, ap, ap₂}
+use Rattle.std.proofs.Common.{◌≡◌, ℕ, List, [], ◌∷◌, ◌++◌, codes, true, false, refl, Some, Bool, map, Option, is_some, sym, ◌∙◌, ap, ap₂}
 use Rattle.std.specs.Prelude.{◌&&◌, fold}
 use Rattle.std.specs.List.{list_all}
-use Rattle.clap.specs.Words.{Row, Rule, Shape, Text, first_of, matches_of, rows_of, takes}
+use Rattle.clap.specs.Words.{Row, Rule, Shape, Text, first_of, matches_of, one_of, rows_of, takes}
 use Rattle.clap.specs.declared.parser.matches.Found.{Found}
-use Rattle.clap.proofs.WalkLemmas.{first_value-rows}
+use Rattle.clap.proofs.WalkLemmas.{first_value-rows, one_text-rows}
 use Rattle.clap.specs.Simple.{built, entered}
 use Rattle.clap.specs.Takes.{default_passes, entered_passes, is_valid, settle_passes}
 use Rattle.clap.specs.Walk.{Walk, finished, nothing_held, walk_from}
@@ -13,12 +13,14 @@ use Rattle.program_words.specs.Numerals.{number_in}
 use Rattle.program_words.specs.Words.{asked_in, most_appliers, most_count, most_seed, run_of, storm_of}
 use Rattle.program_words.specs.Command.{asked_of, asked_of_found, command_app}
 use Rattle.program_words.specs.declared.words.Asked.{Asked}
+use Rattle.program_words.specs.declared.words.Asked.TheVariants as asked
 use Rattle.program_words.proofs.WordLemmas.{IsPlain}
 use Rattle.program_words.proofs.WalkLemmas.{Word, any, plain, text_of, walk-words, walk_passes-words, word_walked, words_pass}
 
 -- what is asked for by the rows that `clap` makes of words
 abbrev pub asked_of_rows : List Row → Option Asked
-asked_of_rows rows = asked_of (first_of (codes "seed") rows) (first_of (codes "count") rows) (first_of (codes "appliers") rows)
+asked_of_rows rows =
+    asked_of (first_of (codes "form") rows) (one_of (codes "json") rows) (first_of (codes "seed") rows) (first_of (codes "count") rows) (first_of (codes "appliers") rows)
 
 abbrev top : Shape
 top = (built command_app).top
@@ -50,6 +52,14 @@ pub record IsRead (words : List Text) : Type 0 where
 
 read : (words : List Word) (asked : Option Asked) → passes words ≡ true → asked_of_rows (rows words) ≡ asked → asked_in (map text_of words) ≡ asked → IsRead (map text_of words)
 read words asked taken by_rows by_words = record { taken = takes-words words ∙ taken; asked = ap asked_of_rows (rows-words words) ∙ (by_rows ∙ sym by_words) }
+
+pub read_live : IsRead (codes "live" ∷ [])
+unfolding clap_on_literals
+read_live = read (any (codes "live") ∷ []) (Some (asked.Live false)) refl refl refl
+
+pub read_live-flag : IsRead (codes "live" ∷ codes "--json" ∷ [])
+unfolding clap_on_literals
+read_live-flag = read (any (codes "live") ∷ any (codes "--json") ∷ []) (Some (asked.Live true)) refl refl refl
 
 pub read_run : IsRead (codes "run" ∷ [])
 unfolding clap_on_literals
@@ -100,4 +110,5 @@ module _ (x : ℕ) (xs : Text) (p : IsPlain x) where
 
 -- the values that the matches give are those of the rows
 pub asked_of_found-rows : (found : Found) → asked_of_found found ≡ asked_of_rows (rows_of found)
-asked_of_found-rows found = rw (first_value-rows found (codes "seed"), first_value-rows found (codes "count"), first_value-rows found (codes "appliers"))
+asked_of_found-rows found =
+    rw (first_value-rows found (codes "form"), one_text-rows found (codes "json"), first_value-rows found (codes "seed"), first_value-rows found (codes "count"), first_value-rows found (codes "appliers"))

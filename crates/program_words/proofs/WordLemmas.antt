@@ -1,4 +1,4 @@
--- Words that are the option, and words that are numbers.
+-- Words that are the option or the flag, and words that are numbers.
 use Rattle.std.proofs.Common.{◌≡◌, ◌≤◌, true, false, Bool, ℕ, length, List, [], ◌∷◌, ◌++◌, nat_lt, nat_le, nat_eq, refl, arith, ◌∙◌, sym, ap, subst, codes, ne_eqb, is_some}
 use Rattle.std.specs.Prelude.{◌&&◌, cond, Some, None}
 use Rattle.std.specs.Str.Parse.{digits_value}
@@ -9,7 +9,7 @@ use Rattle.std.specs.Cmp.Lexicographic.{pointwise}
 use Rattle.rep_values.specs.Bytes.{is_digit}
 use Rattle.program_words.specs.Numerals.{number_in}
 use Rattle.program_words.proofs.NumeralLemmas.{both_true}
-use Rattle.program_words.specs.Words.{is_joined, is_option, joined_value}
+use Rattle.program_words.specs.Words.{is_flag, is_joined, is_option, joined_value}
 
 -- a word that is equal to a text is that text
 pub same_text : (word text : List ℕ) → pointwise nat_eq word text ≡ true → word ≡ text
@@ -67,3 +67,6 @@ at_option P word e p = subst P (sym (option_is word e)) p
 
 pub at_joined : (P : List ℕ → Type 0) (word : List ℕ) → is_joined word ≡ true → ((value : List ℕ) → P (codes "--appliers=" ++ value)) → P word
 at_joined P word e p = subst P (sym (joined_is word e)) (p (joined_value word))
+
+pub at_flag : (P : List ℕ → Type 0) (word : List ℕ) → is_flag word ≡ true → P (codes "--json") → P word
+at_flag P word e p = subst P (sym (same_text word (codes "--json") e)) p

@@ -1,8 +1,8 @@
--- The places at which an option may stand.
+-- What may stand behind the first word.
 use Rattle.std.specs.Prelude.{ℕ, Bool, true, false, ◌&&◌, ◌||◌, List, [], ◌∷◌, is_some, map}
 use Rattle.std.specs.Borrow.{Bor}
 use Rattle.program_words.specs.Numerals.{number_in}
-use Rattle.program_words.specs.Words.{is_joined, is_option, joined_value, most_appliers, most_count, most_seed}
+use Rattle.program_words.specs.Words.{is_flag, is_joined, is_option, joined_value, most_appliers, most_count, most_seed}
 
 -- the texts of words
 abbrev pub texts : List (Bor (List ℕ)) → List (List ℕ)
@@ -46,3 +46,9 @@ is_storm (a ∷ b ∷ c ∷ []) =
 is_storm (a ∷ b ∷ c ∷ d ∷ []) =
     (are_appliers a b && are_seed_and_count c d) || (are_appliers b c && are_seed_and_count a d) || (are_appliers c d && are_seed_and_count a b)
 is_storm (a ∷ b ∷ c ∷ d ∷ e ∷ words) = false
+
+-- what may stand behind `live`
+abbrev pub is_live : List (List ℕ) → Bool
+is_live [] = true
+is_live (a ∷ []) = is_flag a
+is_live (a ∷ b ∷ words) = false

@@ -1,5 +1,5 @@
 -- What the words of the command line ask for.
-use Rattle.std.specs.Prelude.{ℕ, ◌≤◌, Bool, cond, nat_eq, List, [], ◌∷◌, map, drop, slice_get, codes, Option, Some, None}
+use Rattle.std.specs.Prelude.{⊤, ℕ, ◌≤◌, Bool, true, false, cond, nat_eq, List, [], ◌∷◌, map, drop, slice_get, codes, Option, Some, None}
 use Rattle.std.specs.List.{starts_with}
 use Rattle.std.specs.Cmp.Lexicographic.{pointwise}
 use Rattle.std.specs.Borrow.{Bor}
@@ -68,17 +68,29 @@ storm_by (w ∷ []) appliers = None
 storm_by (seed ∷ count ∷ []) appliers = storm_of (number_in 0 most_seed seed) (number_in 1 most_count count) appliers
 storm_by (w ∷ v ∷ u ∷ words) appliers = None
 
--- what texts ask for: `run` or `storm SEED COUNT`, with at most one option at any place behind the first
+-- the flag `--json`
+abbrev pub is_flag : List ℕ → Bool
+is_flag word = pointwise nat_eq word (codes "--json")
+
+-- `live`, with no word behind it but its flag
+abbrev pub live_by : List (List ℕ) → Option Asked
+live_by [] = Some (asked.Live false)
+live_by (word ∷ []) = cond (is_flag word) (Some (asked.Live true)) None
+live_by (w ∷ v ∷ words) = None
+
+-- what texts ask for: `run` or `storm SEED COUNT`, with at most one option at any place behind the first; or `live`, with its flag or without
 abbrev pub asked_in : List (List ℕ) → Option Asked
 asked_in [] = None
 asked_in (name ∷ words) = cond (pointwise nat_eq name (codes "run")) (run_by (without_option words) (appliers_in words))
-    (cond (pointwise nat_eq name (codes "storm")) (storm_by (without_option words) (appliers_in words)) None)
+    (cond (pointwise nat_eq name (codes "storm")) (storm_by (without_option words) (appliers_in words))
+    (cond (pointwise nat_eq name (codes "live")) (live_by words) None))
 
 -- what words ask for
 abbrev pub asked_by : List (Bor (List ℕ)) → Option Asked
 asked_by words = asked_in (map (λ word. word.now) words)
 
--- a storm has 1 to 50,000 transactions, and there are 1 to 8 appliers
+-- a storm has 1 to 50,000 transactions, and a run or a storm 1 to 8 appliers
 abbrev pub IsInRange : Asked → Type 0
 IsInRange (asked.Run appliers) = (1 ≤ appliers) × (appliers ≤ most_appliers)
 IsInRange (asked.Storm seed count appliers) = (1 ≤ count) × (count ≤ most_count) × (1 ≤ appliers) × (appliers ≤ most_appliers)
+IsInRange (asked.Live json) = ⊤

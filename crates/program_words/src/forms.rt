@@ -1,7 +1,7 @@
 //! The forms in which words ask for something, tested before `clap` reads them.
 ghost use Rattle.std.specs.Prelude.{◌≡◌, ◌∷◌, [], is_some};
-ghost use Rattle.program_words.specs.Words.{asked_by, is_option};
-ghost use Rattle.program_words.specs.Forms.{are_appliers, has_appliers, is_appliers, is_count, are_seed_and_count, is_run, is_seed, is_storm, texts};
+ghost use Rattle.program_words.specs.Words.{asked_by, is_flag, is_option};
+ghost use Rattle.program_words.specs.Forms.{are_appliers, has_appliers, is_appliers, is_count, are_seed_and_count, is_live, is_run, is_seed, is_storm, texts};
 
 use crate::numerals::number_in;
 use crate::words::{MOST_APPLIERS, MOST_COUNT};
@@ -10,6 +10,12 @@ fn is_option(word: &str) -> bool
     ensures { result ≡ is_option word.now }
 {
     word.as_bytes() == b"--appliers".as_slice()
+}
+
+fn is_flag(word: &str) -> bool
+    ensures { result ≡ is_flag word.now }
+{
+    word.as_bytes() == b"--json".as_slice()
 }
 
 fn is_seed(word: &str) -> bool
@@ -97,6 +103,17 @@ fn is_storm(words: &[&str]) -> bool
     }
 }
 
+/// Whether the words may stand behind `live`.
+fn is_live(words: &[&str]) -> bool
+    ensures { result ≡ is_live (texts words.now) }
+{
+    match words {
+        [] => true,
+        [flag] => is_flag(flag),
+        _ => false,
+    }
+}
+
 /// Whether the words ask for anything.
 pub(crate) fn is_form(words: &[&str]) -> bool
     ensures { result ≡ is_some (asked_by words.now) }
@@ -107,5 +124,8 @@ pub(crate) fn is_form(words: &[&str]) -> bool
     if name.as_bytes() == b"run".as_slice() {
         return is_run(words);
     }
-    name.as_bytes() == b"storm".as_slice() && is_storm(words)
+    if name.as_bytes() == b"storm".as_slice() {
+        return is_storm(words);
+    }
+    name.as_bytes() == b"live".as_slice() && is_live(words)
 }

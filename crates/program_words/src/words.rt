@@ -7,7 +7,7 @@ use crate::forms::is_form;
 use rep_values::NoMemory;
 use std::alloc::Global;
 
-/// What the program is asked to do, and how many appliers do it, from 1 to 8.
+/// What the program is asked to do, and how many appliers do a run or a storm, from 1 to 8.
 #[derive(Clone, Copy, Debug, PartialEq, Eq)]
 pub enum Asked {
     /// `run`
@@ -20,6 +20,10 @@ pub enum Asked {
         count: u32,
         appliers: u32,
     },
+    /// `live`
+    Live {
+        json: bool,
+    },
 }
 
 /// The most transactions of a storm.
@@ -29,8 +33,8 @@ pub(crate) const MOST_COUNT: u64 = 50_000;
 pub(crate) const MOST_APPLIERS: u64 = 8;
 
 /// What the words behind the program's name ask for: `run`, or `storm SEED COUNT` with a seed of 64 bits and 1 to 50,000
-/// transactions, and `--appliers N` or `--appliers=N` at most once behind the first word. The numbers are decimal digits alone.
-/// None for all other words, and then no memory is taken.
+/// transactions, and `--appliers N` or `--appliers=N` at most once behind the first word; or `live`, or `live --json`. The numbers
+/// are decimal digits alone. None for all other words, and then no memory is taken.
 pub fn asked_by(alloc: Global, words: &[&str]) -> Result<Option<Asked>, NoMemory>
     ensures value { IfOk result (λ asked. asked ≡ asked_by words.now) }
     ensures memory { IfErr result (λ _. asked_by words.now ≢ None) }
