@@ -40,7 +40,7 @@ use Rattle.script_drive.specs.Lines.{most_lines, most_bytes, line_step}
 use Rattle.world_run.specs.Scripts.{stepped_by, script_step, world_behind, world_at, IsDoneAt, ReportedWorldsHold, ReportedSnapshotsHold, ReportedWorldsConverge, ReportedProceduresHold, PushesOfScriptsLeaveNothingReady, PushesOfCallsLeaveNothingReady, RefreshesOfScriptsShowTheQuery, JoinsOfScriptsTakeOver, LinesOfScriptsHold}
 
 -- after a line, whatever refusal it meets
-step_built : (number : ℕ) (c : Command) (w : WorldState) → NamesColumn c → IsBuilt w → IsBuilt (world_step number c w)
+pub step_built : (number : ℕ) (c : Command) (w : WorldState) → NamesColumn c → IsBuilt w → IsBuilt (world_step number c w)
 step_built number c w named built = go (world_refusal c w) refl
   where
     go : (o : Option Refusal) → world_refusal c w ≡ o → IsBuilt (step_by o number c w)
@@ -49,7 +49,7 @@ step_built number c w named built = go (world_refusal c w) refl
         let told : Refused = record { line = told_line number c w; refusal = why } in
         lines_keep_built number c w (world_refused c w) (Err told) named (inr (record { told = ap (λ (o : Option Refusal). told_by o number c w) met; world = refl })) built
 
-stepped_built : (w : WorldState) (number : ℕ) (line : List ℕ) → IsBuilt w → IsBuilt (script_step w number line).state
+pub stepped_built : (w : WorldState) (number : ℕ) (line : List ℕ) → IsBuilt w → IsBuilt (script_step w number line).state
 unfolding script_step
 stepped_built w number line built = go (parsed line) refl
   where
@@ -109,7 +109,7 @@ joins_take_over lines number line site source read passes = rw read (step_takes_
 -- ---- each line of a script
 
 -- a line that gives a command isn't too long
-parsed_short : (line : List ℕ) (c : Command) → parsed line ≡ Ok c → length line ≤ most_bytes
+pub parsed_short : (line : List ℕ) (c : Command) → parsed line ≡ Ok c → length line ≤ most_bytes
 parsed_short line c read = go (cases_lt most_bytes (length line))
   where
     go : (most_bytes < length line) ⊎ (length line ≤ most_bytes) → length line ≤ most_bytes

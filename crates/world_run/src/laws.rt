@@ -1,4 +1,5 @@
-//! A law of reports. The function calls the law that its own stands on, and does nothing else.
+//! Laws of reports, and of masters that are lent out. A function calls the law that its own stands on, and does nothing else.
+ghost use Rattle.world_run.specs.Lent.{LentMastersMayComeBack};
 ghost use Rattle.world_run.specs.Scripts.{JoinsOfScriptsTakeOver, LinesOfScriptsHold, PushesOfCallsLeaveNothingReady, PushesOfScriptsLeaveNothingReady, RefreshesOfScriptsShowTheQuery, ReportedProceduresHold, ReportedSnapshotsHold, ReportedWorldsConverge, ReportedWorldsHold};
 
 use environment_lines::convergence_holds;
@@ -20,3 +21,8 @@ pub fn reported_worlds_hold()
 {
     convergence_holds();
 }
+
+/// A master that was lent out of a world that is built may come back as turns leave it, whatever turns these are.
+pub fn lent_masters_may_come_back()
+    ensures { LentMastersMayComeBack }
+{}

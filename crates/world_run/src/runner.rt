@@ -1,10 +1,11 @@
 //! The world of a script, whose lines are run one by one.
-ghost use Rattle.std.specs.Prelude.{◌≡◌, false, ⊤, IfOk};
+ghost use Rattle.std.specs.Prelude.{◌≡◌, false, None, ⊤, IfOk};
 ghost use Rattle.report_text.specs.Refusals.{is_memory, refused_text};
 ghost use Rattle.world_state.specs.World.{first_world};
 ghost use Rattle.world_run.specs.Scripts.{script_step};
 
 use crate::world::World;
+use environment_lines::Environment;
 use rep_lists::NoMemory;
 use rep_values::Refusal;
 use report_text::{Lines, MOST_LINE, refused_line};
@@ -24,13 +25,14 @@ pub struct Runner<P: Passing> {
 }
 
 impl<P: Passing> Model for Runner<P> {
+    ghost use Rattle.std.specs.Prelude.{◌≡◌, None};
     ghost use Rattle.world_state.specs.World.{WorldState};
 
     ghost Value = { WorldState };
 
-    ghost view = { λ r. r.world };
+    ghost view = { λ r. r.world.world };
 
-    ghost invariant = { λ r. P.able r.passing };
+    ghost invariant = { λ r. P.able r.passing × (r.world.lent ≡ None) };
 }
 
 impl<P: Passing + Drop> Runner<P> {
@@ -44,8 +46,8 @@ impl<P: Passing + Drop> Runner<P> {
     }
 }
 
-// Tells why a line was refused.
-fn told(alloc: Global, refused: &Refused) -> Result<Lines, NoMemory>
+/// Tells why a line was refused.
+pub(crate) fn told(alloc: Global, refused: &Refused) -> Result<Lines, NoMemory>
     ensures { IfOk result (λ lines. (lines.bytes ≡ refused_text refused.now.line refused.now.refusal) × (is_memory refused.now.refusal ≡ false)) }
 {
     if let Refusal::Memory = refused.refusal {
@@ -58,7 +60,7 @@ fn told(alloc: Global, refused: &Refused) -> Result<Lines, NoMemory>
 }
 
 impl<P: Passing + Drop> LineRunner for Runner<P> {
-    type State = World;
+    type State = Environment;
 
     type Choices = ();
 

@@ -18,13 +18,13 @@ step_by-requires-clause-named g c = parsed-Ok c.args.line.now c.in_ok-command.co
 
 pub returns-in-Ok-clause-ok : goal.returns-in-Ok-clause-ok
 returns-in-Ok-clause-ok g c =
-    rw (← c.self.view_is) (λ choices may. (tt, script_step-done c.self.inside.world c.step_by.new.self c.args.number c.args.line.now c.in-Ok.lines.bytes c.in_ok-command.command c.in_ok-command.ensures.read c.in-Ok.ensures.does))
+    rw (← c.self.view_is) (λ choices may. (tt, script_step-done c.self.inside.world.world c.step_by.new.self.world c.args.number c.args.line.now c.in-Ok.lines.bytes c.in_ok-command.command c.in_ok-command.ensures.read c.in-Ok.ensures.does))
 
 pub returns-clause-ok : goal.returns-clause-ok
 returns-clause-ok g c =
     let told = c.in_ok-lines-in-Err.ensures in
     rw (← c.self.view_is) (λ choices may. (
       tt,
-      subst (λ (bytes : List ℕ). script_step c.self.inside.world c.args.number c.args.line.now ≡ goes c.step_by.new.self bytes) (sym told.0)
-          (script_step-told c.self.inside.world c.step_by.new.self c.args.number c.args.line.now c.in_ok-command.command c.in-Err.refused c.in_ok-command.ensures.read told.1 c.in-Err.ensures.does),
+      subst (λ (bytes : List ℕ). script_step c.self.inside.world.world c.args.number c.args.line.now ≡ goes c.step_by.new.self.world bytes) (sym told.0)
+          (script_step-told c.self.inside.world.world c.step_by.new.self.world c.args.number c.args.line.now c.in_ok-command.command c.in-Err.refused c.in_ok-command.ensures.read told.1 c.in-Err.ensures.does),
     ))

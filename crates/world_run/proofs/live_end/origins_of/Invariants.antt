@@ -1,0 +1,8 @@
+-- Gathering the other masters.
+use Rattle.std.proofs.Common.{◌≡◌, ◌++◌, drop, filter}
+use Rattle.site_state.specs.State.{is_master_site}
+use Rattle.world_run.proofs.live_end.origins_of.Given as goal
+
+-- those so far, and those among the senders to come
+abbrev pub invariant-loop-sender : goal.invariant-loop-sender
+invariant-loop-sender l = filter (is_master_site l.schema) l.sender-items ≡ l.names ++ filter (is_master_site l.schema) (drop l.sender-index l.sender-items)

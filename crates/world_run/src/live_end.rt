@@ -1,0 +1,79 @@
+//! The end of a live part.
+ghost use Rattle.std.specs.Prelude.{◌≡◌, ◌≤◌, None, length, IfOk};
+ghost use Rattle.environment_push.specs.Lending.{live_refusal};
+ghost use Rattle.world_run.specs.LiveParts.{most_sessions, sessions_of, origins_of};
+ghost use Rattle.world_run.specs.LiveAnswers.{IsRan};
+
+use crate::live_part::{EndedPart, OpenPart};
+use crate::streaming::Streaming;
+use crate::world::World;
+use live_report::part_lines;
+use page_tables::PageTables;
+use rep_lists::{Items, NoMemory};
+use rep_schema::RowStore;
+use rep_values::SiteName;
+use report_text::Lines;
+use schema_sites::{is_master_site, senders_of};
+use site_core::Site;
+use std::alloc::Global;
+use std::snapshot::Snapshot;
+
+/// A world behind its live part, that part, and what its end prints.
+#[derive(Drop)]
+pub struct Ran {
+    pub world: World,
+    pub part: EndedPart,
+    pub lines: Lines,
+}
+
+/// The other masters, in declared order.
+fn origins_of(
+    alloc: Global,
+    site: &Site<PageTables>,
+    name: &SiteName,
+) -> Result<Items<SiteName>, NoMemory>
+    ensures { IfOk result (λ names. names ≡ origins_of name.now site.now) }
+{
+    let schema = site.store().schema();
+    let senders = senders_of(alloc, schema, name)?;
+    let mut names = Items::new(alloc);
+    for sender in senders.as_slice() {
+        if is_master_site(schema, sender) {
+            names.push(*sender)?;
+        }
+    }
+    Ok(names)
+}
+
+/// Runs an open part: what the other masters sent comes in, the turns are made, and the marks go back. It gives what the end prints.
+pub fn run_part<S: Streaming>(
+    world: World,
+    alloc: Global,
+    json: bool,
+    streaming: &S,
+    part: OpenPart,
+) -> Result<Ran, NoMemory>
+    requires able { S.able streaming.now }
+    requires free { world.lent ≡ None }
+    requires passes { live_refusal part.site world.world ≡ None }
+    requires few { length (sessions_of part) ≤ most_sessions }
+    ensures { IfOk result (λ ran. IsRan json world.world part ran.world ran.part ran.lines.bytes) }
+{
+    let mut world = world;
+    let before = Snapshot::of(&world);
+    let name = part.site;
+    let sessions = part.into_sessions()?;
+    let kept = Snapshot::of(&sessions);
+    let site = world.live_open(alloc, &name)?;
+    let origins = origins_of(alloc, &site, &name)?;
+    let (site, turns) = streaming.run(alloc, site, origins, sessions)?;
+    let lines = part_lines(alloc, json, &name, turns.as_slice())?;
+    world.live_close(alloc, site)?;
+    let part = EndedPart {
+        site: name,
+        before,
+        sessions: kept,
+        turns: Snapshot::of(&turns),
+    };
+    Ok(Ran { world, part, lines })
+}
