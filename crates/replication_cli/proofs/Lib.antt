@@ -8,3 +8,4 @@ mod Counting
 mod Summed
 mod Rounds
 mod Worked
+mod AskedLive

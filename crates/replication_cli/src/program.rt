@@ -1,5 +1,5 @@
 //! What the program does with the words of its command line.
-ghost use Rattle.std.specs.Prelude.{◌≡◌, ◌≢◌, ◌↔◌, ℕ, None, Some};
+ghost use Rattle.std.specs.Prelude.{◌≡◌, ◌≢◌, ◌↔◌, ℕ, Bool, None, Some};
 ghost use Rattle.rep_io.specs.Faults.{Rose};
 ghost use Rattle.rep_lines.specs.Told.{Tells};
 ghost use Rattle.world_state.specs.World.{first_world};
@@ -8,6 +8,8 @@ ghost use Rattle.script_drive.specs.Outcome.{Told};
 ghost use Rattle.script_drive.specs.Prompt.{ReadsPromptly};
 ghost use Rattle.world_run.specs.Completeness.{RunsToItsEnd};
 ghost use Rattle.world_run.specs.Scripts.{script_step, EachLineHolds};
+ghost use Rattle.world_run.specs.LiveScripts.{ReportsFully, RunsFully, LiveRunsToItsEnd};
+ghost use Rattle.world_run.specs.LiveLaws.{EachLiveLineHolds};
 ghost use Rattle.replication_cli.specs.Outcome.{TellsOf, StormEnds};
 ghost use Rattle.replication_cli.specs.Summary.{storm_summary};
 ghost use Rattle.program_words.specs.Words.{asked_by};
@@ -19,12 +21,16 @@ use script_drive::{Reader, Status, Straight};
 use std::alloc::Global;
 use std::sync::Wait;
 use std::thread::Threads;
-use world_run::{reported_worlds_hold, run_alone_through, run_crew_through};
+use world_run::{
+    live_worlds_hold, reported_worlds_hold, run_alone_through, run_crew_through, run_live_through,
+    scripts_have_full_turns,
+};
 
 /// What the program does with the words behind its name. For `run` it runs the script of the source, as `run_alone` does, or with
-/// more appliers than one as `run_crew` does: the report is the same. For `storm SEED COUNT` it runs the script of that storm and
-/// writes its summary; it reads nothing. For all other words it answers `Usage`, and reads and writes nothing. With more appliers
-/// than one it may wait for a lock.
+/// more appliers than one as `run_crew` does: the report is the same. For `live` it runs the script as `run_live` does, whose report
+/// is one by turns that it prints. For `storm SEED COUNT` it runs the script of that storm and writes its summary; it reads nothing.
+/// For all other words it answers `Usage`, and reads and writes nothing. With more appliers than one, and in a live part, it may
+/// wait for a lock.
 pub fn run_program<X: Threads + Wait + Sync, S: Source, K: Sink, W: Watch>(
     rt: &X,
     alloc: Global,
@@ -34,7 +40,7 @@ pub fn run_program<X: Threads + Wait + Sync, S: Source, K: Sink, W: Watch>(
     watch: &W,
 ) -> Status
     ensures usage { (result ≡ Status.Usage) ↔ (asked_by words.now ≡ None) }
-    ensures unread { ((appliers : ℕ) → asked_by words.now ≢ Some (Asked.Run appliers)) → source.new ≡ source.old }
+    ensures unread { ((appliers : ℕ) → asked_by words.now ≢ Some (Asked.Run appliers)) → ((json : Bool) → asked_by words.now ≢ Some (Asked.Live json)) → source.new ≡ source.old }
     ensures unwritten { result ≡ Status.Usage → sink.new ≡ sink.old }
     ensures told { (appliers : ℕ) → asked_by words.now ≡ Some (Asked.Run appliers) → Tells (Told (line_step script_step) first_world result)
         (S.left source.old) (S.left source.new) (K.taken sink.old) (K.taken sink.new) }
@@ -45,6 +51,9 @@ pub fn run_program<X: Threads + Wait + Sync, S: Source, K: Sink, W: Watch>(
     ensures write { result ≡ Status.WriteFault → Rose (K.faults sink.old) (K.faults sink.new) }
     ensures worlds { (appliers : ℕ) → asked_by words.now ≡ Some (Asked.Run appliers) → EachLineHolds (S.left source.old) }
     ensures complete { (appliers : ℕ) → asked_by words.now ≡ Some (Asked.Run appliers) → RunsToItsEnd (S.left source.old) (K.taken sink.old) (S.faults source.old) (S.faults source.new) (K.faults sink.old) (K.faults sink.new) result }
+    ensures live { (json : Bool) → asked_by words.now ≡ Some (Asked.Live json) → ReportsFully json result (S.left source.old) (S.left source.new) (K.taken sink.old) (K.taken sink.new) }
+    ensures live_worlds { (json : Bool) → asked_by words.now ≡ Some (Asked.Live json) → EachLiveLineHolds (S.left source.old) }
+    ensures live_complete { (json : Bool) → asked_by words.now ≡ Some (Asked.Live json) → LiveRunsToItsEnd json (S.left source.old) (K.taken sink.old) (S.faults source.old) (S.faults source.new) (K.faults sink.old) (K.faults sink.new) result }
 {
     run_program_through(rt, alloc, words, &mut Straight, source, sink, watch)
 }
@@ -61,8 +70,8 @@ pub fn run_program_through<X: Threads + Wait + Sync, S, K: Sink, R: Reader<S, K>
     watch: &W,
 ) -> Status
     ensures usage { (result ≡ Status.Usage) ↔ (asked_by words.now ≡ None) }
-    ensures unread { ((appliers : ℕ) → asked_by words.now ≢ Some (Asked.Run appliers)) → source.new ≡ source.old }
-    ensures unasked { ((appliers : ℕ) → asked_by words.now ≢ Some (Asked.Run appliers)) → reader.new ≡ reader.old }
+    ensures unread { ((appliers : ℕ) → asked_by words.now ≢ Some (Asked.Run appliers)) → ((json : Bool) → asked_by words.now ≢ Some (Asked.Live json)) → source.new ≡ source.old }
+    ensures unasked { ((appliers : ℕ) → asked_by words.now ≢ Some (Asked.Run appliers)) → ((json : Bool) → asked_by words.now ≢ Some (Asked.Live json)) → reader.new ≡ reader.old }
     ensures unwritten { result ≡ Status.Usage → sink.new ≡ sink.old }
     ensures told { (appliers : ℕ) → asked_by words.now ≡ Some (Asked.Run appliers) → Tells (Told (line_step script_step) first_world result)
         (R.left source.old) (R.left source.new) (K.taken sink.old) (K.taken sink.new) }
@@ -75,8 +84,13 @@ pub fn run_program_through<X: Threads + Wait + Sync, S, K: Sink, R: Reader<S, K>
     ensures write { result ≡ Status.WriteFault → Rose (K.faults sink.old) (K.faults sink.new) }
     ensures worlds { (appliers : ℕ) → asked_by words.now ≡ Some (Asked.Run appliers) → EachLineHolds (R.left source.old) }
     ensures complete { (appliers : ℕ) → asked_by words.now ≡ Some (Asked.Run appliers) → RunsToItsEnd (R.left source.old) (K.taken sink.old) (R.faults source.old) (R.faults source.new) (K.faults sink.old) (K.faults sink.new) result }
+    ensures live { (json : Bool) → asked_by words.now ≡ Some (Asked.Live json) → RunsFully json result (R.left source.old) (R.left source.new) (K.taken sink.old) (K.taken sink.new) (R.reads reader.old) (R.reads reader.new) }
+    ensures live_worlds { (json : Bool) → asked_by words.now ≡ Some (Asked.Live json) → EachLiveLineHolds (R.left source.old) }
+    ensures live_complete { (json : Bool) → asked_by words.now ≡ Some (Asked.Live json) → LiveRunsToItsEnd json (R.left source.old) (K.taken sink.old) (R.faults source.old) (R.faults source.new) (K.faults sink.old) (K.faults sink.new) result }
 {
     reported_worlds_hold();
+    live_worlds_hold();
+    scripts_have_full_turns();
     let Ok(asked) = asked_by(alloc, words) else {
         return Status::Memory;
     };
@@ -85,6 +99,9 @@ pub fn run_program_through<X: Threads + Wait + Sync, S, K: Sink, R: Reader<S, K>
         Some(Asked::Run { appliers: 1 }) => run_alone_through(alloc, reader, source, sink),
         Some(Asked::Run { appliers }) => {
             run_crew_through(rt, alloc, appliers, reader, source, sink, watch)
+        }
+        Some(Asked::Live { json }) => {
+            run_live_through(rt, alloc, json, reader, source, sink, watch)
         }
         Some(
             Asked::Storm {

@@ -1,5 +1,5 @@
 //! A storm that is being run, command by command.
-ghost use Rattle.std.specs.Prelude.{◌≡◌, ◌+◌, ◌*◌, ◌^◌, ◌<◌, ◌≤◌, All, length, IfOk, OnOk};
+ghost use Rattle.std.specs.Prelude.{◌≡◌, ◌+◌, ◌*◌, ◌^◌, ◌<◌, ◌≤◌, All, length, None, IfOk, OnOk};
 ghost use Rattle.storm_script.specs.Laws.{IsLine, most_rounds};
 ghost use Rattle.storm_script.specs.Rounds.{rounds};
 ghost use Rattle.storm_script.specs.Storm.{storm_commands};
@@ -30,9 +30,11 @@ fn step<X: Threads + Wait + Sync, W: Watch>(
     appliers: u32,
     watch: &W,
 ) -> Result<Lines, Refused>
+    requires free { world.old.lent ≡ None }
     requires line { IsLine command.now }
     requires appliers { (1 ≤ appliers) × (appliers ≤ 8) }
-    ensures does { Does number command.now world.old world.new result }
+    ensures free { world.new.lent ≡ None }
+    ensures does { Does number command.now world.old.world world.new.world result }
 {
     if appliers == 1 {
         return world.step(alloc, number, command);
@@ -40,7 +42,7 @@ fn step<X: Threads + Wait + Sync, W: Watch>(
     world.step_crew(rt, alloc, number, command, appliers, watch)
 }
 
-/// A world, the number of the command that comes, and what those before it told.
+/// A world, the number of the command that comes, and what those before it told. No master of the world is lent out.
 #[derive(Drop)]
 pub struct Run {
     world: World,
@@ -49,13 +51,14 @@ pub struct Run {
 }
 
 impl Model for Run {
+    ghost use Rattle.std.specs.Prelude.{◌≡◌, None};
     ghost use Rattle.replication_cli.specs.Runs.{Running, IsCounted};
 
     ghost Value = { Running };
 
-    ghost view = { λ r. record { world = r.world; number = r.number; tally = r.tally } };
+    ghost view = { λ r. record { world = r.world.world; number = r.number; tally = r.tally } };
 
-    ghost invariant = { λ r. IsCounted r.number r.tally };
+    ghost invariant = { λ r. IsCounted r.number r.tally × (r.world.lent ≡ None) };
 }
 
 impl Run {
@@ -72,7 +75,8 @@ impl Run {
 
     /// The world behind the commands so far.
     pub fn world(&self) -> &World
-        ensures { result.now ≡ self.now.world }
+        ensures world { result.now.world ≡ self.now.world }
+        ensures free { result.now.lent ≡ None }
     {
         &self.world
     }

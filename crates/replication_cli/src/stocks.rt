@@ -1,5 +1,5 @@
 //! The storm's table at a site.
-ghost use Rattle.std.specs.Prelude.{◌≡◌, ◌+◌, ◌<◌, ◌↔◌, ◌∷◌, length, drop, slice_get, IsTrue};
+ghost use Rattle.std.specs.Prelude.{◌≡◌, ◌+◌, ◌<◌, ◌↔◌, ◌∷◌, length, drop, slice_get, None, IsTrue};
 ghost use Rattle.rep_schema.specs.Tables.{rows_of};
 ghost use Rattle.replication_cli.specs.Stocks.{number_in, qty_of, top_of, raised, total_qty, greatest_top, totals_of, same_rows, stock_rows, masters_agree};
 
@@ -101,9 +101,10 @@ fn same_rows<R: RowStore>(a: &R, b: &R) -> bool
     have_same_rows(a, b)
 }
 
-/// What the rows at a site of a world come to; those of no rows where it isn't there.
+/// What the rows at a site of a world come to; those of no rows where it isn't there. No master is lent out.
 pub fn site_totals(world: &World, site: &SiteName) -> Totals
-    ensures { result ≡ totals_of (stock_rows site.now world.now) }
+    requires { world.now.lent ≡ None }
+    ensures { result ≡ totals_of (stock_rows site.now world.now.world) }
 {
     match world.site(site) {
         Some(site) => totals_in(site.store()),
@@ -117,7 +118,8 @@ pub fn site_totals(world: &World, site: &SiteName) -> Totals
 
 // Whether two sites of a world have the same rows.
 fn agree_between(world: &World, a: &SiteName, b: &SiteName) -> bool
-    ensures { result ≡ same_rows (stock_rows a.now world.now) (stock_rows b.now world.now) }
+    requires { world.now.lent ≡ None }
+    ensures { result ≡ same_rows (stock_rows a.now world.now.world) (stock_rows b.now world.now.world) }
 {
     match (world.site(a), world.site(b)) {
         (Some(a), Some(b)) => same_rows(a.store(), b.store()),
@@ -126,9 +128,10 @@ fn agree_between(world: &World, a: &SiteName, b: &SiteName) -> bool
     }
 }
 
-/// Whether the masters of a world have the same rows.
+/// Whether the masters of a world have the same rows. None of them is lent out.
 pub fn masters_agree(world: &World) -> bool
-    ensures { result ≡ masters_agree world.now }
+    requires { world.now.lent ≡ None }
+    ensures { result ≡ masters_agree world.now.world }
 {
     let [a, b, c] = sites();
     agree_between(world, &a, &b) && agree_between(world, &b, &c)

@@ -8,5 +8,5 @@ pub returns : goal.returns
 returns g c =
     IfOk-weaker c.lines_of.result _ _ (λ lines is.
     is ∙ summed c.args.seed c.args.count c.in_ok-run.run' c.in_ok-run.ensures c.tally.result c.site_totals-totals.result c.masters_agree-agree.result
-    c.tally.ensures (rw (c.first_site.ensures, c.world.ensures) at c.site_totals-totals.ensures) (rw c.world-2.ensures at c.masters_agree-agree.ensures))
+    c.tally.ensures (rw (c.first_site.ensures, c.world.ensures.world) at c.site_totals-totals.ensures) (rw c.world-2.ensures.world at c.masters_agree-agree.ensures))
     c.lines_of.ensures

@@ -8,12 +8,12 @@ use Rattle.replication_cli.proofs.run.Run.run.Goals as goal
 -- one command more was run, and one text more was counted
 pub invariant_of-self : goal.invariant_of-self
 invariant_of-self g c =
-    subst (IsCounted (c.self.inside.number + 1)) (sym c.add.ensures) (IsCounted-with_text c.self.inside.number c.self.inside.tally c.bytes.result.now c.self.invariant)
+    (subst (IsCounted (c.self.inside.number + 1)) (sym c.add.ensures) (IsCounted-with_text c.self.inside.number c.self.inside.tally c.bytes.result.now c.self.invariant.0), c.step.ensures.free)
 
 -- the command was refused, and not for want of memory
 pub returns-in_default : goal.returns-in_default
 returns-in_default g c =
     let told : is_memory c.in-Err.refused.refusal ≡ false = search rules in
-    let before : Running = record { world = c.self.inside.world; number = c.self.inside.number; tally = c.self.inside.tally } in
-    subst (λ (r : Running). ◌≡◌ {A = Running} (record { world = c.step.new.world; number = c.self.inside.number + 1; tally = c.refuse.new.self }) (with_command r c.args.command.now)) c.self.view_is
-    (with_command-told before c.step.new.world c.refuse.new.self c.args.command.now c.in-Err.refused told c.in-Err.ensures.does c.refuse.ensures)
+    let before : Running = record { world = c.self.inside.world.world; number = c.self.inside.number; tally = c.self.inside.tally } in
+    subst (λ (r : Running). ◌≡◌ {A = Running} (record { world = c.step.new.world.world; number = c.self.inside.number + 1; tally = c.refuse.new.self }) (with_command r c.args.command.now)) c.self.view_is
+    (with_command-told before c.step.new.world.world c.refuse.new.self c.args.command.now c.in-Err.refused told c.in-Err.ensures.does c.refuse.ensures)
