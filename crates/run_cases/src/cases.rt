@@ -2,6 +2,7 @@
 
 use crate::crews::{Held, run_held};
 use crate::cuts::cut_line;
+use crate::live::{in_any_order, run_streams};
 use crate::pieces::{Pieces, run_in_pieces};
 use crate::runs::{Ended, run};
 use std::alloc::{AllocError, Global};
@@ -18,6 +19,17 @@ enum Way {
     Pieces(Pieces),
     /// By a crew.
     Crew(Held),
+    /// With a live part.
+    Live(Turns),
+}
+
+/// How the turns of a live part are printed.
+#[derive(Clone, Copy, Drop)]
+enum Turns {
+    AsLines,
+    AsJson,
+    /// As lines, by their bytes.
+    InAnyOrder,
 }
 
 /// A script of the input.
@@ -127,11 +139,23 @@ fn pieces_of(title: &str) -> Option<Way> {
     }))
 }
 
+/// The turns of `== live: NAME`, `== live as JSON: NAME` and `== live in any order: NAME`.
+fn live_of(title: &str) -> Option<Way> {
+    let (how, _) = title.strip_prefix("== live")?.split_once(':')?;
+    match how.as_bytes() {
+        b"" => Some(Way::Live(Turns::AsLines)),
+        b" as JSON" => Some(Way::Live(Turns::AsJson)),
+        b" in any order" => Some(Way::Live(Turns::InAnyOrder)),
+        _ => None,
+    }
+}
+
 fn way_of(title: &str) -> Way {
     if title.starts_with("== cut ") {
         return Way::Cut;
     }
-    crew_of(title).or(pieces_of(title)).unwrap_or(Way::Alone)
+    let way = crew_of(title).or(pieces_of(title)).or(live_of(title));
+    way.unwrap_or(Way::Alone)
 }
 
 /// The name of a case, the report of its script and the status.
@@ -176,6 +200,22 @@ fn told_held<R: Threads + Wait + Sync>(
     }
 }
 
+fn told_live<R: Threads + Wait + Sync>(
+    rt: &R,
+    alloc: Global,
+    turns: Turns,
+    case: &Case,
+) -> Result<String, AllocError> {
+    let json = matches!(turns, Turns::AsJson);
+    let ended = run_streams(rt, alloc, json, &case.script)?;
+    let title = case.title.as_str();
+    let text = told(alloc, title, &ended)?;
+    match turns {
+        Turns::InAnyOrder => in_any_order(alloc, text.as_str()),
+        Turns::AsLines | Turns::AsJson => Ok(text),
+    }
+}
+
 /// What a case prints: its name, what was written, the status, and what is to be said of its cuts, its pieces or its crew.
 pub fn outcome<R: Threads + Wait + Sync>(
     rt: &R,
@@ -187,5 +227,6 @@ pub fn outcome<R: Threads + Wait + Sync>(
         Way::Cut => told_cut(alloc, case),
         Way::Pieces(pieces) => told_in_pieces(alloc, pieces, case),
         Way::Crew(held) => told_held(rt, alloc, held, case),
+        Way::Live(turns) => told_live(rt, alloc, turns, case),
     }
 }

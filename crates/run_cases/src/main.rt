@@ -11,11 +11,16 @@
 //! A script behind `== crew APPLIERS TURNS` is run by so many appliers. Those that work on positions 2 and 3 of a sender are held
 //! until both do, none for more than so many turns, and the case tells whether they met, which no contract says. With ` from FIRST`
 //! behind the turns they are the two positions behind that one.
+//!
+//! A script behind `== live: NAME` may have a live part. With `== live as JSON: NAME` its turns are printed as one line of JSON, and
+//! with `== live in any order: NAME` the lines of turns are put into the order of their bytes, as the order in which they came may
+//! be another one each time.
 #![tactic(auto)]
 
 mod cases;
 mod crews;
 mod cuts;
+mod live;
 mod meeting;
 mod pieces;
 mod runs;

@@ -1,4 +1,5 @@
-//! What threads come to, as cases: numbers that threads add under a gate, and passes of crews over tables that note what is put.
+//! What threads come to, as cases: numbers that threads add under a gate, and passes of crews and live parts over tables that
+//! note what is put.
 //!
 //! A line `add FIRST / NUMBER .. / NUMBER ..` is one gate. Its value begins with the first number, a thread of its own adds the
 //! numbers of each further part, and what the value tells in the end is printed.
@@ -13,8 +14,19 @@
 //! block, one before one came with the third, and none whose number begins with 2 as long as the applier of the second was held.
 //!
 //! `fake APPLIERS TURNS` prints the same of so many threads that only tell that they work on the three blocks. The caller makes
-//! the pass, once behind their calls and once before them. What stands behind a line of these two is another case. An empty line
-//! and one that begins with `#` is printed as it is.
+//! the pass, once behind their calls and once before them.
+//!
+//! `session SESSION / STATEMENT / STATEMENT ..` is one more block of a session at the second site, in which a statement's line is
+//! ten times its number; without `/` the session has no block more. `sessions TURNS` makes a live part of these sessions there, and
+//! `streams TURNS` one that applies beside them what the first site sent and the second one hasn't applied. The first session is
+//! held at its first block and the second one at its second block until both have come, neither for more than so many turns. It
+//! prints whether they met, and whether rows were put when they had to be: one whose number begins with 2 before the second one
+//! came, and none whose number begins with 1 as long as the first one was held. Then come each session's turns, those of the first
+//! site, the numbers of the commits, and the rows of the first table.
+//!
+//! `fake_sessions TURNS` prints the first of it of four wrong bodies: two commit one session after another, and in two threads only
+//! tell of the blocks. What stands behind a line of these five is another case. An empty line and one that begins with `#` is
+//! printed as it is.
 #![tactic(auto)]
 
 ghost use Rattle.std.specs.Prelude.{◌+◌, ◌^◌, ◌<◌, IfOk};
@@ -24,21 +36,28 @@ mod adding;
 mod blocks;
 mod held;
 mod laws;
+mod live;
+mod meeting;
 mod noting;
 mod order;
 mod pair;
 mod pass;
 mod pretence;
+mod session_order;
+mod sessions;
 mod sums;
 mod tally;
 mod told;
+mod turn_lines;
 
 use case_lines::CaseStop;
 use held::Held;
+use live::{WrongBody, live_outcome, make_wrongly};
 use noting::{NotingTables, Puts};
 use order::Order;
 use pass::{Maker, mark_after_pass};
 use rep_values::SiteName;
+use session_order::SessionOrder;
 use site_core::Site;
 use std::alloc::{AllocError, Global};
 use std::sync::{Arc, Wait};
@@ -53,6 +72,9 @@ enum Form<'a> {
     Add(&'a str),
     Run(Held),
     Fake(Held),
+    Sessions(u64),
+    Streams(u64),
+    FakeSessions(u64),
     Told,
 }
 
@@ -64,12 +86,27 @@ fn fake_of(words: &str) -> Option<Form<'_>> {
     Some(Form::Fake(Held::read(words)?))
 }
 
+fn sessions_of(words: &str) -> Option<Form<'_>> {
+    Some(Form::Sessions(words.parse::<u64>().ok()?))
+}
+
+fn streams_of(words: &str) -> Option<Form<'_>> {
+    Some(Form::Streams(words.parse::<u64>().ok()?))
+}
+
+fn fake_sessions_of(words: &str) -> Option<Form<'_>> {
+    Some(Form::FakeSessions(words.parse::<u64>().ok()?))
+}
+
 /// The form of a line by its first word.
 fn form_by<'a>(kind: &[u8], words: &'a str) -> Option<Form<'a>> {
     match kind {
         b"add" => Some(Form::Add(words)),
         b"run" => run_of(words),
         b"fake" => fake_of(words),
+        b"sessions" => sessions_of(words),
+        b"streams" => streams_of(words),
+        b"fake_sessions" => fake_sessions_of(words),
         _ => None,
     }
 }
@@ -160,6 +197,59 @@ fn fake_outcomes<R: Threads + Wait + Sync>(
     Ok(format!(in alloc; "pass behind the calls\n{before}\npass before the calls\n{behind}")?)
 }
 
+/// What is printed of a live part, which applies what the first site sent or doesn't.
+fn live_part<R: Threads + Wait + Sync>(
+    rt: &R,
+    alloc: Global,
+    told: &Told,
+    turns: u64,
+    applies: bool,
+) -> Result<String, CaseStop> {
+    let order = SessionOrder::new(Arc::new(alloc, Puts::new())?, turns);
+    let (site, origin) = receiver(alloc, told, order.puts()?)?;
+    let sessions = told.sessions(alloc)?;
+    let origins = [origin];
+    let origins: &[SiteName] = if applies { &origins } else { &[] };
+    order.begin();
+    live_outcome(rt, alloc, site, origins, sessions, &order)
+}
+
+/// How a live part by a wrong body goes.
+fn wrong_word<R: Threads + Wait + Sync>(
+    rt: &R,
+    alloc: Global,
+    told: &Told,
+    turns: u64,
+    body: WrongBody,
+) -> Result<&'static str, CaseStop> {
+    let order = SessionOrder::new(Arc::new(alloc, Puts::new())?, turns);
+    let (site, _) = receiver(alloc, told, order.puts()?)?;
+    let sessions = told.sessions(alloc)?;
+    order.begin();
+    make_wrongly(rt, alloc, site, sessions.as_slice(), body, &order)?;
+    Ok(order.word())
+}
+
+/// What is printed of live parts by wrong bodies.
+fn wrong_outcomes<R: Threads + Wait + Sync>(
+    rt: &R,
+    alloc: Global,
+    told: &Told,
+    turns: u64,
+) -> Result<String, CaseStop> {
+    let onward = wrong_word(rt, alloc, told, turns, WrongBody::FirstOnward)?;
+    let backward = wrong_word(rt, alloc, told, turns, WrongBody::LastBackward)?;
+    let before = wrong_word(rt, alloc, told, turns, WrongBody::CallsBefore)?;
+    let behind = wrong_word(rt, alloc, told, turns, WrongBody::CallsBehind)?;
+    let in_turn = format!(in alloc;
+        "first session first\n{onward}\nlast session first\n{backward}"
+    )?;
+    let calls = format!(in alloc;
+        "commits behind the calls\n{before}\ncommits before the calls\n{behind}"
+    )?;
+    Ok(format!(in alloc; "{in_turn}\n{calls}")?)
+}
+
 /// These words are printed.
 fn printed(alloc: Global, words: &str) -> Result<Option<String>, AllocError> {
     Ok(Some(format!(in alloc; "{words}")?))
@@ -185,13 +275,19 @@ fn answer<R: Threads + Wait + Sync>(
         Form::Add(parts) => answered(alloc, line, sum_line(rt, alloc, parts)),
         Form::Run(held) => answered(alloc, line, outcome(rt, alloc, told, held, Maker::Crew)),
         Form::Fake(held) => answered(alloc, line, fake_outcomes(rt, alloc, told, held)),
+        Form::Sessions(turns) => answered(alloc, line, live_part(rt, alloc, told, turns, false)),
+        Form::Streams(turns) => answered(alloc, line, live_part(rt, alloc, told, turns, true)),
+        Form::FakeSessions(turns) => answered(alloc, line, wrong_outcomes(rt, alloc, told, turns)),
         Form::Told => take_told(alloc, told, line),
     }
 }
 
 /// Whether another case begins behind a line.
 fn ends_case(line: &str) -> bool {
-    matches!(form_of(line), Form::Run(_) | Form::Fake(_))
+    matches!(
+        form_of(line),
+        Form::Run(_) | Form::Fake(_) | Form::Sessions(_) | Form::Streams(_) | Form::FakeSessions(_)
+    )
 }
 
 fn tell<R: Print>(rt: &R, answer: Option<String>) -> anyhow::Result<()> {

@@ -1,10 +1,14 @@
 //! What the input declares, and the blocks that it has.
+ghost use Rattle.std.specs.Prelude.{◌≤◌, length, IfOk};
 ghost use Rattle.rep_schema.specs.Shape.{HasShape};
 
 use crate::blocks::{Block, block_of, numbered, repeated};
 use crate::noting::Puts;
 use crate::pair::Pair;
+use crate::sessions::SessionLines;
 use case_lines::{CaseStop, Words, declare};
+use live_laws::Session;
+use rep_lists::Items;
 use rep_schema::Schema;
 use rep_values::{ApplyError, Refusal, SiteName};
 use script_lex::lex;
@@ -12,12 +16,13 @@ use std::alloc::Global;
 use std::marker::Model;
 use std::sync::Arc;
 
-/// A schema, and blocks, of which the first so many are applied before the pass of the case.
+/// A schema, and blocks, of which the first so many are applied before the pass of the case; and the sessions of a live part.
 #[derive(Drop)]
 pub struct Told {
     schema: Schema,
     blocks: Vec<Block>,
     applied: usize,
+    sessions: SessionLines,
 }
 
 impl Model for Told {
@@ -54,6 +59,7 @@ impl Told {
             schema: Schema::empty(alloc),
             blocks: Vec::new(alloc),
             applied: 0,
+            sessions: SessionLines::new(alloc),
         }
     }
 
@@ -104,7 +110,8 @@ impl Told {
         Ok(())
     }
 
-    /// Takes in a declaration, a statement, `* COUNT STATEMENT`, `block COUNT STATEMENT` or `apply`.
+    /// Takes in a declaration, a statement, `* COUNT STATEMENT`, `block COUNT STATEMENT`, `apply`, or a
+    /// `session` with or without a block.
     pub fn take_line(&mut self, alloc: Global, line: &str) -> Result<(), CaseStop> {
         let (kind, words) = line.split_once(' ').unwrap_or((line, ""));
         match kind.as_bytes() {
@@ -112,8 +119,16 @@ impl Told {
             b"*" => self.add_blocks(alloc, words),
             b"block" => self.add_long_block(alloc, words),
             b"apply" => self.apply(),
+            b"session" => self.sessions.take(alloc, words),
             _ => self.add_declared(alloc, line),
         }
+    }
+
+    /// The sessions of a live part.
+    pub fn sessions(&self, alloc: Global) -> Result<Items<Session>, CaseStop>
+        ensures { IfOk result (λ sessions. length sessions ≤ 8) }
+    {
+        self.sessions.sessions(alloc)
     }
 
     /// The names of the first two sites.
