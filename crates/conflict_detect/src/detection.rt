@@ -8,7 +8,9 @@ ghost use Rattle.conflict_detect.specs.Differing.{is_matched, unmatched_groups, 
 
 use crate::GroupSet;
 use rep_calls::{Call, Part};
-use rep_schema::{SHADOW, Schema, group_columns, groups_of, has_values, named_columns, same_in_group};
+use rep_schema::{
+    SHADOW, Schema, group_columns, groups_of, has_values, named_columns, same_in_group,
+};
 use rep_values::{Row, Value};
 
 /// What detection finds of the row that an update or a delete names.

@@ -10,8 +10,8 @@ ghost use Rattle.conflict_detect.specs.FitTests.{txn_fits};
 
 use rep_calls::{Call, Part, Txn};
 use rep_schema::{
-    Column, Kind, SHADOW, Schema, columns_of, fits_kind, group_columns, groups_of,
-    named_columns, row_fits,
+    Column, Kind, SHADOW, Schema, columns_of, fits_kind, group_columns, groups_of, named_columns,
+    row_fits,
 };
 use rep_values::{Key, Value, same_values};
 
@@ -88,7 +88,11 @@ fn part_fits(schema: &Schema, table: u32, part: &Part) -> bool
         let group = group_columns(schema, table, part.group);
         return part_fits_at(columns, group.as_slice(), part);
     }
-    part_fits_at(columns, named_columns(groups_of(schema, table), part.group), part)
+    part_fits_at(
+        columns,
+        named_columns(groups_of(schema, table), part.group),
+        part,
+    )
 }
 
 fn each_part_fits(schema: &Schema, table: u32, parts: &[Part]) -> bool
