@@ -1,5 +1,6 @@
 -- The lemmas of this crate, from the bottom up.
 mod FitWalk
+mod PartFit
 pub mod FitTested
 mod Gathered
 pub mod FewParts

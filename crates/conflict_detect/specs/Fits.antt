@@ -5,6 +5,7 @@ use Rattle.std.specs.List.Sorted.{IsStrictlyIncreasing}
 use Rattle.rep_values.specs.declared.value.Value.{Value}
 use Rattle.rep_schema.specs.declared.schema.Schema.{Schema}
 use Rattle.rep_schema.specs.declared.schema.Kind.{Kind}
+use Rattle.rep_schema.specs.declared.schema.Column.{Column}
 use Rattle.rep_schema.specs.Tables.{Cells, columns_of, key_columns, FitsKind, RowFits}
 use Rattle.rep_schema.specs.Groups.{group_numbers_of, columns_in_group}
 use Rattle.rep_calls.specs.declared.call.Part.{Part}
@@ -26,6 +27,12 @@ FitsThere kind (Some value) = FitsKind kind value
 -- a named group of the table, or its shadow group
 abbrev pub IsGroupOf : Schema → ℕ → ℕ → Type 0
 IsGroupOf schema table group = Contains (group_numbers_of schema table) group
+
+-- a part's values match these columns in number and kind, their numbers lie within ±10^15, and old and new values differ
+pub record ValuesFit (columns : List Column) (part : Part) : Type 0 where
+  pub old : RowFits columns part.old
+  pub new : RowFits columns part.new
+  pub differ : part.old ≢ part.new
 
 -- a part of an update of a table: its group is the table's, the values match the group's columns in number and kind,
 -- their numbers lie within ±10^15, and old and new values differ

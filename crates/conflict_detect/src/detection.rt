@@ -8,7 +8,9 @@ ghost use Rattle.conflict_detect.specs.Differing.{is_matched, unmatched_groups, 
 
 use crate::GroupSet;
 use rep_calls::{Call, Part};
-use rep_schema::{SHADOW, Schema, group_columns, groups_of, has_values, same_in_group};
+use rep_schema::{
+    SHADOW, Schema, group_columns, groups_of, has_values, named_columns, same_in_group,
+};
 use rep_values::{Row, Value};
 
 /// What detection finds of the row that an update or a delete names.
@@ -66,11 +68,12 @@ fn is_matched(schema: &Schema, table: u32, row: &[Value], part: &Part) -> bool
     requires shape { HasShape schema.now }
     ensures { result ≡ is_matched schema.now table row.now part.now }
 {
-    has_old_values(
-        group_columns(schema, table, part.group).as_slice(),
-        part,
-        row,
-    )
+    if part.group == SHADOW {
+        let columns = group_columns(schema, table, part.group);
+        return has_old_values(columns.as_slice(), part, row);
+    }
+    let columns = named_columns(groups_of(schema, table), part.group);
+    has_old_values(columns, part, row)
 }
 
 /// The groups of the parts whose old values a row hasn't.

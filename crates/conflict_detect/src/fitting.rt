@@ -5,12 +5,13 @@ ghost use Rattle.std.specs.List.Sorted.{IsStrictlyIncreasing};
 ghost use Rattle.rep_schema.specs.Tables.{key_columns, RowFits};
 ghost use Rattle.rep_schema.specs.Shape.{HasShape};
 ghost use Rattle.rep_schema.specs.Groups.{values_at};
-ghost use Rattle.conflict_detect.specs.Fits.{table_of, FitsThere, IsGroupOf, PartFits, UpdateFits, CallFits, TxnFits};
+ghost use Rattle.conflict_detect.specs.Fits.{table_of, FitsThere, IsGroupOf, ValuesFit, PartFits, UpdateFits, CallFits, TxnFits};
 ghost use Rattle.conflict_detect.specs.FitTests.{txn_fits};
 
 use rep_calls::{Call, Part, Txn};
 use rep_schema::{
-    Column, Kind, SHADOW, Schema, columns_of, fits_kind, group_columns, groups_of, row_fits,
+    Column, Kind, SHADOW, Schema, columns_of, fits_kind, group_columns, groups_of, named_columns,
+    row_fits,
 };
 use rep_values::{Key, Value, same_values};
 
@@ -60,23 +61,38 @@ fn is_group_of(schema: &Schema, table: u32, group: u8) -> bool
     (group as usize) < groups_of(schema, table).len() || group == SHADOW
 }
 
+/// Whether a part's values fit the columns at these places, and differ.
+fn part_fits_at(columns: &[Column], places: &[u32], part: &Part) -> bool
+    requires { AllByRecursion (λ place. place < length columns.now) places.now }
+    ensures { IsTrue result ↔ ValuesFit (values_at places.now columns.now) part.now }
+{
+    if !values_fit(columns, places, part.old.as_slice()) {
+        return false;
+    }
+    if !values_fit(columns, places, part.new.as_slice()) {
+        return false;
+    }
+    !same_values(part.old.as_slice(), part.new.as_slice())
+}
+
 fn part_fits(schema: &Schema, table: u32, part: &Part) -> bool
     requires table { table < length schema.now.tables }
     requires shape { HasShape schema.now }
     ensures { IsTrue result ↔ PartFits schema.now table part.now }
 {
-    let columns = columns_of(schema, table);
-    let group = group_columns(schema, table, part.group);
     if !is_group_of(schema, table, part.group) {
         return false;
     }
-    if !values_fit(columns, group.as_slice(), part.old.as_slice()) {
-        return false;
+    let columns = columns_of(schema, table);
+    if part.group == SHADOW {
+        let group = group_columns(schema, table, part.group);
+        return part_fits_at(columns, group.as_slice(), part);
     }
-    if !values_fit(columns, group.as_slice(), part.new.as_slice()) {
-        return false;
-    }
-    !same_values(part.old.as_slice(), part.new.as_slice())
+    part_fits_at(
+        columns,
+        named_columns(groups_of(schema, table), part.group),
+        part,
+    )
 }
 
 fn each_part_fits(schema: &Schema, table: u32, parts: &[Part]) -> bool

@@ -2,6 +2,7 @@
 ghost use Rattle.std.specs.Prelude.{◌≡◌, ℕ, ◌≤◌, ◌<◌, ◌||◌, ◌&&◌, length, pos, max, false};
 ghost use Rattle.std.specs.List.{list_any, AllByRecursion};
 ghost use Rattle.rep_values.specs.declared.value.Value.TheVariants.{Num};
+ghost use Rattle.rep_schema.specs.Groups.{group_columns_of};
 ghost use Rattle.rep_schema.specs.Limits.{most_columns};
 ghost use Rattle.rep_schema.specs.Shape.{HasShape};
 ghost use Rattle.rep_schema.specs.Tables.{columns_of};
@@ -11,7 +12,9 @@ ghost use Rattle.txn_effects.specs.Stamps.{capped, first_outside};
 ghost use Rattle.local_txn.specs.Chosen.{chosen_at, is_modified_in};
 
 use crate::Stamps;
-use rep_schema::{Column, SHADOW, Schema, columns_of, group_columns, groups_of, same_values_at};
+use rep_schema::{
+    Column, SHADOW, Schema, columns_of, group_columns, groups_of, named_columns, same_values_at,
+};
 use rep_values::{Row, SiteName, Value};
 use txn_effects::stamp_above;
 
@@ -61,6 +64,27 @@ fn choose(places: &[u32], chosen: &mut [bool; 32])
     }
 }
 
+/// Marks the columns at these places of a group, where two rows differ in them.
+fn choose_differing(
+    schema: &Schema,
+    table: u32,
+    group: u8,
+    columns: &[u32],
+    before: &[Value],
+    after: &[Value],
+    chosen: &mut [bool; 32],
+)
+    requires table { table < length schema.now.tables }
+    requires shape { HasShape schema.now }
+    requires columns { columns.now ≡ group_columns_of schema.now table group }
+    requires long { length before.now ≡ length after.now }
+    ensures { (place : ℕ) → chosen_at chosen.new place ≡ (chosen_at chosen.old place || is_modified_in schema.now table before.now after.now group place) }
+{
+    if !same_values_at(columns, before, after) {
+        choose(columns, chosen);
+    }
+}
+
 /// Marks the columns of a group in which two rows differ.
 fn choose_modified(
     schema: &Schema,
@@ -75,9 +99,20 @@ fn choose_modified(
     requires long { length before.now ≡ length after.now }
     ensures { (place : ℕ) → chosen_at chosen.new place ≡ (chosen_at chosen.old place || is_modified_in schema.now table before.now after.now group place) }
 {
-    let columns = group_columns(schema, table, group);
-    if !same_values_at(columns.as_slice(), before, after) {
-        choose(columns.as_slice(), chosen);
+    if group == SHADOW {
+        let columns = group_columns(schema, table, group);
+        choose_differing(
+            schema,
+            table,
+            group,
+            columns.as_slice(),
+            before,
+            after,
+            chosen,
+        );
+    } else {
+        let columns = named_columns(groups_of(schema, table), group);
+        choose_differing(schema, table, group, columns, before, after, chosen);
     }
 }
 

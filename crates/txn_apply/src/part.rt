@@ -12,7 +12,7 @@ ghost use Rattle.txn_effects.specs.Parts.{settled_part, settled_parts};
 
 use conflict_detect::has_old_values;
 use rep_calls::Part;
-use rep_schema::{Schema, group_columns};
+use rep_schema::{SHADOW, Schema, group_columns, groups_of, named_columns};
 use rep_values::{ApplyError, Row, Value};
 use resolve_methods::{Decision, decide};
 use schema_names::group_name;
@@ -43,6 +43,39 @@ fn decision_for(schema: &Schema, table: u32, columns: &[u32], part: &Part, row: 
     decide(schema, table, part, row)
 }
 
+/// Settles a part of a group with these columns against a row.
+fn settle_part_at(
+    schema: &Schema,
+    table: u32,
+    columns: &[u32],
+    part: &Part,
+    row: &mut Row,
+) -> Result<(), ApplyError>
+    requires table { table < length schema.now.tables }
+    requires shape { HasShape schema.now }
+    requires columns { columns.now ≡ group_columns_of schema.now table part.now.group }
+    requires part { PartFits schema.now table part.now }
+    requires row { RowFits (columns_of schema.now table) row.old }
+    ensures ok { OnOk result (settled_part schema.now table part.now row.old ≡ Ok row.new) }
+    ensures err { IfErr result (λ error. settled_part schema.now table part.now row.old ≡ Err error) }
+{
+    match decision_for(schema, table, columns, part, row) {
+        Decision::TakeNew => {
+            set_values(columns, part.new.as_slice(), row);
+            Ok(())
+        }
+        Decision::TakeNumber(number) => {
+            set_values(columns, &[Value::Num(number)], row);
+            Ok(())
+        }
+        Decision::Keep => Ok(()),
+        Decision::Undecided => Err(ApplyError::UpdateConflict(group_name(
+            schema, table, part.group,
+        ))),
+        Decision::Range => Err(ApplyError::ValueRange),
+    }
+}
+
 /// Settles a part against a row.
 fn settle_part(schema: &Schema, table: u32, part: &Part, row: &mut Row) -> Result<(), ApplyError>
     requires table { table < length schema.now.tables }
@@ -52,22 +85,12 @@ fn settle_part(schema: &Schema, table: u32, part: &Part, row: &mut Row) -> Resul
     ensures ok { OnOk result (settled_part schema.now table part.now row.old ≡ Ok row.new) }
     ensures err { IfErr result (λ error. settled_part schema.now table part.now row.old ≡ Err error) }
 {
-    let columns = group_columns(schema, table, part.group);
-    match decision_for(schema, table, columns.as_slice(), part, row) {
-        Decision::TakeNew => {
-            set_values(columns.as_slice(), part.new.as_slice(), row);
-            Ok(())
-        }
-        Decision::TakeNumber(number) => {
-            set_values(columns.as_slice(), &[Value::Num(number)], row);
-            Ok(())
-        }
-        Decision::Keep => Ok(()),
-        Decision::Undecided => Err(ApplyError::UpdateConflict(group_name(
-            schema, table, part.group,
-        ))),
-        Decision::Range => Err(ApplyError::ValueRange),
+    if part.group == SHADOW {
+        let columns = group_columns(schema, table, part.group);
+        return settle_part_at(schema, table, columns.as_slice(), part, row);
     }
+    let columns = named_columns(groups_of(schema, table), part.group);
+    settle_part_at(schema, table, columns, part, row)
 }
 
 /// Settles the parts in order, up to the first that can't be settled.

@@ -29,7 +29,7 @@ use Rattle.world_run.specs.declared.live_part.OpenSession.{OpenSession}
 use Rattle.world_run.specs.LiveParts.{most_sessions, sessions_of, new_part, part_refusal, stated, block_ended, changed_by, taken, with_session, next_session}
 use Rattle.world_run.specs.LiveScripts.{LiveState, around, live_step, allowed, known_by}
 use Rattle.world_run.specs.LiveAnswers.{IsAnswered, IsRan}
-use Rattle.world_run.specs.LiveRunning.{world_in, answer_text, AnswersIn, GoesOn}
+use Rattle.world_run.specs.LiveRunning.{world_in, answer_text, AnswersIn, IsRanIn, GoesOn}
 
 -- a script stands so
 abbrev at : WorldState → LivePart → Bool → LiveState
@@ -69,7 +69,7 @@ module _ (w : WorldState) (json : Bool) (n : ℕ) where
   pub goes_end : (p : OpenPart) (v : LentWorld) (e : RanPart) (out : List ℕ) → IsRan json w p v e out → GoesOn n live_command.End (at w (part.Open p) json) (at v.world (part.Ended e) json) out
   goes_end p v e out ran turns may =
       let same : turns ≡ ran.turns = may ∙ ap (λ (e : RanPart). e.turns) ran.part in
-      (tt, rw (same, ran.behind, ran.part, ran.told) refl)
+      (tt, rw (same, ran.runs.behind, ran.part, ran.told) refl)
 
 -- ---- what is known of a part stays so
 
@@ -123,10 +123,10 @@ part_goes s w po json n c p q out stands is_open answers =
     rw (stands, is_open, answers.1.1) (goes_taken w json n c p q answers.0 answers.1.0)
 
 -- the end of an open part
-pub end_goes : (s : LiveState) (wo : Option LentWorld) (po : LivePart) (json : Bool) (n : ℕ) (p : OpenPart) (v new : LentWorld) (e : RanPart) (out : List ℕ) → s ≡ at (world_in wo) po json → po ≡ part.Open p
-    → wo ≡ Some v → IsRan json v.world p new e out → GoesOn n live_command.End s (at new.world (part.Ended e) json) out
-end_goes s wo po json n p v new e out stands is_open there ran =
-    rw (stands, is_open, there) (goes_end v.world json n p new e out ran)
+pub end_goes : (s : LiveState) (w : WorldState) (po : LivePart) (json : Bool) (n : ℕ) (p : OpenPart) (new : Option LentWorld) (e : RanPart) (out : List ℕ) → s ≡ at w po json → po ≡ part.Open p
+    → IsRanIn json w p new e out → GoesOn n live_command.End s (at (world_in new) (part.Ended e) json) out
+end_goes s w po json n p new e out stands is_open ran =
+    rw (stands, is_open, ran.1.0) (goes_end w json n p ran.0 e out ran.1.1)
 
 -- a line that gives a command
 pub live_step-goes : (s s' : LiveState) (n : ℕ) (line out : List ℕ) (c : LiveCommand) → live_parsed line ≡ Ok c → GoesOn n c s s' out → GoesBy live_step allowed s n line s' out

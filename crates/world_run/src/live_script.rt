@@ -5,10 +5,10 @@ ghost use Rattle.script_parse.specs.Named.{NamesColumn};
 ghost use Rattle.script_parse.specs.LiveLines.{LiveNamesColumn};
 ghost use Rattle.world_run.specs.Scripts.{stepped_by};
 ghost use Rattle.world_run.specs.LiveParts.{part_refusal, taken};
-ghost use Rattle.world_run.specs.LiveScripts.{live_start, live_step, allowed, known};
-ghost use Rattle.world_run.specs.LiveRunning.{answer_text, AnswersIn, GoesOn};
+ghost use Rattle.world_run.specs.LiveScripts.{live_start, live_step, allowed, known, known_by};
+ghost use Rattle.world_run.specs.LiveRunning.{world_in, IsFree, answer_text, AnswersIn, IsRanIn, GoesOn};
 
-use crate::live_end::run_part;
+use crate::live_end::{Ran, run_part};
 use crate::live_part::{LivePart, OpenPart};
 use crate::runner::told;
 use crate::streaming::Streaming;
@@ -78,6 +78,28 @@ fn take_in(
         Ok(refusal) => answered(alloc, number, refusal),
         Err(NoMemory) => Err(NoMemory),
     }
+}
+
+/// Runs an open part. Where there is no memory, the world is lost.
+fn run_open<S: Streaming>(
+    world: &mut Option<World>,
+    alloc: Global,
+    json: bool,
+    streaming: &S,
+    part: OpenPart,
+) -> Result<Ran, NoMemory>
+    requires able { S.able streaming.now }
+    requires free { IsFree world.old }
+    requires known { known_by (LivePart.Open part) (world_in world.old) }
+    ensures free { IsFree world.new }
+    ensures ran { IfOk result (λ ran. IsRanIn json (world_in world.old) part world.new ran.part ran.lines.bytes) }
+{
+    let Some(mut kept) = mem::replace(world, None) else {
+        return Err(NoMemory);
+    };
+    let ran = run_part(&mut kept, alloc, json, streaming, part)?;
+    *world = Some(kept);
+    Ok(ran)
 }
 
 /// Does a line that every script may have to a world.
@@ -187,11 +209,7 @@ impl LiveScript {
     {
         match mem::replace(&mut self.part, LivePart::NotYet) {
             LivePart::Open(part) => {
-                let Some(world) = mem::replace(&mut self.world, None) else {
-                    return Err(NoMemory);
-                };
-                let ran = run_part(world, alloc, self.json, streaming, part)?;
-                self.world = Some(ran.world);
+                let ran = run_open(&mut self.world, alloc, self.json, streaming, part)?;
                 self.part = LivePart::Ended(ran.part);
                 Ok(ran.lines)
             }

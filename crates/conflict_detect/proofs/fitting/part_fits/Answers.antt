@@ -1,21 +1,24 @@
-use Rattle.std.proofs.Common.{sym, ◌∙◌}
+-- The columns of a group that is named are lent, those of the shadow group are made.
 use Rattle.rep_schema.proofs.Coverage.{group_columns_of-below}
+use Rattle.rep_schema.proofs.GroupShapes.{group_columns_of-named}
+use Rattle.conflict_detect.proofs.PartFit.{part_fits_by}
 use Rattle.conflict_detect.proofs.fitting.part_fits.Goals as goal
 
-pub values_fit-requires : goal.values_fit-requires
-values_fit-requires c = rw (c.as_slice.ensures, c.group_columns-group.ensures, c.columns_of-columns.ensures) (group_columns_of-below c.args.schema.now c.requires.shape c.args.table c.args.part.now.group)
+pub part_fits_at-requires : goal.part_fits_at-requires
+part_fits_at-requires c = rw (c.as_slice.ensures, c.group_columns-group.ensures, c.columns_of-columns.ensures) (group_columns_of-below c.args.schema.now c.requires.shape c.args.table c.args.part.now.group)
 
-pub values_fit-requires-2 : goal.values_fit-requires-2
-values_fit-requires-2 c = rw (c.as_slice-3.ensures, c.group_columns-group.ensures, c.columns_of-columns.ensures) (group_columns_of-below c.args.schema.now c.requires.shape c.args.table c.args.part.now.group)
+pub returns-then-part : goal.returns-then-part
+returns-then-part c =
+    part_fits_by c.args.schema.now c.args.table c.args.part.now c.part_fits_at.result (c.is_group_of.ensures.0 c.if-not-is_group_of.false)
+    (rw (c.as_slice.ensures, c.group_columns-group.ensures, c.columns_of-columns.ensures) at c.part_fits_at.ensures)
 
--- the old values don't fit
-pub returns-then-not-values_fit : goal.returns-then-not-values_fit
-returns-then-not-values_fit c =
-    let meaning = rw (c.as_slice.ensures, c.as_slice-2.ensures, c.group_columns-group.ensures, c.columns_of-columns.ensures) at c.values_fit.ensures in
-    (λ yes. cc, λ fits. sym c.if-not-values_fit.true ∙ meaning.1 fits.old)
+pub part_fits_at-requires-2 : goal.part_fits_at-requires-2
+part_fits_at-requires-2 c =
+    let below = rw (group_columns_of-named c.args.schema.now c.args.table c.args.part.now.group c.if-part.false) at (group_columns_of-below c.args.schema.now c.requires.shape c.args.table c.args.part.now.group) in
+    rw (c.named_columns.ensures, c.groups_of.ensures, c.columns_of-columns.ensures) below
 
--- the new ones don't
-pub returns-then-not-values_fit-2 : goal.returns-then-not-values_fit-2
-returns-then-not-values_fit-2 c =
-    let meaning = rw (c.as_slice-3.ensures, c.as_slice-4.ensures, c.group_columns-group.ensures, c.columns_of-columns.ensures) at c.values_fit-2.ensures in
-    (λ yes. cc, λ fits. sym c.if-not-values_fit-2.true ∙ meaning.1 fits.new)
+pub returns : goal.returns
+returns c =
+    let named = rw (c.named_columns.ensures, c.groups_of.ensures, c.columns_of-columns.ensures) at c.part_fits_at-2.ensures in
+    part_fits_by c.args.schema.now c.args.table c.args.part.now c.part_fits_at-2.result (c.is_group_of.ensures.0 c.if-not-is_group_of.false)
+    (rw (group_columns_of-named c.args.schema.now c.args.table c.args.part.now.group c.if-part.false) named)

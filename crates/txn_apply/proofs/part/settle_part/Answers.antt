@@ -1,16 +1,11 @@
--- Settling a part.
-use Rattle.std.proofs.Common.{◌<◌, length, refl, sym, ◌∙◌, subst}
-use Rattle.std.specs.List.{AllByRecursion}
-use Rattle.txn_apply.proofs.GroupsInRange.{group_columns_of-within, settled_part-keep}
+-- The columns of a group that is named are lent, those of the shadow group are made.
+use Rattle.std.proofs.Common.{refl, ◌∙◌}
+use Rattle.rep_schema.proofs.GroupShapes.{group_columns_of-named}
 use Rattle.txn_apply.proofs.part.settle_part.Goals as goal
 
-pub set_values-requires : goal.set_values-requires
-set_values-requires c = subst (AllByRecursion (λ place. place < length c.args.row.now)) (sym (c.as_slice-in-TakeNew.ensures ∙ c.group_columns-columns.ensures))
-    (group_columns_of-within c.args.schema.now c.requires.shape c.args.table c.args.part.now.group c.args.row.now c.requires.row)
+pub settle_part_at-requires-clause-columns : goal.settle_part_at-requires-clause-columns
+settle_part_at-requires-clause-columns c = c.as_slice.ensures ∙ c.group_columns-columns.ensures
 
-pub set_values-requires-in-TakeNumber : goal.set_values-requires-in-TakeNumber
-set_values-requires-in-TakeNumber c = subst (AllByRecursion (λ place. place < length c.args.row.now)) (sym (c.as_slice-in-TakeNumber.ensures ∙ c.group_columns-columns.ensures))
-    (group_columns_of-within c.args.schema.now c.requires.shape c.args.table c.args.part.now.group c.args.row.now c.requires.row)
-
-pub returns-in-Keep-clause-ok : goal.returns-in-Keep-clause-ok
-returns-in-Keep-clause-ok c = settled_part-keep c.args.schema.now c.requires.shape c.args.table c.args.part.now.group c.args.row.now c.requires.row c.args.part.now refl (sym c.decision_for.ensures ∙ c.in-Keep.is)
+pub settle_part_at-requires-2-clause-columns : goal.settle_part_at-requires-2-clause-columns
+settle_part_at-requires-2-clause-columns c =
+    rw (group_columns_of-named c.args.schema.now c.args.table c.args.part.now.group c.if-part.false, c.named_columns-columns.ensures, c.groups_of.ensures) refl
