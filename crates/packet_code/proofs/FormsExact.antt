@@ -21,13 +21,13 @@ use Rattle.packet_code.proofs.Exact.{IsExact, both_true, said_so, tested-exact, 
 use Rattle.packet_code.proofs.Numbers.{u64-exact}
 
 -- a length and bytes
-sized-exact : IsExact (λ xs. length xs < 256) (λ xs. length xs ∷ xs) sized
+pub sized-exact : IsExact (λ xs. length xs < 256) (λ xs. length xs ∷ xs) sized
 sized-exact = behind-exact (λ xs. length xs < 256) (λ xs. length xs ∷ xs) length (λ xs. xs) byte-exact
     (λ n fits. said_so (front-exact n) (λ xs. (λ long. (rw long fits, long), λ is. is.1)))
     (λ xs fits. fits)
     (λ xs. refl)
 
-name_fits : (name : List ℕ) → is_name name ≡ true → length name < 256
+pub name_fits : (name : List ℕ) → is_name name ≡ true → length name < 256
 name_fits [] named = cc
 name_fits (b ∷ bs) named =
     let front = both_true (nat_le (length (b ∷ bs)) 30 && is_letter b) (list_all is_name_byte (b ∷ bs)) named in

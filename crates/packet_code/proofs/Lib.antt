@@ -10,4 +10,5 @@ mod Behind
 mod Lengths
 mod Decoded
 mod Sealing
+mod Heads
 pub mod WorkedPackets

@@ -6,5 +6,6 @@ pub mod Route
 pub mod Laws
 pub mod Reading
 pub mod Forms
+pub mod Heads
 pub mod Readers
 pub mod Sealing

@@ -4,6 +4,7 @@
 mod call_reading;
 mod decoding;
 mod encoding;
+mod head_reading;
 mod laws;
 mod limits;
 mod packet;
@@ -14,6 +15,7 @@ mod room;
 mod route;
 mod sealed;
 mod stop;
+mod stream_position;
 mod value_reading;
 mod version;
 
@@ -24,3 +26,4 @@ pub use limits::is_packet;
 pub use packet::Packet;
 pub use route::Route;
 pub use sealed::Sealed;
+pub use stream_position::StreamPosition;

@@ -1,6 +1,7 @@
 //! Bytes read from the front.
-ghost use Rattle.std.specs.Prelude.{◌≡◌, ◌↔◌, ℕ, List, [], length, IfOk, IsTrue};
+ghost use Rattle.std.specs.Prelude.{◌≡◌, ◌↔◌, ℕ, List, [], length, IfOk, IfErr, IsTrue};
 ghost use Rattle.std.specs.Borrow.{Bor};
+ghost use Rattle.packet_code.specs.declared.stop.Stop.TheVariants.{Form};
 ghost use Rattle.packet_code.specs.Reading.{byte, front, sized, u64_number, u32_number, u16_number};
 ghost use Rattle.packet_code.specs.Readers.{Reads, ReadsAs};
 
@@ -32,7 +33,8 @@ impl<'a> Reader<'a> {
     /// The first byte.
     #[tactic(auto, unfolding(crate::specs::Reading::byte))]
     pub fn byte(&mut self) -> Result<u8, Stop>
-        ensures { Reads byte result self.old self.new }
+        ensures read { Reads byte result self.old self.new }
+        ensures form { IfErr result (λ stop. stop ≡ Form) }
     {
         let Some((first, rest)) = self.left.split_first() else {
             return Err(Stop::Form);
@@ -46,6 +48,7 @@ impl<'a> Reader<'a> {
     pub fn front(&mut self, count: usize) -> Result<&'a [u8], Stop>
         ensures read { ReadsAs (λ (front : Bor (List ℕ)). front.now) (front count) result self.old self.new }
         ensures length { IfOk result (λ front. length front.now ≡ count) }
+        ensures form { IfErr result (λ stop. stop ≡ Form) }
     {
         if count > self.left.len() {
             return Err(Stop::Form);
@@ -57,7 +60,8 @@ impl<'a> Reader<'a> {
 
     /// A length, and so many bytes.
     pub fn sized(&mut self) -> Result<&'a [u8], Stop>
-        ensures { ReadsAs (λ (front : Bor (List ℕ)). front.now) sized result self.old self.new }
+        ensures read { ReadsAs (λ (front : Bor (List ℕ)). front.now) sized result self.old self.new }
+        ensures form { IfErr result (λ stop. stop ≡ Form) }
     {
         let length = self.byte()?;
         self.front(length as usize)
@@ -65,7 +69,8 @@ impl<'a> Reader<'a> {
 
     /// A number of eight bytes.
     pub fn u64_number(&mut self) -> Result<u64, Stop>
-        ensures { Reads u64_number result self.old self.new }
+        ensures read { Reads u64_number result self.old self.new }
+        ensures form { IfErr result (λ stop. stop ≡ Form) }
     {
         let mut bytes = [0; 8];
         bytes.copy_from_slice(self.front(8)?);

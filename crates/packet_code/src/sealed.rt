@@ -4,12 +4,13 @@ ghost use Rattle.packet_code.specs.declared.packet.Packet.TheVariants.{Mark};
 ghost use Rattle.packet_code.specs.Limits.{IsPlainTxn, IsPast, IsPacket};
 ghost use Rattle.packet_code.specs.Texts.{TxnHasTextForm, PastHasForm};
 ghost use Rattle.packet_code.specs.Spelling.{packet_bytes};
-ghost use Rattle.packet_code.specs.Route.{carried};
+ghost use Rattle.packet_code.specs.Route.{carried, stream_position};
 
 use crate::decoding::whole;
 use crate::encoding::{carry_bytes, mark_bytes};
+use crate::head_reading::position_in;
 use crate::stop::Stop;
-use crate::{Packet, Route, encode};
+use crate::{Packet, Route, StreamPosition, encode};
 use rep_calls::{Past, Txn};
 use rep_lists::{Copies, NoMemory};
 use rep_values::SiteName;
@@ -87,6 +88,17 @@ impl Sealed {
             Ok(packet) => Ok(packet),
             Err(Stop::Memory) => Err(NoMemory),
             Err(Stop::Form) => unreachable!(),
+        }
+    }
+
+    /// Who sent a carried transaction, and its position in the stream; None for a mark. Only the head of the packet is read,
+    /// and it takes no memory.
+    pub fn stream_position(&self) -> Option<StreamPosition>
+        ensures { result ≡ stream_position self.now }
+    {
+        match position_in(&self.kept) {
+            Ok(position) => position,
+            Err(_) => unreachable!(),
         }
     }
 

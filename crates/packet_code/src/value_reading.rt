@@ -1,6 +1,7 @@
 //! Names, values, rows and keys, read from bytes.
-ghost use Rattle.std.specs.Prelude.{◌≡◌, ◌+◌, ◌<◌, ◌≤◌, vec_len, vec_capacity, OnOk};
+ghost use Rattle.std.specs.Prelude.{◌≡◌, ◌+◌, ◌<◌, ◌≤◌, vec_len, vec_capacity, OnOk, IfErr};
 ghost use Rattle.rep_schema.specs.Fitting.{is_in_range};
+ghost use Rattle.packet_code.specs.declared.stop.Stop.TheVariants.{Form};
 ghost use Rattle.packet_code.specs.Forms.{site, number_value, text_value, value, values, row, key};
 ghost use Rattle.packet_code.specs.Reading.{times};
 ghost use Rattle.packet_code.specs.Readers.{Reads, ReadsInto, Adds};
@@ -14,7 +15,8 @@ use std::alloc::Global;
 
 /// The name of a site.
 pub fn site(bytes: &mut Reader<'_>) -> Result<SiteName, Stop>
-    ensures { Reads site result bytes.old bytes.new }
+    ensures read { Reads site result bytes.old bytes.new }
+    ensures form { IfErr result (λ stop. stop ≡ Form) }
 {
     match Name::of(bytes.sized()?) {
         Some(name) => Ok(SiteName(name)),
