@@ -6,7 +6,7 @@ use Rattle.std.proofs.KnownBytes.{Appends-nil, Consumes-nil, Consumes-trans, Con
 use Rattle.rep_lines.specs.Lines.{newline, lines_after}
 use Rattle.rep_lines.specs.Runs.{Stepped}
 use Rattle.rep_lines.specs.Fed.{Standing, beginning, FedInto, Reaches}
-use Rattle.rep_lines.proofs.FedLemmas.{fed_into_more}
+use Rattle.rep_lines.proofs.FedLemmas.{fed_into_more, fed_into_nothing}
 use Rattle.rep_lines.proofs.ToldLemmas.{last_line-some, tells_nothing, tells_read, tells_all}
 use Rattle.rep_lines.proofs.ReachLemmas.{reaches_behind, reaches_more, reaches_fed}
 use Rattle.script_drive.specs.Lines.{line_step, most_piece}
@@ -28,6 +28,12 @@ module _ {W C : Type 0} (step : C → W → ℕ → List ℕ → Stepped W) (all
   -- by all choices allowed where it stands, the run was fed what was read, and each read by then was prompt
   abbrev pub RunsSoFar : Option (List ℕ) → Option (List ℕ) → Option (List ℕ) → Option (List Asked) → Option (List Asked) → List ℕ → Standing W → Type 0
   RunsSoFar l k k' r r' read at = (choices : C) → allowed at.state choices → FedInto (line_step (step choices)) k k' (beginning start) read at × ReadsSoFar (line_step (step choices)) start r r' l k
+
+  -- nothing was read yet
+  pub runs_first : (l k : Option (List ℕ)) (r : Option (List Asked)) → RunsSoFar l k k r r [] (beginning start)
+  runs_first l k r choices may =
+      let run_step = line_step (step choices) in
+      (fed_into_nothing run_step k (beginning start) (Appends-nil k), prompt_first run_step start r l k)
 
   -- there was no memory to begin
   pub ran_nothing : (l k : Option (List ℕ)) (r : Option (List Asked)) → known start → RanBy step allowed known start status.Memory l l k k r r
