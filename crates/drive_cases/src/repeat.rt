@@ -8,7 +8,7 @@ ghost use Rattle.drive_cases.specs.Repeats.{repeat_step};
 
 use rep_io::Sink;
 use report_text::Lines;
-use script_drive::{LineRunner, Reader, Status, drive};
+use script_drive::{AtEnd, LineRunner, Reader, Status, drive};
 use script_lex::LineStop;
 use std::alloc::Global;
 
@@ -42,10 +42,11 @@ impl LineRunner for Repeat {
     }
 }
 
-/// Runs a script whose lines are printed as they stand, through any reader.
+/// Runs a script whose lines are printed as they stand, through any reader, whatever becomes of the run at its end.
 pub fn repeat_through<S, K: Sink, R: Reader<S, K>>(
     alloc: Global,
     mark: u8,
+    at_end: AtEnd,
     reader: &mut R,
     source: &mut S,
     sink: &mut K,
@@ -53,5 +54,5 @@ pub fn repeat_through<S, K: Sink, R: Reader<S, K>>(
     ensures told { Tells (Told (line_step repeat_step) mark result) (R.left source.old) (R.left source.new) (K.taken sink.old) (K.taken sink.new) }
     ensures prompt { ReadsPromptly (line_step repeat_step) mark result (R.reads reader.old) (R.reads reader.new) (R.left source.old) (K.taken sink.old) }
 {
-    drive(alloc, Repeat { mark }, reader, source, sink)
+    drive(alloc, Repeat { mark }, at_end, reader, source, sink)
 }

@@ -8,7 +8,7 @@ ghost use Rattle.drive_cases.specs.Repeats.{repeat_step};
 use crate::noting::Noting;
 use crate::repeat::repeat_through;
 use rep_io::{BytesSink, Failed, FailingSink, FailingSource, Source};
-use script_drive::{Status, Straight};
+use script_drive::{AtEnd, Status, Straight};
 use std::alloc::{AllocError, Global};
 
 /// The most reads of what a run left.
@@ -111,7 +111,14 @@ pub fn with_strokes(alloc: Global, bytes: &[u8]) -> Result<String, AllocError> {
 pub fn run(alloc: Global, script: &[u8], faults: Faults) -> Result<Ended, AllocError> {
     let mut source = faults.source(alloc, script)?;
     let mut sink = faults.sink(alloc)?;
-    let status = repeat_through(alloc, b'!', &mut Straight, &mut source, &mut sink);
+    let status = repeat_through(
+        alloc,
+        b'!',
+        AtEnd::GiveBack,
+        &mut Straight,
+        &mut source,
+        &mut sink,
+    );
     let report = sink.taken().to_vec(alloc)?;
     Ok(Ended {
         status,
@@ -132,7 +139,14 @@ pub fn noted_run(alloc: Global, script: &[u8], faults: Faults) -> Result<Noted, 
         notes: Vec::new(alloc),
         whole: true,
     };
-    let status = repeat_through(alloc, b'!', &mut reader, &mut source, &mut sink);
+    let status = repeat_through(
+        alloc,
+        b'!',
+        AtEnd::Leave,
+        &mut reader,
+        &mut source,
+        &mut sink,
+    );
     if reader.whole {
         Ok(Noted {
             status,

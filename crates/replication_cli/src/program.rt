@@ -17,7 +17,7 @@ ghost use Rattle.program_words.specs.Words.{asked_by};
 use crate::whole::storm;
 use program_words::{Asked, asked_by};
 use rep_io::{Sink, Source, Watch};
-use script_drive::{Reader, Status, Straight};
+use script_drive::{AtEnd, Reader, Status, Straight};
 use std::alloc::Global;
 use std::sync::Wait;
 use std::thread::Threads;
@@ -30,7 +30,7 @@ use world_run::{
 /// more appliers than one as `run_crew` does: the report is the same. For `live` it runs the script as `run_live` does, whose report
 /// is one by turns that it prints. For `storm SEED COUNT` it runs the script of that storm and writes its summary; it reads nothing.
 /// For all other words it answers `Usage`, and reads and writes nothing. With more appliers than one, and in a live part, it may
-/// wait for a lock.
+/// wait for a lock. The memory of the world stays taken at the end, since the process ends then.
 pub fn run_program<X: Threads + Wait + Sync, S: Source, K: Sink, W: Watch>(
     rt: &X,
     alloc: Global,
@@ -96,12 +96,27 @@ pub fn run_program_through<X: Threads + Wait + Sync, S, K: Sink, R: Reader<S, K>
     };
     match asked {
         None => Status::Usage,
-        Some(Asked::Run { appliers: 1 }) => run_alone_through(alloc, reader, source, sink),
+        Some(Asked::Run { appliers: 1 }) => run_alone_through(
+            alloc,
+            AtEnd::Leave,
+            reader,
+            source,
+            sink,
+        ),
         Some(Asked::Run { appliers }) => {
-            run_crew_through(rt, alloc, appliers, reader, source, sink, watch)
+            run_crew_through(
+                rt,
+                alloc,
+                appliers,
+                AtEnd::Leave,
+                reader,
+                source,
+                sink,
+                watch,
+            )
         }
         Some(Asked::Live { json }) => {
-            run_live_through(rt, alloc, json, reader, source, sink, watch)
+            run_live_through(rt, alloc, json, AtEnd::Leave, reader, source, sink, watch)
         }
         Some(
             Asked::Storm {

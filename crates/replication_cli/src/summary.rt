@@ -13,6 +13,7 @@ use rep_io::Watch;
 use rep_lists::NoMemory;
 use report_text::Lines;
 use std::alloc::Global;
+use std::mem;
 use std::sync::Wait;
 use std::thread::Threads;
 use storm_script::first_site;
@@ -105,5 +106,8 @@ pub fn summary<X: Threads + Wait + Sync, W: Watch>(
     let run = run_storm(rt, alloc, seed, count, appliers, watch)?;
     let totals = site_totals(run.world(), &first_site());
     let agree = masters_agree(run.world());
-    lines_of(alloc, seed, count, run.tally(), totals, agree)
+    let told = lines_of(alloc, seed, count, run.tally(), totals, agree);
+    // The process ends when this is written, and with it goes the memory of the world.
+    mem::forget(run);
+    told
 }

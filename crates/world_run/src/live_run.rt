@@ -14,7 +14,7 @@ use page_tables::PageTables;
 use rep_io::{Sink, Source, Watch};
 use rep_lists::{Items, NoMemory};
 use rep_values::SiteName;
-use script_drive::{Reader, Status, Straight, drive};
+use script_drive::{AtEnd, Reader, Status, Straight, drive};
 use site_core::Site;
 use std::alloc::Global;
 use std::sync::Wait;
@@ -25,6 +25,7 @@ fn run_by<T: Streaming + Drop, S, K: Sink, R: Reader<S, K>>(
     alloc: Global,
     json: bool,
     streaming: T,
+    at_end: AtEnd,
     reader: &mut R,
     source: &mut S,
     sink: &mut K,
@@ -41,16 +42,17 @@ fn run_by<T: Streaming + Drop, S, K: Sink, R: Reader<S, K>>(
     let Ok(runner) = LiveRunner::make(alloc, json, streaming) else {
         return Status::Memory;
     };
-    drive(alloc, runner, reader, source, sink)
+    drive(alloc, runner, at_end, reader, source, sink)
 }
 
 /// Runs a script that may have a live part, as `run_live` does, through any reader. Whenever more of the script is asked for, all
 /// that the whole lines read by then print was written, none of them is malformed, and no read had failed, where the reader tells
-/// its reads.
+/// its reads. The memory of the world stays taken at the end where the caller asks for that.
 pub fn run_live_through<X: Threads + Wait + Sync, S, K: Sink, R: Reader<S, K>, W: Watch>(
     rt: &X,
     alloc: Global,
     json: bool,
+    at_end: AtEnd,
     reader: &mut R,
     source: &mut S,
     sink: &mut K,
@@ -69,7 +71,7 @@ pub fn run_live_through<X: Threads + Wait + Sync, S, K: Sink, R: Reader<S, K>, W
         requires { length sessions ≤ most_sessions }
         ensures { AnswersStreams origins sessions site result }
     { streamed(rt, alloc, site, origins.as_slice(), sessions, watch) };
-    run_by(alloc, json, Streams { run }, reader, source, sink)
+    run_by(alloc, json, Streams { run }, at_end, reader, source, sink)
 }
 
 /// Runs a script that may have a live part: from a line `live` to a line `end` sessions are stated, and at `end` these commit their
@@ -98,5 +100,6 @@ pub fn run_live<X: Threads + Wait + Sync, S: Source, K: Sink, W: Watch>(
     ensures complete { LiveRunsToItsEnd json (S.left source.old) (K.taken sink.old) (S.faults source.old) (S.faults source.new) (K.faults sink.old) (K.faults sink.new) result }
     ensures worlds { EachLiveLineHolds (S.left source.old) }
 {
-    run_live_through(rt, alloc, json, &mut Straight, source, sink, watch)
+    let at_end = AtEnd::GiveBack;
+    run_live_through(rt, alloc, json, at_end, &mut Straight, source, sink, watch)
 }

@@ -17,7 +17,7 @@ use page_tables::PageTables;
 use rep_io::{Sink, Source, Watch};
 use rep_lists::NoMemory;
 use rep_values::SiteName;
-use script_drive::{Reader, Status, Straight, drive};
+use script_drive::{AtEnd, Reader, Status, Straight, drive};
 use site_core::Site;
 use site_rounds::{By, Passing, Serial};
 use site_state::PassCount;
@@ -29,6 +29,7 @@ use std::thread::Threads;
 fn run_by<P: Passing + Drop, S, K: Sink, R: Reader<S, K>>(
     alloc: Global,
     passing: P,
+    at_end: AtEnd,
     reader: &mut R,
     source: &mut S,
     sink: &mut K,
@@ -46,7 +47,7 @@ fn run_by<P: Passing + Drop, S, K: Sink, R: Reader<S, K>>(
     let Ok(runner) = Runner::make(alloc, passing) else {
         return Status::Memory;
     };
-    drive(alloc, runner, reader, source, sink)
+    drive(alloc, runner, at_end, reader, source, sink)
 }
 
 /// Runs a script from the source and writes its report to the sink. It takes no lock, and always returns.
@@ -68,13 +69,15 @@ pub fn run_alone<S: Source, K: Sink>(alloc: Global, source: &mut S, sink: &mut K
     ensures complete { RunsToItsEnd (S.left source.old) (K.taken sink.old) (S.faults source.old) (S.faults source.new) (K.faults sink.old) (K.faults sink.new) result }
     ensures worlds { EachLineHolds (S.left source.old) }
 {
-    run_alone_through(alloc, &mut Straight, source, sink)
+    run_alone_through(alloc, AtEnd::GiveBack, &mut Straight, source, sink)
 }
 
 /// Runs a script as `run_alone` does, through any reader. Whenever more of the script is asked for, all that the whole lines read
-/// by then print was written, none of them is malformed, and no read had failed, where the reader tells its reads.
+/// by then print was written, none of them is malformed, and no read had failed, where the reader tells its reads. The memory of
+/// the world stays taken at the end where the caller asks for that.
 pub fn run_alone_through<S, K: Sink, R: Reader<S, K>>(
     alloc: Global,
+    at_end: AtEnd,
     reader: &mut R,
     source: &mut S,
     sink: &mut K,
@@ -87,7 +90,7 @@ pub fn run_alone_through<S, K: Sink, R: Reader<S, K>>(
     ensures complete { RunsToItsEnd (R.left source.old) (K.taken sink.old) (R.faults source.old) (R.faults source.new) (K.faults sink.old) (K.faults sink.new) result }
     ensures worlds { EachLineHolds (R.left source.old) }
 {
-    run_by(alloc, Serial, reader, source, sink)
+    run_by(alloc, Serial, at_end, reader, source, sink)
 }
 
 /// Runs a script as `run_alone` does, with so many appliers, 1 to 8: passes for what masters sent are made by as many threads.
@@ -108,14 +111,26 @@ pub fn run_crew<X: Threads + Wait + Sync, S: Source, K: Sink, W: Watch>(
     ensures complete { RunsToItsEnd (S.left source.old) (K.taken sink.old) (S.faults source.old) (S.faults source.new) (K.faults sink.old) (K.faults sink.new) result }
     ensures worlds { EachLineHolds (S.left source.old) }
 {
-    run_crew_through(rt, alloc, appliers, &mut Straight, source, sink, watch)
+    let at_end = AtEnd::GiveBack;
+    run_crew_through(
+        rt,
+        alloc,
+        appliers,
+        at_end,
+        &mut Straight,
+        source,
+        sink,
+        watch,
+    )
 }
 
-/// Runs a script as `run_crew` does, through any reader.
+/// Runs a script as `run_crew` does, through any reader. The memory of the world stays taken at the end where the caller asks for
+/// that.
 pub fn run_crew_through<X: Threads + Wait + Sync, S, K: Sink, R: Reader<S, K>, W: Watch>(
     rt: &X,
     alloc: Global,
     appliers: u32,
+    at_end: AtEnd,
     reader: &mut R,
     source: &mut S,
     sink: &mut K,
@@ -138,5 +153,5 @@ pub fn run_crew_through<X: Threads + Wait + Sync, S, K: Sink, R: Reader<S, K>, W
         requires appliers { (1 ≤ appliers) × (appliers ≤ 8) }
         ensures { AnswersPass origin site result }
     { crew_pass(rt, alloc, site, &origin, appliers, watch) };
-    run_by(alloc, By { pass }, reader, source, sink)
+    run_by(alloc, By { pass }, at_end, reader, source, sink)
 }
