@@ -1,5 +1,6 @@
 //! One direction of a net.
-ghost use Rattle.std.specs.Prelude.{◌≡◌, OnOk, OnErr};
+ghost use Rattle.std.specs.Prelude.{◌≡◌, ◌≤◌, ◌+◌, ◌++◌, length, OnOk, OnErr};
+ghost use Rattle.std.specs.VecDeque.{deque_len, deque_capacity};
 ghost use Rattle.net_plan.specs.Directions.{new_direction, is_between, with_link, with_fates, without_fates, next_fate, with_packet, with_fate_taken, with_sent, released, delivered, first_on_way};
 
 use crate::Fate;
@@ -17,7 +18,7 @@ pub(crate) struct Direction {
     from: SiteName,
     to: SiteName,
     up: bool,
-    fates: Vec<Fate>,
+    fates: VecDeque<Fate>,
     held: VecDeque<Sealed>,
     on_way: VecDeque<Sealed>,
 }
@@ -37,6 +38,16 @@ impl Model for Direction {
     } };
 }
 
+/// Adds fates behind the others, in room that is there.
+fn push_each(kept: &mut VecDeque<Fate>, fates: &[Fate])
+    requires { deque_len kept.old + length fates.now ≤ deque_capacity kept.old }
+    ensures { kept.new.items ≡ kept.old.items ++ fates.now }
+{
+    for place in 0..fates.len() {
+        kept.push_back_reserved(fates[place]);
+    }
+}
+
 impl Direction {
     /// A direction that is up and empty, which takes no memory.
     pub(crate) fn new(alloc: Global, from: SiteName, to: SiteName) -> Direction
@@ -46,7 +57,7 @@ impl Direction {
             from,
             to,
             up: true,
-            fates: Vec::new(alloc),
+            fates: VecDeque::new(alloc),
             held: VecDeque::new(alloc),
             on_way: VecDeque::new(alloc),
         }
@@ -78,7 +89,8 @@ impl Direction {
         ensures ok { OnOk result (self.new ≡ with_fates fates.now self.old) }
         ensures err { OnErr result (self.new ≡ self.old) }
     {
-        self.fates.extend_from_slice(fates)?;
+        self.fates.reserve(fates.len())?;
+        push_each(&mut self.fates, fates);
         Ok(())
     }
 
@@ -93,19 +105,17 @@ impl Direction {
     fn next_fate(&self) -> Fate
         ensures { result ≡ next_fate self.now.fates }
     {
-        if self.fates.is_empty() {
-            return Fate::Pass;
+        match self.fates.front() {
+            Some(fate) => *fate,
+            None => Fate::Pass,
         }
-        self.fates[0]
     }
 
     /// Lets go of the next fate, if there is one.
     fn take_fate(&mut self)
         ensures { self.new ≡ with_fate_taken self.old }
     {
-        if !self.fates.is_empty() {
-            let _ = self.fates.remove(0);
-        }
+        let _ = self.fates.pop_front();
     }
 
     /// Puts a packet where its fate wants it.
