@@ -3,11 +3,9 @@ use denote.RattleType.{RattleType}
 use denote.Param.Send.{IsSend, AllSend, sendable, view_send, recorded_send, struct_send}
 use denote.Struct.Declared.{shape, fields}
 use Rattle.std.proofs.Crossing.{crosses}
-use Rattle.std.specs.contracts.alloc.Global as global
 use Rattle.ordered_keys.specs.declared.noted.Noted.{Ghosts}
 use Rattle.ordered_keys.specs.contracts.list.TreeList as list
 use Rattle.ordered_keys.specs.contracts.list.TreeList.TheInside as inside
-use Rattle.ordered_keys.specs.contracts.tree.Tree as tree
 use Rattle.ordered_keys.specs.contracts.tree.Fork as fork
 use Rattle.ordered_keys.proofs.tree.Tree.TheLaws.TheKnot as knot
 

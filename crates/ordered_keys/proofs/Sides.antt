@@ -1,5 +1,5 @@
 -- A list that has one value in the middle, at places in front of it, there and behind it.
-use Rattle.std.proofs.Common.{◌≡◌, ℕ, zero, suc, ◌+◌, ◌-◌, ◌<◌, ◌≤◌, List, [], ◌∷◌, ◌++◌, length, take, drop, set, refl, ap, ◌∙◌, append_assoc, arith}
+use Rattle.std.proofs.Common.{◌≡◌, ℕ, zero, suc, ◌-◌, ◌<◌, List, [], ◌∷◌, ◌++◌, length, take, drop, set, refl, ap, append_assoc, arith}
 use Rattle.std.specs.List.{insert}
 
 module _ {X : Type 0} (x : X) (right : List X) where

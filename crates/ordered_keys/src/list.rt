@@ -1,12 +1,12 @@
 //! A list with room, in which a change at any place costs little.
-ghost use Rattle.std.specs.Prelude.{◌≡◌, ◌+◌, ◌<◌, ◌≤◌, [], ◌∷◌, ◌++◌, length, insert, set, slice_get, option_copied, IsOk, IfOk, IfErr, OnOk};
+ghost use Rattle.std.specs.Prelude.{◌≡◌, ◌+◌, ◌<◌, ◌≤◌, [], ◌∷◌, ◌++◌, length, insert, set, map, slice_get, slice_index_or, option_copied, IsOk, IfOk, IfErr, OnOk};
 ghost use Rattle.rep_lists.specs.Rising.{IsRising, IsThere, IsGap};
 ghost use Rattle.ordered_keys.specs.Keys.{by_key, beside_key, entries_above, keys_above};
 
 use crate::Noted;
 use crate::change::{changed, purged};
 use crate::join::inserted;
-use crate::read::{entry_at, push_above, search};
+use crate::read::{entry_at, push_above, push_keys, search};
 use crate::tree::{Fork, Sum, Tree};
 use rep_lists::{Items, NoMemory};
 use rep_values::Key;
@@ -75,10 +75,21 @@ impl<E: Noted> TreeList<E> {
     }
 
     /// The entry at a place, from 0; None exactly where the place is at or behind the end.
-    pub fn at(&self, place: usize) -> Option<&E>
+    pub fn get(&self, place: usize) -> Option<&E>
         ensures { option_copied result ≡ slice_get self.now.items place }
     {
         entry_at(&self.root, place)
+    }
+
+    /// The entry at a place that has one.
+    pub fn at(&self, place: usize) -> &E
+        requires { place < length self.now.items }
+        ensures { result.now ≡ slice_index_or self.now.items place result.now }
+    {
+        match self.get(place) {
+            Some(entry) => entry,
+            None => unreachable!(),
+        }
     }
 
     /// The place of a key, or else the place where it would stand.
@@ -88,6 +99,15 @@ impl<E: Noted> TreeList<E> {
         ensures absent { IfErr result (IsGap (beside_key E.key key.now) self.now.items) }
     {
         search(&self.root, key)
+    }
+
+    /// The keys of all entries, in their order.
+    pub fn keys(&self, alloc: Global) -> Result<Items<Key>, NoMemory>
+        ensures { IfOk result (λ keys. keys ≡ map E.key self.now.items) }
+    {
+        let mut keys = Items::new(alloc);
+        push_keys(&self.root, &mut keys)?;
+        Ok(keys)
     }
 
     /// The keys of the entries with a moment above a mark, in their order.

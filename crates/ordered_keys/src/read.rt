@@ -1,5 +1,5 @@
 //! What stands in a tree.
-ghost use Rattle.std.specs.Prelude.{◌≡◌, ◌+◌, ◌^◌, ◌<◌, ◌≤◌, ◌++◌, length, slice_get, option_copied, IfOk, IfErr, OnOk};
+ghost use Rattle.std.specs.Prelude.{◌≡◌, ◌+◌, ◌^◌, ◌<◌, ◌≤◌, ◌++◌, length, map, slice_get, option_copied, IfOk, IfErr, OnOk};
 ghost use Rattle.rep_lists.specs.Rising.{IsRising, IsThere, IsGap};
 ghost use Rattle.ordered_keys.specs.Trees.{entries, AreSummed};
 ghost use Rattle.ordered_keys.specs.Keys.{by_key, beside_key, keys_above, place_behind};
@@ -58,6 +58,20 @@ pub(crate) fn search<E: Noted>(tree: &Tree<E>, key: &Key) -> Result<usize, usize
             Ordering::Equal => Ok(root.left.sum().len as usize),
             Ordering::Greater => search(&root.left, key),
         },
+    }
+}
+
+/// Adds all keys behind others, in their order.
+pub(crate) fn push_keys<E: Noted>(tree: &Tree<E>, keys: &mut Items<Key>) -> Result<(), NoMemory>
+    ensures { OnOk result (keys.new ≡ keys.old ++ map E.key (entries tree.now)) }
+{
+    match tree {
+        Tree::Leaf => Ok(()),
+        Tree::Fork(root) => {
+            push_keys(&root.left, keys)?;
+            keys.push(*root.entry.key())?;
+            push_keys(&root.right, keys)
+        }
     }
 }
 

@@ -1,4 +1,4 @@
-use Rattle.std.proofs.Common.{sym, map, ap, ◌++◌, ◌∙◌}
+use Rattle.std.proofs.Common.{sym}
 use Rattle.std.proofs.lemmas.List.{append-nil}
 use Rattle.ordered_keys.proofs.Bounds.{none_above}
 use Rattle.ordered_keys.proofs.read.+push_above.Goals as goal

@@ -1,4 +1,4 @@
-use Rattle.std.proofs.Common.{◌≡◌, [], ap, length, ◌∙◌, arith}
+use Rattle.std.proofs.Common.{ap, length, arith}
 use Rattle.ordered_keys.specs.Trees.{entries}
 use Rattle.ordered_keys.proofs.Bounds.{none_above}
 use Rattle.ordered_keys.proofs.list.TreeList.clear.Goals as goal
