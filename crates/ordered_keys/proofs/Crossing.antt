@@ -11,11 +11,11 @@ use Rattle.ordered_keys.proofs.tree.Tree.TheLaws.TheKnot as knot
 
 module _ (E : RattleType) (g : Ghosts E.Denot) (entry : IsSend E) where
   fork_send : IsSend (fork.the_row E)
-  fork_send = recorded_send _ _ _ (fork.the_type E).to_one (knot.send-Fork E (λ h held. search (crosses, held) depth 10) entry (search sendable depth 10) (search sendable depth 10))
+  fork_send = recorded_send _ _ _ (fork.the_type E).to_one (knot.send-Fork E (λ h held. search (crosses, held) depth 10) entry (search sendable depth 10))
 
   inside_send : IsSend (inside.the_row E g)
   inside_send =
-      let all : AllSend (fields (inside.the_type E g)) = (search (sendable, crosses) depth 10, (search (sendable, crosses, knot.crosses, entry) depth 10, (search (sendable, crosses, fork_send) depth 10, (search sendable depth 10, tt)))) in
+      let all : AllSend (fields (inside.the_type E g)) = (search (sendable, crosses) depth 10, (search (sendable, crosses, knot.crosses, entry) depth 10, (search (sendable, crosses, fork_send) depth 10, tt))) in
       recorded_send _ _ _ (inside.the_type E g).to_one (struct_send (shape (inside.the_type E g)) all)
 
   pub list_send : IsSend (list.the_row E g)

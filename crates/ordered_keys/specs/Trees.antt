@@ -8,7 +8,7 @@ use Rattle.ordered_keys.specs.declared.tree.Sum.{Sum}
 -- the entries in their order
 abbrev pub entries : {E : Type 0} → Tree E → List E
 entries Leaf = []
-entries (Fork' p left right entry sum priority) = entries left ++ entry ∷ entries right
+entries (Fork' p left right entry sum) = entries left ++ entry ∷ entries right
 
 -- a sum has the number of the entries, and none has a moment before the first or behind the last
 pub record IsSumOf {E : Type 0} (moment : E → ℕ) (sum : Sum) (es : List E) : Type 0 where
@@ -19,4 +19,4 @@ pub record IsSumOf {E : Type 0} (moment : E → ℕ) (sum : Sum) (es : List E) :
 -- each root has the sum of what is below it
 abbrev pub AreSummed : {E : Type 0} → (E → ℕ) → Tree E → Type 0
 AreSummed moment Leaf = Unit {0}
-AreSummed moment (Fork' p left right entry sum priority) = IsSumOf moment sum (entries left ++ entry ∷ entries right) × AreSummed moment left × AreSummed moment right
+AreSummed moment (Fork' p left right entry sum) = IsSumOf moment sum (entries left ++ entry ∷ entries right) × AreSummed moment left × AreSummed moment right

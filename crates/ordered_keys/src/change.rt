@@ -4,7 +4,7 @@ ghost use Rattle.ordered_keys.specs.Trees.{entries, AreSummed};
 ghost use Rattle.ordered_keys.specs.Keys.{entries_above};
 
 use crate::Noted;
-use crate::join::{joined, merged};
+use crate::join::{balanced, joined, merged};
 use crate::tree::{Fork, Tree};
 use std::mem;
 
@@ -54,7 +54,7 @@ pub(crate) fn purged<E: Noted>(tree: Tree<E>, mark: u64, unused: &mut Vec<Box<Fo
             let left = purged(left, mark, unused);
             let right = purged(right, mark, unused);
             if mark < root.entry.moment() {
-                return joined(root, left, right);
+                return balanced(root, left, right);
             }
             unused.push_reserved(root);
             merged(left, right)

@@ -21,7 +21,6 @@ pub struct TreeList<E: Noted> {
     root: Tree<E>,
     // Roots that aren't used, with room for all others.
     unused: Vec<Box<Fork<E>>>,
-    draws: u64,
 }
 
 impl<E: Noted> Model for TreeList<E> {
@@ -49,7 +48,6 @@ fn unused_root<E: Noted>(alloc: Global) -> Result<Box<Fork<E>>, NoMemory> {
                 first: 0,
                 last: 0,
             },
-            priority: 0,
         },
     )?)
 }
@@ -63,7 +61,6 @@ impl<E: Noted> TreeList<E> {
             alloc,
             root: Tree::Leaf,
             unused: Vec::new(alloc),
-            draws: 1,
         }
     }
 
@@ -148,8 +145,6 @@ impl<E: Noted> TreeList<E> {
             unreachable!()
         };
         one.entry = entry;
-        one.priority = self.draws;
-        self.draws = self.draws.wrapping_mul(6364136223846793005).wrapping_add(1442695040888963407);
         self.root = inserted(mem::replace(&mut self.root, Tree::Leaf), place, one);
     }
 

@@ -76,7 +76,11 @@ pub(crate) fn push_keys<E: Noted>(tree: &Tree<E>, keys: &mut Items<Key>) -> Resu
 }
 
 /// Adds the keys with a moment above a mark behind others, in their order.
-pub(crate) fn push_above<E: Noted>(tree: &Tree<E>, mark: u64, keys: &mut Items<Key>) -> Result<(), NoMemory>
+pub(crate) fn push_above<E: Noted>(
+    tree: &Tree<E>,
+    mark: u64,
+    keys: &mut Items<Key>,
+) -> Result<(), NoMemory>
     requires { AreSummed E.moment tree.now }
     ensures { OnOk result (keys.new ≡ keys.old ++ keys_above E.key E.moment mark (entries tree.now)) }
 {

@@ -1,5 +1,5 @@
 //! The entries of a list as a tree.
-ghost use Rattle.std.specs.Prelude.{◌≡◌, ◌+◌, ◌^◌, ◌<◌, ◌≤◌, ◌∷◌, ◌++◌, length, take, drop, insert, set, slice_get, option_copied};
+ghost use Rattle.std.specs.Prelude.{◌≡◌};
 ghost use Rattle.ordered_keys.specs.Trees.{entries, IsSumOf, AreSummed};
 
 use crate::Noted;
@@ -12,8 +12,7 @@ pub(crate) enum Tree<E> {
     Fork(Box<Fork<E>>),
 }
 
-/// A root, which has an entry and what is on both sides. Higher ones have a higher priority, so sides that are drawn at
-/// random stay about even.
+/// A root, which has an entry and what is on both sides.
 #[cycle(tree)]
 #[derive(Drop)]
 pub(crate) struct Fork<E> {
@@ -21,7 +20,6 @@ pub(crate) struct Fork<E> {
     pub(crate) right: Tree<E>,
     pub(crate) entry: E,
     pub(crate) sum: Sum,
-    pub(crate) priority: u64,
 }
 
 /// How many entries there are, and bounds of their moments.
