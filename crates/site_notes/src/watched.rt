@@ -1,5 +1,5 @@
 //! One snapshot of a site.
-ghost use Rattle.std.specs.Prelude.{◌≡◌, ◌+◌, ◌≤◌, List, option_map, option_copied, IsOk, IfOk, OnOk};
+ghost use Rattle.std.specs.Prelude.{◌≡◌, ◌+◌, ◌≤◌, List, option_map, option_copied, slice_get, IsOk, IfOk, OnOk};
 ghost use Rattle.rep_lists.specs.Rising.{IsRising};
 ghost use Rattle.rep_values.specs.Order.{key_cmp};
 ghost use Rattle.site_state.specs.State.{LogState};
@@ -42,8 +42,8 @@ impl Model for Watched {
 
 impl Watched {
     /// The snapshot as it is.
-    pub(crate) fn of(snapshot: Snapshot) -> Watched
-        ensures { result.snapshot ≡ snapshot }
+    pub(crate) fn of(alloc: Global, snapshot: Snapshot) -> Result<Watched, NoMemory>
+        ensures { IfOk result (λ watched. watched.snapshot ≡ snapshot) }
     {
         let Snapshot {
             table,
@@ -52,13 +52,13 @@ impl Watched {
             mark,
             touched,
         } = snapshot;
-        Watched {
+        Ok(Watched {
             table,
             query,
             parent,
             mark,
-            touched: Touched::of(touched),
-        }
+            touched: Touched::of(alloc, touched)?,
+        })
     }
 
     /// Its table.
@@ -89,11 +89,12 @@ impl Watched {
         self.mark
     }
 
-    /// The keys of the rows that were changed at its site since then.
-    pub fn touched(&self) -> &[Key]
-        ensures { result.now ≡ self.now.snapshot.touched }
+    /// The key at a place, from 0, of the rows that were changed at its site since then; None exactly where the place is at
+    /// or behind the end.
+    pub fn touched_at(&self, place: u64) -> Option<&Key>
+        ensures { option_copied result ≡ slice_get self.now.snapshot.touched place }
     {
-        self.touched.as_slice()
+        self.touched.get(place as usize)
     }
 
     /// Takes the room to note so many keys. Room that is there is never given up.
@@ -126,7 +127,8 @@ impl Watched {
             Some(log) => log.pending(alloc, self.mark)?,
             None => Items::new(alloc),
         };
-        with_keys(alloc, above.as_slice(), self.touched.as_slice())
+        let touched = self.touched.keys(alloc)?;
+        with_keys(alloc, above.as_slice(), touched.as_slice())
     }
 
     /// Lends the snapshot without its parent and its touched keys. Until it is taken back its query has no test here.
