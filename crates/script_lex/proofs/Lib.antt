@@ -2,6 +2,7 @@
 pub mod Runs
 pub mod Longest
 pub mod TextBytes
+pub mod Fronts
 pub mod Steps
 pub mod Readings
 mod WorkedLines

@@ -17,7 +17,7 @@ use crate::commands::{
 use crate::declarations::declaration;
 use crate::heads::{Head, head_of};
 use crate::procedures::proc_line;
-use script_lex::{LineStop, lex};
+use script_lex::{LineStop, lexemes};
 use script_words::Reader;
 use std::alloc::Global;
 
@@ -73,7 +73,7 @@ pub(crate) fn command_of(alloc: Global, tokens: &mut Reader<'_>) -> Result<Comma
     let Some(first) = tokens.next() else {
         return Ok(Command::Nothing);
     };
-    let Some(head) = head_of(&first) else {
+    let Some(head) = head_of(first) else {
         return Err(LineStop::Rule(5));
     };
     form(alloc, head, tokens)
@@ -86,6 +86,6 @@ pub fn parse_line(alloc: Global, line: &[u8]) -> Result<Command, LineStop>
     ensures read { Gives (HasTokens line.now) (λ command. command) result (parsed line.now) }
     ensures named { IfOk result NamesColumn }
 {
-    let tokens = lex(alloc, line)?;
-    command_of(alloc, &mut Reader::of(&tokens))
+    let found = lexemes(alloc, line)?;
+    command_of(alloc, &mut Reader::of(&found))
 }

@@ -12,7 +12,7 @@ use crate::Command;
 use crate::forms::command_of;
 use crate::parts::site;
 use rep_values::SiteName;
-use script_lex::{BrokenRule, LineStop, lex};
+use script_lex::{BrokenRule, LineStop, lexemes};
 use script_words::Reader;
 use std::alloc::Global;
 
@@ -99,6 +99,6 @@ pub fn parse_live(alloc: Global, line: &[u8]) -> Result<LiveCommand, LineStop>
     ensures read { Gives (HasTokens line.now) (λ command. command) result (live_parsed line.now) }
     ensures named { IfOk result LiveNamesColumn }
 {
-    let tokens = lex(alloc, line)?;
-    live_command_of(alloc, &mut Reader::of(&tokens))
+    let found = lexemes(alloc, line)?;
+    live_command_of(alloc, &mut Reader::of(&found))
 }
