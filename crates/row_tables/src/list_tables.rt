@@ -2,8 +2,9 @@
 ghost use Rattle.std.specs.Prelude.{◌≡◌, ◌≢◌, ℕ, ◌+◌, ◌<◌, ◌≤◌, ◌⊎◌, ◌↔◌, [], length, replicate, slice_get, slice_set, slice_index, option_copied, IsTrue, IsSome, IsOk, IfOk, OnOk, OnSome};
 ghost use Rattle.rep_schema.specs.Tables.{columns_of, constraints_of, constraint_columns_of, key_of, find_row, put_row, take_row, rows_of, IsKeyed, RowFits, IsUniqueRow, IsHeldElsewhere, AreTables};
 
+use crate::SharedSchema;
 use crate::sorted_rows::SortedRows;
-use rep_schema::{RowStore, Schema, columns_of, constraint_columns};
+use rep_schema::{RowStore, Schema};
 use rep_values::{Key, NoMemory, Row};
 use std::alloc::Global;
 use std::marker::Model;
@@ -12,7 +13,7 @@ use std::marker::Model;
 /// number of rows can be halved, and a put or take of a key moves the rows behind it.
 #[derive(Drop)]
 pub struct ListTables {
-    schema: Schema,
+    schema: SharedSchema,
     stored: Vec<SortedRows>,
 }
 
@@ -33,7 +34,17 @@ impl ListTables {
         ensures schema { IfOk result (λ s. s.schema ≡ schema) }
         ensures tables { IfOk result (λ s. s.tables ≡ replicate (length schema.tables) []) }
     {
-        let number = schema.tables.len();
+        let schema = SharedSchema::new(alloc, schema)?;
+        let tables = ListTables::sharing(alloc, schema)?;
+        Ok(tables)
+    }
+
+    /// A store with every table empty, of a schema that has other owners too.
+    pub fn sharing(alloc: Global, schema: SharedSchema) -> Result<ListTables, NoMemory>
+        ensures schema { IfOk result (λ s. s.schema ≡ schema) }
+        ensures tables { IfOk result (λ s. s.tables ≡ replicate (length schema.tables) []) }
+    {
+        let number = schema.as_schema().tables.len();
         let mut stored = Vec::with_capacity(alloc, number)?;
         for _ in 0..number {
             stored.push(SortedRows::new(alloc))?;
@@ -50,7 +61,7 @@ impl RowStore for ListTables {
     ghost spare = { λ s. s.spare };
 
     fn schema(&self) -> &Schema {
-        &self.schema
+        self.schema.as_schema()
     }
 
     fn count(&self, table: u32) -> u64 {
@@ -59,7 +70,7 @@ impl RowStore for ListTables {
     }
 
     fn get(&self, table: u32, key: &Key) -> Option<&Row> {
-        let columns = columns_of(&self.schema, table);
+        let columns = self.schema.columns_of(table);
         let rows = &self.stored[table as usize];
         rows.get(columns, key.values())
     }
@@ -70,8 +81,8 @@ impl RowStore for ListTables {
     }
 
     fn holds_unique(&self, table: u32, constraint: u32, row: &Row) -> bool {
-        let columns = columns_of(&self.schema, table);
-        let places = constraint_columns(&self.schema, table, constraint);
+        let columns = self.schema.columns_of(table);
+        let places = self.schema.constraint_columns(table, constraint);
         let rows = &self.stored[table as usize];
         rows.holds(columns, places, row.values())
     }
@@ -82,13 +93,13 @@ impl RowStore for ListTables {
     }
 
     fn put(&mut self, table: u32, row: Row) -> Option<Row> {
-        let columns = columns_of(&self.schema, table);
+        let columns = self.schema.columns_of(table);
         let rows = &mut self.stored[table as usize];
         rows.put(columns, row)
     }
 
     fn take(&mut self, table: u32, key: &Key) -> Option<Row> {
-        let columns = columns_of(&self.schema, table);
+        let columns = self.schema.columns_of(table);
         let rows = &mut self.stored[table as usize];
         rows.take(columns, key.values())
     }

@@ -1,5 +1,5 @@
 -- A transaction changes no more rows than it has calls.
-use Rattle.std.proofs.Common.{◌≡◌, ℕ, ◌+◌, ◌≤◌, List, [], ◌∷◌, length, Bool, true, false, cond, Ok, Err, arith, subst, sym, ap, ◌∙◌, refl}
+use Rattle.std.proofs.Common.{◌≡◌, ℕ, ◌+◌, ◌≤◌, List, [], ◌∷◌, length, Bool, true, false, cond, Ok, Err, arith, subst, refl}
 use Rattle.std.specs.Prelude.{◌++◌, Option, Result}
 use Rattle.std.proofs.lemmas.List.{length-append}
 use Rattle.rep_values.specs.declared.name.SiteName.{SiteName}

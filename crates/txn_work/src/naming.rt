@@ -10,9 +10,9 @@ ghost use Rattle.txn_work.specs.Naming.{AreSomeOf, HaveAlike, TakesNamed};
 use conflict_detect::table_of;
 use dependency_index::key_named;
 use rep_calls::{Call, Txn};
-use rep_lists::{Copies, NoMemory};
+use rep_lists::NoMemory;
 use rep_schema::{RowStore, copy_of_row, holds_tables};
-use row_tables::ListTables;
+use row_tables::{ListTables, SharedSchema};
 use std::alloc::Global;
 
 /// Copies the row that a call names from a store into tables that have some of its rows.
@@ -39,12 +39,14 @@ fn copy_named<R: RowStore>(
     Ok(())
 }
 
-/// Tables of the store's schema with copies of just those rows that a transaction names.
+/// Tables of the store's schema, which is shared, with copies of just those rows that a transaction names.
 pub(crate) fn rows_named<R: RowStore>(
     alloc: Global,
     store: &R,
+    schema: SharedSchema,
     txn: &Txn,
 ) -> Result<ListTables, NoMemory>
+    requires schema { schema ≡ R.schema store.now }
     requires keys { HasKeys (R.schema store.now) }
     requires fits { TxnFits (R.schema store.now) txn.now }
     ensures schema { IfOk result (λ tables. tables.schema ≡ R.schema store.now) }
@@ -52,7 +54,7 @@ pub(crate) fn rows_named<R: RowStore>(
         → HaveAlike (R.schema store.now) (R.tables store.now) tables.tables table key) }
 {
     holds_tables(store);
-    let mut tables = ListTables::make(alloc, store.schema().copy(alloc)?)?;
+    let mut tables = ListTables::sharing(alloc, schema)?;
     for call in txn.calls.as_slice() {
         copy_named(alloc, store, call, &mut tables)?;
     }

@@ -12,10 +12,10 @@ ghost use Rattle.txn_work.specs.Endings.{ending_of, IfChanged, EndsSo};
 use crate::naming::rows_named;
 use crate::{Ending, Outcome};
 use rep_calls::Txn;
-use rep_lists::NoMemory;
+use rep_lists::{Copies, NoMemory};
 use rep_schema::{RowStore, holds_tables};
 use rep_values::SiteName;
-use row_tables::ListTables;
+use row_tables::{ListTables, SharedSchema};
 use std::alloc::Global;
 use std::marker::Model;
 use txn_apply::{ApplyStop, apply_txn};
@@ -43,25 +43,25 @@ fn ended(
 }
 
 /// A transaction from an origin, its number in the origin's stream, and copies of the rows that it names. It needs
-/// nothing else of its site, so that it can be evaluated while the site goes on.
+/// nothing else of its site, so that it can be evaluated while the site goes on. No constraint is touched, so it is evaluated on
+/// new counters.
 #[derive(Drop)]
 pub struct Work {
     origin: SiteName,
     position: u64,
     txn: Txn,
     tables: ListTables,
-    counters: Counters,
 }
 
 impl Model for Work {
-    ghost use Rattle.unique_resolve.specs.Numbers.{AreCounters};
+    ghost use Rattle.unique_resolve.specs.Numbers.{first_numbers};
     ghost use Rattle.txn_work.specs.Works.{WorkState, CanStandAlone};
 
     ghost Value = { WorkState };
 
-    ghost view = { λ w. record { origin = w.origin; position = w.position; txn = w.txn; schema = w.tables.schema; content = record { tables = w.tables.tables; numbers = w.counters } } };
+    ghost view = { λ w. record { origin = w.origin; position = w.position; txn = w.txn; schema = w.tables.schema; content = record { tables = w.tables.tables; numbers = first_numbers w.tables.schema } } };
 
-    ghost invariant = { λ w. CanStandAlone w.tables.schema w.txn × AreCounters w.tables.schema w.counters };
+    ghost invariant = { λ w. CanStandAlone w.tables.schema w.txn };
 }
 
 impl Work {
@@ -83,16 +83,38 @@ impl Work {
         ensures agree { IfOk result (λ work. (numbers : Numbers)
             → AgreeOn work.schema (txn_tokens work.schema work.txn) (record { tables = R.tables store.now; numbers = numbers }) work.content) }
     {
+        let schema = SharedSchema::new(alloc, store.schema().copy(alloc)?)?;
+        let work = Work::sharing(alloc, store, &schema, origin, position, txn)?;
+        Ok(work)
+    }
+
+    /// The work of such a transaction, as `of` makes it, for a store whose schema is shared already: it isn't copied.
+    pub fn sharing<R: RowStore>(
+        alloc: Global,
+        store: &R,
+        schema: &SharedSchema,
+        origin: &SiteName,
+        position: u64,
+        txn: &Txn,
+    ) -> Result<Work, NoMemory>
+        requires schema { schema.now ≡ R.schema store.now }
+        requires alone { CanStandAlone (R.schema store.now) txn.now }
+        ensures origin { IfOk result (λ work. work.origin ≡ origin.now) }
+        ensures position { IfOk result (λ work. work.position ≡ position) }
+        ensures txn { IfOk result (λ work. work.txn ≡ txn.now) }
+        ensures schema { IfOk result (λ work. work.schema ≡ R.schema store.now) }
+        ensures content { IfOk result (λ work. IsContent work.schema work.content) }
+        ensures agree { IfOk result (λ work. (numbers : Numbers)
+            → AgreeOn work.schema (txn_tokens work.schema work.txn) (record { tables = R.tables store.now; numbers = numbers }) work.content) }
+    {
         let txn = txn.share()?;
-        let tables = rows_named(alloc, store, &txn)?;
-        let counters = Counters::make(alloc, tables.schema())?;
+        let tables = rows_named(alloc, store, schema.share()?, &txn)?;
         holds_tables(&tables);
         Ok(Work {
             origin: *origin,
             position,
             txn,
             tables,
-            counters,
         })
     }
 
@@ -110,8 +132,8 @@ impl Work {
             position,
             txn,
             mut tables,
-            mut counters,
         } = self;
+        let mut counters = Counters::make(alloc, tables.schema())?;
         let ending = ended(alloc, &mut tables, &mut counters, &origin, &txn)?;
         Ok(Outcome {
             origin,

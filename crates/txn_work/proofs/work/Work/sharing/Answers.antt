@@ -1,21 +1,18 @@
--- What the copies and the new counters are.
-use Rattle.unique_resolve.specs.Numbers.{AreCounters}
+-- What the copies are.
 use Rattle.unique_resolve.proofs.Settlements.{AreCounters-first}
 use Rattle.dependency_index.specs.Tokens.{txn_tokens}
 use Rattle.rep_laws.proofs.SoundSchemas.{HasKeys-sound}
 use Rattle.txn_work.proofs.PlainTokens.{AgreeOnConstraints-plain}
-use Rattle.txn_work.proofs.work.Work.of.Goals as goal
+use Rattle.txn_work.proofs.work.Work.sharing.Goals as goal
 
 pub rows_named-requires-clause-keys : goal.rows_named-requires-clause-keys
 rows_named-requires-clause-keys g c κs within = HasKeys-sound _ c.requires.alone.sound.unbroken c.requires.alone.sound.shape
 
 pub invariant_of-result : goal.invariant_of-result
-invariant_of-result g c =
-    let counters : AreCounters c.in_ok-tables.tables.schema c.in_ok-counters.counters = rw (c.in_ok-counters.ensures, c.schema.ensures.value) (AreCounters-first c.in_ok-tables.tables.schema) in
-    (rw (c.in_ok-tables.ensures.schema, c.in_ok-txn.ensures) c.requires.alone, counters)
+invariant_of-result g c = rw (c.in_ok-tables.ensures.schema, c.in_ok-txn.ensures) c.requires.alone
 
 pub returns-clause-content : goal.returns-clause-content
-returns-clause-content g c = record { tables = c.holds_tables.ensures; counters = rw (c.in_ok-counters.ensures, c.schema.ensures.value) (AreCounters-first c.in_ok-tables.tables.schema) }
+returns-clause-content g c = record { tables = c.holds_tables.ensures; counters = AreCounters-first c.in_ok-tables.tables.schema }
 
 pub returns-clause-agree : goal.returns-clause-agree
 returns-clause-agree g c = λ numbers.

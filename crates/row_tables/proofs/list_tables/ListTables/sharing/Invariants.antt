@@ -1,7 +1,7 @@
 -- Making empty tables.
 use Rattle.std.proofs.Common.{◌≡◌, [], replicate}
 use Rattle.row_tables.specs.Stored.{rows_in}
-use Rattle.row_tables.proofs.list_tables.ListTables.make.Given as goal
+use Rattle.row_tables.proofs.list_tables.ListTables.sharing.Given as goal
 
 -- so many tables are there, all empty
 abbrev pub invariant-loop : goal.invariant-loop
