@@ -1,0 +1,7 @@
+-- The lemmas of this crate, from the bottom up.
+mod FirstLines
+mod StoppedLines
+mod TakenLines
+mod StatedLines
+mod MadePasses
+mod QuietSites
