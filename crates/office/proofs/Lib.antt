@@ -3,5 +3,6 @@ mod FirstLines
 mod StoppedLines
 mod TakenLines
 mod StatedLines
+mod NoLetters
 mod MadePasses
 mod QuietSites

@@ -1,6 +1,6 @@
 -- Sites at which nothing is ready.
 use Rattle.std.proofs.Common.{◌≡◌, ℕ, zero, suc, ◌+◌, ◌<◌, ◌≤◌, List, [], ◌∷◌, length, map, Bool, true, false, cond, Some, None, refl, subst, arith}
-use Rattle.std.specs.Prelude.{Option, ◌&&◌, nat_lt, is_none, slice_get}
+use Rattle.std.specs.Prelude.{Option, ◌&&◌, nat_lt, is_some, is_none, slice_get}
 use Rattle.std.specs.List.{AllByRecursion}
 use Rattle.std.specs.declared.cmp.Ordering.{Ordering}
 use Rattle.std.specs.declared.cmp.Ordering.TheVariants.{Less, Equal, Greater}
@@ -25,6 +25,11 @@ IsQuietFrom x origin = (position : ℕ) → is_ready origin position x ≡ false
 -- none of the senders in front of a place has a position that is ready
 abbrev pub AreQuietBefore : ℕ → SiteState → Type 0
 AreQuietBefore place x = (k : ℕ) → k < place → (origin : SiteName) → slice_get (map (λ (s : SenderState). s.origin) x.senders) k ≡ Some origin → IsQuietFrom x origin
+
+-- where there is no value, it is none
+pub none_where : {X : Type 0} (o : Option X) → is_some o ≡ false → o ≡ None
+none_where None is = refl
+none_where (Some v) is = absurd (cc is)
 
 module _ (origin : SiteName) (x : SiteState) where
   -- where there is no least ready position, no arrival that is found is ready

@@ -1,5 +1,6 @@
 //! What other offices haven't acknowledged.
 ghost use Rattle.std.specs.Prelude.{◌≡◌, IfOk};
+ghost use Rattle.site_state.specs.State.{acked_of};
 ghost use Rattle.office.specs.Owed.{due_to, all_due};
 
 use crate::desk::Office;
@@ -17,13 +18,20 @@ pub struct Due {
 }
 
 impl Office {
+    /// How far another office has acknowledged what was sent to it.
+    pub(crate) fn acked(&self, to: &SiteName) -> u64
+        ensures { result ≡ acked_of to.now self.now }
+    {
+        self.site.queue().acked(to)
+    }
+
     /// What another office hasn't acknowledged.
     pub fn due_to(&self, to: &SiteName) -> Due
         ensures { result ≡ due_to self.now to.now }
     {
         Due {
             to: *to,
-            acked: self.site.queue().acked(to),
+            acked: self.acked(to),
             last: self.site.last_sent(to),
         }
     }

@@ -25,7 +25,7 @@ impl Office {
     ) -> Result<Option<Letter>, NoMemory>
         ensures { IfOk result (λ letter. letter ≡ site_packet to.now (max behind (acked_of to.now self.now) + 1) self.now) }
     {
-        let before = behind.max(self.site.queue().acked(to));
+        let before = behind.max(self.acked(to));
         if before >= self.site.last_sent(to) {
             return Ok(None);
         }

@@ -1,9 +1,5 @@
 //! The rows of an office.
-ghost use Rattle.std.specs.Prelude.{◌≡◌, length, slice_get, option_copied};
-ghost use Rattle.std.specs.Option.{option_map, option_then};
-ghost use Rattle.rep_schema.specs.Tables.{columns_of, find_row, rows_of};
-ghost use Rattle.rep_schema.specs.Named.{table_place};
-ghost use Rattle.site_state.specs.Contents.{tables_of};
+ghost use Rattle.std.specs.Prelude.{◌≡◌, option_copied};
 ghost use Rattle.office.specs.Rows.{row_count, row_at, row_with_key};
 
 use crate::desk::Office;

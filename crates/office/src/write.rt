@@ -1,8 +1,8 @@
 //! Blocks of statements.
-ghost use Rattle.std.specs.Prelude.{◌≡◌, ◌++◌, Ok, IfOk, IfErr, OnOk, OnErr, option_to_list};
+ghost use Rattle.std.specs.Prelude.{◌≡◌, ◌++◌, true, false, Ok, IfOk, IfErr, OnOk, OnErr, option_to_list};
 ghost use Rattle.script_parse.specs.Parsed.{parsed};
 ghost use Rattle.site_state.specs.Commits.{site_commit, commit_answer};
-ghost use Rattle.office.specs.Blocks.{statement_in, statements_in, IsOfBlock, AreOfBlock};
+ghost use Rattle.office.specs.Blocks.{is_of_block, statement_in, statements_in, IsOfBlock, AreOfBlock};
 ghost use Rattle.office.specs.Lines.{lines_of};
 ghost use Rattle.office.specs.Stops.{BlockLineStops, BlockTextStops, WriteStops, WriteTextStops};
 
@@ -14,20 +14,47 @@ use rep_calls::Statement;
 use script_parse::{Command, parse_line};
 use std::alloc::Global;
 
+/// The statement that a command is, None where a line is passed over.
+fn statement_in(number: u64, command: Command) -> Result<Option<Statement>, OfficeError>
+    ensures ok { IfOk result (λ statement. statement ≡ statement_in (Ok command)) }
+    ensures taken { OnOk result (is_of_block command ≡ true) }
+    ensures err { IfErr result (λ why. (why ≡ OfficeError.NotTaken number) × (is_of_block command ≡ false)) }
+{
+    match command {
+        Command::Nothing => Ok(None),
+        Command::Statement(statement) => Ok(Some(statement)),
+        Command::Declare(_)
+        | Command::Snapshot { .. }
+        | Command::Row { .. }
+        | Command::Resume
+        | Command::Txn { .. }
+        | Command::Commit
+        | Command::Abandon
+        | Command::Push { .. }
+        | Command::Fates { .. }
+        | Command::ClearFates { .. }
+        | Command::Link { .. }
+        | Command::Clock { .. }
+        | Command::Purge { .. }
+        | Command::Execute { .. }
+        | Command::DropError { .. }
+        | Command::Refresh { .. }
+        | Command::PurgeLog { .. }
+        | Command::Suspend
+        | Command::Join { .. }
+        | Command::Show { .. }
+        | Command::Procedures(_) => Err(OfficeError::NotTaken { line: number }),
+    }
+}
+
 /// The statement that a line is, None where it is passed over.
-fn statement_of(
-    alloc: Global,
-    number: u64,
-    line: &[u8],
-) -> Result<Option<Statement>, OfficeError>
+fn statement_of(alloc: Global, number: u64, line: &[u8]) -> Result<Option<Statement>, OfficeError>
     ensures ok { IfOk result (λ statement. statement ≡ statement_in (parsed line.now)) }
     ensures taken { OnOk result (IsOfBlock (parsed line.now)) }
     ensures err { IfErr result (λ why. BlockLineStops why number line.now) }
 {
     match parse_line(alloc, line) {
-        Ok(Command::Nothing) => Ok(None),
-        Ok(Command::Statement(statement)) => Ok(Some(statement)),
-        Ok(_) => Err(OfficeError::NotTaken { line: number }),
+        Ok(command) => statement_in(number, command),
         Err(stop) => Err(stop_at_line(number, stop)),
     }
 }
