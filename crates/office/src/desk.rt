@@ -2,8 +2,11 @@
 ghost use Rattle.std.specs.Prelude.{◌≡◌, true, None, IfOk, IfErr, OnOk, slice_get, map, option_copied};
 ghost use Rattle.rep_laws.specs.Commuting.{IsSound};
 ghost use Rattle.site_state.specs.State.{is_master_site};
+ghost use Rattle.site_state.specs.Fits.{SiteFits};
 ghost use Rattle.site_state.specs.Commits.{site_clock};
 ghost use Rattle.site_state.specs.Journal.{low_water};
+ghost use Rattle.journal_order.specs.Settling.{IsFinishedOnce};
+ghost use Rattle.journal_order.specs.Waited.{FinishesEarlierFirst};
 ghost use Rattle.office.specs.Founding.{Opens, founded_office};
 ghost use Rattle.office.specs.Stops.{OpenStops, FoundingStops};
 
@@ -74,6 +77,23 @@ impl Office {
         let founding = founding_of(alloc, text.as_bytes())?;
         let office = office_of(alloc, founding, name)?;
         Ok(office)
+    }
+
+    /// The site of the office, with all that it tells.
+    pub fn site(&self) -> &Site<PageTables>
+        ensures { result.now ≡ self.now }
+    {
+        &self.site
+    }
+
+    /// What came fits, each transaction of another office is finished at most once, and of two of one office that touch the same
+    /// row, or unique values of the same table, the earlier first.
+    pub fn laws(&self)
+        ensures fits { SiteFits self.now }
+        ensures once { IsFinishedOnce self.now.journal }
+        ensures order { FinishesEarlierFirst self.now }
+    {
+        self.site.laws();
     }
 
     /// The office's name.

@@ -1,10 +1,10 @@
 //! What other offices haven't acknowledged.
-ghost use Rattle.std.specs.Prelude.{◌≡◌, IfOk};
+ghost use Rattle.std.specs.Prelude.{◌≡◌, IfOk, IfErr};
 ghost use Rattle.site_state.specs.State.{acked_of};
 ghost use Rattle.office.specs.Owed.{due_to, all_due};
 
 use crate::desk::Office;
-use rep_lists::NoMemory;
+use crate::error::OfficeError;
 use rep_values::SiteName;
 use schema_sites::destinations_of;
 use std::alloc::Global;
@@ -37,8 +37,9 @@ impl Office {
     }
 
     /// What the other offices haven't acknowledged, as they are declared, without those that have acknowledged all.
-    pub fn due(&self, alloc: Global) -> Result<Vec<Due>, NoMemory>
-        ensures { IfOk result (λ due. due.items ≡ all_due self.now) }
+    pub fn due(&self, alloc: Global) -> Result<Vec<Due>, OfficeError>
+        ensures ok { IfOk result (λ due. due.items ≡ all_due self.now) }
+        ensures err { IfErr result (λ why. why ≡ OfficeError.Memory) }
     {
         let names = destinations_of(alloc, self.schema(), self.name())?;
         let mut due = Vec::new(alloc);

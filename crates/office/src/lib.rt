@@ -18,3 +18,4 @@ pub use desk::Office;
 pub use due::Due;
 pub use error::OfficeError;
 pub use letter::Letter;
+pub use site_state::{Accepted, PassCount};

@@ -9,7 +9,6 @@ use crate::desk::Office;
 use crate::error::OfficeError;
 use crate::letter::Letter;
 use packet_code::{Sealed, decode};
-use rep_lists::NoMemory;
 use rep_values::SiteName;
 use site_state::Accepted;
 use std::alloc::Global;
@@ -22,8 +21,9 @@ impl Office {
         alloc: Global,
         to: &SiteName,
         behind: u64,
-    ) -> Result<Option<Letter>, NoMemory>
-        ensures { IfOk result (λ letter. letter ≡ site_packet to.now (max behind (acked_of to.now self.now) + 1) self.now) }
+    ) -> Result<Option<Letter>, OfficeError>
+        ensures ok { IfOk result (λ letter. letter ≡ site_packet to.now (max behind (acked_of to.now self.now) + 1) self.now) }
+        ensures err { IfErr result (λ why. why ≡ OfficeError.Memory) }
     {
         let before = behind.max(self.acked(to));
         if before >= self.site.last_sent(to) {
@@ -36,8 +36,9 @@ impl Office {
     }
 
     /// The receipt for another office: how far this one has come with its letters.
-    pub fn receipt(&self, alloc: Global, to: &SiteName) -> Result<Letter, NoMemory>
-        ensures { IfOk result (λ letter. letter ≡ mark_of to.now self.now) }
+    pub fn receipt(&self, alloc: Global, to: &SiteName) -> Result<Letter, OfficeError>
+        ensures ok { IfOk result (λ letter. letter ≡ mark_of to.now self.now) }
+        ensures err { IfErr result (λ why. why ≡ OfficeError.Memory) }
     {
         let sealed = Sealed::seal_mark(alloc, self.site.name(), to, self.site.mark(to))?;
         Ok(Letter { sealed })

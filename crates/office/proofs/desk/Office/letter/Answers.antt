@@ -5,8 +5,8 @@ use Rattle.site_state.specs.Streams.{stream_to}
 use Rattle.office.proofs.NoLetters.{site_packet-above}
 use Rattle.office.proofs.desk.Office.letter.Goals as goal
 
-pub returns-then-before-last_sent : goal.returns-then-before-last_sent
-returns-then-before-last_sent c =
+pub returns-then-before-last_sent-clause-ok : goal.returns-then-before-last_sent-clause-ok
+returns-then-before-last_sent-clause-ok c =
     let x = c.args.self.now in
     let to = c.args.to.now in
     let before : c.max-before.result ≡ max c.args.behind (acked_of to x) = c.max-before.ensures ∙ ap (max c.args.behind) c.acked.ensures in
