@@ -9,5 +9,6 @@ mod Room
 mod Extending
 mod Raising
 pub mod KeptCargoes
+mod Sweeping
 mod Purging
 mod StreamLaws

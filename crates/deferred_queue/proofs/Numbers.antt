@@ -22,7 +22,7 @@ use Rattle.deferred_queue.proofs.Sites.{eq_true, eq_false, eq_false_above}
 use Rattle.deferred_queue.proofs.Positions.{at_position-0, at_position-reverse, found_position}
 
 -- a number is at most a greater one
-le_true : (a b : ℕ) → a ≤ b → nat_le a b ≡ true
+pub le_true : (a b : ℕ) → a ≤ b → nat_le a b ≡ true
 le_true a b le = grind (arith, nat_tests)
 
 le_false : (a b : ℕ) → b < a → nat_le a b ≡ false

@@ -8,7 +8,7 @@ use Rattle.deferred_queue.specs.declared.cargo.Cargo.{Cargo}
 use Rattle.deferred_queue.specs.declared.destination.Destination.{Destination}
 use Rattle.deferred_queue.specs.declared.entries.Entry.{Entry}
 use Rattle.deferred_queue.specs.Streams.{destination_to, last_position, acked_by, is_acknowledged, purged}
-use Rattle.deferred_queue.specs.Kept.{Kept, FallsFrom, entry_of, cargo_of, cargoes_to, sent_to, destinations_of, queued, marks_of, entries_to, has_passed, IsStream, AreStreams}
+use Rattle.deferred_queue.specs.Kept.{Kept, FallsFrom, entry_of, cargo_of, cargoes_to, sent_to, destinations_of, queued, marks_of, entries_to, has_passed, is_waiting, IsStream, AreStreams}
 use Rattle.deferred_queue.proofs.Numbers.{entry_of-filter, up_to, FallsFrom-up_to, entry_of-up_to, position_of-up_to}
 use Rattle.deferred_queue.proofs.KeptStreams.{stream_kept, entries_to-falls, destination_to-destinations_of}
 use Rattle.deferred_queue.proofs.Extending.{IsOwn, each_own}
@@ -47,10 +47,6 @@ acknowledged-passed count first streams kept are = each streams are.each (each_o
     each : (ks : List Kept) → AllByRecursion (IsStream count) ks → AllByRecursion (IsOwn streams) ks → list_all test (destinations_of (suc first) ks) ≡ list_all (has_passed (suc first)) ks
     each [] all own = refl
     each (k ∷ ks) all own = one k all.0 own.0 (entry_of (suc first) k.entries) refl (destinations_of (suc first) ks) ∙ ap (λ b. has_passed (suc first) k && b) (each ks all.1 own.1)
-
--- a number that isn't passed by each stream
-abbrev pub is_waiting : List Kept → ℕ → Bool
-is_waiting streams number = not (list_all (has_passed number) streams)
 
 -- without what each stream has passed, the queue is purged
 pub queued-purged : (count first : ℕ) (streams : List Kept) (kept : List (Entry Cargo)) → AreStreams count streams

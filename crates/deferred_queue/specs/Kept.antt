@@ -1,6 +1,6 @@
 -- How a queue keeps its streams: one list of entries for each destination.
-use Rattle.std.specs.Prelude.{◌≡◌, ℕ, zero, suc, ◌+◌, ◌-◌, ◌≤◌, ◌==◌, Bool, true, cond, max, min, nat_le, List, [], ◌∷◌, length, map, filter_map, Option, Some, None, option_map}
-use Rattle.std.specs.List.{AllByRecursion}
+use Rattle.std.specs.Prelude.{◌≡◌, ℕ, zero, suc, ◌+◌, ◌-◌, ◌≤◌, ◌==◌, Bool, true, not, cond, max, min, nat_le, List, [], ◌∷◌, length, map, filter_map, Option, Some, None, option_map}
+use Rattle.std.specs.List.{AllByRecursion, list_all}
 use Rattle.rep_values.specs.declared.name.SiteName.{SiteName}
 use Rattle.deferred_queue.specs.declared.cargo.Cargo.{Cargo}
 use Rattle.deferred_queue.specs.declared.destination.Destination.{Destination}
@@ -35,18 +35,27 @@ pub record Kept : Type 0 where
   pub acked : ℕ
   pub entries : List (Entry ℕ)
 
--- what is kept, and how many entries can be added without memory
+-- what is kept, how far it was acknowledged at the last purge, and how many entries can be added without memory
 pub record Held : Type 0 where
   pub kept : Kept
+  pub swept : ℕ
   pub room : ℕ
 
 -- a stream in which nothing is queued
 abbrev pub new_held : SiteName → Held
-new_held site = record { kept = record { site = site; acked = 0; entries = [] }; room = 0 }
+new_held site = record { kept = record { site = site; acked = 0; entries = [] }; swept = 0; room = 0 }
 
 -- what the streams hold
 abbrev pub kept_of : List Held → List Kept
 kept_of helds = map (λ (h : Held). h.kept) helds
+
+-- a stream as it was acknowledged at the last purge
+abbrev pub swept_as : Held → Kept
+swept_as h = record { site = h.kept.site; acked = h.swept; entries = h.kept.entries }
+
+-- the streams as they were then
+abbrev pub swept_of : List Held → List Kept
+swept_of helds = map swept_as helds
 
 -- the room of each stream
 abbrev pub rooms_of : List Held → List ℕ
@@ -83,6 +92,10 @@ is_within (Some position) acked = nat_le position acked
 -- the stream has no entry with a number, or has acknowledged it
 abbrev pub has_passed : ℕ → Kept → Bool
 has_passed number k = is_within (position_of number k.entries) k.acked
+
+-- a number that isn't passed by each stream
+abbrev pub is_waiting : List Kept → ℕ → Bool
+is_waiting streams number = not (list_all (has_passed number) streams)
 
 -- the destinations of a transaction, by its number: the streams that have an entry of it
 abbrev pub destinations_of : ℕ → List Kept → List Destination
@@ -142,10 +155,16 @@ pub record AreStreams (count : ℕ) (streams : List Kept) : Type 0 where
   pub each : AllByRecursion (IsStream count) streams
   pub alike : AreAlike streams
 
--- the streams and the kept transactions of a queue of so many transactions
-pub record IsQueue (count : ℕ) (streams : List Kept) (kept : List (Entry Cargo)) : Type 0 where
-  pub streams_are : AreStreams count streams
+-- of the transactions that are kept, each up to the last one at the last purge waited for a stream then
+pub record IsSwept (count last : ℕ) (streams : List Kept) (kept : List (Entry Cargo)) : Type 0 where
+  pub within : last ≤ count
+  pub waiting : AllByRecursion (λ (e : Entry Cargo). e.number ≤ last → is_waiting streams e.number ≡ true) kept
+
+-- the streams and the kept transactions of a queue of so many transactions, and how many these were at the last purge
+pub record IsQueue (count last : ℕ) (streams : List Held) (kept : List (Entry Cargo)) : Type 0 where
+  pub streams_are : AreStreams count (kept_of streams)
   pub falling : FallsFrom count kept
+  pub swept : IsSwept count last (swept_of streams) kept
 
 -- a destination of the streams, and a position of its stream or 0
 pub record CanGo (streams : List Kept) (d : Destination) : Type 0 where
@@ -168,7 +187,7 @@ extended to number k = record { site = k.site; acked = k.acked; entries = with_e
 
 -- the same, with its room
 abbrev pub held_extended : List Destination → ℕ → Held → Held
-held_extended to number h = record { kept = extended to number h.kept; room = room_left (destination_to h.kept.site to) h.room }
+held_extended to number h = record { kept = extended to number h.kept; swept = h.swept; room = room_left (destination_to h.kept.site to) h.room }
 
 -- a stream after a mark came in
 abbrev pub raised : SiteName → ℕ → Kept → Kept
@@ -176,4 +195,8 @@ raised site mark k = record { site = k.site; acked = cond (is_same_site k.site s
 
 -- the same, with its room
 abbrev pub held_raised : SiteName → ℕ → Held → Held
-held_raised site mark h = record { kept = raised site mark h.kept; room = h.room }
+held_raised site mark h = record { kept = raised site mark h.kept; swept = h.swept; room = h.room }
+
+-- a stream after a purge
+abbrev pub held_swept : Held → Held
+held_swept h = record { kept = h.kept; swept = h.kept.acked; room = h.room }

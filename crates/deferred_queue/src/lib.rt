@@ -7,6 +7,7 @@ mod destination;
 mod entries;
 mod laws;
 mod queue;
+mod span;
 mod stream;
 mod streams;
 

@@ -1,16 +1,18 @@
 //! The queue of a site.
-ghost use Rattle.std.specs.Prelude.{◌≡◌, ◌↔◌, ◌+◌, ◌-◌, ◌≤◌, ◌<◌, [], ◌∷◌, length, map, reverse, IfOk, IfSome, OnOk, IsTrue, Some, option_copied, slice_get};
+ghost use Rattle.std.specs.Prelude.{◌≡◌, ◌↔◌, ◌+◌, ◌-◌, ◌≤◌, ◌<◌, [], ◌∷◌, false, length, map, reverse, vec_len, vec_capacity, IfOk, IfSome, OnOk, IsTrue, Some, option_copied, slice_get};
 ghost use Rattle.std.specs.Option.{option_map};
-ghost use Rattle.std.specs.List.{AllByRecursion};
+ghost use Rattle.std.specs.List.{AllByRecursion, filter};
 ghost use Rattle.deferred_queue.specs.Streams.{CanBeSent, AreApart, in_order, at_position, stream_to, place_of, unpurged, purged, numbered, last_position, acked_by, raised_mark};
-ghost use Rattle.deferred_queue.specs.Kept.{Falls, entry_of};
+ghost use Rattle.deferred_queue.specs.Kept.{Falls, entry_of, kept_of, is_waiting};
+ghost use Rattle.deferred_queue.specs.Spans.{Covers};
 
 use crate::cargo::Cargo;
 use crate::entries::{Entry, place_with};
+use crate::span::{Span, goes, passed_since};
 use crate::stream::Stream;
 use crate::streams::{
-    acked_to, can_go_to_each, entry_to, extend_each, have_passed, last_to, new_each, place_to,
-    raise_each, reserve_each,
+    acked_to, can_go_to_each, entry_to, extend_each, last_to, new_each, place_to, raise_each,
+    reserve_each, sweep_each,
 };
 use crate::{Destination, Place, Queued, Sent};
 use rep_calls::{Past, Txn};
@@ -19,11 +21,12 @@ use rep_values::SiteName;
 use std::alloc::Global;
 use std::marker::Model;
 
-/// The transactions that were queued and aren't purged, in the order of their numbers, and the streams to the
-/// destinations.
+/// The transactions that were queued and aren't purged, in the order of their numbers, the streams to the destinations,
+/// and how many were queued at the last purge.
 #[derive(Drop)]
 pub struct Queue {
     count: u64,
+    swept: u64,
     cargoes: Vec<Entry<Cargo>>,
     streams: Vec<Stream>,
 }
@@ -41,7 +44,7 @@ impl Model for Queue {
       spare = least (min (vec_capacity q.cargoes - vec_len q.cargoes) (2 ^ 64 - 1 - q.count)) (rooms_of q.streams.items);
     } };
 
-    ghost invariant = { λ q. IsQueue q.count (kept_of q.streams.items) (reverse q.cargoes.items) };
+    ghost invariant = { λ q. IsQueue q.count q.swept q.streams.items (reverse q.cargoes.items) };
 }
 
 /// The entry of the transaction with a number.
@@ -59,6 +62,19 @@ fn entry_at(cargoes: &[Entry<Cargo>], place: u64) -> Option<&Entry<Cargo>>
     cargoes.get(place as usize)
 }
 
+/// Lets go of the transactions that each stream has passed, whose numbers lie in a span.
+fn let_go(cargoes: &mut Vec<Entry<Cargo>>, streams: &[Stream], span: Span)
+    requires { AllByRecursion (λ (e : Entry Cargo). is_waiting (kept_of streams.now) e.number ≡ false → Covers span e.number) (reverse cargoes.old.items) }
+    ensures items { reverse cargoes.new.items ≡ filter (λ (e : Entry Cargo). is_waiting (kept_of streams.now) e.number) (reverse cargoes.old.items) }
+    ensures bound { vec_len cargoes.new ≤ vec_len cargoes.old }
+    ensures capacity { vec_capacity cargoes.new ≡ vec_capacity cargoes.old }
+{
+    if span.is_empty() {
+        return;
+    }
+    cargoes.retain(|entry| !goes(streams, span, entry.number));
+}
+
 impl Queue {
     /// Nothing is queued for these destinations, and nothing acknowledged.
     pub fn make(alloc: Global, destinations: &[SiteName]) -> Result<Queue, NoMemory>
@@ -68,6 +84,7 @@ impl Queue {
         let streams = new_each(alloc, destinations)?;
         Ok(Queue {
             count: 0,
+            swept: 0,
             cargoes: Vec::new(alloc),
             streams,
         })
@@ -181,9 +198,10 @@ impl Queue {
         ensures spare { self.old.spare ≤ self.new.spare }
     {
         let before = self.cargoes.len();
-        let streams = self.streams.as_slice();
-        self.cargoes
-            .retain(|entry| !have_passed(streams, entry.number));
+        let span = passed_since(&self.streams, self.swept, self.count);
+        let_go(&mut self.cargoes, &self.streams, span);
+        sweep_each(&mut self.streams);
+        self.swept = self.count;
         (before - self.cargoes.len()) as u64
     }
 

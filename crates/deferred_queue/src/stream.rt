@@ -1,7 +1,7 @@
 //! The stream to one destination.
 ghost use Rattle.std.specs.Prelude.{◌≡◌, ℕ, ◌+◌, ◌-◌, ◌≤◌, length, option_copied, slice_get, OnOk};
 ghost use Rattle.deferred_queue.specs.Streams.{at_position};
-ghost use Rattle.deferred_queue.specs.Kept.{FallsFrom, new_held, held_extended, held_raised, is_stream_to, place_in, has_passed};
+ghost use Rattle.deferred_queue.specs.Kept.{FallsFrom, new_held, held_extended, held_raised, held_swept, is_stream_to, place_in, has_passed};
 
 use crate::destination::dep_of;
 use crate::entries::{Entry, place_with};
@@ -11,12 +11,13 @@ use rep_values::SiteName;
 use std::alloc::Global;
 use std::marker::Model;
 
-/// What was queued for one destination, each entry with the position that it depends on, and how far that is
-/// acknowledged.
+/// What was queued for one destination, each entry with the position that it depends on, how far that is
+/// acknowledged, and how far it was at the last purge.
 #[derive(Drop)]
 pub(crate) struct Stream {
     site: SiteName,
     acked: u64,
+    swept: u64,
     entries: Vec<Entry<u64>>,
 }
 
@@ -28,6 +29,7 @@ impl Model for Stream {
 
     ghost view = { λ s. record {
       kept = record { site = s.site; acked = s.acked; entries = reverse s.entries.items };
+      swept = s.swept;
       room = vec_capacity s.entries - vec_len s.entries;
     } };
 
@@ -48,6 +50,7 @@ impl Stream {
         Stream {
             site,
             acked: 0,
+            swept: 0,
             entries: Vec::new(alloc),
         }
     }
@@ -56,6 +59,7 @@ impl Stream {
     pub(crate) fn reserve(&mut self) -> Result<(), NoMemory>
         ensures ok { OnOk result (1 ≤ self.new.room) }
         ensures kept { self.new.kept ≡ self.old.kept }
+        ensures swept { self.new.swept ≡ self.old.swept }
         ensures room { self.old.room ≤ self.new.room }
     {
         self.entries.reserve(1)?;
@@ -81,6 +85,13 @@ impl Stream {
         if self.is_to(site) {
             self.acked = self.acked.max(mark);
         }
+    }
+
+    /// Remembers how far it is acknowledged at a purge.
+    pub(crate) fn sweep(&mut self)
+        ensures { self.new ≡ held_swept self.old }
+    {
+        self.swept = self.acked;
     }
 
     /// Whether this is the stream to a site.
@@ -133,5 +144,12 @@ impl Stream {
         ensures { result ≡ self.now.kept.acked }
     {
         self.acked
+    }
+
+    /// The position up to which all was acknowledged at the last purge.
+    pub(crate) fn swept(&self) -> u64
+        ensures { result ≡ self.now.swept }
+    {
+        self.swept
     }
 }

@@ -2,7 +2,7 @@
 ghost use Rattle.std.specs.Prelude.{◌≡◌, ◌↔◌, ℕ, ◌-◌, ◌≤◌, length, map, IfOk, OnOk, option_copied, IsTrue};
 ghost use Rattle.std.specs.List.{AllByRecursion, find, list_all};
 ghost use Rattle.deferred_queue.specs.Streams.{at_position, acked_by};
-ghost use Rattle.deferred_queue.specs.Kept.{FallsFrom, new_held, is_stream_to, kept_of, rooms_of, marks_of, least, entries_to, place_in, has_passed, held_extended, held_raised, CanGo};
+ghost use Rattle.deferred_queue.specs.Kept.{FallsFrom, new_held, is_stream_to, kept_of, swept_of, rooms_of, marks_of, least, entries_to, place_in, has_passed, held_extended, held_raised, held_swept, CanGo};
 
 use crate::entries::Entry;
 use crate::stream::Stream;
@@ -111,6 +111,7 @@ pub(crate) fn can_go_to_each(streams: &[Stream], to: &[Destination]) -> bool
 pub(crate) fn reserve_each(streams: &mut [Stream]) -> Result<(), NoMemory>
     ensures ok { OnOk result (1 ≤ least 1 (rooms_of streams.new)) }
     ensures kept { kept_of streams.new ≡ kept_of streams.old }
+    ensures swept { swept_of streams.new ≡ swept_of streams.old }
     ensures room { (free : ℕ) → least free (rooms_of streams.old) ≤ least free (rooms_of streams.new) }
 {
     for stream in streams.iter_mut() {
@@ -137,5 +138,14 @@ pub(crate) fn raise_each(streams: &mut [Stream], site: &SiteName, mark: u64)
 {
     for stream in streams.iter_mut() {
         stream.raise(site, mark);
+    }
+}
+
+/// Remembers how far each is acknowledged at a purge.
+pub(crate) fn sweep_each(streams: &mut [Stream])
+    ensures { streams.new ≡ map held_swept streams.old }
+{
+    for stream in streams.iter_mut() {
+        stream.sweep();
     }
 }

@@ -1,6 +1,7 @@
 -- The lemmas of this crate, from the bottom up.
 pub mod Travelling
 pub mod Sending
+pub mod Repeats
 pub mod Delivering
 pub mod Settled
 pub mod Masters

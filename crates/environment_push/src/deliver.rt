@@ -1,35 +1,56 @@
 //! What the receiver takes in.
 ghost use Rattle.std.specs.Prelude.{◌≡◌, is_some, IfOk, OnOk, OnErr};
-ghost use Rattle.packet_code.specs.Limits.{IsPacket};
 ghost use Rattle.net_plan.specs.Directions.{HasDirection, first_between};
 ghost use Rattle.site_state.specs.Packets.{site_accept};
 ghost use Rattle.event_laws.specs.Core.{at_site};
 ghost use Rattle.world_state.specs.Pushes.{world_take, world_deliver};
+ghost use Rattle.environment_push.specs.Repeats.{is_repeat};
 ghost use Rattle.environment_push.specs.Travelling.{Travels};
 
 use environment::{Environment, Site, place_of};
-use packet_code::Packet;
+use packet_code::Sealed;
 use page_tables::PageTables;
 use rep_lists::NoMemory;
 use rep_values::SiteName;
 use std::alloc::Global;
 
+/// Whether the transaction of a packet arrived at a site before. It takes no memory.
+fn is_repeat(site: &Site<PageTables>, sealed: &Sealed) -> bool
+    ensures { result ≡ is_repeat sealed.now site.now }
+{
+    let Some(at) = sealed.stream_position() else {
+        return false;
+    };
+    site.arrival(&at.from, at.position).is_some()
+}
+
+/// A site takes in a packet. One that comes again is not unsealed, since it changes nothing.
+fn accept(site: &mut Site<PageTables>, alloc: Global, sealed: &Sealed) -> Result<(), NoMemory>
+    ensures ok { OnOk result (site.new ≡ site_accept sealed.now site.old) }
+    ensures err { OnErr result (site.new ≡ site.old) }
+{
+    if is_repeat(site, sealed) {
+        return Ok(());
+    }
+    let packet = sealed.unseal(alloc)?;
+    site.accept(packet)?;
+    Ok(())
+}
+
 /// A site takes in a packet, where it is there.
 fn accept_at(
     sites: &mut Vec<Site<PageTables>>,
+    alloc: Global,
     to: &SiteName,
-    packet: Packet,
+    sealed: &Sealed,
 ) -> Result<(), NoMemory>
-    requires { IsPacket packet }
-    ensures ok { OnOk result (sites.new.items ≡ at_site to.now (site_accept packet) sites.old.items) }
+    ensures ok { OnOk result (sites.new.items ≡ at_site to.now (site_accept sealed.now) sites.old.items) }
     ensures err { OnErr result (sites.new.items ≡ sites.old.items) }
 {
     let Some(place) = place_of(sites, to) else {
         return Ok(());
     };
-    let site = &mut sites[place];
-    site.accept(packet)?;
-    Ok(())
+    accept(&mut sites[place], alloc, sealed)
 }
 
 /// A site takes in the first packet on the way to it, and whether there is one is answered. Where there is no memory, the
@@ -48,8 +69,7 @@ fn take(
     let Some(sealed) = environment.net.deliver(from, to) else {
         return Ok(false);
     };
-    let packet = sealed.unseal(alloc)?;
-    accept_at(&mut environment.sites, to, packet)?;
+    accept_at(&mut environment.sites, alloc, to, &sealed)?;
     Ok(true)
 }
 

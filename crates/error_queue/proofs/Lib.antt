@@ -2,3 +2,4 @@
 mod FirstLists
 mod Counts
 mod Room
+mod InPlaces

@@ -1,39 +1,44 @@
 //! The errors of one origin.
-ghost use Rattle.std.specs.Prelude.{◌≡◌, ◌+◌, ◌≤◌, [], None, length, option_copied, slice_get, IfOk, IfErr, OnOk};
+ghost use Rattle.std.specs.Prelude.{◌≡◌, ◌+◌, ◌-◌, ◌≤◌, None, length, option_copied, slice_get, IfOk, IfErr, OnOk};
+ghost use Rattle.std.specs.VecDeque.{deque_len, deque_capacity};
 ghost use Rattle.rep_lists.specs.Rising.{IsRising, IsThere, IsGap, find_at, put_at, take_at};
 ghost use Rattle.error_queue.specs.ErrorLists.{beside, no_errors};
 ghost use Rattle.error_queue.specs.Kept.{by_position, is_list_of};
 
 use crate::ErrorEntry;
-use rep_lists::{NoMemory, RoomyList};
+use rep_lists::NoMemory;
 use rep_values::SiteName;
 use std::alloc::Global;
 use std::cmp::Ordering;
+use std::collections::VecDeque;
 use std::marker::Model;
 
 /// The errors of one origin, in rising order of position.
 #[derive(Drop)]
 pub(crate) struct OriginErrors {
     origin: SiteName,
-    entries: RoomyList<ErrorEntry>,
+    // Most errors come behind the others, and many are taken from the front.
+    entries: VecDeque<ErrorEntry>,
 }
 
 impl Model for OriginErrors {
+    ghost use Rattle.std.specs.Prelude.{◌-◌};
+    ghost use Rattle.std.specs.VecDeque.{deque_len, deque_capacity};
     ghost use Rattle.rep_lists.specs.Rising.{IsRising};
     ghost use Rattle.error_queue.specs.Kept.{Held, by_position};
 
     ghost Value = { Held };
 
-    ghost view = { λ o. record { list = record { origin = o.origin; entries = o.entries.items }; room = o.entries.spare } };
+    ghost view = { λ o. record { list = record { origin = o.origin; entries = o.entries.items }; room = deque_capacity o.entries - deque_len o.entries } };
 
     ghost invariant = { λ o. IsRising by_position o.entries.items };
 }
 
 /// The place of a position, or else the place where it would stand.
-fn search(entries: &[ErrorEntry], position: u64) -> Result<usize, usize>
-    requires { IsRising by_position entries.now }
-    ensures found { IfOk result (IsThere (beside position) entries.now) }
-    ensures absent { IfErr result (IsGap (beside position) entries.now) }
+fn search(entries: &VecDeque<ErrorEntry>, position: u64) -> Result<usize, usize>
+    requires { IsRising by_position entries.now.items }
+    ensures found { IfOk result (IsThere (beside position) entries.now.items) }
+    ensures absent { IfErr result (IsGap (beside position) entries.now.items) }
 {
     entries.binary_search_by(
         |entry: &ErrorEntry| -> Ordering
@@ -42,9 +47,9 @@ fn search(entries: &[ErrorEntry], position: u64) -> Result<usize, usize>
     )
 }
 
-fn find(entries: &[ErrorEntry], position: u64) -> Option<&ErrorEntry>
-    requires { IsRising by_position entries.now }
-    ensures { option_copied result ≡ find_at (beside position) entries.now }
+fn find(entries: &VecDeque<ErrorEntry>, position: u64) -> Option<&ErrorEntry>
+    requires { IsRising by_position entries.now.items }
+    ensures { option_copied result ≡ find_at (beside position) entries.now.items }
 {
     match search(entries, position) {
         Ok(place) => Some(&entries[place]),
@@ -52,29 +57,31 @@ fn find(entries: &[ErrorEntry], position: u64) -> Option<&ErrorEntry>
     }
 }
 
-fn take_out(entries: &mut RoomyList<ErrorEntry>, position: u64) -> Option<ErrorEntry>
+fn take_out(entries: &mut VecDeque<ErrorEntry>, position: u64) -> Option<ErrorEntry>
     requires { IsRising by_position entries.old.items }
     ensures taken { result ≡ find_at (beside position) entries.old.items }
     ensures entries { entries.new.items ≡ take_at (beside position) entries.old.items }
-    ensures room { entries.old.spare ≤ entries.new.spare }
+    ensures room { deque_capacity entries.old - deque_len entries.old ≤ deque_capacity entries.new - deque_len entries.new }
 {
-    match search(entries.as_slice(), position) {
-        Ok(place) => Some(entries.remove(place)),
+    match search(entries, position) {
+        Ok(place) => entries.remove(place),
         Err(_) => None,
     }
 }
 
-/// Puts an error in its place, where none stands.
-fn put_in(entries: &mut RoomyList<ErrorEntry>, error: ErrorEntry)
+/// Puts an error in its place, where none stands. It takes no memory.
+fn put_in(entries: &mut VecDeque<ErrorEntry>, error: ErrorEntry)
     requires rising { IsRising by_position entries.old.items }
     requires absent { find_at (beside error.position) entries.old.items ≡ None }
-    requires room { 1 ≤ entries.old.spare }
+    requires room { 1 ≤ deque_capacity entries.old - deque_len entries.old }
     ensures entries { entries.new.items ≡ put_at (beside error.position) error entries.old.items }
-    ensures room { entries.old.spare ≤ entries.new.spare + 1 }
+    ensures room { deque_capacity entries.old - deque_len entries.old ≤ deque_capacity entries.new - deque_len entries.new + 1 }
 {
-    match search(entries.as_slice(), error.position) {
+    match search(entries, error.position) {
         Ok(_) => unreachable!(),
-        Err(place) => entries.insert(place, error),
+        Err(place) => {
+            let _ = entries.insert(place, error);
+        }
     }
 }
 
@@ -85,7 +92,7 @@ impl OriginErrors {
     {
         OriginErrors {
             origin,
-            entries: RoomyList::new(alloc),
+            entries: VecDeque::new(alloc),
         }
     }
 
@@ -107,14 +114,14 @@ impl OriginErrors {
     pub(crate) fn at(&self, place: u64) -> Option<&ErrorEntry>
         ensures { option_copied result ≡ slice_get self.now.list.entries place }
     {
-        self.entries.as_slice().get(place as usize)
+        self.entries.get(place as usize)
     }
 
     /// The error of a position.
     pub(crate) fn get(&self, position: u64) -> Option<&ErrorEntry>
         ensures { option_copied result ≡ find_at (beside position) self.now.list.entries }
     {
-        find(self.entries.as_slice(), position)
+        find(&self.entries, position)
     }
 
     /// Takes the room for one more error.

@@ -31,15 +31,15 @@ use journal_steps::from_senders;
 use local_txn::{Here, Stamps};
 use rep_lists::{Items, NoMemory, RoomyList};
 use rep_schema::{RowStore, TableSet};
-use rep_values::{Row, SiteName};
+use rep_values::SiteName;
 use sender_inbox::Inbox;
 use site_notes::{Notes, tables_of};
 use site_outbox::Outbox;
-use site_refresh::all_rows;
 use site_state::Entry;
 use snapshot_query::Snapshot;
 use std::alloc::Global;
 use std::marker::Model;
+use std::snapshot;
 use unique_resolve::Counters;
 
 /// A site: a store of rows with its counters, the rows that it began with, the journal of what led from them to these, what
@@ -49,7 +49,8 @@ pub struct Site<R: RowStore> {
     store: R,
     counters: Counters,
     here: Here,
-    base: Items<Items<Row>>,
+    // The store as it was when the site began, or at its last refresh, which only contracts look at.
+    base: snapshot::Snapshot<R>,
     // The oldest entry comes first. There is room to drop each error that stands.
     journal: RoomyList<Entry>,
     inboxes: Vec<Inbox>,
@@ -67,9 +68,9 @@ impl<R: RowStore> Model for Site<R> {
 
     ghost Value = { SiteState };
 
-    ghost view = { λ s. state_of (R.schema s.store) s.here s.base (reverse s.journal.items) s.inboxes.items s.outbox s.notes s.stamps s.moment };
+    ghost view = { λ s. state_of (R.schema s.store) s.here (R.tables s.base.value) (reverse s.journal.items) s.inboxes.items s.outbox s.notes s.stamps s.moment };
 
-    ghost invariant = { λ s. Holds (state_of (R.schema s.store) s.here s.base (reverse s.journal.items) s.inboxes.items s.outbox s.notes s.stamps s.moment)
+    ghost invariant = { λ s. Holds (state_of (R.schema s.store) s.here (R.tables s.base.value) (reverse s.journal.items) s.inboxes.items s.outbox s.notes s.stamps s.moment)
         (R.tables s.store) s.counters s.inboxes.items s.outbox s.errors.lists s.journal.spare };
 }
 
@@ -116,7 +117,7 @@ impl<R: RowStore> Site<R> {
         requires apart { AreApart snapshots }
         ensures { IfOk result (λ site. site ≡ new_site (R.schema store) here logged.now snapshots (R.tables store)) }
     {
-        let base = all_rows(alloc, &store)?;
+        let base = snapshot::Snapshot::of(&store);
         let counters = Counters::make(alloc, store.schema())?;
         let (inboxes, errors) = from_senders(alloc, senders)?;
         let outbox = Outbox::make(alloc, store.schema(), destinations)?;

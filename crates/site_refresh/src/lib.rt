@@ -5,8 +5,6 @@ mod by_keys;
 mod counts;
 mod done;
 mod refresh;
-mod rows;
 mod to_rows;
 
-pub use refresh::{Refreshed, refresh_all, refresh_all_fast};
-pub use rows::all_rows;
+pub use refresh::{refresh_all, refresh_all_fast};

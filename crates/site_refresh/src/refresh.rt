@@ -8,65 +8,38 @@ ghost use Rattle.site_refresh.specs.Refreshing.{OthersAreShown, AreGivenFor, pen
 ghost use Rattle.site_refresh.specs.Done.{all_changes};
 
 use crate::done::undo_all;
-use crate::rows::all_rows;
 use crate::{by_keys, to_rows};
 use fast_refresh::MasterView;
-use rep_lists::{Items, NoMemory};
+use rep_lists::NoMemory;
 use rep_schema::{Changes, RowStore, holds_tables};
-use rep_values::Row;
 use site_notes::Notes;
 use site_state::{RefreshCount, TableRows};
 use std::alloc::Global;
 
-/// What a refresh leaves: copies of the rows of all tables, in their order, and its counts.
-#[derive(Drop)]
-pub struct Refreshed {
-    pub base: Items<Items<Row>>,
-    pub count: RefreshCount,
-}
-
-/// What a refresh leaves, where all its snapshots were refreshed and so much was counted.
-fn with_base<R: RowStore>(
-    alloc: Global,
-    store: &R,
-    counted: Result<RefreshCount, NoMemory>,
-) -> Result<Refreshed, NoMemory>
-    requires { length (R.schema store.now).tables ≤ 32 }
-    ensures base { IfOk result (λ refreshed. refreshed.base ≡ R.tables store.now) }
-    ensures count { IfOk result (λ refreshed. counted ≡ Ok refreshed.count) }
-{
-    let count = counted?;
-    let base = all_rows(alloc, store)?;
-    Ok(Refreshed { base, count })
-}
-
-/// Ends a refresh. Where its snapshots have their rows and these can be copied, they are renewed; else what was done is
-/// taken back.
+/// Ends a refresh. Where its snapshots have their rows, they are renewed; else what was done is taken back. It answers what
+/// was counted.
 fn finish<R: RowStore>(
-    alloc: Global,
     store: &mut R,
     notes: &mut Notes,
     done: Vec<Changes>,
     counted: Result<RefreshCount, NoMemory>,
     moment: u64,
-) -> Result<Refreshed, NoMemory>
-    requires few { length (R.schema store.old).tables ≤ 32 }
+) -> Result<RefreshCount, NoMemory>
     requires led { HaveLed (R.schema store.old) (all_changes done.items) (R.tables store.old) }
     requires room { (t : ℕ) → room_for t (all_changes done.items) ≤ slice_index (R.spare store.old) t }
-    ensures tables { OnOk result (R.tables store.new ≡ R.tables store.old) }
-    ensures base { IfOk result (λ refreshed. refreshed.base ≡ R.tables store.new) }
-    ensures count { IfOk result (λ refreshed. counted ≡ Ok refreshed.count) }
-    ensures renewed { OnOk result (notes.new.snapshots ≡ map (renewed moment) notes.old.snapshots) }
-    ensures earlier { OnErr result ((earlier : List Rows) → AreTables (R.schema store.old) earlier
+    ensures counted { result ≡ counted }
+    ensures tables { OnOk counted (R.tables store.new ≡ R.tables store.old) }
+    ensures renewed { OnOk counted (notes.new.snapshots ≡ map (renewed moment) notes.old.snapshots) }
+    ensures earlier { OnErr counted ((earlier : List Rows) → AreTables (R.schema store.old) earlier
         → LeadsTo (R.schema store.old) (all_changes done.items) earlier (R.tables store.old) → R.tables store.new ≡ earlier) }
-    ensures same { OnErr result (notes.new.snapshots ≡ notes.old.snapshots) }
+    ensures same { OnErr counted (notes.new.snapshots ≡ notes.old.snapshots) }
     ensures logs { notes.new.logs ≡ notes.old.logs }
     ensures schema { R.schema store.new ≡ R.schema store.old }
 {
-    match with_base(alloc, store, counted) {
-        Ok(refreshed) => {
+    match counted {
+        Ok(count) => {
             notes.renew(moment);
-            Ok(refreshed)
+            Ok(count)
         }
         Err(error) => {
             undo_all(store, done);
@@ -85,7 +58,7 @@ pub fn refresh_all_fast<R: RowStore, M: MasterView>(
     master: &mut M,
     logs: &Notes,
     moment: u64,
-) -> Result<Refreshed, NoMemory>
+) -> Result<RefreshCount, NoMemory>
     requires keyed { IsKeyed (R.schema store.old) }
     requires within { AreWithin (R.schema store.old) notes.old.snapshots }
     requires apart { AreApart notes.old.snapshots }
@@ -93,8 +66,7 @@ pub fn refresh_all_fast<R: RowStore, M: MasterView>(
     requires master { AreTables (R.schema store.old) (M.tables master.old) }
     requires others { OthersAreShown (R.schema store.old) logs.now.logs (M.tables master.old) notes.old.snapshots (R.tables store.old) }
     ensures tables { OnOk result (R.tables store.new ≡ with_tables (rows_shown (M.tables master.old) notes.old.snapshots) (R.tables store.old)) }
-    ensures base { IfOk result (λ refreshed. refreshed.base ≡ R.tables store.new) }
-    ensures count { IfOk result (λ refreshed. refreshed.count ≡ counted (pending_count logs.now.logs notes.old.snapshots) (rows_shown (M.tables master.old) notes.old.snapshots)) }
+    ensures count { IfOk result (λ count. count ≡ counted (pending_count logs.now.logs notes.old.snapshots) (rows_shown (M.tables master.old) notes.old.snapshots)) }
     ensures renewed { OnOk result (notes.new.snapshots ≡ map (renewed moment) notes.old.snapshots) }
     ensures kept { OnErr result (R.tables store.new ≡ R.tables store.old) }
     ensures same { OnErr result (notes.new.snapshots ≡ notes.old.snapshots) }
@@ -108,7 +80,7 @@ pub fn refresh_all_fast<R: RowStore, M: MasterView>(
     holds_tables(store);
     let mut done = Vec::with_capacity(alloc, notes.snapshot_count())?;
     let counted = by_keys::refresh_each(alloc, store, notes, master, logs, moment, &mut done);
-    finish(alloc, store, notes, done, counted, moment)
+    finish(store, notes, done, counted, moment)
 }
 
 /// Refreshes all snapshots of a store to rows that are given for the table of each with their master's moment. Where
@@ -119,14 +91,13 @@ pub fn refresh_all<R: RowStore>(
     notes: &mut Notes,
     rows: &[TableRows],
     moment: u64,
-) -> Result<Refreshed, NoMemory>
+) -> Result<RefreshCount, NoMemory>
     requires keyed { IsKeyed (R.schema store.old) }
     requires within { AreWithin (R.schema store.old) notes.old.snapshots }
     requires apart { AreApart notes.old.snapshots }
     requires rows { AreGivenFor (R.schema store.old) notes.old.snapshots rows.now }
     ensures tables { OnOk result (R.tables store.new ≡ with_tables rows.now (R.tables store.old)) }
-    ensures base { IfOk result (λ refreshed. refreshed.base ≡ R.tables store.new) }
-    ensures count { IfOk result (λ refreshed. refreshed.count ≡ counted 0 rows.now) }
+    ensures count { IfOk result (λ count. count ≡ counted 0 rows.now) }
     ensures renewed { OnOk result (notes.new.snapshots ≡ map (renewed moment) notes.old.snapshots) }
     ensures kept { OnErr result (R.tables store.new ≡ R.tables store.old) }
     ensures same { OnErr result (notes.new.snapshots ≡ notes.old.snapshots) }
@@ -136,5 +107,5 @@ pub fn refresh_all<R: RowStore>(
     holds_tables(store);
     let mut done = Vec::with_capacity(alloc, rows.len())?;
     let counted = to_rows::refresh_each(alloc, store, notes, rows, moment, &mut done);
-    finish(alloc, store, notes, done, counted, moment)
+    finish(store, notes, done, counted, moment)
 }

@@ -11,9 +11,10 @@ use journal_steps::reserve_beside;
 use rep_lists::NoMemory;
 use rep_schema::{RowStore, holds_tables};
 use site_notes::Notes;
-use site_refresh::{Refreshed, refresh_all, refresh_all_fast};
+use site_refresh::{refresh_all, refresh_all_fast};
 use site_state::{Entry, RefreshCount, TableRows};
 use std::alloc::Global;
+use std::snapshot::Snapshot;
 use unique_resolve::Counters;
 
 impl<R: RowStore> Site<R> {
@@ -43,7 +44,7 @@ impl<R: RowStore> Site<R> {
         // The room and the counters come first, so that what follows the refresh can't fail.
         reserve_beside(&mut self.journal, &self.errors, 1)?;
         let counters = Counters::make(alloc, self.store.schema())?;
-        let refreshed = refresh_all_fast(
+        let count = refresh_all_fast(
             alloc,
             &mut self.store,
             &mut self.notes,
@@ -51,9 +52,8 @@ impl<R: RowStore> Site<R> {
             logs,
             moment,
         )?;
-        let Refreshed { base, count } = refreshed;
         holds_tables(&self.store);
-        self.base = base;
+        self.base = Snapshot::of(&self.store);
         self.counters = counters;
         self.journal.push(Entry::Refreshed { moment });
         Ok(count)
@@ -76,10 +76,9 @@ impl<R: RowStore> Site<R> {
         // The room and the counters come first, so that what follows the refresh can't fail.
         reserve_beside(&mut self.journal, &self.errors, 1)?;
         let counters = Counters::make(alloc, self.store.schema())?;
-        let refreshed = refresh_all(alloc, &mut self.store, &mut self.notes, rows, moment)?;
-        let Refreshed { base, count } = refreshed;
+        let count = refresh_all(alloc, &mut self.store, &mut self.notes, rows, moment)?;
         holds_tables(&self.store);
-        self.base = base;
+        self.base = Snapshot::of(&self.store);
         self.counters = counters;
         self.journal.push(Entry::Refreshed { moment });
         Ok(count)

@@ -1,4 +1,5 @@
 use Rattle.std.proofs.Common.{sym, ap, ◌∙◌}
+use Rattle.std.proofs.lemmas.Result.{on_ok_weaker}
 use Rattle.site_state.specs.Packets.{site_accept}
 use Rattle.event_laws.specs.Core.{site_of}
 use Rattle.world_laws.proofs.Finding.{at_none}
@@ -6,7 +7,10 @@ use Rattle.environment.proofs.Written.{at_site-written}
 use Rattle.environment_push.proofs.deliver.accept_at.Goals as goal
 
 pub returns-in_default-clause-ok : goal.returns-in_default-clause-ok
-returns-in_default-clause-ok c = sym (at_none c.args.to.now (site_accept c.args.packet) c.args.sites.now.items (ap (site_of c.args.to.now) (sym c.deref.ensures.value) ∙ c.in_default.ensures))
+returns-in_default-clause-ok c =
+    sym (at_none c.args.to.now (site_accept c.args.sealed.now) c.args.sites.now.items (ap (site_of c.args.to.now) (sym c.deref.ensures.value) ∙ c.in_default.ensures))
 
 pub returns-clause-ok : goal.returns-clause-ok
-returns-clause-ok c = at_site-written _ _ _ _ _ c.deref.ensures.value c.in-Some.ensures c.index_mut-site.ensures.value (site_accept c.args.packet) c.accept.new.self c.in_ok-accept.ensures.ok
+returns-clause-ok c =
+    on_ok_weaker c.accept.result (at_site-written _ _ _ _ _ c.deref.ensures.value c.in-Some.ensures c.index_mut.ensures.value (site_accept c.args.sealed.now) c.accept.new.site)
+    c.accept.ensures.ok

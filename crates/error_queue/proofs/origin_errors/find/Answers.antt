@@ -3,7 +3,7 @@ use Rattle.rep_lists.proofs.Rising.{find_there, find_gap}
 use Rattle.error_queue.proofs.origin_errors.find.Goals as goal
 
 pub returns-in-Ok : goal.returns-in-Ok
-returns-in-Ok c = ap Some c.index-entries-place.is ∙ sym (find_there _ _ _ _ c.in-Ok.ensures.found)
+returns-in-Ok c = ap Some c.index.ensures ∙ sym (find_there _ _ _ _ c.in-Ok.ensures.found)
 
 pub returns-in-Err : goal.returns-in-Err
 returns-in-Err c = sym (find_gap _ _ _ c.in-Err.ensures.absent)

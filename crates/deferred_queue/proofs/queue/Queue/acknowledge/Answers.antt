@@ -4,6 +4,7 @@ use Rattle.deferred_queue.specs.Kept.{kept_of, cargoes_to, raised, held_raised}
 use Rattle.rep_lists.proofs.InPlace.{written_back}
 use Rattle.deferred_queue.proofs.KeptCargoes.{stream_to-kept}
 use Rattle.deferred_queue.proofs.Raising.{kept_of-held_raised, rooms_of-held_raised, queued-raised, marks_of-raised, AreStreams-raised}
+use Rattle.deferred_queue.proofs.Sweeping.{swept_of-held_raised}
 use Rattle.deferred_queue.proofs.queue.Queue.acknowledge.Goals as goal
 
 -- the streams of the queue are the raised ones
@@ -24,7 +25,7 @@ invariant_of-self c =
     let cargoes = reverse c.self.inside.cargoes.items in
     let asked = rw (← c.self.view_is) at c.requires in
     let within = rw (stream_to-kept c.args.to.now c.self.inside.count streams cargoes c.self.invariant.streams_are).same_length at asked in
-    record { streams_are = rw (kept c) (AreStreams-raised c.args.to.now c.args.mark c.self.inside.count streams within c.self.invariant.streams_are); falling = c.self.invariant.falling }
+    record { streams_are = rw (kept c) (AreStreams-raised c.args.to.now c.args.mark c.self.inside.count streams within c.self.invariant.streams_are); falling = c.self.invariant.falling; swept = rw (all c, swept_of-held_raised c.args.to.now c.args.mark c.self.inside.streams.items) c.self.invariant.swept }
 
 pub returns-clause-deferred : goal.returns-clause-deferred
 returns-clause-deferred c = rw (kept c, ← c.self.view_is) (queued-raised c.args.to.now c.args.mark (kept_of c.self.inside.streams.items) (cargoes_to c.self.inside.count (reverse c.self.inside.cargoes.items)))

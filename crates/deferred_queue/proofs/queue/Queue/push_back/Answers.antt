@@ -12,6 +12,7 @@ use Rattle.deferred_queue.proofs.KeptCargoes.{length-cargoes_to, cargoes_to-push
 use Rattle.deferred_queue.proofs.Numbers.{FallsFrom-higher}
 use Rattle.deferred_queue.proofs.Room.{least-first, least-one, least-held_extended}
 use Rattle.deferred_queue.proofs.Extending.{kept_of-held_extended, marks_of-extended, queued-pushed, AreStreams-extended, each_falls}
+use Rattle.deferred_queue.proofs.Sweeping.{IsSwept-extended}
 use Rattle.deferred_queue.proofs.queue.Queue.push_back.Goals as goal
 
 -- a number is left
@@ -66,6 +67,7 @@ pub invariant_of-self : goal.invariant_of-self
 invariant_of-self c = record {
   streams_are = rw (kept c) (AreStreams-extended c.args.to.now c.self.inside.count (c.self.inside.count + 1) (kept_of c.self.inside.streams.items) refl (back c) c.self.invariant.streams_are);
   falling = rw (newest_first c) (omega arith, omega arith, FallsFrom-higher c.self.inside.count (c.self.inside.count + 1 - 1) (reverse c.self.inside.cargoes.items) (omega arith) c.self.invariant.falling);
+  swept = rw (all c, newest_first c) (IsSwept-extended c.args.to.now c.self.inside.count c.self.inside.swept c.self.inside.streams.items (cargo c) (reverse c.self.inside.cargoes.items) c.self.invariant.swept);
 }
 
 pub returns-clause-number : goal.returns-clause-number

@@ -34,7 +34,7 @@ returns-in_err-reserve_position-clause-err g c =
     let i = c.index_mut-inbox.result.now in
     let is = c.index_mut-inbox.ensures.value in
     let p = err_from_is_err_and c.from_residual-in_err-reserve_position.result c.from_residual-in_err-reserve_position.ensures.1 in
-    let new = state_of (g.R.RowStore.schema s.store) s.here s.base (reverse c.reserve_position.new.journal.items) (set s.inboxes.items c.in-Some.place c.reserve_position.new.inbox) s.outbox s.notes s.stamps s.moment in
+    let new = state_of (g.R.RowStore.schema s.store) s.here (g.R.RowStore.tables s.base.value) (reverse c.reserve_position.new.journal.items) (set s.inboxes.items c.in-Some.place c.reserve_position.new.inbox) s.outbox s.notes s.stamps s.moment in
     rw p.1
     (subst (λ y. new ≡ y) c.self.view_is
     (room_state_is _ _ _ _ _ _ c.self.inside.notes _ _ _ _ _ _ h c.args.origin.now c.in-Some.place i c.reserve_position.new.inbox found is c.reserve_position.ensures.sender _ _ s.outbox s.notes refl (ap reverse c.reserve_position.ensures.items) refl refl refl refl))
@@ -98,7 +98,7 @@ returns-in_err-step-clause-err g c =
     let i = c.index_mut-inbox.result.now in
     let is = c.index_mut-inbox.ensures.value in
     let p = err_from_is_err_and c.from_residual-in_err-step.result c.from_residual-in_err-step.ensures.1 in
-    let new = state_of (g.R.RowStore.schema c.apply_arrival.new.store) s.here s.base (reverse c.reserve_position.new.journal.items) (set s.inboxes.items c.in-Some.place c.reserve_position.new.inbox) c.apply_arrival.new.outbox c.apply_arrival.new.notes s.stamps s.moment in
+    let new = state_of (g.R.RowStore.schema c.apply_arrival.new.store) s.here (g.R.RowStore.tables s.base.value) (reverse c.reserve_position.new.journal.items) (set s.inboxes.items c.in-Some.place c.reserve_position.new.inbox) c.apply_arrival.new.outbox c.apply_arrival.new.notes s.stamps s.moment in
     rw p.1
     (subst (λ y. new ≡ y) c.self.view_is
     (room_state_is _ _ _ _ _ _ c.self.inside.notes _ _ _ _ _ _ h c.args.origin.now c.in-Some.place i c.reserve_position.new.inbox found is c.reserve_position.ensures.sender _ _ c.apply_arrival.new.outbox c.apply_arrival.new.notes c.apply_arrival.ensures.schema (ap reverse c.reserve_position.ensures.items)
@@ -180,7 +180,7 @@ returns-clause-ok g c =
     let kept = c.finish.ensures.sender ∙ c.reserve_position.ensures.sender in
     let senders = senders_in-same s.inboxes.items c.in-Some.place c.finish.new.self i (kept ∙ ap sender_in is) in
     let journal = one_entry_more _ _ _ _ c.push.ensures.items c.reserve_position.ensures.items in
-    let new = state_of (g.R.RowStore.schema c.apply_arrival.new.store) s.here s.base (reverse c.push.new.self.items) (set s.inboxes.items c.in-Some.place c.finish.new.self) c.apply_arrival.new.outbox c.apply_arrival.new.notes s.stamps s.moment in
+    let new = state_of (g.R.RowStore.schema c.apply_arrival.new.store) s.here (g.R.RowStore.tables s.base.value) (reverse c.push.new.self.items) (set s.inboxes.items c.in-Some.place c.finish.new.self) c.apply_arrival.new.outbox c.apply_arrival.new.notes s.stamps s.moment in
     subst (λ y. new ≡ site_apply c.args.origin.now c.args.position y) c.self.view_is
     (apply_state_is _ _ _ _ _ _ c.self.inside.notes _ _ _ _ _ _ h c.args.origin.now c.args.position a stale arrived c.in_ok-past.past seen _ count c.apply_arrival.new.outbox c.apply_arrival.ensures.destinations c.apply_arrival.ensures.purged
     (set s.inboxes.items c.in-Some.place c.finish.new.self) senders c.apply_arrival.new.notes c.in_ok-step.ensures.changed.noted _ _ c.in_ok-step.step.entry c.apply_arrival.ensures.schema journal c.in_ok-step.ensures.entry)

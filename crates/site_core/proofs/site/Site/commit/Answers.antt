@@ -34,7 +34,7 @@ returns-clause-ok g c =
       logs = rw (c.schema.ensures.value, c.run_block.ensures.schema, c.as_slice.ensures, c.reserve_noting.ensures.logs) at c.note.ensures.logs;
       snapshots = rw (c.schema.ensures.value, c.run_block.ensures.schema, c.as_slice.ensures, c.reserve_noting.ensures.snapshots) at c.note.ensures.snapshots;
     } in
-    let new = state_of (g.R.RowStore.schema c.run_block.new.store) c.self.inside.here c.self.inside.base (reverse c.push.new.self.items) c.self.inside.inboxes.items c.run_block.new.outbox c.note.new.self c.in_ok-block.block.stamps (c.self.inside.moment + 1) in
+    let new = state_of (g.R.RowStore.schema c.run_block.new.store) c.self.inside.here (g.R.RowStore.tables c.self.inside.base.value) (reverse c.push.new.self.items) c.self.inside.inboxes.items c.run_block.new.outbox c.note.new.self c.in_ok-block.block.stamps (c.self.inside.moment + 1) in
     subst (λ y. new ≡ site_commit c.args.statements.now y) c.self.view_is
     (commit_state_is _ _ _ _ _ _ c.self.inside.notes _ _ _ _ _ _ h c.args.statements.now _ gives q.some _ number _ q.calls c.run_block.new.outbox c.run_block.ensures.destinations c.run_block.ensures.purged
     c.note.new.self noted _ _ c.run_block.ensures.schema journal)

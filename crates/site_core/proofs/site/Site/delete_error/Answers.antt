@@ -33,7 +33,7 @@ returns-clause-ok g c =
     let rising = rw (← c.self.view_is) at c.arrivals_rise.ensures in
     let e = c.in-Some.field-0.now in
     let stands = error_is _ _ _ _ _ _ c.self.inside.notes _ _ _ _ _ _ h c.args.origin.now c.args.position rising e c.in-Some.ensures in
-    let new = state_of (g.R.RowStore.schema s.store) s.here s.base (reverse c.push.new.self.items) s.inboxes.items s.outbox s.notes s.stamps (s.moment + 1) in
+    let new = state_of (g.R.RowStore.schema s.store) s.here (g.R.RowStore.tables s.base.value) (reverse c.push.new.self.items) s.inboxes.items s.outbox s.notes s.stamps (s.moment + 1) in
     subst (λ y. new ≡ site_drop c.args.origin.now c.args.position y) c.self.view_is
     (drop_state_is _ _ _ _ _ _ c.self.inside.notes _ _ _ _ _ _ h c.args.origin.now c.args.position e stands rising _ (one_entry_more _ _ _ _ c.push.ensures.items refl))
 

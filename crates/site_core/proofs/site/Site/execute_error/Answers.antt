@@ -71,7 +71,7 @@ returns-clause-ok g c =
       logs = rw (c.schema.ensures.value, c.apply_onward.ensures.schema, c.as_slice.ensures, c.reserve_noting.ensures.logs) at c.note.ensures.logs;
       snapshots = rw (c.schema.ensures.value, c.apply_onward.ensures.schema, c.as_slice.ensures, c.reserve_noting.ensures.snapshots) at c.note.ensures.snapshots;
     } in
-    let new = state_of (g.R.RowStore.schema c.apply_onward.new.store) s.here s.base (reverse c.push.new.self.items) s.inboxes.items c.apply_onward.new.outbox c.note.new.self s.stamps (s.moment + 1) in
+    let new = state_of (g.R.RowStore.schema c.apply_onward.new.store) s.here (g.R.RowStore.tables s.base.value) (reverse c.push.new.self.items) s.inboxes.items c.apply_onward.new.outbox c.note.new.self s.stamps (s.moment + 1) in
     subst (λ y. new ≡ site_execute c.args.origin.now c.args.position y) c.self.view_is
     (execute_state_is _ _ _ _ _ _ c.self.inside.notes _ _ _ _ _ _ h c.args.origin.now c.args.position e stands rising c.in_ok-past.past seen _ count c.apply_onward.new.outbox c.apply_onward.ensures.destinations c.apply_onward.ensures.purged
     _ gives c.note.new.self noted _ _ _ _ c.apply_onward.ensures.schema journal c.in-Ok.ensures.onward c.in_ok-txn.ensures)

@@ -12,4 +12,4 @@ returns-clause-once g c = rw (← c.self.view_is) c.self.invariant.once
 pub returns-clause-order : goal.returns-clause-order
 returns-clause-order g c =
     let s = c.self.inside in
-    rw (← c.self.view_is) (earlier_first (state_of (g.R.RowStore.schema s.store) s.here s.base (reverse s.journal.items) s.inboxes.items s.outbox s.notes s.stamps s.moment) c.self.invariant.waited)
+    rw (← c.self.view_is) (earlier_first (state_of (g.R.RowStore.schema s.store) s.here (g.R.RowStore.tables s.base.value) (reverse s.journal.items) s.inboxes.items s.outbox s.notes s.stamps s.moment) c.self.invariant.waited)

@@ -15,7 +15,7 @@ pub returns-in-Some : goal.returns-in-Some
 returns-in-Some g c =
     let s = c.self.inside in
     let found = rw c.deref.ensures.value at c.in-Some.ensures in
-    let new = state_of (g.R.RowStore.schema s.store) s.here s.base (reverse s.journal.items) (set s.inboxes.items c.in-Some.place c.set_first.new.self) s.outbox s.notes s.stamps s.moment in
+    let new = state_of (g.R.RowStore.schema s.store) s.here (g.R.RowStore.tables s.base.value) (reverse s.journal.items) (set s.inboxes.items c.in-Some.place c.set_first.new.self) s.outbox s.notes s.stamps s.moment in
     subst (λ y. new ≡ site_first c.args.origin.now c.args.number y) c.self.view_is
     (first_state _ _ _ _ s.outbox s.notes _ _ c.args.origin.now c.args.number c.in-Some.place c.index_mut-inbox.result.now c.set_first.new.self found c.index_mut-inbox.ensures.value c.set_first.ensures.sender c.set_first.ensures.marked _)
 

@@ -27,6 +27,6 @@ returns-clause-ok g c =
     let s = c.self.inside in
     let can = rw (← c.self.view_is) at c.requires.entries in
     let sound = rw (← c.self.view_is) at c.requires.sound in
-    let new = state_of (g.R.RowStore.schema s.store) s.here s.base (reverse c.settle_from.new.journal.items) s.inboxes.items s.outbox s.notes s.stamps s.moment in
+    let new = state_of (g.R.RowStore.schema s.store) s.here (g.R.RowStore.tables s.base.value) (reverse c.settle_from.new.journal.items) s.inboxes.items s.outbox s.notes s.stamps s.moment in
     subst (λ y. IsSettledSite c.args.from y new) c.self.view_is
     (settled_site _ _ _ _ _ _ c.self.inside.notes _ _ _ _ _ _ c.self.invariant can.0 c.args.from sound can.1 (reverse c.settle_from.new.journal.items) c.in_ok-settle_from.ensures.ok)

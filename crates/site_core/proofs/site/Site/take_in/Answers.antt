@@ -21,7 +21,7 @@ returns-in_default-find-clause-ok g c =
     let known = rw (← c.self.view_is) at c.requires.known in
     let found = rw c.deref.ensures.value at c.in-Some.ensures in
     let is = c.index_mut-inbox.ensures.value in
-    let new = state_of (g.R.RowStore.schema s.store) s.here s.base (reverse s.journal.items) (set s.inboxes.items c.in-Some.place inbox) s.outbox s.notes s.stamps s.moment in
+    let new = state_of (g.R.RowStore.schema s.store) s.here (g.R.RowStore.tables s.base.value) (reverse s.journal.items) (set s.inboxes.items c.in-Some.place inbox) s.outbox s.notes s.stamps s.moment in
     subst (λ y. new ≡ site_accept (Carry c.args.from.now c.args.to.now a.number a.position a.dep a.past a.txn) y) c.self.view_is
     (room_state _ _ _ _ _ _ c.self.inside.notes _ _ _ _ _ _ c.self.invariant c.args.from.now c.in-Some.place inbox inbox found is refl s.outbox s.notes refl refl refl refl
     ∙ repeat_state _ _ _ _ _ _ c.self.inside.notes _ _ _ _ _ _ c.self.invariant c.args.from.now c.args.to.now a.number a.position a.dep a.past a.txn known c.in-Some.place inbox found is c.in_default-find.field-0.now (sym c.in_default-find.ensures))
@@ -54,7 +54,7 @@ returns-in_err-accept-clause-err g c =
     let s = c.self.inside in
     let found = rw c.deref.ensures.value at c.in-Some.ensures in
     let p = err_from_is_err_and c.from_residual.result c.from_residual.ensures.1 in
-    let new = state_of (g.R.RowStore.schema s.store) s.here s.base (reverse s.journal.items) (set s.inboxes.items c.in-Some.place c.accept.new.self) s.outbox s.notes s.stamps s.moment in
+    let new = state_of (g.R.RowStore.schema s.store) s.here (g.R.RowStore.tables s.base.value) (reverse s.journal.items) (set s.inboxes.items c.in-Some.place c.accept.new.self) s.outbox s.notes s.stamps s.moment in
     rw p.1
     (subst (λ y. new ≡ y) c.self.view_is
     (room_state _ _ _ _ _ _ c.self.inside.notes _ _ _ _ _ _ c.self.invariant c.args.from.now c.in-Some.place c.index_mut-inbox.result.now c.accept.new.self found c.index_mut-inbox.ensures.value c.in_err-accept.ensures.err s.outbox s.notes refl refl refl refl))
@@ -73,7 +73,7 @@ returns-clause-ok g c =
     let s = c.self.inside in
     let known = rw (← c.self.view_is) at c.requires.known in
     let found = rw c.deref.ensures.value at c.in-Some.ensures in
-    let new = state_of (g.R.RowStore.schema s.store) s.here s.base (reverse s.journal.items) (set s.inboxes.items c.in-Some.place c.accept.new.self) s.outbox s.notes s.stamps s.moment in
+    let new = state_of (g.R.RowStore.schema s.store) s.here (g.R.RowStore.tables s.base.value) (reverse s.journal.items) (set s.inboxes.items c.in-Some.place c.accept.new.self) s.outbox s.notes s.stamps s.moment in
     subst (λ y. new ≡ site_accept (Carry c.args.from.now c.args.to.now a.number a.position a.dep a.past a.txn) y) c.self.view_is
     (accept_state _ _ _ _ _ _ c.self.inside.notes _ _ _ _ _ _ c.self.invariant c.args.from.now c.args.to.now a.number a.position a.dep a.past a.txn c.in-Some.place c.index_mut-inbox.result.now c.accept.new.self known found c.index_mut-inbox.ensures.value
     (sym c.in-None.ensures) c.in_ok-accept.ensures.ok c.accept.ensures.marked)
