@@ -36,6 +36,7 @@ pub struct Crew<R: RowStore> {
 }
 
 impl<R: RowStore> Model for Crew<R> {
+    ghost use Rattle.std.specs.Prelude.{◌≡◌};
     ghost use Rattle.parallel_apply.specs.Turns.{turns_in};
     ghost use Rattle.parallel_apply.specs.Crews.{CrewState, IsCrew};
 
