@@ -35,6 +35,7 @@ use Rattle.unique_resolve.specs.contracts.counters.Counters as counters
 use Rattle.local_txn.specs.contracts.local.Here as here
 use Rattle.local_txn.specs.contracts.local.Stamps as stamps
 use Rattle.rep_schema.specs.declared.store.RowStore.{Ghosts}
+use Rattle.row_tables.proofs.Crossing.{field_shared_schema_send}
 use Rattle.site_core.specs.contracts.site.Site as site
 use Rattle.std.specs.contracts.option.Option as option
 use denote.Struct.Field.{u64-field}
@@ -156,7 +157,7 @@ module _ (R : RattleType) (g : Ghosts R.Denot) (s : IsSend R) where
 
   inside_send : IsSend (inside.the_row R g)
   inside_send =
-      let all : AllSend (fields (inside.the_type R g)) = (field_site_send, (field_name_send, (field_opened_send, (field_turns_send, (field_claims_send, tt))))) in
+      let all : AllSend (fields (inside.the_type R g)) = (field_site_send, (field_name_send, (field_shared_schema_send, (field_opened_send, (field_turns_send, (field_claims_send, tt)))))) in
       recorded_send _ _ _ (inside.the_type R g).to_one (struct_send (shape (inside.the_type R g)) all)
 
   -- so may a crew
@@ -170,7 +171,7 @@ module _ (R : RattleType) (g : Ghosts R.Denot) (s : IsSend R) where
   pub applier_send : IsSend (applier.the_row R (option.the_row u64-field.row) (opening.the_row R g) (told.ghosts R g told.no_dict told.no_dict) g)
   applier_send =
       let all : AllSend (fields (applier.the_type R (option.the_row u64-field.row) (opening.the_row R g) (told.ghosts R g told.no_dict told.no_dict) g)) =
-      (search sendable, (search sendable, (field_pass_send (crew.the_row R g) (option.the_row u64-field.row) (opening.the_row R g) (told.ghosts R g told.no_dict told.no_dict) crew_send, tt))) in
+      (search sendable, (field_pass_send (crew.the_row R g) (option.the_row u64-field.row) (opening.the_row R g) (told.ghosts R g told.no_dict told.no_dict) crew_send, tt)) in
       recorded_send _ _ _ (applier.the_type R (option.the_row u64-field.row) (opening.the_row R g) (told.ghosts R g told.no_dict told.no_dict) g).to_one
       (struct_send (shape (applier.the_type R (option.the_row u64-field.row) (opening.the_row R g) (told.ghosts R g told.no_dict told.no_dict) g)) all)
 
