@@ -1,9 +1,5 @@
 -- What becomes of a list where a value is taken from its place, or put into one.
-<<<<<<< HEAD
-use Rattle.std.proofs.Common.{◌≡◌, ◌<◌, ℕ, List, length, get_or, Option, Some, None, Result, Ok, Err, sym, ap, ◌∙◌}
-=======
 use Rattle.std.proofs.Common.{◌≡◌, ℕ, List, get_or, Option, Some, None, Result, Ok, Err, sym, ap, ◌∙◌}
->>>>>>> 8ce49756ed1cd8cbdc0eddb8da4b8c29149fd5e8
 use Rattle.std.specs.Prelude.{IfSome, OnSome, IsSome, OnOk, OnErr}
 use Rattle.std.specs.List.{remove}
 use Rattle.std.specs.declared.cmp.Ordering.{Ordering}

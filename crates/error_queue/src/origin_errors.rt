@@ -1,9 +1,5 @@
 //! The errors of one origin.
-<<<<<<< HEAD
-ghost use Rattle.std.specs.Prelude.{◌≡◌, ◌+◌, ◌-◌, ◌≤◌, None, length, option_copied, slice_get, IfOk, IfErr, OnOk};
-=======
 ghost use Rattle.std.specs.Prelude.{◌≡◌, ◌↔◌, ◌+◌, ◌-◌, ◌≤◌, [], true, None, length, option_copied, slice_get, IfOk, IfErr, OnOk, IsTrue};
->>>>>>> 8ce49756ed1cd8cbdc0eddb8da4b8c29149fd5e8
 ghost use Rattle.std.specs.VecDeque.{deque_len, deque_capacity};
 ghost use Rattle.rep_lists.specs.Rising.{IsRising, IsThere, IsGap, find_at, put_at, take_at};
 ghost use Rattle.rep_values.specs.Name.{same_bytes};
@@ -29,12 +25,7 @@ pub struct OriginErrors {
 impl Model for OriginErrors {
     ghost use Rattle.std.specs.Prelude.{◌-◌};
     ghost use Rattle.std.specs.VecDeque.{deque_len, deque_capacity};
-<<<<<<< HEAD
-    ghost use Rattle.rep_lists.specs.Rising.{IsRising};
-    ghost use Rattle.error_queue.specs.Kept.{Held, by_position};
-=======
     ghost use Rattle.error_queue.specs.Kept.{Held, AreErrorsOf};
->>>>>>> 8ce49756ed1cd8cbdc0eddb8da4b8c29149fd5e8
 
     ghost Value = { Held };
 
