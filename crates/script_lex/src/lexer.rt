@@ -23,6 +23,8 @@ fn spans_of(line: &[u8], found: &mut Vec<Span>) -> Result<(), LineStop>
     ensures read { Gives (IsOk (or_rule 4 (tokens_from 0 line.now))) (λ _. map (span_token line.now) found.new.items) result (or_rule 4 (tokens_from 0 line.now)) }
     ensures form { OnOk result (list_all (is_span line.now) found.new.items ≡ true) }
 {
+    // Most lines have fewer tokens, so their list is made at once. Where there is no memory, each token asks for its own.
+    let _ = found.reserve(line.len() / 3 + 1);
     let mut lacks = false;
     let mut rest = line;
     while let Some((first, after)) = first_of(rest) {

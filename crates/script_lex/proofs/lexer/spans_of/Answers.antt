@@ -14,8 +14,8 @@ use Rattle.script_lex.proofs.lexer.spans_of.Goals as goal
 
 pub loop-first-init : goal.loop-first-init
 loop-first-init c = record {
-  left = ([], none_found (tokens_from 0 c.args.line.now), λ kept. rw c.requires.empty refl);
-  form = rw c.requires.empty refl;
+  left = ([], none_found (tokens_from 0 c.args.line.now), λ kept. rw (c.reserve.ensures.items, c.requires.empty) refl);
+  form = rw (c.reserve.ensures.items, c.requires.empty) refl;
   rest = left_whole c.args.line.now;
   printable = c.requires.printable;
 }
