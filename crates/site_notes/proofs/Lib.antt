@@ -8,3 +8,4 @@ mod NotedChanges
 mod TableLogs
 mod TablesIn
 pub mod Lending
+pub mod Crossing

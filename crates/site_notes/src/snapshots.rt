@@ -22,7 +22,7 @@ pub(crate) fn watch_each(
 {
     let mut watched = Vec::new(alloc);
     for snapshot in snapshots.into_vec() {
-        watched.push(Watched::of(snapshot))?;
+        watched.push(Watched::of(alloc, snapshot)?)?;
     }
     Ok(watched)
 }

@@ -1,24 +1,26 @@
 //! The touched keys of a snapshot.
-ghost use Rattle.std.specs.Prelude.{◌≡◌, ◌↔◌, ◌+◌, ◌<◌, ◌≤◌, [], drop, insert, length, vec_len, vec_capacity, IsTrue, IsOk, IfOk, IfErr, OnOk};
-ghost use Rattle.rep_lists.specs.Rising.{IsRising, IsThere, IsGap, put_at};
+ghost use Rattle.std.specs.Prelude.{◌≡◌, ◌↔◌, ◌+◌, ◌<◌, ◌≤◌, [], drop, insert, length, IsTrue, IsOk, IfOk, IfErr, OnOk};
+ghost use Rattle.rep_lists.specs.Rising.{IsRising, put_at};
 ghost use Rattle.rep_values.specs.Order.{key_cmp};
 ghost use Rattle.site_notes.specs.Noted.{IsBelowNext};
 
-use rep_lists::{Items, NoMemory, insert_in_room};
+use ordered_keys::TreeList;
+use rep_lists::{Items, NoMemory};
 use rep_values::{Key, compare_keys};
+use std::alloc::Global;
 use std::cmp::Ordering;
 use std::marker::Model;
 
-/// Keys, among which more come, each in its place. Only `reserve` takes memory.
+/// Keys, among which more come, each in its place. Only `of`, `reserve` and `keys` take memory.
 #[derive(Drop)]
 pub(crate) struct Touched {
-    keys: Vec<Key>,
+    keys: TreeList<Key>,
     // Holds only where the keys rise, so that one needn't go through them.
     rising: bool,
 }
 
 impl Model for Touched {
-    ghost use Rattle.std.specs.Prelude.{◌-◌, vec_len, vec_capacity, IsTrue};
+    ghost use Rattle.std.specs.Prelude.{IsTrue};
     ghost use Rattle.rep_lists.specs.Rising.{IsRising};
     ghost use Rattle.rep_lists.specs.Roomy.{Roomy};
     ghost use Rattle.rep_values.specs.Order.{key_cmp};
@@ -26,7 +28,7 @@ impl Model for Touched {
 
     ghost Value = { Roomy Cells };
 
-    ghost view = { λ t. record { items = t.keys.items; spare = vec_capacity t.keys - vec_len t.keys } };
+    ghost view = { λ t. t.keys };
 
     ghost invariant = { λ t. IsTrue t.rising → IsRising key_cmp t.keys.items };
 }
@@ -56,27 +58,26 @@ fn is_rising(keys: &[Key]) -> bool
     true
 }
 
-/// The place of a key among rising ones, or else the place where it would stand.
-fn search(keys: &[Key], key: &Key) -> Result<usize, usize>
-    requires { IsRising key_cmp keys.now }
-    ensures found { IfOk result (IsThere (λ k. key_cmp k key.now) keys.now) }
-    ensures absent { IfErr result (IsGap (λ k. key_cmp k key.now) keys.now) }
+/// These keys as a list to which more come.
+fn listed(alloc: Global, keys: &[Key]) -> Result<TreeList<Key>, NoMemory>
+    ensures { IfOk result (λ list. list.items ≡ keys.now) }
 {
-    keys.binary_search_by(
-        |other: &Key| -> Ordering
-            ensures { result ≡ key_cmp other.now key.entry.now }
-        { compare_keys(other, key) },
-    )
+    let mut list = TreeList::new(alloc);
+    list.reserve(keys.len())?;
+    for key in keys {
+        list.push(*key);
+    }
+    Ok(list)
 }
 
 /// The place of a key among any, or else the place where it comes: before the first that isn't lower.
-fn scan(keys: &[Key], key: &Key) -> Result<usize, usize>
-    ensures found { IfOk result (λ place. put_at (λ k. key_cmp k key.now) key.now keys.now ≡ keys.now) }
-    ensures place { IfErr result (λ place. place ≤ length keys.now) }
-    ensures absent { IfErr result (λ place. put_at (λ k. key_cmp k key.now) key.now keys.now ≡ insert keys.now place key.now) }
+fn scan(keys: &TreeList<Key>, key: &Key) -> Result<usize, usize>
+    ensures found { IfOk result (λ place. put_at (λ k. key_cmp k key.now) key.now keys.now.items ≡ keys.now.items) }
+    ensures place { IfErr result (λ place. place ≤ length keys.now.items) }
+    ensures absent { IfErr result (λ place. put_at (λ k. key_cmp k key.now) key.now keys.now.items ≡ insert keys.now.items place key.now) }
 {
-    for (place, other) in keys.iter().enumerate() {
-        match compare_keys(other, key) {
+    for place in 0..keys.len() {
+        match compare_keys(keys.at(place), key) {
             Ordering::Less => {}
             Ordering::Equal => return Ok(place),
             Ordering::Greater => return Err(place),
@@ -86,50 +87,49 @@ fn scan(keys: &[Key], key: &Key) -> Result<usize, usize>
 }
 
 /// The place of a key, or else the place where it comes. Rising keys aren't gone through one by one.
-fn place_of(keys: &[Key], rising: bool, key: &Key) -> Result<usize, usize>
-    requires { IsTrue rising → IsRising key_cmp keys.now }
-    ensures found { IfOk result (λ place. put_at (λ k. key_cmp k key.now) key.now keys.now ≡ keys.now) }
-    ensures place { IfErr result (λ place. place ≤ length keys.now) }
-    ensures absent { IfErr result (λ place. put_at (λ k. key_cmp k key.now) key.now keys.now ≡ insert keys.now place key.now) }
+fn place_of(keys: &TreeList<Key>, rising: bool, key: &Key) -> Result<usize, usize>
+    requires { IsTrue rising → IsRising key_cmp keys.now.items }
+    ensures found { IfOk result (λ place. put_at (λ k. key_cmp k key.now) key.now keys.now.items ≡ keys.now.items) }
+    ensures place { IfErr result (λ place. place ≤ length keys.now.items) }
+    ensures absent { IfErr result (λ place. put_at (λ k. key_cmp k key.now) key.now keys.now.items ≡ insert keys.now.items place key.now) }
 {
     if rising {
-        search(keys, key)
+        keys.search(key)
     } else {
         scan(keys, key)
     }
 }
 
 /// Puts a key among the others, where it doesn't stand there yet.
-fn put_in(keys: &mut Vec<Key>, rising: bool, key: Key)
-    requires room { vec_len keys.old + 1 ≤ vec_capacity keys.old }
+fn put_in(keys: &mut TreeList<Key>, rising: bool, key: Key)
+    requires room { 1 ≤ keys.old.spare }
     requires rising { IsTrue rising → IsRising key_cmp keys.old.items }
     ensures items { keys.new.items ≡ put_at (λ k. key_cmp k key) key keys.old.items }
-    ensures capacity { vec_capacity keys.new ≡ vec_capacity keys.old }
-    ensures number { vec_len keys.new ≤ vec_len keys.old + 1 }
+    ensures spare { keys.old.spare ≤ keys.new.spare + 1 }
 {
     match place_of(keys, rising, &key) {
         Ok(_) => {}
-        Err(place) => insert_in_room(keys, place, key),
+        Err(place) => keys.insert(place, key),
     }
 }
 
 impl Touched {
     /// The keys as they are.
-    pub(crate) fn of(keys: Items<Key>) -> Touched
-        ensures { result.items ≡ keys }
+    pub(crate) fn of(alloc: Global, keys: Items<Key>) -> Result<Touched, NoMemory>
+        ensures { IfOk result (λ touched. touched.items ≡ keys) }
     {
         let rising = is_rising(keys.as_slice());
-        Touched {
-            keys: keys.into_vec(),
+        Ok(Touched {
+            keys: listed(alloc, keys.as_slice())?,
             rising,
-        }
+        })
     }
 
-    /// The keys in their order.
-    pub(crate) fn as_slice(&self) -> &[Key]
-        ensures { result.now ≡ self.now.items }
+    /// A copy of the keys, in their order.
+    pub(crate) fn keys(&self, alloc: Global) -> Result<Items<Key>, NoMemory>
+        ensures { IfOk result (λ keys. keys ≡ self.now.items) }
     {
-        self.keys.as_slice()
+        self.keys.keys(alloc)
     }
 
     /// Takes the room for so many more keys.
@@ -139,8 +139,7 @@ impl Touched {
         ensures items { self.new.items ≡ self.old.items }
         ensures spare { self.old.spare ≤ self.new.spare }
     {
-        self.keys.reserve(more as usize)?;
-        Ok(())
+        self.keys.reserve(more as usize)
     }
 
     /// Puts a key in its place.

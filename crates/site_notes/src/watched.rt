@@ -42,8 +42,8 @@ impl Model for Watched {
 
 impl Watched {
     /// The snapshot as it is.
-    pub(crate) fn of(snapshot: Snapshot) -> Watched
-        ensures { result.snapshot ≡ snapshot }
+    pub(crate) fn of(alloc: Global, snapshot: Snapshot) -> Result<Watched, NoMemory>
+        ensures { IfOk result (λ watched. watched.snapshot ≡ snapshot) }
     {
         let Snapshot {
             table,
@@ -52,13 +52,13 @@ impl Watched {
             mark,
             touched,
         } = snapshot;
-        Watched {
+        Ok(Watched {
             table,
             query,
             parent,
             mark,
-            touched: Touched::of(touched),
-        }
+            touched: Touched::of(alloc, touched)?,
+        })
     }
 
     /// Its table.
@@ -87,13 +87,6 @@ impl Watched {
         ensures { result ≡ self.now.snapshot.mark }
     {
         self.mark
-    }
-
-    /// The keys of the rows that were changed at its site since then.
-    pub fn touched(&self) -> &[Key]
-        ensures { result.now ≡ self.now.snapshot.touched }
-    {
-        self.touched.as_slice()
     }
 
     /// Takes the room to note so many keys. Room that is there is never given up.
@@ -126,7 +119,8 @@ impl Watched {
             Some(log) => log.pending(alloc, self.mark)?,
             None => Items::new(alloc),
         };
-        with_keys(alloc, above.as_slice(), self.touched.as_slice())
+        let touched = self.touched.keys(alloc)?;
+        with_keys(alloc, above.as_slice(), touched.as_slice())
     }
 
     /// Lends the snapshot without its parent and its touched keys. Until it is taken back its query has no test here.

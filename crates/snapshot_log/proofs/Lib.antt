@@ -2,3 +2,4 @@
 mod WorkedLogs
 pub mod KeysLeft
 mod LastMoments
+pub mod Crossing

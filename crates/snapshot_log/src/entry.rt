@@ -1,6 +1,7 @@
 //! A key of a log.
 ghost use Rattle.std.specs.Prelude.{◌≡◌};
 
+use ordered_keys::Noted;
 use rep_values::Key;
 use std::marker::Model;
 
@@ -37,6 +38,27 @@ impl LogEntry {
     pub fn moment(&self) -> u64
         ensures { result ≡ self.now.moment }
     {
+        self.moment
+    }
+}
+
+impl Noted for LogEntry {
+    ghost key = { λ e. e.key };
+
+    ghost moment = { λ e. e.moment };
+
+    fn blank() -> LogEntry {
+        LogEntry {
+            key: Key::blank(),
+            moment: 0,
+        }
+    }
+
+    fn key(&self) -> &Key {
+        &self.key
+    }
+
+    fn moment(&self) -> u64 {
         self.moment
     }
 }

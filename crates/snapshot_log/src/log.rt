@@ -1,6 +1,6 @@
 //! The log of one table.
-ghost use Rattle.std.specs.Prelude.{◌≡◌, ◌+◌, ◌≤◌, ◌↔◌, [], length, slice_get, option_copied, vec_len, vec_capacity, IsTrue, IsOk, IfOk, IfErr, OnOk};
-ghost use Rattle.rep_lists.specs.Rising.{IsRising, IsThere, IsGap, put_at};
+ghost use Rattle.std.specs.Prelude.{◌≡◌, ◌+◌, ◌≤◌, ◌↔◌, [], length, slice_get, option_copied, IsTrue, IsOk, IfOk, OnOk};
+ghost use Rattle.rep_lists.specs.Rising.{IsRising, put_at};
 ghost use Rattle.rep_values.specs.Order.{key_cmp};
 ghost use Rattle.site_state.specs.Making.{new_log};
 ghost use Rattle.site_state.specs.Notes.{beside_key, logged_above};
@@ -8,10 +8,10 @@ ghost use Rattle.site_state.specs.Purges.{log_purged};
 ghost use Rattle.snapshot_log.specs.Logs.{by_key, key_noted, moment_in, count_up_to};
 
 use crate::LogEntry;
-use rep_lists::{Items, NoMemory, insert_in_room};
-use rep_values::{Key, compare_keys};
+use ordered_keys::TreeList;
+use rep_lists::{Items, NoMemory};
+use rep_values::Key;
 use std::alloc::Global;
-use std::cmp::Ordering;
 use std::marker::Model;
 
 /// The log of one table of a master: the keys of its changed rows in rising order, each with its last moment, and how
@@ -20,11 +20,10 @@ use std::marker::Model;
 pub struct Log {
     table: u32,
     purged: u64,
-    entries: Vec<LogEntry>,
+    entries: TreeList<LogEntry>,
 }
 
 impl Model for Log {
-    ghost use Rattle.std.specs.Prelude.{◌-◌, vec_len, vec_capacity};
     ghost use Rattle.rep_lists.specs.Rising.{IsRising};
     ghost use Rattle.snapshot_log.specs.Logs.{RoomyLog, by_key};
 
@@ -32,50 +31,23 @@ impl Model for Log {
 
     ghost view = { λ l. record {
       log = record { table = l.table; keys = l.entries.items; purged = l.purged };
-      spare = vec_capacity l.entries - vec_len l.entries;
+      spare = l.entries.spare;
     } };
 
     ghost invariant = { λ l. IsRising by_key l.entries.items };
 }
 
-/// The place of a key, or else the place where it would stand.
-fn search(entries: &[LogEntry], key: &Key) -> Result<usize, usize>
-    requires { IsRising by_key entries.now }
-    ensures found { IfOk result (IsThere (beside_key key.now) entries.now) }
-    ensures absent { IfErr result (IsGap (beside_key key.now) entries.now) }
-{
-    entries.binary_search_by(
-        |entry: &LogEntry| -> Ordering
-            ensures { result ≡ beside_key key.entry.now entry.now }
-        { compare_keys(entry.key(), key) },
-    )
-}
-
 /// Keeps a key with a moment, which takes the place of an earlier one.
-fn put_in(entries: &mut Vec<LogEntry>, key: Key, moment: u64)
+fn put_in(entries: &mut TreeList<LogEntry>, key: Key, moment: u64)
     requires rising { IsRising by_key entries.old.items }
-    requires room { vec_len entries.old + 1 ≤ vec_capacity entries.old }
+    requires room { 1 ≤ entries.old.spare }
     ensures items { entries.new.items ≡ put_at (beside_key key) (record { key = key; moment = moment }) entries.old.items }
-    ensures capacity { vec_capacity entries.new ≡ vec_capacity entries.old }
-    ensures number { vec_len entries.new ≤ vec_len entries.old + 1 }
+    ensures spare { entries.old.spare ≤ entries.new.spare + 1 }
 {
-    match search(entries, &key) {
-        Ok(place) => entries[place] = LogEntry::of(key, moment),
-        Err(place) => insert_in_room(entries, place, LogEntry::of(key, moment)),
+    match entries.search(&key) {
+        Ok(place) => entries.set(place, LogEntry::of(key, moment)),
+        Err(place) => entries.insert(place, LogEntry::of(key, moment)),
     }
-}
-
-/// The keys with a moment above a mark, in their order.
-fn keys_above(alloc: Global, entries: &[LogEntry], mark: u64) -> Result<Items<Key>, NoMemory>
-    ensures { IfOk result (λ keys. keys ≡ logged_above mark entries.now) }
-{
-    let mut keys = Items::new(alloc);
-    for entry in entries {
-        if mark < entry.moment() {
-            keys.push(*entry.key())?;
-        }
-    }
-    Ok(keys)
 }
 
 impl Log {
@@ -86,7 +58,7 @@ impl Log {
         Log {
             table,
             purged: 0,
-            entries: Vec::new(alloc),
+            entries: TreeList::new(alloc),
         }
     }
 
@@ -104,8 +76,7 @@ impl Log {
         ensures log { self.new.log ≡ self.old.log }
         ensures spare { self.old.spare ≤ self.new.spare }
     {
-        self.entries.reserve(keys as usize)?;
-        Ok(())
+        self.entries.reserve(keys as usize)
     }
 
     /// Notes the key of a row that was changed at a moment. It takes no memory.
@@ -122,7 +93,7 @@ impl Log {
         ensures keys { IfOk result (λ keys. keys ≡ logged_above mark self.now.log.keys) }
         ensures rising { IfOk result (IsRising key_cmp) }
     {
-        keys_above(alloc, &self.entries, mark)
+        self.entries.keys_above(alloc, mark)
     }
 
     /// Drops the keys with a moment up to the mark, and answers how many they were. Their room stays.
@@ -132,7 +103,7 @@ impl Log {
         ensures spare { self.new.spare ≡ self.old.spare + result }
     {
         let before = self.entries.len();
-        self.entries.retain(|entry| mark < entry.moment());
+        self.entries.purge(mark);
         self.purged = self.purged.max(mark);
         (before - self.entries.len()) as u64
     }
@@ -148,8 +119,8 @@ impl Log {
     pub fn moment_of(&self, key: &Key) -> Option<u64>
         ensures { result ≡ moment_in key.now self.now.log }
     {
-        match search(&self.entries, key) {
-            Ok(place) => Some(self.entries[place].moment()),
+        match self.entries.search(key) {
+            Ok(place) => Some(self.entries.at(place).moment()),
             Err(_) => None,
         }
     }
@@ -165,7 +136,7 @@ impl Log {
     pub fn is_empty(&self) -> bool
         ensures { IsTrue result ↔ (self.now.log.keys ≡ []) }
     {
-        self.entries.is_empty()
+        self.entries.len() == 0
     }
 
     /// The key at a place in rising order, from 0; None exactly where the place is at or behind the end.

@@ -5,5 +5,4 @@ use Rattle.snapshot_log.proofs.log.Log.pending.Goals as goal
 
 pub returns-clause-rising : goal.returns-clause-rising
 returns-clause-rising c =
-    let keys = rw c.deref.ensures.value at c.keys_above.ensures in
-    given_weaker _ _ (λ given is. rw is (rising_keys_left (λ (logged : LoggedKey). nat_lt c.args.mark logged.moment) c.self.inside.entries.items c.self.invariant)) c.keys_above.result keys
+    given_weaker _ _ (λ given is. rw is (rising_keys_left (λ (logged : LoggedKey). nat_lt c.args.mark logged.moment) c.self.inside.entries.items c.self.invariant)) c.keys_above.result c.keys_above.ensures
