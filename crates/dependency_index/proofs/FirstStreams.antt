@@ -10,10 +10,8 @@ use Rattle.std.proofs.lemmas.Iterator.Adapters.{position_from-zero}
 use Rattle.rep_values.specs.declared.name.SiteName.{SiteName}
 use Rattle.rep_values.specs.Name.{same_bytes}
 use Rattle.dependency_index.specs.declared.token.Token.{Token}
-use Rattle.dependency_index.specs.Dependencies.{NotedStream, last_noted, last_where, dependency_number, noted_to, count_in, noted_in, noted_count, IsIndexed, IsNoted}
+use Rattle.dependency_index.specs.Dependencies.{NotedStream, last_noted, last_where, noted_to, count_in, noted_in, noted_count, IsIndexed, IsNoted}
 use Rattle.dependency_index.specs.Tokens.{has_token}
-use Rattle.dependency_index.specs.Noting.{greatest_noted}
-use Rattle.dependency_index.proofs.NotedTokens.{greatest_noted-is}
 
 -- a stream to a site
 abbrev pub is_to : SiteName → NotedStream → Bool
@@ -110,11 +108,6 @@ is_some-position site ss = go (position (is_to site) ss) refl
     go : (place : Option ℕ) → position (is_to site) ss ≡ place → IsTrue (is_some place) ↔ IsIndexed ss site
     go None none = (λ yes. cc, λ is. absurd (is (noted_to-none site ss none)))
     go (Some i) found = (λ yes. λ none. there ss i none found, λ is. refl)
-
--- what is noted of a stream gives dependency numbers
-pub greatest_noted-found : (ss : List NotedStream) (site : SiteName) (s : NotedStream) (tokens : List Token) (stream : List (List Token)) → noted_to site ss ≡ Some s
-    → IsNoted ss site stream → greatest_noted tokens (last_noted s.kept) ≡ dependency_number tokens stream
-greatest_noted-found ss site s tokens stream found is = greatest_noted-is (last_noted s.kept) stream (λ token. rw found at (is.last token)) tokens
 
 -- tokens noted at the next position are the stream's next transaction
 pub IsNoted-next : (old new : List NotedStream) (site : SiteName) (s t : NotedStream) (position : ℕ) (tokens : List Token) (stream : List (List Token))

@@ -1,8 +1,11 @@
 -- The lemmas of this crate, from the bottom up.
 pub mod TouchedColumns
 pub mod NotedTokens
-mod NotedMaps
+mod LastPositions
+mod LodgedStreams
 pub mod KeptStreams
 pub mod FirstStreams
 pub mod Destinations
+mod NotedColumns
+mod NotedNext
 mod DependencyLaws

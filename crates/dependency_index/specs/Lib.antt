@@ -3,4 +3,5 @@ pub mod Tokens
 pub mod SameTokens
 pub mod Dependencies
 pub mod Noting
+pub mod Columns
 pub mod Laws

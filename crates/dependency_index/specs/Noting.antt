@@ -1,14 +1,7 @@
 -- What noting tokens, and taking room for them, does to one stream.
 use Rattle.std.specs.Prelude.{◌≡◌, ℕ, ◌≤◌, max, List, [], ◌∷◌}
-use Rattle.std.specs.Option.{unwrap_or}
-use Rattle.std.specs.HashMap as map
 use Rattle.dependency_index.specs.declared.token.Token.{Token}
-use Rattle.dependency_index.specs.Tokens.{is_same_token}
 use Rattle.dependency_index.specs.Dependencies.{NotedTo, NotedStream, last_noted}
-
--- the position that a map has of a token, 0 where it has none
-abbrev pub last_in : {S : Type 0} → map.HashMap Token ℕ S → Token → ℕ
-last_in kept token = unwrap_or (map.get is_same_token kept token) 0
 
 -- the greatest of the last positions at which these tokens were noted, 0 where none was
 abbrev pub greatest_noted : List Token → (Token → ℕ) → ℕ

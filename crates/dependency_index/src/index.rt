@@ -1,62 +1,35 @@
 //! What is noted of the streams of a site to its destinations.
 ghost use Rattle.std.specs.Prelude.{◌≡◌, ◌≢◌, ◌↔◌, ◌+◌, ◌≤◌, List, [], ◌∷◌, length, map, IsTrue, IfOk, OnOk};
-ghost use Rattle.std.specs.List.{position, AllByRecursion};
 ghost use Rattle.rep_values.specs.declared.name.SiteName.{SiteName};
-ghost use Rattle.rep_values.specs.Name.{same_bytes};
 ghost use Rattle.dependency_index.specs.declared.token.Token.{Token};
 ghost use Rattle.dependency_index.specs.Dependencies.{dependency_number, noted_count, room_for, IsIndexed, IsNoted};
-ghost use Rattle.dependency_index.specs.Noting.{IsUnnoted, AreKept};
 
-use crate::Tokens;
 use crate::stream::Stream;
+use crate::streams::{new_each, place_to, promise_each, reserve_each, rooms_with, sum_of};
+use crate::{Token, Tokens};
+use indexmap::IndexSet;
 use rep_lists::NoMemory;
 use rep_values::SiteName;
 use std::alloc::Global;
 use std::marker::Model;
 
-/// Of each token the last position of each stream that has it.
+/// Each token that is noted, once, and of each the last position of each stream that has it.
 #[derive(Drop)]
 pub struct Index {
+    tokens: IndexSet<Token>,
     streams: Vec<Stream>,
 }
 
 impl Model for Index {
+    ghost use Rattle.indexmap.specs.IndexSet.{spare};
     ghost use Rattle.dependency_index.specs.Dependencies.{NotedIndex};
+    ghost use Rattle.dependency_index.specs.Columns.{columns_of, noted_streams, IsIndex};
 
     ghost Value = { NotedIndex };
 
-    ghost view = { λ i. record { streams = i.streams.items } };
-}
+    ghost view = { λ i. record { streams = noted_streams i.tokens.keys (columns_of i.streams.items) } };
 
-/// The place of the first stream to a site.
-fn place_to(streams: &[Stream], site: &SiteName) -> Option<usize>
-    ensures { result ≡ position (λ s. same_bytes s.kept.site.0 site.now.0) streams.now }
-{
-    streams.iter().position(|stream| stream.is_to(site))
-}
-
-/// A stream to each destination, in which nothing is noted.
-fn new_streams(alloc: Global, destinations: &[SiteName]) -> Result<Vec<Stream>, NoMemory>
-    ensures unnoted { IfOk result (λ streams. AllByRecursion IsUnnoted streams.items) }
-    ensures destinations { IfOk result (λ streams. map (λ s. s.kept.site) streams.items ≡ destinations.now) }
-{
-    let mut streams = Vec::with_capacity(alloc, destinations.len())?;
-    for site in destinations {
-        streams.push(Stream::make(alloc, *site))?;
-    }
-    Ok(streams)
-}
-
-/// Takes the room to note so many tokens of each stream.
-fn reserve_each(streams: &mut Vec<Stream>, tokens: usize) -> Result<(), NoMemory>
-    ensures ok { OnOk result (AllByRecursion (λ s. tokens ≤ s.room) streams.new.items) }
-    ensures kept { AreKept streams.old.items streams.new.items }
-{
-    for place in 0..streams.len() {
-        let stream = &mut streams[place];
-        stream.reserve(tokens)?;
-    }
-    Ok(())
+    ghost invariant = { λ i. IsIndex i.tokens.keys (spare i.tokens) i.streams.items };
 }
 
 impl Index {
@@ -65,8 +38,11 @@ impl Index {
         ensures noted { IfOk result (λ index. (site : SiteName) → IsNoted index.streams site []) }
         ensures destinations { IfOk result (λ index. map (λ s. s.kept.site) index.streams ≡ destinations.now) }
     {
-        let streams = new_streams(alloc, destinations)?;
-        Ok(Index { streams })
+        let streams = new_each(alloc, destinations)?;
+        Ok(Index {
+            tokens: IndexSet::new(alloc),
+            streams,
+        })
     }
 
     /// Whether a site is a destination.
@@ -93,7 +69,12 @@ impl Index {
         ensures destinations { map (λ s. s.kept.site) self.new.streams ≡ map (λ s. s.kept.site) self.old.streams }
         ensures room { (site : SiteName) → room_for self.old.streams site ≤ room_for self.new.streams site }
     {
-        reserve_each(&mut self.streams, tokens.list.len())?;
+        let size = tokens.list.len();
+        let rooms = rooms_with(&self.streams, size)?;
+        self.tokens.reserve(rooms)?;
+        let places = sum_of(self.tokens.len(), rooms)?;
+        reserve_each(&mut self.streams, places)?;
+        promise_each(&mut self.streams, size);
         Ok(())
     }
 
@@ -114,8 +95,6 @@ impl Index {
             unreachable!()
         };
         let stream = &mut self.streams[place];
-        let dependency = stream.greatest(tokens.list.as_slice());
-        stream.note(position, tokens.list.as_slice());
-        dependency
+        stream.note(&mut self.tokens, position, tokens.list.as_slice())
     }
 }

@@ -4,7 +4,9 @@
 mod hashing;
 mod index;
 mod laws;
+mod places;
 mod stream;
+mod streams;
 mod token;
 mod touched;
 

@@ -1,117 +1,114 @@
 //! What is noted of the stream to one destination.
-ghost use Rattle.std.specs.Prelude.{◌≡◌, ◌+◌, ◌≤◌, cond, length, OnOk};
-ghost use Rattle.std.specs.HashMap.{spare};
+ghost use Rattle.std.specs.Prelude.{◌≡◌, ◌+◌, ◌<◌, ◌≤◌, length, OnOk};
+ghost use Rattle.std.specs.List.{IsDistinct};
+ghost use Rattle.indexmap.specs.IndexSet.{spare};
 ghost use Rattle.rep_values.specs.Name.{same_bytes};
 ghost use Rattle.dependency_index.specs.declared.token.Token.{Token};
-ghost use Rattle.dependency_index.specs.Dependencies.{last_noted};
-ghost use Rattle.dependency_index.specs.Tokens.{has_token};
-ghost use Rattle.dependency_index.specs.Noting.{last_in, greatest_noted, IsUnnoted, IsKept};
+ghost use Rattle.dependency_index.specs.Tokens.{is_same_token};
+ghost use Rattle.dependency_index.specs.Noting.{greatest_noted};
+ghost use Rattle.dependency_index.specs.Columns.{new_lodged, promised, last_of, Notes};
 
 use crate::Token;
+use crate::places::note_each;
+use indexmap::IndexSet;
 use rep_lists::NoMemory;
 use rep_values::SiteName;
 use std::alloc::Global;
-use std::collections::HashMap;
 use std::marker::Model;
 
-/// Of each token the last position of one stream that has it.
+/// Of the token at each place the last position of one stream that has it, and for how many more tokens there is room.
 #[derive(Drop)]
 pub(crate) struct Stream {
     site: SiteName,
     count: u64,
-    last: HashMap<Token, u64>,
+    room: usize,
+    last: Vec<u64>,
 }
 
 impl Model for Stream {
-    ghost use Rattle.std.specs.HashMap.{spare};
-    ghost use Rattle.dependency_index.specs.Dependencies.{NotedStream};
+    ghost use Rattle.std.specs.Prelude.{vec_capacity};
+    ghost use Rattle.dependency_index.specs.Columns.{Lodged};
 
-    ghost Value = { NotedStream };
+    ghost Value = { Lodged };
 
-    ghost view = { λ s. record { kept = record { site = s.site; count = s.count; entries = s.last.entries }; room = spare s.last } };
-}
-
-/// The last position at which a token was noted.
-fn last_noted(last: &HashMap<Token, u64>, token: &Token) -> u64
-    ensures { result ≡ last_in last.now token.now }
-{
-    last.get(token).copied().unwrap_or(0)
-}
-
-/// The greatest last position of these tokens.
-fn greatest_noted(last: &HashMap<Token, u64>, tokens: &[Token]) -> u64
-    ensures { result ≡ greatest_noted tokens.now (last_in last.now) }
-{
-    let mut greatest = 0;
-    for token in tokens {
-        greatest = last_noted(last, token).max(greatest);
-    }
-    greatest
-}
-
-/// Notes each of these tokens at a position.
-fn add_each(last: &mut HashMap<Token, u64>, position: u64, tokens: &[Token])
-    requires { length tokens.now ≤ spare last.old }
-    ensures noted { (token : Token) → last_in last.new token ≡ cond (has_token tokens.now token) position (last_in last.old token) }
-    ensures room { spare last.old ≤ spare last.new + length tokens.now }
-{
-    for token in tokens {
-        let _ = last.insert(*token, position);
-    }
+    ghost view = { λ s. record { column = record { site = s.site; count = s.count; room = s.room; last = s.last.items }; capacity = vec_capacity s.last } };
 }
 
 impl Stream {
     /// Nothing is noted, and no memory is taken.
-    pub fn make(alloc: Global, site: SiteName) -> Stream
-        ensures site { result.kept.site ≡ site }
-        ensures unnoted { IsUnnoted result }
+    pub(crate) fn make(alloc: Global, site: SiteName) -> Stream
+        ensures { result ≡ new_lodged site }
     {
         Stream {
             site,
             count: 0,
-            last: HashMap::new(alloc),
+            room: 0,
+            last: Vec::new(alloc),
         }
     }
 
     /// Whether it is the stream to a site.
-    pub fn is_to(&self, site: &SiteName) -> bool
-        ensures { result ≡ same_bytes self.now.kept.site.0 site.now.0 }
+    pub(crate) fn is_to(&self, site: &SiteName) -> bool
+        ensures { result ≡ same_bytes self.now.column.site.0 site.now.0 }
     {
         self.site.0.is_same(&site.0)
     }
 
     /// How many positions are noted.
-    pub fn count(&self) -> u64
-        ensures { result ≡ self.now.kept.count }
+    pub(crate) fn count(&self) -> u64
+        ensures { result ≡ self.now.column.count }
     {
         self.count
     }
 
-    /// Takes the room to note so many tokens.
-    pub fn reserve(&mut self, tokens: usize) -> Result<(), NoMemory>
-        ensures ok { OnOk result (tokens ≤ self.new.room) }
-        ensures kept { IsKept self.old self.new }
+    /// For how many more tokens there is room.
+    pub(crate) fn room(&self) -> usize
+        ensures { result ≡ self.now.column.room }
     {
-        self.last.reserve(tokens)?;
+        self.room
+    }
+
+    /// Takes the memory for so many places.
+    pub(crate) fn reserve(&mut self, places: usize) -> Result<(), NoMemory>
+        ensures ok { OnOk result (places ≤ self.new.capacity) }
+        ensures column { self.new.column ≡ self.old.column }
+        ensures capacity { self.old.capacity ≤ self.new.capacity }
+    {
+        self.last.reserve(places.saturating_sub(self.last.len()))?;
         Ok(())
     }
 
-    /// The greatest position at which one of these tokens was noted, or 0.
-    pub fn greatest(&self, tokens: &[Token]) -> u64
-        ensures { result ≡ greatest_noted tokens.now (last_noted self.now.kept) }
+    /// Promises room for so many tokens.
+    pub(crate) fn promise(&mut self, size: usize)
+        ensures { self.new ≡ promised size self.old }
     {
-        greatest_noted(&self.last, tokens)
+        self.room = self.room.max(size);
     }
 
-    /// Notes tokens at the next position.
-    pub fn note(&mut self, position: u64, tokens: &[Token])
-        requires { length tokens.now ≤ self.old.room }
-        ensures site { self.new.kept.site ≡ self.old.kept.site }
-        ensures count { self.new.kept.count ≡ position }
-        ensures noted { (token : Token) → last_noted self.new.kept token ≡ cond (has_token tokens.now token) position (last_noted self.old.kept token) }
-        ensures room { self.old.room ≤ self.new.room + length tokens.now }
+    /// Notes tokens at the next position, and answers the greatest position before at which one of them was noted, or 0.
+    pub(crate) fn note(
+        &mut self,
+        tokens: &mut IndexSet<Token>,
+        position: u64,
+        list: &[Token],
+    ) -> u64
+        requires room { length list.now ≤ self.old.column.room }
+        requires distinct { IsDistinct is_same_token tokens.old.keys }
+        requires spare { length list.now ≤ spare tokens.old }
+        requires within { length self.old.column.last ≤ length tokens.old.keys }
+        requires places { length tokens.old.keys + length list.now ≤ self.old.capacity }
+        ensures greatest { ((token : Token) → last_of tokens.old.keys self.old.column.last token < position) → result ≡ greatest_noted list.now (last_of tokens.old.keys self.old.column.last) }
+        ensures notes { Notes list.now position tokens.old.keys tokens.new.keys self.old.column.last self.new.column.last }
+        ensures site { self.new.column.site ≡ self.old.column.site }
+        ensures count { self.new.column.count ≡ position }
+        ensures room { self.new.column.room + length list.now ≡ self.old.column.room }
+        ensures capacity { self.new.capacity ≡ self.old.capacity }
+        ensures spare { spare tokens.old ≤ spare tokens.new + length list.now }
+        ensures distinct { IsDistinct is_same_token tokens.new.keys }
     {
-        add_each(&mut self.last, position, tokens);
+        let greatest = note_each(tokens, &mut self.last, list, position);
         self.count = position;
+        self.room -= list.len();
+        greatest
     }
 }
