@@ -3,6 +3,7 @@ ghost use Rattle.std.specs.Prelude.{◌≡◌, ◌↔◌, IsTrue};
 ghost use Rattle.std.specs.Option.{option_map};
 ghost use Rattle.deferred_queue.specs.Streams.{destination_to, AreApart};
 
+use packet_code::Body;
 use rep_calls::{Past, Txn};
 use rep_values::SiteName;
 
@@ -14,13 +15,14 @@ pub struct Destination {
 }
 
 /// The transaction at a position of a stream: its number in the queue, the position that it depends on, what the site had
-/// seen of the other masters before it, and its calls.
+/// seen of the other masters before it, its calls, and the bytes of both.
 #[derive(Clone, Copy)]
 pub struct Sent<'a> {
     pub number: u64,
     pub dep: u64,
     pub past: &'a [Past],
     pub txn: &'a Txn,
+    pub body: &'a Body,
 }
 
 /// Where a transaction stands in a stream: its position, from 1, and the earlier position that it depends on, 0 for none.

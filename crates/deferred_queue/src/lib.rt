@@ -6,6 +6,7 @@ mod cargo;
 mod destination;
 mod entries;
 mod laws;
+mod loaded;
 mod queue;
 mod span;
 mod stream;

@@ -3,11 +3,13 @@ ghost use Rattle.std.specs.Prelude.{◌≡◌, ◌↔◌, ◌+◌, ◌-◌, ◌�
 ghost use Rattle.std.specs.Option.{option_map};
 ghost use Rattle.std.specs.List.{AllByRecursion, filter};
 ghost use Rattle.deferred_queue.specs.Streams.{CanBeSent, AreApart, in_order, at_position, stream_to, place_of, unpurged, purged, numbered, last_position, acked_by, raised_mark};
+ghost use Rattle.packet_code.specs.Bodies.{IsBody};
 ghost use Rattle.deferred_queue.specs.Kept.{Falls, entry_of, kept_of, is_waiting};
 ghost use Rattle.deferred_queue.specs.Spans.{Covers};
 
 use crate::cargo::Cargo;
 use crate::entries::{Entry, place_with};
+use crate::loaded::Loaded;
 use crate::span::{Span, goes, passed_since};
 use crate::stream::Stream;
 use crate::streams::{
@@ -15,6 +17,7 @@ use crate::streams::{
     reserve_each, sweep_each,
 };
 use crate::{Destination, Place, Queued, Sent};
+use packet_code::Body;
 use rep_calls::{Past, Txn};
 use rep_lists::{Items, NoMemory};
 use rep_values::SiteName;
@@ -27,7 +30,7 @@ use std::marker::Model;
 pub struct Queue {
     count: u64,
     swept: u64,
-    cargoes: Vec<Entry<Cargo>>,
+    cargoes: Vec<Entry<Loaded>>,
     streams: Vec<Stream>,
 }
 
@@ -48,7 +51,7 @@ impl Model for Queue {
 }
 
 /// The entry of the transaction with a number.
-fn entry_with(cargoes: &[Entry<Cargo>], number: u64) -> Option<&Entry<Cargo>>
+fn entry_with(cargoes: &[Entry<Loaded>], number: u64) -> Option<&Entry<Loaded>>
     requires { Falls (reverse cargoes.now) }
     ensures { option_copied result ≡ entry_of number (reverse cargoes.now) }
 {
@@ -56,14 +59,14 @@ fn entry_with(cargoes: &[Entry<Cargo>], number: u64) -> Option<&Entry<Cargo>>
     Some(&cargoes[place])
 }
 
-fn entry_at(cargoes: &[Entry<Cargo>], place: u64) -> Option<&Entry<Cargo>>
+fn entry_at(cargoes: &[Entry<Loaded>], place: u64) -> Option<&Entry<Loaded>>
     ensures { option_copied result ≡ slice_get cargoes.now place }
 {
     cargoes.get(place as usize)
 }
 
 /// Lets go of the transactions that each stream has passed, whose numbers lie in a span.
-fn let_go(cargoes: &mut Vec<Entry<Cargo>>, streams: &[Stream], span: Span)
+fn let_go(cargoes: &mut Vec<Entry<Loaded>>, streams: &[Stream], span: Span)
     requires { AllByRecursion (λ (e : Entry Cargo). is_waiting (kept_of streams.now) e.number ≡ false → Covers span e.number) (reverse cargoes.old.items) }
     ensures items { reverse cargoes.new.items ≡ filter (λ (e : Entry Cargo). is_waiting (kept_of streams.now) e.number) (reverse cargoes.old.items) }
     ensures bound { vec_len cargoes.new ≤ vec_len cargoes.old }
@@ -115,7 +118,8 @@ impl Queue {
 
     /// Queues a transaction, with what the site had seen before it, for its destinations, and answers its number: the
     /// count of transactions, purged ones included. It takes no memory.
-    pub fn push_back(&mut self, txn: Txn, past: Items<Past>, to: &[Destination]) -> u64
+    pub fn push_back(&mut self, txn: Txn, past: Items<Past>, body: Body, to: &[Destination]) -> u64
+        requires body { IsBody past txn body }
         requires room { 1 ≤ self.old.spare }
         requires destinations { AllByRecursion (CanBeSent self.old) to.now }
         requires apart { AreApart to.now }
@@ -128,7 +132,7 @@ impl Queue {
         ensures spare { self.old.spare ≤ self.new.spare + 1 }
     {
         let number = self.count + 1;
-        let value = Cargo { txn, past };
+        let value = Loaded::of(Cargo { txn, past }, body);
         self.cargoes.push_reserved(Entry { number, value });
         extend_each(&mut self.streams, to, number);
         self.count = number;
@@ -144,14 +148,16 @@ impl Queue {
         }) result
             ≡ unpurged (at_position position (stream_to to.now self.now.deferred)) }
         ensures earlier { IfSome result (λ sent. sent.dep < position) }
+        ensures body { IfSome result (λ sent. IsBody sent.past.now sent.txn.now sent.body.now) }
     {
         let entry = entry_to(&self.streams, to, position)?;
         let kept = entry_with(&self.cargoes, entry.number)?;
         Some(Sent {
             number: entry.number,
             dep: entry.value,
-            past: kept.value.past.as_slice(),
-            txn: &kept.value.txn,
+            past: kept.value.past(),
+            txn: kept.value.txn(),
+            body: kept.value.body(),
         })
     }
 
@@ -174,8 +180,8 @@ impl Queue {
         let entry = entry_at(&self.cargoes, place)?;
         Some(Queued {
             number: entry.number,
-            past: entry.value.past.as_slice(),
-            txn: &entry.value.txn,
+            past: entry.value.past(),
+            txn: entry.value.txn(),
         })
     }
 

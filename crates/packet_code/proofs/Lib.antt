@@ -10,5 +10,6 @@ mod Behind
 mod Lengths
 mod Decoded
 mod Sealing
+mod Bodies
 mod Heads
 pub mod WorkedPackets

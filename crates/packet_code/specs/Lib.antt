@@ -3,6 +3,7 @@ pub mod Limits
 pub mod Texts
 pub mod Spelling
 pub mod Route
+pub mod Bodies
 pub mod Laws
 pub mod Reading
 pub mod Forms

@@ -1,15 +1,19 @@
 //! The bytes of a packet, one piece behind the other.
-ghost use Rattle.std.specs.Prelude.{◌≡◌, ◌≤◌, ◌<◌, ◌∷◌, ◌++◌, length, IfOk, OnOk};
+ghost use Rattle.std.specs.Prelude.{◌≡◌, ◌≤◌, ◌<◌, ◌∷◌, ◌++◌, List, length, IfOk, OnOk};
 ghost use Rattle.std.specs.Int.{w16, w32, w64, to_be_bytes};
 ghost use Rattle.std.specs.List.{AllByRecursion, flat_map};
 ghost use Rattle.packet_code.specs.Limits.{IsPlainPart, ArePlainParts, IsPlainTable, IsPlainCall, IsPlainTxn, IsSiteName, IsPast, IsPacket};
 ghost use Rattle.rep_values.specs.declared.value.Value.TheVariants.{Num};
+ghost use Rattle.rep_calls.specs.declared.call.Txn.{Txn as TxnValue};
+ghost use Rattle.rep_calls.specs.declared.past.Past.{Past as PastValue};
 ghost use Rattle.packet_code.specs.declared.packet.Packet.TheVariants.{Mark};
 ghost use Rattle.packet_code.specs.Texts.{TxnHasTextForm, PastHasForm};
 ghost use Rattle.packet_code.specs.Spelling.{name_bytes, value_bytes, values_bytes, part_bytes, parts_bytes, call_bytes, txn_bytes, seen_bytes, past_bytes, packet_bytes, IsEncoding};
 ghost use Rattle.packet_code.specs.Route.{carried};
+ghost use Rattle.packet_code.specs.Bodies.{IsBody, CanSeal};
 ghost use Rattle.rep_values.specs.Number.{IsRowLen};
 
+use crate::limits::is_plain_txn;
 use crate::room::{past_room, txn_room};
 use crate::{Packet, Route};
 use rep_calls::{Call, Part, Past, Txn};
@@ -19,6 +23,9 @@ use std::alloc::Global;
 
 /// The bytes in front of the calls of a transaction without a past between sites whose names have 30 bytes.
 const HEAD_ROOM: usize = 93;
+
+/// The count of a past, and of the calls of a transaction.
+const COUNTS_ROOM: usize = 5;
 
 /// Its eight bytes.
 fn push_number(out: &mut Vec<u8>, number: u64) -> Result<(), NoMemory>
@@ -216,6 +223,45 @@ pub(crate) fn carry_bytes(
     push_number(&mut out, route.dep)?;
     push_past(&mut out, past)?;
     push_txn(&mut out, txn)?;
+    Ok(out)
+}
+
+/// A past and a transaction, where they are within their limits.
+fn push_body(out: &mut Vec<u8>, past: &[Past], txn: &Txn) -> Result<(), NoMemory>
+    ensures { OnOk result (IsPlainTxn txn.now → length past.now ≤ 7 → out.new.items ≡ out.old.items ++ past_bytes past.now ++ txn_bytes txn.now) }
+{
+    if past.len() > 7 || !is_plain_txn(txn) {
+        return Ok(());
+    }
+    push_past(out, past)?;
+    push_txn(out, txn)
+}
+
+/// The bytes of what a packet carries behind its head.
+pub(crate) fn body_bytes(alloc: Global, past: &[Past], txn: &Txn) -> Result<Vec<u8>, NoMemory>
+    ensures { IfOk result (λ bytes. IsBody past.now txn.now bytes.items) }
+{
+    let room = txn_room(txn)
+        .saturating_add(past_room(past))
+        .saturating_add(COUNTS_ROOM);
+    let mut out = Vec::with_capacity(alloc, room)?;
+    push_body(&mut out, past, txn)?;
+    Ok(out)
+}
+
+/// The bytes of a packet that carries what was encoded before.
+pub(crate) fn loaded_bytes(alloc: Global, route: &Route, body: &[u8]) -> Result<Vec<u8>, NoMemory>
+    requires from_one { 1 ≤ route.now.number }
+    requires earlier { route.now.dep < route.now.position }
+    ensures { (past : List PastValue) (txn : TxnValue) → CanSeal route.now past txn body.now
+        → IfOk result (λ bytes. IsEncoding bytes.items (carried route.now past txn)) }
+{
+    let mut out = Vec::with_capacity(alloc, body.len().saturating_add(HEAD_ROOM))?;
+    push_head(&mut out, 1, &route.from, &route.to)?;
+    push_number(&mut out, route.number)?;
+    push_number(&mut out, route.position)?;
+    push_number(&mut out, route.dep)?;
+    out.extend_from_slice(body)?;
     Ok(out)
 }
 

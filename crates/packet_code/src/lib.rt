@@ -1,6 +1,7 @@
 //! Packets between sites as bytes.
 #![tactic(auto)]
 
+mod body;
 mod call_reading;
 mod decoding;
 mod encoding;
@@ -19,6 +20,7 @@ mod stream_position;
 mod value_reading;
 mod version;
 
+pub use body::Body;
 pub use decoding::decode;
 pub use encoding::encode;
 pub use laws::no_encoding_begins_another;

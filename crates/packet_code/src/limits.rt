@@ -128,7 +128,7 @@ fn is_each_call_plain(calls: &[Call]) -> bool
     true
 }
 
-fn is_plain_txn(txn: &Txn) -> bool
+pub(crate) fn is_plain_txn(txn: &Txn) -> bool
     ensures { IsTrue result ↔ IsPlainTxn txn.now }
 {
     let calls = txn.calls.as_slice();

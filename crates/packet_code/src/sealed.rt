@@ -1,16 +1,19 @@
 //! Packets kept as their bytes.
-ghost use Rattle.std.specs.Prelude.{◌≡◌, ◌≤◌, ◌<◌, IfOk};
+ghost use Rattle.std.specs.Prelude.{◌≡◌, ◌≤◌, ◌<◌, List, IfOk};
+ghost use Rattle.rep_calls.specs.declared.call.Txn.{Txn as TxnValue};
+ghost use Rattle.rep_calls.specs.declared.past.Past.{Past as PastValue};
 ghost use Rattle.packet_code.specs.declared.packet.Packet.TheVariants.{Mark};
 ghost use Rattle.packet_code.specs.Limits.{IsPlainTxn, IsPast, IsPacket};
 ghost use Rattle.packet_code.specs.Texts.{TxnHasTextForm, PastHasForm};
 ghost use Rattle.packet_code.specs.Spelling.{packet_bytes};
 ghost use Rattle.packet_code.specs.Route.{carried, stream_position};
+ghost use Rattle.packet_code.specs.Bodies.{CanSeal};
 
 use crate::decoding::whole;
-use crate::encoding::{carry_bytes, mark_bytes};
+use crate::encoding::{carry_bytes, loaded_bytes, mark_bytes};
 use crate::head_reading::position_in;
 use crate::stop::Stop;
-use crate::{Packet, Route, StreamPosition, encode};
+use crate::{Body, Packet, Route, StreamPosition, encode};
 use rep_calls::{Past, Txn};
 use rep_lists::{Copies, NoMemory};
 use rep_values::SiteName;
@@ -62,6 +65,20 @@ impl Sealed {
     {
         Ok(Sealed {
             kept: carry_bytes(alloc, route, past, txn)?,
+        })
+    }
+
+    /// The packet that carries a past and a transaction that were encoded before, sealed: its head is written, and their
+    /// bytes are copied.
+    pub fn seal_body(alloc: Global, route: &Route, body: &Body) -> Result<Sealed, NoMemory>
+        requires from_one { 1 ≤ route.now.number }
+        requires earlier { route.now.dep < route.now.position }
+        requires carries { (past : List PastValue) × (txn : TxnValue) × CanSeal route.now past txn body.now }
+        ensures { (past : List PastValue) (txn : TxnValue) → CanSeal route.now past txn body.now
+            → IfOk result (λ sealed. sealed ≡ carried route.now past txn) }
+    {
+        Ok(Sealed {
+            kept: loaded_bytes(alloc, route, body.bytes())?,
         })
     }
 

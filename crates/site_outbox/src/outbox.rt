@@ -8,6 +8,7 @@ ghost use Rattle.rep_calls.specs.declared.call.Txn.{Txn};
 ghost use Rattle.rep_calls.specs.declared.past.Past.{Past};
 ghost use Rattle.conflict_detect.specs.Fits.{TxnFits};
 ghost use Rattle.conflict_detect.specs.KeysNamed.{HasKeys};
+ghost use Rattle.packet_code.specs.Bodies.{IsBody};
 ghost use Rattle.deferred_queue.specs.Streams.{at_position, stream_to, unpurged, last_position};
 ghost use Rattle.site_state.specs.State.{destination_of, at_destination, opened_in};
 ghost use Rattle.site_state.specs.Steps.{is_open};
@@ -23,6 +24,7 @@ use crate::outlet::Outlet;
 use crate::outlets::{acknowledged_by_all, has_open, is_among, new_each, note_each, open_each};
 use deferred_queue::{Queue, Sent};
 use dependency_index::{Index, tokens_of};
+use packet_code::Body;
 use rep_calls::{Past, Txn};
 use rep_lists::{Items, NoMemory};
 use rep_schema::Schema;
@@ -107,10 +109,11 @@ impl Outbox {
         // The room comes first, so that what follows can't fail.
         let tokens = tokens_of(alloc, schema, &txn)?;
         let mut to = Vec::with_capacity(alloc, self.outlets.len())?;
+        let body = Body::of(alloc, past.as_slice(), &txn)?;
         self.index.reserve(&tokens)?;
         self.queue.reserve()?;
         note_each(&self.outlets, &tokens, &mut self.index, &mut to);
-        let number = self.queue.push_back(txn, past, &to);
+        let number = self.queue.push_back(txn, past, body, &to);
         self.count = number;
         Ok(number)
     }
@@ -126,6 +129,7 @@ impl Outbox {
         ensures earlier { IfSome result (λ sent. sent.dep < position) }
         ensures number { IfSome result (λ sent. 1 ≤ sent.number) }
         ensures queued { IfSome result (λ sent. sent.number ≤ length self.now.deferred) }
+        ensures body { IfSome result (λ sent. IsBody sent.past.now sent.txn.now sent.body.now) }
     {
         self.queue.entry(to, position)
     }

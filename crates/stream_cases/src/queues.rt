@@ -4,6 +4,7 @@ use crate::marks::read_position;
 use crate::told::text;
 use case_lines::{CaseStop, Words, push_past, read_past};
 use deferred_queue::{Destination, Place, Queue, Queued, Sent, are_apart};
+use packet_code::Body;
 use rep_calls::{Call, Past, Txn};
 use rep_lists::{Items, NoMemory};
 use rep_values::{Key, Name, SiteName, Value};
@@ -77,6 +78,7 @@ fn read_destinations(alloc: Global, words: &mut Words) -> Result<Vec<Destination
 
 /// The number of a transaction that is queued, where it can be sent.
 fn queued(
+    alloc: Global,
     queue: &mut Queue,
     txn: Txn,
     past: Items<Past>,
@@ -84,7 +86,8 @@ fn queued(
 ) -> Result<Option<u64>, NoMemory> {
     queue.reserve()?;
     if queue.can_send(to) && are_apart(to) {
-        return Ok(Some(queue.push_back(txn, past, to)));
+        let body = Body::of(alloc, past.as_slice(), &txn)?;
+        return Ok(Some(queue.push_back(txn, past, body, to)));
     }
     Ok(None)
 }
@@ -97,7 +100,7 @@ fn push(alloc: Global, queue: &mut Queue, words: &mut Words) -> Result<String, C
     let txn = read_txn(alloc, words)?;
     let to = read_destinations(alloc, words)?;
     let past = read_past(alloc, words)?;
-    match queued(queue, txn, past, to.as_slice())? {
+    match queued(alloc, queue, txn, past, to.as_slice())? {
         Some(number) => number_text(alloc, number),
         None => text(alloc, "refused"),
     }

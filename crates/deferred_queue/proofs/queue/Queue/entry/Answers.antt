@@ -33,7 +33,7 @@ returns-clause-sent c =
     let found = rw c.deref.ensures.value at c.in_ok-entry.ensures in
     let held : cargo_of entry.number kept ≡ Some c.in_ok-kept.kept.now.value = ap (option_map (λ (e : Entry Cargo). e.value)) (sym (rw c.deref-2.ensures.value at c.in_ok-kept.ensures)) in
     let there = something_at c.args.to.now c.self.inside.count c.args.position (kept_of c.self.inside.streams.items) kept entry c.self.invariant.streams_are (sym found) in
-    rw (c.as_slice.ensures, ← c.self.view_is) (sym (ap unpurged (rw held at there)))
+    rw (c.past.ensures, c.txn.ensures, ← c.self.view_is) (sym (ap unpurged (rw held at there)))
 
 -- each entry depends on an earlier position
 pub returns-clause-earlier : goal.returns-clause-earlier

@@ -13,5 +13,5 @@ returns-in_err-entry c =
 pub returns : goal.returns
 returns c =
     let found = rw c.deref.ensures.value at c.in_ok-entry.ensures in
-    rw (c.as_slice.ensures, ← c.self.view_is, at_position-in_order (kept_of c.self.inside.streams.items) c.self.inside.count c.self.inside.cargoes.items c.args.place c.self.invariant.falling)
+    rw (c.past.ensures, c.txn.ensures, ← c.self.view_is, at_position-in_order (kept_of c.self.inside.streams.items) c.self.inside.count c.self.inside.cargoes.items c.args.place c.self.invariant.falling)
     (ap (option_map as_numbered) found)

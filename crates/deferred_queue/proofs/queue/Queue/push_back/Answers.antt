@@ -42,7 +42,7 @@ abbrev cargo : goal.After-self-2-1 → Cargo
 cargo c = record { txn = c.args.txn; past = c.args.past }
 
 newest_first : (c : goal.After-self-2-1) → reverse c.push_reserved.new.self.items ≡ record { number = c.self.inside.count + 1; value = cargo c } ∷ reverse c.self.inside.cargoes.items
-newest_first c = ap reverse c.push_reserved.ensures.items ∙ reverse-append c.self.inside.cargoes.items (record { number = c.self.inside.count + 1; value = cargo c } ∷ [])
+newest_first c = ap reverse (rw c.of-value.ensures at c.push_reserved.ensures.items) ∙ reverse-append c.self.inside.cargoes.items (record { number = c.self.inside.count + 1; value = cargo c } ∷ [])
 
 -- the streams of the queue are the extended ones
 all : (c : goal.After-self-2-1) → take c.self.inside.streams.len (c.extend_each.new.streams ++ drop (length c.extend_each.new.streams) c.self.inside.streams.items)
