@@ -1,15 +1,15 @@
 -- Which front of some bytes is the longest that has a token's form.
-use Rattle.std.proofs.Common.{◌≡◌, ◌≢◌, ℕ, zero, suc, ◌+◌, ◌<◌, ◌≤◌, inl, inr, Bool, true, false, cond, List, [], ◌∷◌, length, take, Option, refl, sym, ◌∙◌, subst, arith, get_or}
+use Rattle.std.proofs.Common.{◌≡◌, ◌≢◌, ℕ, zero, suc, ◌+◌, ◌<◌, ◌≤◌, inl, inr, Bool, true, false, cond, List, [], ◌∷◌, length, take, refl, sym, ◌∙◌, subst, arith}
 use Rattle.std.proofs.Math.Nat.{eq-or-lt_of_le}
 use Rattle.std.proofs.lemmas.List.Sums.{prefix_len-le-length}
 use Rattle.std.specs.List.{list_all, prefix_len}
 use Rattle.std.specs.Option.{is_some}
 use Rattle.rep_values.specs.Bytes.{is_digit}
-use Rattle.script_lex.specs.declared.token.Symbol.{Symbol}
 use Rattle.script_lex.specs.declared.bytes.Start.{Start}
 use Rattle.script_lex.specs.declared.bytes.Start.TheVariants as start
 use Rattle.script_lex.specs.Bytes.{is_word_byte, is_plain, start_of}
 use Rattle.script_lex.specs.Forms.{is_digits, is_closed, symbol_of, form_by, has_form, longest_up_to, longest}
+use Rattle.script_lex.specs.Lexemes.{symbol_len}
 use Rattle.script_lex.proofs.Runs.{run_passes, run_ends, digits_pass, digits_end, closed_at, closed_only}
 
 -- The greatest length of a front that has the form.
@@ -118,10 +118,6 @@ longest_text b bs is within = longest_by is_closed b bs (suc (prefix_len is_plai
 longest_text_open : (b : ℕ) (bs : List ℕ) → start_of b ≡ start.Text → length bs ≤ prefix_len is_plain bs → longest (b ∷ bs) ≡ 0
 longest_text_open b bs is over = longest_none is_closed b bs (form_behind start.Text b is) (λ k le. closed_only bs k (omega arith) le)
 
--- two bytes, one, or none
-abbrev symbol_len : List ℕ → ℕ
-symbol_len bytes = cond (is_some (symbol_of (take 2 bytes))) (length (take 2 bytes)) (cond (is_some (symbol_of (take 1 bytes))) 1 0)
-
 -- no symbol has three bytes
 symbol_short : (b : ℕ) (bs : List ℕ) (k : ℕ) → 1 < k → k ≤ length bs → is_some (symbol_of (b ∷ take k bs)) ≡ false
 symbol_short b bs zero past le = absurd (omega arith)
@@ -139,7 +135,7 @@ longest_pair b (c ∷ cs) is two =
     longest_by (λ cs. is_some (symbol_of (b ∷ cs))) b (c ∷ cs) 1 (form_behind start.Other b is) (omega arith) two
     (λ k past le. symbol_short b (c ∷ cs) k past le)
 
-longest_symbol : (b : ℕ) (bs : List ℕ) → start_of b ≡ start.Other → longest (b ∷ bs) ≡ symbol_len (b ∷ bs)
+pub longest_symbol : (b : ℕ) (bs : List ℕ) → start_of b ≡ start.Other → longest (b ∷ bs) ≡ symbol_len (b ∷ bs)
 longest_symbol b bs is = go (is_some (symbol_of (take 2 (b ∷ bs)))) (is_some (symbol_of (take 1 (b ∷ bs)))) refl refl
   where
     behind : (cs : List ℕ) → has_form (b ∷ cs) ≡ is_some (symbol_of (b ∷ cs))
@@ -165,10 +161,6 @@ longest_symbol b bs is = go (is_some (symbol_of (take 2 (b ∷ bs)))) (is_some (
 
 -- The same of bytes that are known to begin so.
 
-pub front_none : (bytes : List ℕ) → bytes ≡ [] → 0 ≡ longest bytes
-unfolding longest_up_to
-front_none bytes none = rw none refl
-
 pub front_word : (bytes : List ℕ) (b : ℕ) (bs : List ℕ) (n : ℕ) → bytes ≡ b ∷ bs → start.Word ≡ start_of b → n ≡ prefix_len is_word_byte bs → 1 + n ≡ longest bytes
 front_word bytes b bs n parts is run = rw parts (omega (arith, longest_word b bs (sym is), run))
 
@@ -186,22 +178,3 @@ front_text bytes b bs n parts is run within = rw parts (omega (arith, longest_te
 
 pub front_text_open : (bytes : List ℕ) (b : ℕ) (bs : List ℕ) (n : ℕ) → bytes ≡ b ∷ bs → start.Text ≡ start_of b → n ≡ prefix_len is_plain bs → length bs ≤ n → 0 ≡ longest bytes
 front_text_open bytes b bs n parts is run over = rw parts (sym (longest_text_open b bs (sym is) (omega arith)))
-
-pub ruleset fronts = (front_none, front_word, front_number, front_minus, front_minus_alone, front_text, front_text_open)
-
-pub front_symbol : (bytes : List ℕ) → 1 ≤ length bytes → start_of (get_or bytes 0 0) ≡ start.Other → symbol_len bytes ≡ longest bytes
-front_symbol [] some is = absurd (omega arith)
-front_symbol (b ∷ bs) some is = sym (longest_symbol b bs is)
-
-pub front_pair : (bytes pair : List ℕ) (s : Option Symbol) → symbol_len bytes ≡ longest bytes → pair ≡ take 2 bytes → s ≡ symbol_of pair
-    → true ≡ is_some s → length pair ≡ longest bytes
-front_pair bytes pair s e two is some =
-    let f : is_some (symbol_of (take 2 bytes)) ≡ true = cc in
-    rw two (rw f at e)
-
-pub front_single : (bytes pair : List ℕ) (s u : Option Symbol) → symbol_len bytes ≡ longest bytes → pair ≡ take 2 bytes → s ≡ symbol_of pair
-    → false ≡ is_some s → u ≡ symbol_of (take 1 bytes) → (v : Bool) → v ≡ is_some u → cond v 1 0 ≡ longest bytes
-front_single bytes pair s u e two is none one v some =
-    let f : is_some (symbol_of (take 2 bytes)) ≡ false = cc in
-    let g : is_some (symbol_of (take 1 bytes)) ≡ v = cc in
-    rw (f, g) at e

@@ -9,7 +9,7 @@ use Rattle.script_lex.specs.declared.token.Token.{Token}
 use Rattle.script_lex.specs.Forms.{symbol_bytes, symbol_of, has_form, longest}
 use Rattle.script_lex.specs.Tokens.{token_of, with_front, tokens_from, IsFirst, IsTokens, nothing, space, first}
 use Rattle.script_lex.proofs.Longest.{longest_up_to_is, longest_up_to_form, longest_up_to_ends, longest_up_to-le}
-use Rattle.script_lex.proofs.Steps.{after_token, front_some}
+use Rattle.script_lex.proofs.Steps.{after_token, some_taken}
 
 -- What is found is there.
 
@@ -18,10 +18,6 @@ with_front_parts : (t : Option Token) (us : Option (List Token)) (ts : List Toke
 with_front_parts None us ts is = cc
 with_front_parts (Some x) None ts is = cc
 with_front_parts (Some x) (Some xs) ts is = (x, xs, refl, refl, cc)
-
-some_taken : (bytes : List ℕ) (t : Token) → token_of (take (longest bytes) bytes) ≡ Some t → 0 < longest bytes
-some_taken bytes t is =
-    omega (arith, front_some (take (longest bytes) bytes) t (sym is), length-take-le (longest bytes) bytes (longest_up_to-le (length bytes) bytes))
 
 -- the front that was taken is the first token
 taken_first : (bytes : List ℕ) (t : Token) → token_of (take (longest bytes) bytes) ≡ Some t → IsFirst bytes (take (longest bytes) bytes) t

@@ -47,11 +47,15 @@ fn is_printable(byte: u8) -> bool
     b' ' <= byte && byte <= b'~'
 }
 
-/// Whether each byte is from 0x20 to 0x7E.
+/// Whether each byte is from 0x20 to 0x7E. None is passed over, so that the compiler looks at several at once.
 pub fn are_printable(line: &[u8]) -> bool
     ensures { result ≡ list_all is_printable line.now }
 {
-    line.iter().all(|byte| is_printable(*byte))
+    let mut all = true;
+    for byte in line {
+        all &= is_printable(*byte);
+    }
+    all
 }
 
 fn are_spaces(line: &[u8]) -> bool

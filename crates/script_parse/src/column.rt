@@ -27,10 +27,9 @@ const PLAIN_KINDS: [(&[u8], Kind); 3] = [
 fn key_flag(tokens: &mut Reader<'_>) -> Result<bool, BrokenRule>
     ensures { ReadsExactly (flag (codes ":") (codes "key")) result tokens.old tokens.new }
 {
-    if !tokens.is_at(b":") {
+    if !tokens.passes(b":") {
         return Ok(false);
     }
-    tokens.pass(b":")?;
     tokens.pass(b"key")?;
     Ok(true)
 }

@@ -138,10 +138,9 @@ pub fn txn_form(tokens: &mut Reader<'_>) -> Result<Command, BrokenRule>
 fn count_group(tokens: &mut Reader<'_>) -> Result<Option<u64>, BrokenRule>
     ensures { ReadsExactly (optional (codes "count") whole_number) result tokens.old tokens.new }
 {
-    if !tokens.is_at(b"count") {
+    if !tokens.passes(b"count") {
         return Ok(None);
     }
-    tokens.pass(b"count")?;
     Ok(Some(tokens.whole_number()?))
 }
 
@@ -166,8 +165,7 @@ fn fates_behind(
     ensures read { Takes (fates_behind from to) result tokens.old tokens.new }
     ensures named { IfOk result NamesColumn }
 {
-    if tokens.is_at(b"clear") {
-        tokens.pass(b"clear")?;
+    if tokens.passes(b"clear") {
         return Ok(Command::ClearFates { from, to });
     }
     let fates = some_of::<FatePart>(alloc, tokens)?;

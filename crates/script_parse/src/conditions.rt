@@ -16,9 +16,8 @@ pub fn where_tests(
 ) -> Result<Option<Items<TestWords>>, LineStop>
     ensures { Takes where_tests result tokens.old tokens.new }
 {
-    if !tokens.is_at(b"where") {
+    if !tokens.passes(b"where") {
         return Ok(None);
     }
-    tokens.pass(b"where")?;
     Ok(Some(separated::<TestPart>(alloc, b"and", tokens)?))
 }

@@ -90,8 +90,7 @@ impl Part for TestPart {
 fn setting(column: Name, tokens: &mut Reader<'_>) -> Result<Set, BrokenRule>
     ensures { ReadsExactly (setting column) result tokens.old tokens.new }
 {
-    if tokens.is_at(b"=") {
-        tokens.pass(b"=")?;
+    if tokens.passes(b"=") {
         let how = How::To(tokens.value()?);
         return Ok(Set { column, how });
     }

@@ -2,7 +2,7 @@
 use Rattle.std.proofs.Common.{◌≡◌, ℕ, zero, suc, ◌+◌, ◌≤◌, Bool, true, false, List, [], ◌∷◌, ◌++◌, length, Result, Ok, Err, IfOk, OnOk, is_err, ◌||◌, refl, sym, ◌∙◌, ap, arith, append_assoc, append-nil}
 use Rattle.script_lex.specs.declared.stop.LineStop.{LineStop}
 use Rattle.script_lex.specs.declared.token.Token.{Token}
-use Rattle.script_words.specs.Reading.{Reading, ◌>>=◌, begins, many, several, with_found}
+use Rattle.script_words.specs.Reading.{Reading, ◌>>=◌, begins, mark, after, many, several, with_found}
 use Rattle.script_words.specs.Readers.{Reads}
 
 -- a part is kept behind those that were found, or finds no memory
@@ -11,6 +11,11 @@ pub more_kept : {A E : Type 0} (kept more found : List A) (x : A) (lacks failed 
 more_kept kept more found x false failed (Ok u) kept_so fails more_so none = more_so ∙ ap (λ xs. xs ++ x ∷ []) (kept_so refl)
 more_kept kept more found x false failed (Err e) kept_so fails more_so none = cc
 more_kept kept more found x true failed pushed kept_so fails more_so none = cc
+
+-- what is read behind a mark that was passed
+pub passed_reads : {A : Type 0} (word : List ℕ) (reading : Reading A) (ts passed : List Token) (read : Result (A × List Token) ℕ) → mark word ts ≡ Ok passed
+    → reading passed ≡ read → after word reading ts ≡ read
+passed_reads word reading ts passed read is behind = rw is behind
 
 module _ {A : Type 0} (starts : Token → Bool) (reading : Reading A) where
   many_stops : (n : ℕ) (ts : List Token) → begins starts ts ≡ false → many starts reading n ts ≡ Ok ([], ts)

@@ -1,45 +1,59 @@
 //! The tokens of a line, read from the front.
-ghost use Rattle.std.specs.Prelude.{◌≡◌, [], ◌∷◌, MatchOption, length, drop, option_copied};
+ghost use Rattle.std.specs.Prelude.{◌≡◌, true, [], ◌∷◌, MatchOption, IfSome, length, drop, map};
+ghost use Rattle.std.specs.List.{list_all};
+ghost use Rattle.std.specs.Option.{option_map};
+ghost use Rattle.script_lex.specs.Lexemes.{lexeme_token, is_lexeme};
+ghost use Rattle.script_lex.specs.Spans.{span_token, is_span};
 ghost use Rattle.script_lex.specs.Stop.{GivesExactly};
 ghost use Rattle.script_words.specs.Words.{entries, is_named, is_valued, is_chosen};
 ghost use Rattle.script_words.specs.Reading.{front_of, begins, at, mark, ended};
 ghost use Rattle.script_words.specs.Parts.{name, whole_number, number, value, choice};
-ghost use Rattle.script_words.specs.Readers.{ReadsExactly, PassesExactly};
+ghost use Rattle.script_words.specs.Readers.{ReadsExactly, PassesExactly, PassesWhere};
 
 use crate::chosen::choice_of;
-use crate::words::{is_mark, name_of, number_of, value_of, whole_of};
+use crate::words::{is_mark, is_value, name_of, number_of, value_of, whole_of};
 use rep_values::{Literal, Name};
-use script_lex::{BrokenRule, Token};
+use script_lex::{BrokenRule, Lexeme, Span};
 use std::marker::Model;
 
-/// The tokens that are left. A call that stops at rule 6 leaves the line without a form, and is the last one on it.
+/// The tokens of a line that are left. A call that stops at rule 6 leaves the line without a form, and is the last one on it.
 #[derive(Drop)]
 pub struct Reader<'a> {
-    left: &'a [Token],
+    line: &'a [u8],
+    left: &'a [Span],
 }
 
 impl<'a> Model for Reader<'a> {
-    ghost use Rattle.std.specs.Prelude.{List};
+    ghost use Rattle.std.specs.Prelude.{◌≡◌, true, List, map};
+    ghost use Rattle.std.specs.List.{list_all};
     ghost use Rattle.script_lex.specs.declared.token.Token.{Token};
+    ghost use Rattle.script_lex.specs.Spans.{span_token, is_span};
 
     ghost Value = { List Token };
 
-    ghost view = { λ r. r.left.now };
+    ghost view = { λ r. map (span_token r.line.now) r.left.now };
+
+    ghost invariant = { λ r. list_all (is_span r.line.now) r.left.now ≡ true };
 }
 
 impl<'a> Reader<'a> {
-    /// A reader of these tokens.
-    pub fn of(left: &'a [Token]) -> Reader<'a>
-        ensures { result ≡ left.now }
+    /// A reader of these tokens of the line.
+    pub fn of(line: &'a [u8], left: &'a [Span]) -> Reader<'a>
+        requires { list_all (is_span line.now) left.now ≡ true }
+        ensures { result ≡ map (span_token line.now) left.now }
     {
-        Reader { left }
+        Reader { line, left }
     }
 
     /// The next token, if there is one.
-    fn peek(&self) -> Option<&'a Token>
-        ensures { option_copied result ≡ front_of self.now }
+    fn peek(&self) -> Option<Lexeme<'a>>
+        ensures value { option_map lexeme_token result ≡ front_of self.now }
+        ensures form { IfSome result (λ lexeme. is_lexeme lexeme ≡ true) }
     {
-        self.left.first()
+        match self.left.first() {
+            Some(span) => Some(span.lexeme(self.line)),
+            None => None,
+        }
     }
 
     /// Passes over the next token, if there is one.
@@ -50,10 +64,11 @@ impl<'a> Reader<'a> {
     }
 
     /// Takes the next token, if there is one.
-    pub fn next(&mut self) -> Option<Token>
-        ensures { MatchOption result (self.old ≡ []) (λ token. self.old ≡ token ∷ self.new) }
+    pub fn next(&mut self) -> Option<Lexeme<'a>>
+        ensures value { MatchOption result (self.old ≡ []) (λ lexeme. self.old ≡ lexeme_token lexeme ∷ self.new) }
+        ensures form { IfSome result (λ lexeme. is_lexeme lexeme ≡ true) }
     {
-        let first = self.peek().copied();
+        let first = self.peek();
         self.skip();
         first
     }
@@ -99,11 +114,10 @@ impl<'a> Reader<'a> {
     pub fn value(&mut self) -> Result<Literal, BrokenRule>
         ensures { ReadsExactly value result self.old self.new }
     {
-        let Some(value) = self.peek().and_then(value_of) else {
-            return Err(BrokenRule(6));
-        };
-        self.skip();
-        Ok(value)
+        match self.next() {
+            Some(lexeme) => value_of(lexeme),
+            None => Err(BrokenRule(6)),
+        }
     }
 
     /// What the next word or symbol stands for in the table, or rule 6.
@@ -111,10 +125,10 @@ impl<'a> Reader<'a> {
     pub fn choice<T: Copy>(&mut self, table: &[(&[u8], T)]) -> Result<T, BrokenRule>
         ensures { ReadsExactly (choice (entries table.now)) result self.old self.new }
     {
-        let Some(token) = self.peek() else {
+        let Some(lexeme) = self.peek() else {
             return Err(BrokenRule(6));
         };
-        let Some(value) = choice_of(table, token) else {
+        let Some(value) = choice_of(table, lexeme) else {
             return Err(BrokenRule(6));
         };
         self.skip();
@@ -133,12 +147,24 @@ impl<'a> Reader<'a> {
         Ok(())
     }
 
+    /// Passes over a word or a symbol that is written so, where it is the next token, and tells whether it was.
+    #[tactic(auto, unfolding(crate::specs::Reading::mark))]
+    pub fn passes(&mut self, word: &[u8]) -> bool
+        ensures { PassesWhere word.now result self.old self.new }
+    {
+        let is_there = self.is_at(word);
+        if is_there {
+            self.skip();
+        }
+        is_there
+    }
+
     /// Whether the next token is the word or the symbol that is written so.
     pub fn is_at(&self, word: &[u8]) -> bool
         ensures { result ≡ at word.now self.now }
     {
         match self.peek() {
-            Some(token) => is_mark(token, word),
+            Some(lexeme) => is_mark(lexeme, word),
             None => false,
         }
     }
@@ -154,7 +180,10 @@ impl<'a> Reader<'a> {
     pub fn is_at_value(&self) -> bool
         ensures { result ≡ begins is_valued self.now }
     {
-        self.peek().and_then(value_of).is_some()
+        match self.peek() {
+            Some(lexeme) => is_value(lexeme),
+            None => false,
+        }
     }
 
     /// Whether the next token stands in the table.
@@ -162,7 +191,7 @@ impl<'a> Reader<'a> {
         ensures { result ≡ begins (is_chosen (entries table.now)) self.now }
     {
         match self.peek() {
-            Some(token) => choice_of(table, token).is_some(),
+            Some(lexeme) => choice_of(table, lexeme).is_some(),
             None => false,
         }
     }

@@ -2,7 +2,7 @@
 ghost use Rattle.std.specs.Prelude.{◌≡◌, ◌≤◌, ℕ, Bool, List, Result, IfOk, length};
 ghost use Rattle.script_lex.specs.declared.token.Token.{Token};
 ghost use Rattle.script_words.specs.Words.{is_named, is_valued};
-ghost use Rattle.script_words.specs.Reading.{begins, after, several, some_of, separated};
+ghost use Rattle.script_words.specs.Reading.{begins, several, some_of, separated};
 ghost use Rattle.script_words.specs.Parts.{name, value};
 ghost use Rattle.script_words.specs.Readers.{Reads, ReadsExactly};
 
@@ -98,14 +98,6 @@ pub fn some_of<P: Part>(alloc: Global, tokens: &mut Reader<'_>) -> Result<Items<
     several::<P>(alloc, tokens)
 }
 
-/// One behind the mark.
-fn after<P: Part>(word: &[u8], tokens: &mut Reader<'_>) -> Result<P::Item, BrokenRule>
-    ensures { ReadsExactly (after word.now P.reading) result tokens.old tokens.new }
-{
-    tokens.pass(word)?;
-    P::read(tokens)
-}
-
 /// One, and as many further ones as stand behind the mark. Where one finds no memory, those behind it are read all the
 /// same.
 pub fn separated<P: Part>(
@@ -118,10 +110,10 @@ pub fn separated<P: Part>(
     let mut found = Items::new(alloc);
     let mut lacks = found.push(P::read(tokens)?).is_err();
     for _ in 0..tokens.len() {
-        if !tokens.is_at(word) {
+        if !tokens.passes(word) {
             break;
         }
-        lacks |= found.push(after::<P>(word, tokens)?).is_err();
+        lacks |= found.push(P::read(tokens)?).is_err();
     }
     if lacks {
         return Err(LineStop::Memory);

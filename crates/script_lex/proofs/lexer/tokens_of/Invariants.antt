@@ -1,18 +1,7 @@
--- A line read token by token.
-use Rattle.std.proofs.Common.{◌≡◌, true, false, length, ◌++◌, List}
-use Rattle.std.specs.List.{list_all}
-use Rattle.std.specs.Option.{option_map}
-use Rattle.rep_values.specs.Bytes.{is_printable}
-use Rattle.script_lex.specs.declared.token.Token.{Token}
-use Rattle.script_lex.specs.Tokens.{tokens_from}
+-- Tokens copied one by one.
+use Rattle.std.proofs.Common.{◌≡◌, map, take}
+use Rattle.script_lex.specs.Spans.{span_token}
 use Rattle.script_lex.proofs.lexer.tokens_of.Given as goal
 
--- the tokens found so far and those of the rest are those of the line, and all found ones are kept unless memory lacks
-abbrev pub invariant-loop-first : goal.invariant-loop-first
-invariant-loop-first l = record {
-  left : (found : List Token) × (option_map (λ ts. found ++ ts) (tokens_from 0 l.rest) ≡ tokens_from 0 l.line) × (l.lacks ≡ false → l.tokens.items ≡ found);
-  printable : list_all is_printable l.rest ≡ true;
-}
-
-abbrev pub decreases-loop-first : goal.decreases-loop-first
-decreases-loop-first l = length l.rest
+abbrev pub invariant-loop-span : goal.invariant-loop-span
+invariant-loop-span l = l.tokens.items ≡ map (span_token l.line) (take l.span-index l.found)

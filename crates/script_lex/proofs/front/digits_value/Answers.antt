@@ -1,7 +1,7 @@
 -- At most 16 digits write a number below 2^64.
 use Rattle.std.proofs.Common.{◌≤◌, ◌^◌, arith, lit<}
 use Rattle.std.proofs.Math.Nat.{pow-le-pow_right}
-use Rattle.script_lex.proofs.lexer.digits_value.Goals as goal
+use Rattle.script_lex.proofs.front.digits_value.Goals as goal
 
 pub overflow_mul-size : goal.overflow_mul-size
 overflow_mul-size c =

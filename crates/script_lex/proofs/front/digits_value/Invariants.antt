@@ -1,7 +1,7 @@
 -- Digits read one by one.
 use Rattle.std.proofs.Common.{◌≡◌, ◌≤◌, ◌^◌, ◌+◌, ◌*◌, drop}
 use Rattle.script_lex.specs.Tokens.{digits_value}
-use Rattle.script_lex.proofs.lexer.digits_value.Given as goal
+use Rattle.script_lex.proofs.front.digits_value.Given as goal
 
 -- a byte that is no digit counts for at most 207, which is 9 * 23
 abbrev pub invariant-loop-digit : goal.invariant-loop-digit
