@@ -35,10 +35,7 @@ use Rattle.dependency_index.specs.contracts.token.Token as token
 use Rattle.site_outbox.specs.contracts.outbox.Outbox as outbox
 use Rattle.error_queue.specs.contracts.entry.ErrorEntry as error_entry
 use Rattle.error_queue.specs.contracts.errors.Errors as errors
-use Rattle.snapshot_query.specs.contracts.parent.Parent as parent
-use Rattle.snapshot_log.specs.contracts.log.Log as log
-use Rattle.site_notes.specs.contracts.watched.Watched as watched
-use Rattle.site_notes.specs.contracts.notes.Notes as notes
+use Rattle.site_notes.proofs.Crossing.{notes_send}
 use Rattle.unique_resolve.specs.contracts.counters.Counters as counters
 use Rattle.rep_schema.specs.declared.store.RowStore.{Ghosts}
 use Rattle.site_core.specs.contracts.site.Site as site
@@ -122,18 +119,6 @@ error_entry_send = search (sendable, crosses, call_send, call_sync) depth 30
 
 errors_send : IsSend errors.the_row
 errors_send = search (sendable, crosses, error_entry_send) depth 30
-
-log_send : IsSend log.the_row
-log_send = search (sendable, crosses, key_send) depth 30
-
-parent_send : IsSend parent.the_row
-parent_send = search (sendable, crosses) depth 30
-
-watched_send : IsSend watched.the_row
-watched_send = search (sendable, crosses, key_send, parent_send) depth 30
-
-notes_send : IsSend notes.the_row
-notes_send = search (sendable, crosses, log_send, watched_send) depth 30
 
 counters_send : IsSend counters.the_row
 counters_send = search (sendable, crosses) depth 30

@@ -112,6 +112,9 @@ module _ (opened : SiteState) (origin : SiteName) (turns : List (Option ℕ)) (s
   stays : Stays origin opened site
   stays = subst (Stays origin opened) (sym is.led) (stays_in_turn origin (positions_of turns) opened)
 
+  pub schema_here : site.schema ≡ opened.schema
+  schema_here = stays.schema
+
   pub sound_here : IsSound site.schema
   sound_here = subst IsSound (sym stays.schema) is.passes.sound
 

@@ -30,15 +30,12 @@ use Rattle.dependency_index.specs.contracts.token.Token as token
 use Rattle.site_outbox.specs.contracts.outbox.Outbox as outbox
 use Rattle.error_queue.specs.contracts.entry.ErrorEntry as error_entry
 use Rattle.error_queue.specs.contracts.errors.Errors as errors
-use Rattle.snapshot_query.specs.contracts.query.Query as query
-use Rattle.snapshot_query.specs.contracts.parent.Parent as parent
-use Rattle.snapshot_log.specs.contracts.log.Log as log
-use Rattle.site_notes.specs.contracts.watched.Watched as watched
-use Rattle.site_notes.specs.contracts.notes.Notes as notes
+use Rattle.site_notes.proofs.Crossing.{notes_send}
 use Rattle.unique_resolve.specs.contracts.counters.Counters as counters
 use Rattle.local_txn.specs.contracts.local.Here as here
 use Rattle.local_txn.specs.contracts.local.Stamps as stamps
 use Rattle.rep_schema.specs.declared.store.RowStore.{Ghosts}
+use Rattle.row_tables.proofs.Crossing.{field_shared_schema_send}
 use Rattle.site_core.specs.contracts.site.Site as site
 use Rattle.std.specs.contracts.option.Option as option
 use denote.Struct.Field.{u64-field}
@@ -128,21 +125,6 @@ error_entry_send = search (sendable, crosses, name_send, call_send, call_sync, e
 errors_send : IsSend errors.the_row
 errors_send = search (sendable, crosses, name_send, error_entry_send) depth 30
 
-log_send : IsSend log.the_row
-log_send = search (sendable, crosses, key_send) depth 30
-
-query_send : IsSend query.the_row
-query_send = search (sendable, crosses, value_send) depth 30
-
-parent_send : IsSend parent.the_row
-parent_send = search (sendable, crosses, query_send) depth 30
-
-watched_send : IsSend watched.the_row
-watched_send = search (sendable, crosses, key_send, query_send, parent_send) depth 30
-
-notes_send : IsSend notes.the_row
-notes_send = search (sendable, crosses, log_send, watched_send) depth 30
-
 counters_send : IsSend counters.the_row
 counters_send = search (sendable, crosses) depth 30
 
@@ -175,7 +157,7 @@ module _ (R : RattleType) (g : Ghosts R.Denot) (s : IsSend R) where
 
   inside_send : IsSend (inside.the_row R g)
   inside_send =
-      let all : AllSend (fields (inside.the_type R g)) = (field_site_send, (field_name_send, (field_opened_send, (field_turns_send, (field_claims_send, tt))))) in
+      let all : AllSend (fields (inside.the_type R g)) = (field_site_send, (field_name_send, (field_shared_schema_send, (field_opened_send, (field_turns_send, (field_claims_send, tt)))))) in
       recorded_send _ _ _ (inside.the_type R g).to_one (struct_send (shape (inside.the_type R g)) all)
 
   -- so may a crew
@@ -189,7 +171,7 @@ module _ (R : RattleType) (g : Ghosts R.Denot) (s : IsSend R) where
   pub applier_send : IsSend (applier.the_row R (option.the_row u64-field.row) (opening.the_row R g) (told.ghosts R g told.no_dict told.no_dict) g)
   applier_send =
       let all : AllSend (fields (applier.the_type R (option.the_row u64-field.row) (opening.the_row R g) (told.ghosts R g told.no_dict told.no_dict) g)) =
-      (search sendable, (search sendable, (field_pass_send (crew.the_row R g) (option.the_row u64-field.row) (opening.the_row R g) (told.ghosts R g told.no_dict told.no_dict) crew_send, tt))) in
+      (search sendable, (field_pass_send (crew.the_row R g) (option.the_row u64-field.row) (opening.the_row R g) (told.ghosts R g told.no_dict told.no_dict) crew_send, tt)) in
       recorded_send _ _ _ (applier.the_type R (option.the_row u64-field.row) (opening.the_row R g) (told.ghosts R g told.no_dict told.no_dict) g).to_one
       (struct_send (shape (applier.the_type R (option.the_row u64-field.row) (opening.the_row R g) (told.ghosts R g told.no_dict told.no_dict) g)) all)
 

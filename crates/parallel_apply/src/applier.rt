@@ -11,24 +11,22 @@ use site_gate::{Pass, SiteGate, Turns};
 use std::alloc::Global;
 use std::sync::Wait;
 
-/// An applier by its number, how many positions it claims at most, and its pass to the crew's gate.
+/// An applier by its number, with its pass to the crew's gate.
 #[derive(Drop)]
 pub struct Applier<R: RowStore>
 where
     Crew<R>: Turns,
 {
     pub number: u32,
-    pub share: u64,
     pub pass: Pass<Crew<R>>,
 }
 
-/// So many appliers, or as many as there is memory for, each with a share.
+/// So many appliers, or as many as there is memory for.
 pub(crate) fn appliers_at<R: RowStore>(
     alloc: Global,
     gate: &SiteGate<Crew<R>>,
     pass: &mut Pass<Crew<R>>,
     number: u32,
-    share: u64,
 ) -> Vec<Applier<R>>
     requires gate { IsPassOf gate.now pass.old }
     requires number { number ≤ 8 }
@@ -41,7 +39,6 @@ pub(crate) fn appliers_at<R: RowStore>(
     for number in 0..number {
         let applier = Applier {
             number,
-            share,
             pass: gate.split(pass),
         };
         let Ok(()) = appliers.push(applier) else {
@@ -52,7 +49,7 @@ pub(crate) fn appliers_at<R: RowStore>(
 }
 
 /// Claims one position after the other, each in a turn, evaluates it outside the lock, and puts it in, in a turn of its own,
-/// until it had its share, nothing is free or there is no memory.
+/// until nothing is free or there is no memory.
 pub(crate) fn work<R: RowStore, X: Wait, W: Watch>(
     rt: &X,
     alloc: Global,
@@ -64,12 +61,8 @@ pub(crate) fn work<R: RowStore, X: Wait, W: Watch>(
     requires number { applier.number < 8 }
     ensures { IsPassOf gate.now result }
 {
-    let Applier {
-        number,
-        share,
-        mut pass,
-    } = applier;
-    for _ in 0..share {
+    let Applier { number, mut pass } = applier;
+    for _ in rt.forever() {
         let mut turn = gate.enter(rt, pass);
         let claim = turn.value.claim(alloc, number);
         pass = gate.leave(turn);

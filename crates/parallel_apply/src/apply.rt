@@ -10,7 +10,7 @@ ghost use Rattle.site_gate.specs.Passes.{IsPassOf};
 ghost use Rattle.parallel_apply.specs.Crews.{IsPartlyApplied};
 
 use crate::applier::{Applier, appliers_at, work};
-use crate::claim::{Load, may_start_threads};
+use crate::claim::appliers_for;
 use crate::crew::Crew;
 use rep_io::Watch;
 use rep_lists::NoMemory;
@@ -34,8 +34,7 @@ fn can_pass_in_any_order<R: RowStore>(site: &Site<R>, origin: &SiteName)
     site.arrivals_can_pass(origin);
 }
 
-/// Appliers side by side apply what is ready of a sender, until none of them finds more; nothing is applied where there is no
-/// work for two.
+/// So many appliers apply what is ready of a sender side by side, until none of them finds more.
 fn apply_together<R: RowStore, X: Threads + Wait + Sync, W: Watch>(
     rt: &X,
     alloc: Global,
@@ -48,11 +47,6 @@ fn apply_together<R: RowStore, X: Threads + Wait + Sync, W: Watch>(
     requires appliers { appliers ≤ 8 }
     ensures { IsPartlyApplied origin.now site result }
 {
-    let load = Load::of(&site, origin, appliers);
-    let appliers = load.appliers(appliers);
-    if appliers < 2 {
-        return site;
-    }
     let crew = match Crew::make(alloc, site, origin) {
         Ok(crew) => crew,
         Err(site) => return site,
@@ -61,7 +55,7 @@ fn apply_together<R: RowStore, X: Threads + Wait + Sync, W: Watch>(
         Ok(made) => made,
         Err((crew, _)) => return crew.into_site(),
     };
-    let crew = appliers_at(alloc, &gate, &mut pass, appliers, load.share());
+    let crew = appliers_at(alloc, &gate, &mut pass, appliers);
     let shared = &gate;
     let apply = |applier: Applier<R>| -> Pass<Crew<R>>
         requires gate { IsPassOf shared.now applier.pass }
@@ -76,8 +70,7 @@ fn apply_together<R: RowStore, X: Threads + Wait + Sync, W: Watch>(
 /// there is no memory, some of what was ready is applied, each transaction whole and journalled.
 ///
 /// The schema breaks no rule, and what arrived from the sender is well numbered, as it is at every site of a script's world;
-/// there are 1 to 8 appliers. Threads are started only where two positions are ready, and more than one only where there are enough calls; for
-/// small transactions only from time to time.
+/// there are 1 to 8 appliers. Threads are started where two positions are ready.
 pub fn apply_crew<R: RowStore, X: Threads + Wait + Sync, W: Watch>(
     rt: &X,
     alloc: Global,
@@ -96,7 +89,8 @@ pub fn apply_crew<R: RowStore, X: Threads + Wait + Sync, W: Watch>(
 {
     let mut site = site;
     can_pass_in_any_order(&site, origin);
-    if !may_start_threads(&site, origin, appliers) {
+    let appliers = appliers_for(&site, origin, appliers);
+    if appliers < 2 {
         return match site.apply_pass(alloc, origin) {
             Ok(_) => Ok(site),
             Err(refused) => Err((site, refused)),

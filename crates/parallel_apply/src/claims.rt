@@ -10,13 +10,17 @@ use site_core::Site;
 pub const MOST_APPLIERS: u32 = 8;
 
 /// The positions that the appliers work on, and how far a crew has looked ahead. The lowest position that isn't finished is
-/// claimed first, once it is ready, and else the next one ahead that is. Both only rise, so that each position is looked at
-/// a few times and not at each claim.
+/// claimed first, once it is ready, and else the next one ahead that is. It is looked for from where the last one was found, so
+/// that each position is looked at a few times and not at each claim. A position becomes ready where the low-water mark rises, so
+/// where nothing more is ahead and the mark has risen, it is looked for from the mark again.
 #[derive(Drop)]
 pub struct Claims {
     // By applier; 0 where it works on none.
     working: [u64; 8],
+    // Where the last position ahead was found.
     ahead: u64,
+    // The low-water mark from which it was looked ahead.
+    from: u64,
 }
 
 impl Claims {
@@ -24,6 +28,7 @@ impl Claims {
         Claims {
             working: [0; 8],
             ahead: 0,
+            from: 0,
         }
     }
 
@@ -41,13 +46,12 @@ impl Claims {
         !self.is_worked_on(position) && site.stale(origin, position).is_none()
     }
 
-    /// The next position ahead that is free.
+    /// The next position behind the last one ahead that is ready and that nobody works on.
     fn next_ahead<R: RowStore>(&mut self, site: &Site<R>, origin: &SiteName) -> Option<u64>
         ensures { IfSome result (λ position. stale_of origin.now position site.now ≡ None) }
     {
         for _ in 0..=MOST_APPLIERS {
             let Some(position) = site.lowest_ready(origin, self.ahead) else {
-                self.ahead = u64::MAX;
                 return None;
             };
             self.ahead = position;
@@ -56,6 +60,24 @@ impl Claims {
             }
         }
         None
+    }
+
+    /// A position ahead of a sender's low-water mark that is ready and that nobody works on.
+    fn one_ahead<R: RowStore>(
+        &mut self,
+        site: &Site<R>,
+        origin: &SiteName,
+        mark: u64,
+    ) -> Option<u64>
+        ensures { IfSome result (λ position. stale_of origin.now position site.now ≡ None) }
+    {
+        let next = self.next_ahead(site, origin);
+        if next.is_some() || self.from == mark {
+            return next;
+        }
+        self.from = mark;
+        self.ahead = mark;
+        self.next_ahead(site, origin)
     }
 
     /// The position that an applier works on from now; None where nothing is free.
@@ -68,11 +90,12 @@ impl Claims {
         requires { applier < 8 }
         ensures { IfSome result (λ position. stale_of origin.now position site.now ≡ None) }
     {
-        let lowest = site.mark(origin).saturating_add(1);
+        let mark = site.mark(origin);
+        let lowest = mark.saturating_add(1);
         let position = if self.is_free(site, origin, lowest) {
             lowest
         } else {
-            self.next_ahead(site, origin)?
+            self.one_ahead(site, origin, mark)?
         };
         self.working[applier as usize] = position;
         Some(position)

@@ -10,7 +10,7 @@ ghost use Rattle.parallel_apply.specs.Crews.{is_stale, IsCrew, IsClaimAt, IsOfEa
 use crate::claim::{Claim, Evaluated, claimed};
 use crate::claims::Claims;
 use crate::turns::TurnLog;
-use rep_lists::NoMemory;
+use rep_lists::{Copies, NoMemory};
 use rep_schema::RowStore;
 use rep_values::SiteName;
 use site_core::Site;
@@ -19,21 +19,24 @@ use site_state::Applied;
 use std::alloc::Global;
 use std::marker::Model;
 use std::snapshot::Snapshot;
-use txn_work::support_outlasts_independent_transactions;
+use txn_work::{SharedSchema, support_outlasts_independent_transactions};
 
 /// A site on which the appliers of a crew make a pass for a sender, turn by turn: what they work on, the turns that they made,
-/// and how the site was before the first of these, which only contracts look at.
+/// and how the site was before the first of these, which only contracts look at. The site's schema stands beside it once more, for
+/// all works.
 #[derive(Drop)]
 pub struct Crew<R: RowStore> {
     // Apart, since the crew goes from applier to applier.
     site: Box<Site<R>>,
     origin: SiteName,
+    schema: SharedSchema,
     opened: Snapshot<Site<R>>,
     turns: TurnLog,
     claims: Claims,
 }
 
 impl<R: RowStore> Model for Crew<R> {
+    ghost use Rattle.std.specs.Prelude.{◌≡◌};
     ghost use Rattle.parallel_apply.specs.Turns.{turns_in};
     ghost use Rattle.parallel_apply.specs.Crews.{CrewState, IsCrew};
 
@@ -41,7 +44,7 @@ impl<R: RowStore> Model for Crew<R> {
 
     ghost view = { λ c. record { opened = c.opened.value; origin = c.origin; turns = turns_in c.turns; site = c.site.value } };
 
-    ghost invariant = { λ c. IsCrew (record { opened = c.opened.value; origin = c.origin; turns = turns_in c.turns; site = c.site.value }) };
+    ghost invariant = { λ c. IsCrew (record { opened = c.opened.value; origin = c.origin; turns = turns_in c.turns; site = c.site.value }) × (c.schema ≡ c.opened.value.schema) };
 }
 
 /// How a crew began. No value of it is made.
@@ -59,6 +62,14 @@ impl<R: RowStore> Turns for Crew<R> {
     ghost history = { λ c. c.turns };
 
     ghost opening = { λ c. record { site = c.opened; origin = c.origin } };
+}
+
+/// A copy of a site's schema that works can share.
+fn shared_schema<R: RowStore>(alloc: Global, site: &Site<R>) -> Result<SharedSchema, NoMemory>
+    ensures { IfOk result (λ schema. schema ≡ site.now.schema) }
+{
+    let schema = SharedSchema::new(alloc, site.store().schema().copy(alloc)?)?;
+    Ok(schema)
 }
 
 /// Whether a position was ready, by what became of it.
@@ -106,6 +117,9 @@ impl<R: RowStore> Crew<R> {
         ensures turns { IfOk result (λ crew. crew.turns ≡ []) }
         ensures err { IfErr result (λ back. back ≡ site) }
     {
+        let Ok(schema) = shared_schema(alloc, &site) else {
+            return Err(site);
+        };
         let opened = Snapshot::of(&site);
         let site = match Box::new(alloc, site) {
             Ok(site) => site,
@@ -114,6 +128,7 @@ impl<R: RowStore> Crew<R> {
         Ok(Crew {
             site,
             origin: *origin,
+            schema,
             opened,
             turns: TurnLog::new(alloc),
             claims: Claims::new(),
@@ -132,7 +147,7 @@ impl<R: RowStore> Crew<R> {
     {
         self.turns.pass();
         let position = self.claims.next(&self.site, &self.origin, applier)?;
-        claimed(&self.site, alloc, &self.origin, position)
+        claimed(&self.site, alloc, &self.schema, &self.origin, position)
     }
 
     /// Puts in what an applier evaluated, in one turn, and answers whether there was memory. A position that isn't ready any

@@ -9,5 +9,4 @@ mod crew;
 mod turns;
 
 pub use apply::apply_crew;
-pub use claim::{CALLS_EACH, FEW_CLAIMS, LEAST_CALLS, SMALL_EACH, SMALL_FIRST};
 pub use claims::MOST_APPLIERS;

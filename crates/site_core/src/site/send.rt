@@ -34,7 +34,7 @@ impl<R: RowStore> Site<R> {
             position,
             dep: sent.dep,
         };
-        let sealed = Sealed::seal_carry(alloc, &route, sent.past, sent.txn)?;
+        let sealed = Sealed::seal_body(alloc, &route, sent.body)?;
         Ok(Some(sealed))
     }
 

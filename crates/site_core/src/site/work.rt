@@ -1,5 +1,5 @@
 //! Transactions that are evaluated away from the site.
-ghost use Rattle.std.specs.Prelude.{◌≡◌, false, None, option_copied, IfOk, OnOk, OnErr};
+ghost use Rattle.std.specs.Prelude.{◌≡◌, false, Some, None, option_copied, IfOk, OnOk, OnErr};
 ghost use Rattle.rep_laws.specs.Commuting.{IsSound};
 ghost use Rattle.site_state.specs.State.{arrived_at};
 ghost use Rattle.site_state.specs.Ready.{stale_of};
@@ -14,7 +14,7 @@ use rep_schema::RowStore;
 use rep_values::SiteName;
 use site_state::{Applied, Arrival};
 use std::alloc::Global;
-use txn_work::{Outcome, Work};
+use txn_work::{Outcome, SharedSchema, Work};
 
 impl<R: RowStore> Site<R> {
     /// What arrived at a position of a sender; None exactly where nothing did. It takes no memory.
@@ -40,6 +40,20 @@ impl<R: RowStore> Site<R> {
         has_unique_token(self.store.schema(), &arrival.txn)
     }
 
+    /// What arrived at a position that is ready.
+    fn ready_arrival(&self, origin: &SiteName, position: u64) -> &Arrival
+        requires { stale_of origin.now position self.now ≡ None }
+        ensures { arrived_at origin.now position self.now.senders ≡ Some result.now }
+    {
+        let Some(inbox) = inbox_from(&self.inboxes, origin) else {
+            unreachable!()
+        };
+        let Some(arrival) = inbox.find(position) else {
+            unreachable!()
+        };
+        arrival
+    }
+
     /// The work of a position that is ready and touches no constraint of a table: its transaction, with copies of the rows
     /// that it names, so that it can be evaluated while the site goes on.
     pub fn begin(&self, alloc: Global, origin: &SiteName, position: u64) -> Result<Work, NoMemory>
@@ -48,13 +62,27 @@ impl<R: RowStore> Site<R> {
         requires plain { has_unique origin.now position self.now ≡ false }
         ensures { IfOk result (IsWorkOf origin.now position self.now) }
     {
-        let Some(inbox) = inbox_from(&self.inboxes, origin) else {
-            unreachable!()
-        };
-        let Some(arrival) = inbox.find(position) else {
-            unreachable!()
-        };
+        let arrival = self.ready_arrival(origin, position);
         let work = Work::of(alloc, &self.store, origin, position, &arrival.txn)?;
+        Ok(work)
+    }
+
+    /// The work of such a position, as `begin` makes it, where the site's schema is shared already: it isn't copied.
+    pub fn begin_sharing(
+        &self,
+        alloc: Global,
+        schema: &SharedSchema,
+        origin: &SiteName,
+        position: u64,
+    ) -> Result<Work, NoMemory>
+        requires schema { schema.now ≡ self.now.schema }
+        requires sound { IsSound self.now.schema }
+        requires ready { stale_of origin.now position self.now ≡ None }
+        requires plain { has_unique origin.now position self.now ≡ false }
+        ensures { IfOk result (IsWorkOf origin.now position self.now) }
+    {
+        let arrival = self.ready_arrival(origin, position);
+        let work = Work::sharing(alloc, &self.store, schema, origin, position, &arrival.txn)?;
         Ok(work)
     }
 

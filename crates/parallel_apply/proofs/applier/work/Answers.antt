@@ -23,4 +23,4 @@ install-went-requires-clause-earlier g c κs within =
     let seen = c.enter-turn-in-loop.ensures.seen in
     earlier_claim c.claim-claim.new.self c.enter-turn-in-loop.result.value seen.0 (seen.1 ∙ ap (λ ts. ts ++ seen.0) c.leave-pass.ensures.seen)
     (ap (λ o. o.site) same ∙ sym c.claim-claim.ensures.opened) (ap (λ o. o.origin) same ∙ sym c.claim-claim.ensures.origin)
-    c.in-Some.claim c.in-Some.ensures.claim c.in-Ok.done c.in-Ok.ensures.position c.in-Ok.ensures.outcome
+    c.in-Some-claim.claim c.in-Some-claim.ensures.claim c.in-Ok.done c.in-Ok.ensures.position c.in-Ok.ensures.outcome
