@@ -48,6 +48,10 @@ list_of-place origin hs i h found is =
 pub place_within : (origin : SiteName) (hs : List Held) (i : ℕ) (h : Held) → Some i ≡ position (is_list_of origin) hs → i < length hs
 place_within origin hs i h found = (position-Some (is_list_of origin) hs i h (sym found)).0
 
+-- and the list there is the origin's
+pub place_own : (origin : SiteName) (hs : List Held) (i : ℕ) (h : Held) → Some i ≡ position (is_list_of origin) hs → h ≡ get_or hs i h → same_bytes h.list.origin.0 origin.0 ≡ true
+place_own origin hs i h found is = ap (is_list_of origin) is ∙ (position-Some (is_list_of origin) hs i h (sym found)).1
+
 changed_at : (origin : SiteName) (change : List ErrorEntry → List ErrorEntry) (hs : List Held) (i : ℕ) (new d : Held) → i < length hs → is_list_of origin (get_or hs i d) ≡ true
     → ((k : ℕ) → k < i → is_list_of origin (get_or hs k d) ≡ false) → new.list ≡ record { origin = (get_or hs i d).list.origin; entries = change (get_or hs i d).list.entries }
     → lists_of (set hs i new) ≡ at_origin origin change (lists_of hs)

@@ -1,7 +1,9 @@
 -- How an error queue keeps its errors: one rising list for each origin, with room.
-use Rattle.std.specs.Prelude.{ℕ, Bool, min, List, [], ◌∷◌, map}
+use Rattle.std.specs.Prelude.{◌≡◌, ℕ, Bool, true, min, List, [], ◌∷◌, map}
+use Rattle.std.specs.List.{AllByRecursion}
 use Rattle.std.specs.Ordering.{nat_cmp}
 use Rattle.std.specs.declared.cmp.Ordering.{Ordering}
+use Rattle.rep_lists.specs.Rising.{IsRising}
 use Rattle.rep_values.specs.declared.name.SiteName.{SiteName}
 use Rattle.rep_values.specs.Name.{same_bytes}
 use Rattle.error_queue.specs.declared.entry.ErrorEntry.{ErrorEntry}
@@ -32,3 +34,8 @@ by_position a b = nat_cmp a.position b.position
 -- whether this is the list of an origin
 abbrev pub is_list_of : SiteName → Held → Bool
 is_list_of origin h = same_bytes h.list.origin.0 origin.0
+
+-- the errors of an origin, by rising position
+pub record AreErrorsOf (origin : SiteName) (entries : List ErrorEntry) : Type 0 where
+  pub rising : IsRising by_position entries
+  pub own : AllByRecursion (λ (e : ErrorEntry). same_bytes origin.0 e.origin.0 ≡ true) entries

@@ -154,6 +154,13 @@ impl Errors {
         Some(error)
     }
 
+    /// The errors of each origin, as declared.
+    pub fn by_origin(&self) -> &[OriginErrors]
+        ensures { lists_of result.now ≡ self.now.lists }
+    {
+        &self.lists
+    }
+
     /// The errors by origin as declared, then by position, places from 0; None exactly where the place is at or behind
     /// their end.
     pub fn entry_in_order(&self, place: u64) -> Option<&ErrorEntry>

@@ -7,3 +7,4 @@ mod origin_errors;
 
 pub use entry::ErrorEntry;
 pub use errors::Errors;
+pub use origin_errors::OriginErrors;

@@ -1,9 +1,10 @@
 //! The errors of one origin.
-ghost use Rattle.std.specs.Prelude.{◌≡◌, ◌+◌, ◌-◌, ◌≤◌, None, length, option_copied, slice_get, IfOk, IfErr, OnOk};
+ghost use Rattle.std.specs.Prelude.{◌≡◌, ◌↔◌, ◌+◌, ◌-◌, ◌≤◌, [], true, None, length, option_copied, slice_get, IfOk, IfErr, OnOk, IsTrue};
 ghost use Rattle.std.specs.VecDeque.{deque_len, deque_capacity};
 ghost use Rattle.rep_lists.specs.Rising.{IsRising, IsThere, IsGap, find_at, put_at, take_at};
+ghost use Rattle.rep_values.specs.Name.{same_bytes};
 ghost use Rattle.error_queue.specs.ErrorLists.{beside, no_errors};
-ghost use Rattle.error_queue.specs.Kept.{by_position, is_list_of};
+ghost use Rattle.error_queue.specs.Kept.{by_position, is_list_of, AreErrorsOf};
 
 use crate::ErrorEntry;
 use rep_lists::NoMemory;
@@ -15,7 +16,7 @@ use std::marker::Model;
 
 /// The errors of one origin, in rising order of position.
 #[derive(Drop)]
-pub(crate) struct OriginErrors {
+pub struct OriginErrors {
     origin: SiteName,
     // Most errors come behind the others, and many are taken from the front.
     entries: VecDeque<ErrorEntry>,
@@ -24,14 +25,13 @@ pub(crate) struct OriginErrors {
 impl Model for OriginErrors {
     ghost use Rattle.std.specs.Prelude.{◌-◌};
     ghost use Rattle.std.specs.VecDeque.{deque_len, deque_capacity};
-    ghost use Rattle.rep_lists.specs.Rising.{IsRising};
-    ghost use Rattle.error_queue.specs.Kept.{Held, by_position};
+    ghost use Rattle.error_queue.specs.Kept.{Held, AreErrorsOf};
 
     ghost Value = { Held };
 
     ghost view = { λ o. record { list = record { origin = o.origin; entries = o.entries.items }; room = deque_capacity o.entries - deque_len o.entries } };
 
-    ghost invariant = { λ o. IsRising by_position o.entries.items };
+    ghost invariant = { λ o. AreErrorsOf o.origin o.entries.items };
 }
 
 /// The place of a position, or else the place where it would stand.
@@ -96,11 +96,32 @@ impl OriginErrors {
         }
     }
 
+    /// The origin.
+    pub fn origin(&self) -> &SiteName
+        ensures { result.now ≡ self.now.list.origin }
+    {
+        &self.origin
+    }
+
+    /// Positions rise, and each error is the origin's.
+    pub fn laws(&self)
+        ensures { AreErrorsOf self.now.list.origin self.now.list.entries }
+    {
+        let _origin = &self.origin;
+    }
+
     /// Whether these are the errors of an origin.
     pub(crate) fn is_of(&self, origin: &SiteName) -> bool
         ensures { result ≡ is_list_of origin.now self.now }
     {
         self.origin.0.is_same(&origin.0)
+    }
+
+    /// Whether no error stands.
+    pub fn is_empty(&self) -> bool
+        ensures { IsTrue result ↔ (self.now.list.entries ≡ []) }
+    {
+        self.entries.is_empty()
     }
 
     /// How many errors stand.
@@ -117,8 +138,8 @@ impl OriginErrors {
         self.entries.get(place as usize)
     }
 
-    /// The error of a position.
-    pub(crate) fn get(&self, position: u64) -> Option<&ErrorEntry>
+    /// The error of a position; None exactly where none stands.
+    pub fn get(&self, position: u64) -> Option<&ErrorEntry>
         ensures { option_copied result ≡ find_at (beside position) self.now.list.entries }
     {
         find(&self.entries, position)
@@ -134,8 +155,9 @@ impl OriginErrors {
         Ok(())
     }
 
-    /// Adds an error of a position that has none. It takes no memory.
+    /// Adds an error of the origin, of a position that has none. It takes no memory.
     pub(crate) fn add(&mut self, error: ErrorEntry)
+        requires own { same_bytes self.old.list.origin.0 error.origin.0 ≡ true }
         requires absent { find_at (beside error.position) self.old.list.entries ≡ None }
         requires room { 1 ≤ self.old.room }
         ensures origin { self.new.list.origin ≡ self.old.list.origin }

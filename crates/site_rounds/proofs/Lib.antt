@@ -4,3 +4,4 @@ pub mod Growing
 pub mod NoErrors
 mod Quiet
 mod Newest
+mod ErrorTexts

@@ -1,6 +1,6 @@
 -- The newest entries of a journal, and the errors that they brought.
-use Rattle.std.proofs.Common.{◌≡◌, ℕ, suc, ◌+◌, ◌-◌, ◌<◌, ◌≤◌, List, [], ◌∷◌, ◌++◌, length, take, drop, reverse, get_or, Bool, true, false, cond, Some, None, refl, sym, ap, ◌∙◌, arith}
-use Rattle.std.specs.Prelude.{Option, slice_get, is_some, flat_map}
+use Rattle.std.proofs.Common.{◌≡◌, ℕ, ◌+◌, ◌-◌, ◌<◌, List, [], ◌∷◌, ◌++◌, length, take, drop, reverse, get_or, Bool, true, false, cond, Some, None, refl, sym, ap, ◌∙◌, arith}
+use Rattle.std.specs.Prelude.{Option, slice_get, flat_map}
 use Rattle.std.specs.List.{filter_map, cons_option}
 use Rattle.std.proofs.lemmas.Grind.{flat_map-append}
 use Rattle.std.proofs.lemmas.List.{get_or-reverse, take-append-drop}
@@ -12,10 +12,10 @@ use Rattle.site_state.specs.declared.arrival.Arrival.{Arrival}
 use Rattle.site_state.specs.declared.entry.Entry.{Entry}
 use Rattle.site_state.specs.declared.entry.Entry.TheVariants.{Local, Done, Error, Executed, Dropped, Refreshed}
 use Rattle.site_state.specs.State.{SenderState, SiteState}
-use Rattle.site_state.specs.Journal.{is_position, settles, error_at}
+use Rattle.site_state.specs.Journal.{is_position, error_at}
 use Rattle.site_state.specs.Errors.{errors_from, errors_of}
 use Rattle.site_state.proofs.Stepping.{error_found}
-use Rattle.site_rounds.specs.NewErrors.{brings, error_entry_text, text_where_new}
+use Rattle.site_rounds.specs.NewErrors.{error_entry_text, text_where_new}
 
 -- what stands so many behind the newest
 pub newest_found : {X : Type 0} (xs : List X) (behind : ℕ) (x : X) → behind < length xs → slice_get (reverse xs) (length xs - 1 - behind) ≡ Some x → drop behind xs ≡ x ∷ drop (behind + 1) xs
@@ -40,41 +40,6 @@ unless true found longer e here later = absurd (cc here)
 unless false found longer e here later = later here
 
 module _ (origin : SiteName) (position : ℕ) where
-  -- an entry that brings it decides
-  pub brought : (e : Entry) (es : List Entry) → brings origin position e ≡ true → is_some (error_at origin position (e ∷ es)) ≡ true
-  brought (Local number txn) es is = absurd (cc is)
-  brought (Done o p onward txn) es is = absurd (cc is)
-  brought (Error o p call error txn) es is = rw is refl
-  brought (Executed o p onward txn) es is = absurd (cc is)
-  brought (Dropped o p) es is = absurd (cc is)
-  brought (Refreshed moment) es is = absurd (cc is)
-
-  -- so does one that settles it
-  pub settled : (e : Entry) (es : List Entry) → settles origin position e ≡ true → is_some (error_at origin position (e ∷ es)) ≡ false
-  settled (Local number txn) es is = absurd (cc is)
-  settled (Done o p onward txn) es is = absurd (cc is)
-  settled (Error o p call error txn) es is = absurd (cc is)
-  settled (Executed o p onward txn) es is = rw is refl
-  settled (Dropped o p) es is = rw is refl
-  settled (Refreshed moment) es is = absurd (cc is)
-
-  -- any other doesn't count
-  pub passed_over : (e : Entry) (es : List Entry) → brings origin position e ≡ false → settles origin position e ≡ false → error_at origin position (e ∷ es) ≡ error_at origin position es
-  passed_over (Local number txn) es brings_not settles_not = refl
-  passed_over (Done o p onward txn) es brings_not settles_not = refl
-  passed_over (Error o p call error txn) es brings_not settles_not = rw brings_not refl
-  passed_over (Executed o p onward txn) es brings_not settles_not = rw settles_not refl
-  passed_over (Dropped o p) es brings_not settles_not = rw settles_not refl
-  passed_over (Refreshed moment) es brings_not settles_not = refl
-
-  -- the first of so many entries, and the others
-  pub take_next : (xs rest : List Entry) (e : Entry) (count behind : ℕ) → behind < count → xs ≡ e ∷ rest → take (count - behind) xs ≡ e ∷ take (count - (behind + 1)) rest
-  take_next xs rest e count behind within is = let n : count - behind ≡ suc (count - (behind + 1)) = omega (arith, within) in rw (is, n) refl
-
-  -- where so many are looked at none is left
-  pub none_left : (xs : List Entry) (count behind : ℕ) → count ≤ behind → take (count - behind) xs ≡ []
-  none_left xs count behind past = let n : count - behind ≡ 0 = omega (arith, past) in rw n refl
-
   -- an error that newer entries bring stands in the whole journal
   error_at-append : (news olds : List Entry) (e : ErrorEntry) → error_at origin position news ≡ Some e → error_at origin position (news ++ olds) ≡ Some e
   error_at-append [] olds e found = absurd (cc found)

@@ -1,93 +1,70 @@
 //! The errors that the newest entries of a journal brought.
-ghost use Rattle.std.specs.Prelude.{◌≡◌, ◌+◌, ◌<◌, ◌≤◌, ◌∷◌, ◌++◌, length, take, drop, flat_map, is_some, OnOk, OnErr};
-ghost use Rattle.error_queue.specs.ErrorLists.{in_order};
+ghost use Rattle.std.specs.Prelude.{◌≡◌, ℕ, ◌≤◌, ◌++◌, Some, length, take, flat_map, IfOk, OnOk, OnErr};
+ghost use Rattle.std.specs.List.{AllByRecursion, list_any};
+ghost use Rattle.std.specs.Ordering.{nat_cmp};
+ghost use Rattle.std.specs.BTreeSet.{contains, IsOrdered};
 ghost use Rattle.report_text.specs.Sheet.{StandBefore};
-ghost use Rattle.site_state.specs.Journal.{error_at, is_position, settles};
-ghost use Rattle.site_rounds.specs.NewErrors.{brings, error_entry_text, new_errors, text_where_new};
+ghost use Rattle.site_state.specs.Journal.{error_at};
+ghost use Rattle.site_rounds.specs.NewErrors.{brings, brought_of, error_entry_text, text_at, new_errors, text_where_new, StandsBy};
 
 use crate::Journalled;
 use crate::entries::entry_behind;
-use error_queue::{ErrorEntry, Errors};
+use error_queue::{ErrorEntry, OriginErrors};
 use rep_lists::NoMemory;
 use rep_values::SiteName;
 use report_text::{Lines, MOST_LINE, error_line};
 use site_state::Entry;
+use std::alloc::Global;
+use std::collections::BTreeSet;
 
-/// Whether two positions of senders are the same.
-fn is_position(origin: &SiteName, position: u64, o: &SiteName, p: u64) -> bool
-    ensures { result ≡ is_position origin.now position o.now p }
-{
-    o.is_same(origin) && p == position
-}
-
-/// Whether an entry brings the error of a position.
-fn brings(origin: &SiteName, position: u64, entry: &Entry) -> bool
-    ensures { result ≡ brings origin.now position entry.now }
+/// The position of a sender whose error an entry brings.
+fn brought_of(origin: &SiteName, entry: &Entry) -> Option<u64>
+    ensures { result ≡ brought_of origin.now entry.now }
 {
     match entry {
         Entry::Error {
-            origin: o,
-            position: p,
+            origin: sender,
+            position,
             ..
-        } => is_position(origin, position, o, *p),
+        } => {
+            if sender.is_same(origin) {
+                Some(*position)
+            } else {
+                None
+            }
+        }
         Entry::Local { .. }
         | Entry::Done { .. }
         | Entry::Executed { .. }
         | Entry::Dropped { .. }
-        | Entry::Refreshed { .. } => false,
+        | Entry::Refreshed { .. } => None,
     }
 }
 
-/// Whether an entry settles the error of a position: it is executed or dropped.
-fn settles(origin: &SiteName, position: u64, entry: &Entry) -> bool
-    ensures { result ≡ settles origin.now position entry.now }
-{
-    match entry {
-        Entry::Executed {
-            origin: o,
-            position: p,
-            ..
-        } => is_position(origin, position, o, *p),
-        Entry::Dropped {
-            origin: o,
-            position: p,
-        } => is_position(origin, position, o, *p),
-        Entry::Local { .. } | Entry::Done { .. } | Entry::Error { .. } | Entry::Refreshed { .. } =>
-            false,
-    }
-}
-
-/// Whether the newest entries, so many, bring the error of a position and don't settle it again.
-fn is_new<J: Journalled>(site: &J, origin: &SiteName, position: u64, count: u64) -> bool
-    requires { count ≤ length (J.told_of site.now).journal }
-    ensures { result ≡ is_some (error_at origin.now position (take count (J.told_of site.now).journal)) }
-{
-    for behind in 0..count {
-        let entry = entry_behind(site, behind);
-        if brings(origin, position, entry) {
-            return true;
-        }
-        if settles(origin, position, entry) {
-            return false;
-        }
-    }
-    false
-}
-
-/// The line of an error that stands, where the newest entries, so many, brought it.
-fn add_where_new<J: Journalled>(
-    lines: &mut Lines,
+/// The positions of a sender whose errors the newest entries, so many, brought.
+fn brought_positions<J: Journalled>(
+    alloc: Global,
     site: &J,
-    error: &ErrorEntry,
+    origin: &SiteName,
     count: u64,
-) -> Result<(), NoMemory>
+) -> Result<BTreeSet<u64>, NoMemory>
     requires { count ≤ length (J.told_of site.now).journal }
-    ensures ok { OnOk result (lines.new.bytes ≡ lines.old.bytes ++ text_where_new (take count (J.told_of site.now).journal) error.now) }
+    ensures { IfOk result (λ positions. (p : ℕ) → contains nat_cmp positions p ≡ list_any (brings origin.now p) (take count (J.told_of site.now).journal)) }
+{
+    let mut positions = BTreeSet::new(alloc);
+    for behind in 0..count {
+        if let Some(position) = brought_of(origin, entry_behind(site, behind)) {
+            positions.insert(position)?;
+        }
+    }
+    Ok(positions)
+}
+
+/// The line of an error.
+fn add_error(lines: &mut Lines, error: &ErrorEntry) -> Result<(), NoMemory>
+    ensures ok { OnOk result (lines.new.bytes ≡ lines.old.bytes ++ error_entry_text error.now) }
     ensures err { OnErr result (lines.new.bytes ≡ lines.old.bytes) }
 {
-    if !is_new(site, &error.origin, error.position, count) {
-        return Ok(());
-    }
     lines.reserve(MOST_LINE)?;
     error_line(
         lines,
@@ -99,22 +76,52 @@ fn add_where_new<J: Journalled>(
     Ok(())
 }
 
-/// The error at a place that has one.
-fn error_at(errors: &Errors, place: u64) -> &ErrorEntry
-    requires { place < length (in_order errors.now.lists) }
-    ensures { drop place (in_order errors.now.lists) ≡ result.now ∷ drop (place + 1) (in_order errors.now.lists) }
+/// The lines of a sender's errors that stand at some positions.
+fn add_errors_at(
+    lines: &mut Lines,
+    errors: &OriginErrors,
+    positions: &BTreeSet<u64>,
+) -> Result<(), NoMemory>
+    ensures ok { OnOk result (lines.new.bytes ≡ lines.old.bytes ++ flat_map (text_at errors.now.list.entries) positions.now.keys) }
+    ensures err { OnErr result (StandBefore lines.old.bytes lines.new.bytes) }
+    ensures ordered { IsOrdered nat_cmp positions.now }
 {
-    match errors.entry_in_order(place) {
-        Some(error) => error,
-        None => unreachable!(),
+    for position in positions {
+        if let Some(error) = errors.get(*position) {
+            add_error(lines, error)?;
+        }
     }
+    Ok(())
+}
+
+/// The line of each error of a sender that stands and that the newest entries, so many, brought, by position. It looks through
+/// these entries once.
+fn add_new_from<J: Journalled>(
+    lines: &mut Lines,
+    alloc: Global,
+    site: &J,
+    errors: &OriginErrors,
+    count: u64,
+) -> Result<(), NoMemory>
+    requires count { count ≤ length (J.told_of site.now).journal }
+    requires stand { AllByRecursion (StandsBy (J.told_of site.now).journal) errors.now.list.entries }
+    ensures ok { OnOk result (lines.new.bytes ≡ lines.old.bytes ++ flat_map (text_where_new (take count (J.told_of site.now).journal)) errors.now.list.entries) }
+    ensures err { OnErr result (StandBefore lines.old.bytes lines.new.bytes) }
+{
+    if errors.is_empty() {
+        return Ok(());
+    }
+    errors.laws();
+    let positions = brought_positions(alloc, site, errors.origin(), count)?;
+    add_errors_at(lines, errors, &positions)
 }
 
 /// The line of each error that stands and was journalled behind the first entries, so many, by sender as declared, then by
-/// position. It looks through the newer entries once for each error that stands. Where there is no memory, what stood in the
-/// lines still stands in front, and part of this may stand behind it.
+/// position. It looks through the newer entries once for each sender of which an error stands. Where there is no memory, what
+/// stood in the lines still stands in front, and part of this may stand behind it.
 pub fn add_new_errors<J: Journalled>(
     lines: &mut Lines,
+    alloc: Global,
     site: &J,
     before: u64,
 ) -> Result<(), NoMemory>
@@ -122,10 +129,10 @@ pub fn add_new_errors<J: Journalled>(
     ensures ok { OnOk result (lines.new.bytes ≡ lines.old.bytes ++ flat_map error_entry_text (new_errors before (J.told_of site.now))) }
     ensures err { OnErr result (StandBefore lines.old.bytes lines.new.bytes) }
 {
-    let errors = site.standing();
     let count = site.entry_count() - before;
-    for place in 0..errors.len() {
-        add_where_new(lines, site, error_at(errors, place), count)?;
+    let lists = site.standing().by_origin();
+    for errors in lists {
+        add_new_from(lines, alloc, site, errors, count)?;
     }
     Ok(())
 }

@@ -2,7 +2,7 @@ use Rattle.std.proofs.Common.{◌+◌, ◌-◌, ◌^◌, sym, ◌∙◌, arith}
 use Rattle.rep_lists.specs.Rising.{put_at}
 use Rattle.error_queue.specs.ErrorLists.{beside}
 use Rattle.error_queue.specs.Kept.{rooms_of}
-use Rattle.error_queue.proofs.FirstLists.{list_of-place, list_of-none, place_within, at_origin-place}
+use Rattle.error_queue.proofs.FirstLists.{list_of-place, list_of-none, place_within, place_own, at_origin-place}
 use Rattle.error_queue.proofs.Counts.{length-in_order-put}
 use Rattle.error_queue.proofs.Room.{least-first, least-place_used, room_in_place}
 use Rattle.error_queue.proofs.errors.Errors.add.Goals as goal
@@ -11,6 +11,11 @@ use Rattle.error_queue.proofs.errors.Errors.add.Goals as goal
 pub unreachable-requires : goal.unreachable-requires
 unreachable-requires c =
     (rw (← c.self.view_is) at c.requires.origin) (list_of-none c.args.error.origin c.self.inside.lists.items (rw c.deref.ensures.value at (sym c.place_of.ensures ∙ c.in_default.is)))
+
+pub add-requires-clause-own : goal.add-requires-clause-own
+add-requires-clause-own c =
+    let found = rw c.deref.ensures.value at c.in-Some.ensures in
+    place_own c.args.error.origin c.self.inside.lists.items c.in-Some.place c.index_mut-list.result.now found c.index_mut-list.ensures.value
 
 pub add-requires-clause-absent : goal.add-requires-clause-absent
 add-requires-clause-absent c =
