@@ -73,7 +73,7 @@ fn settle_site(
     if count.errors == 0 {
         return Ok(());
     }
-    add_new_errors(lines, site, before)?;
+    add_new_errors(lines, alloc, site, before)?;
     Ok(())
 }
 

@@ -56,7 +56,7 @@ fn settle_site<P: Passing>(
     if count.errors == 0 {
         return (site, Ok(()));
     }
-    let told = add_new_errors(lines, &site, before);
+    let told = add_new_errors(lines, alloc, &site, before);
     (site, told)
 }
 

@@ -4,6 +4,7 @@ ghost use Rattle.std.specs.Option.{option_map};
 ghost use Rattle.std.specs.List.{AllByRecursion};
 ghost use Rattle.rep_values.specs.declared.name.SiteName.{SiteName};
 ghost use Rattle.rep_calls.specs.declared.call.Txn.{Txn};
+ghost use Rattle.packet_code.specs.Bodies.{IsBody};
 ghost use Rattle.deferred_queue.specs.Streams.{at_position, stream_to, unpurged, last_position, acked_by, raised_mark};
 ghost use Rattle.site_state.specs.State.{is_among};
 ghost use Rattle.site_outbox.specs.Noting.{TokenStreams, AreNoted};
@@ -14,6 +15,7 @@ ghost use Rattle.proc_calls.specs.Outgoing.{NamesApart, lists_in, Keeps, CanBeNo
 use conflict_detect::table_of;
 use deferred_queue::{Destination, Queue, Sent};
 use dependency_index::{Index, Token, Tokens};
+use packet_code::Body;
 use rep_calls::{Call, Txn};
 use rep_lists::{Items, NoMemory};
 use rep_values::{Key, SiteName, Value};
@@ -145,10 +147,12 @@ impl CallOutbox {
         let tokens = tokens_of(alloc, &txn)?;
         let sites = named(alloc, &self.masters, to)?;
         let mut destinations = Vec::with_capacity(alloc, sites.len())?;
+        let past = Items::new(alloc);
+        let body = Body::of(alloc, past.as_slice(), &txn)?;
         self.index.reserve(&tokens)?;
         self.queue.reserve()?;
         note_each(&sites, &tokens, &mut self.index, &mut destinations);
-        let number = self.queue.push_back(txn, Items::new(alloc), &destinations);
+        let number = self.queue.push_back(txn, past, body, &destinations);
         self.count = number;
         Ok(number)
     }
@@ -163,6 +167,7 @@ impl CallOutbox {
             ≡ unpurged (at_position position (stream_to to.now self.now.deferred)) }
         ensures earlier { IfSome result (λ sent. sent.dep < position) }
         ensures number { IfSome result (λ sent. 1 ≤ sent.number) }
+        ensures body { IfSome result (λ sent. IsBody sent.past.now sent.txn.now sent.body.now) }
     {
         self.queue.entry(to, position)
     }

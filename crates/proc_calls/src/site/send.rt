@@ -29,7 +29,7 @@ impl ProcSite {
             position,
             dep: sent.dep,
         };
-        let sealed = Sealed::seal_carry(alloc, &route, sent.past, sent.txn)?;
+        let sealed = Sealed::seal_body(alloc, &route, sent.body)?;
         Ok(Some(sealed))
     }
 }

@@ -47,7 +47,7 @@ invariant_of-self-2 c =
     let listed = rw (c.deref-2.ensures.value, c.in_ok-sites.ensures, c.deref.ensures.value) at (c.note_each.ensures.list streams known) in
     let noted = rw (c.deref-2.ensures.value, c.in_ok-sites.ensures, c.deref.ensures.value) at (c.note_each.ensures.noted streams known) in
     let order = ordered s.masters.items s.queue.marks s.queue.deferred s.index.streams s.index.streams s.count c.self.invariant c.args.to.now tokens streams in
-    rw (c.push_back-number.ensures.marks, c.push_back-number.ensures.deferred, c.push_back-number.ensures.number, c.reserve-2.ensures.marks, c.reserve-2.ensures.deferred, c.deref-3.ensures.value, listed, order, c.new.ensures, c.self.invariant.counted)
+    rw (c.push_back-number.ensures.marks, c.push_back-number.ensures.deferred, c.push_back-number.ensures.number, c.reserve-2.ensures.marks, c.reserve-2.ensures.deferred, c.deref-3.ensures.value, listed, order, c.new-past.ensures, c.self.invariant.counted)
     (IsOutbox-pushed s.masters.items s.queue.marks s.queue.deferred s.index.streams c.note_each.new.index.streams s.count c.self.invariant c.args.to.now tokens (c.note_each.ensures.destinations ∙ c.reserve.ensures.destinations) noted
     (Some (record { txn = c.args.txn; past = [] })))
 
@@ -71,7 +71,7 @@ returns-clause-ok c =
     let list = rw (c.deref-2.ensures.value, c.in_ok-sites.ensures, c.deref.ensures.value, c.in_ok-tokens.ensures) at c.note_each.ensures.list in
     let noted = rw (c.deref-2.ensures.value, c.in_ok-sites.ensures, c.deref.ensures.value, c.in_ok-tokens.ensures) at c.note_each.ensures.noted in
     let order = ordered s.masters.items s.queue.marks s.queue.deferred s.index.streams s.index.streams s.count c.self.invariant c.args.to.now (proc_tokens c.args.txn) in
-    rw (← c.self.view_is, c.push_back-number.ensures.marks, c.push_back-number.ensures.deferred, c.reserve-2.ensures.marks, c.reserve-2.ensures.deferred, c.deref-3.ensures.value, c.new.ensures, same)
+    rw (← c.self.view_is, c.push_back-number.ensures.marks, c.push_back-number.ensures.deferred, c.reserve-2.ensures.marks, c.reserve-2.ensures.deferred, c.deref-3.ensures.value, c.new-past.ensures, same)
     (λ lists txns keeps. Keeps-pushed lists txns c.args.txn sites s.queue.marks s.queue.deferred s.index.streams c.note_each.new.index.streams (in_order s.queue.marks c.note_each.new.to.items)
     (λ streams are. rw (list streams (λ site. c.reserve.ensures.noted site (streams site) (are site))) (order streams))
     (λ streams are. noted streams (λ site. c.reserve.ensures.noted site (streams site) (are site))) keeps)

@@ -10,20 +10,28 @@ returns-in_default c =
     let x = state_of s.store.schema s.procedures s.me (reverse s.journal.items) s.inboxes.items s.outbox in
     rw (← c.self.view_is) (no_packet x s.outbox.deferred (queue_is _ _ _ _ _ _ _ _ c.self.invariant) c.args.to.now c.args.position c.in_default.ensures.sent)
 
-pub seal_carry-requires-clause-seen : goal.seal_carry-requires-clause-seen
-seal_carry-requires-clause-seen c =
+pub seal_body-requires-clause-carries : goal.seal_body-requires-clause-carries
+seal_body-requires-clause-carries c =
     let s = c.self.inside in
     let x = state_of s.store.schema s.procedures s.me (reverse s.journal.items) s.inboxes.items s.outbox in
-    is_past x s.outbox.deferred (queue_is _ _ _ _ _ _ _ _ c.self.invariant) c.args.to.now c.args.position _ _ _ _ c.in-Some.ensures.sent
-
-pub seal_carry-requires-clause-plain : goal.seal_carry-requires-clause-plain
-seal_carry-requires-clause-plain c =
-    let s = c.self.inside in
-    let x = state_of s.store.schema s.procedures s.me (reverse s.journal.items) s.inboxes.items s.outbox in
-    can_be_carried x s.outbox.deferred (queue_is _ _ _ _ _ _ _ _ c.self.invariant) c.args.to.now c.args.position _ _ _ _ c.in-Some.ensures.sent c.self.invariant.journal
+    let queued = queue_is _ _ _ _ _ _ _ _ c.self.invariant in (
+      _,
+      _,
+      record {
+        body = c.in-Some.ensures.body;
+        seen = is_past x s.outbox.deferred queued c.args.to.now c.args.position _ _ _ _ c.in-Some.ensures.sent;
+        plain = can_be_carried x s.outbox.deferred queued c.args.to.now c.args.position _ _ _ _ c.in-Some.ensures.sent c.self.invariant.journal;
+      },
+    )
 
 pub returns : goal.returns
 returns c =
     let s = c.self.inside in
     let x = state_of s.store.schema s.procedures s.me (reverse s.journal.items) s.inboxes.items s.outbox in
-    rw (← c.self.view_is) (ap Some c.in_ok-sealed.ensures ∙ packet_is x s.outbox.deferred (queue_is _ _ _ _ _ _ _ _ c.self.invariant) c.args.to.now c.args.position _ _ _ _ c.in-Some.ensures.sent)
+    let queued = queue_is _ _ _ _ _ _ _ _ c.self.invariant in
+    let sealed = c.in_ok-sealed.ensures _ _ (record {
+      body = c.in-Some.ensures.body;
+      seen = is_past x s.outbox.deferred queued c.args.to.now c.args.position _ _ _ _ c.in-Some.ensures.sent;
+      plain = can_be_carried x s.outbox.deferred queued c.args.to.now c.args.position _ _ _ _ c.in-Some.ensures.sent c.self.invariant.journal;
+    }) in
+    rw (← c.self.view_is) (ap Some sealed ∙ packet_is x s.outbox.deferred queued c.args.to.now c.args.position _ _ _ _ c.in-Some.ensures.sent)
