@@ -1,6 +1,6 @@
 //! Roots and their sides.
 ghost use Rattle.std.specs.Prelude.{◌≡◌, ◌+◌, ◌^◌, ◌<◌, ◌≤◌, ◌∷◌, ◌++◌, length, insert};
-ghost use Rattle.ordered_keys.specs.Trees.{entries, IsSumOf, AreSummed};
+ghost use Rattle.ordered_keys.specs.Trees.{entries, AreSummed};
 
 use crate::Noted;
 use crate::tree::{Fork, Sum, Tree};

@@ -14,7 +14,8 @@ use std::alloc::Global;
 use std::marker::Model;
 use std::mem;
 
-/// Entries in order, kept as a tree, and the room for more of them. Only `reserve` and `keys_above` take memory.
+/// Entries in order, kept as a tree, and the room for more of them. Only `reserve`, `keys` and `keys_above` take
+/// memory.
 #[derive(Drop)]
 pub struct TreeList<E: Noted> {
     alloc: Global,

@@ -1,5 +1,4 @@
 //! The entries of a list as a tree.
-ghost use Rattle.std.specs.Prelude.{◌≡◌};
 ghost use Rattle.ordered_keys.specs.Trees.{entries, IsSumOf, AreSummed};
 
 use crate::Noted;
