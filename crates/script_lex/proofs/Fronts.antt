@@ -1,5 +1,5 @@
 -- What is cut off in front of a line is its first token.
-use Rattle.std.proofs.Common.{◌≡◌, ◌≢◌, ℕ, zero, suc, ◌+◌, ◌-◌, ◌<◌, ◌≤◌, Bool, true, false, cond, eqb, List, [], ◌∷◌, length, take, drop, Option, Some, None, refl, sym, ◌∙◌, ap, arith, length-take-le, length-drop, nat_le, nat_lt}
+use Rattle.std.proofs.Common.{◌≡◌, ◌≢◌, ℕ, zero, suc, ◌+◌, ◌-◌, ◌<◌, ◌≤◌, Bool, true, false, cond, eqb, List, [], ◌∷◌, length, take, drop, Option, Some, None, refl, sym, ◌∙◌, ap, arith, length-take-le, length-drop, nat_le, nat_lt, IfSome}
 use Rattle.std.proofs.lemmas.Bool.Decides.{nat_tests}
 use Rattle.std.proofs.lemmas.List.{take_all}
 use Rattle.std.specs.Borrow.{Bor}
@@ -14,7 +14,7 @@ use Rattle.script_lex.specs.declared.token.Token.TheVariants as token
 use Rattle.script_lex.specs.Bytes.{is_word_byte, is_plain, start_of}
 use Rattle.script_lex.specs.Forms.{longest, longest_up_to, symbol_of}
 use Rattle.script_lex.specs.Tokens.{word_token, number_token, text_token, symbol_token, token_by, token_of}
-use Rattle.script_lex.specs.Lexemes.{IsCut, closed_token, negative_token, symbol_len}
+use Rattle.script_lex.specs.Lexemes.{IsCut, Stands, closed_token, negative_token, symbol_len}
 use Rattle.script_lex.proofs.Longest.{front_word, front_number, front_minus, front_minus_alone, front_text, front_text_open, longest_symbol}
 use Rattle.script_lex.proofs.Runs.{run_passes}
 use Rattle.script_lex.proofs.TextBytes.{word_is_text, plain_is_text, all_take}
@@ -166,3 +166,14 @@ symbol_ahead bytes b bs cut parts is off =
 pub none_ahead : (bytes : List ℕ) → bytes ≡ [] → token_of (take (longest bytes) bytes) ≡ None
 unfolding token_of longest_up_to
 none_ahead bytes none = rw none refl
+
+-- Where what is cut off stands.
+
+pub stands_behind : (bytes : List ℕ) (b : ℕ) (bs : List ℕ) (cut : Cut) → bytes ≡ b ∷ bs → IfSome cut (λ c. (quote : ℕ) → Stands (quote ∷ bs) c.0)
+    → IfSome cut (λ c. Stands bytes c.0)
+stands_behind bytes b bs None parts stands = tt
+stands_behind bytes b bs (Some c) parts stands = rw parts (stands b)
+
+pub stands_anywhere : (bytes : List ℕ) (cut : Cut) → IfSome cut (λ c. (behind : List ℕ) → Stands behind c.0) → IfSome cut (λ c. Stands bytes c.0)
+stands_anywhere bytes None stands = tt
+stands_anywhere bytes (Some c) stands = stands bytes

@@ -1,11 +1,10 @@
 -- Which front of some bytes is the longest that has a token's form.
-use Rattle.std.proofs.Common.{◌≡◌, ◌≢◌, ℕ, zero, suc, ◌+◌, ◌<◌, ◌≤◌, inl, inr, Bool, true, false, cond, List, [], ◌∷◌, length, take, Option, refl, sym, ◌∙◌, subst, arith, get_or}
+use Rattle.std.proofs.Common.{◌≡◌, ◌≢◌, ℕ, zero, suc, ◌+◌, ◌<◌, ◌≤◌, inl, inr, Bool, true, false, cond, List, [], ◌∷◌, length, take, refl, sym, ◌∙◌, subst, arith}
 use Rattle.std.proofs.Math.Nat.{eq-or-lt_of_le}
 use Rattle.std.proofs.lemmas.List.Sums.{prefix_len-le-length}
 use Rattle.std.specs.List.{list_all, prefix_len}
 use Rattle.std.specs.Option.{is_some}
 use Rattle.rep_values.specs.Bytes.{is_digit}
-use Rattle.script_lex.specs.declared.token.Symbol.{Symbol}
 use Rattle.script_lex.specs.declared.bytes.Start.{Start}
 use Rattle.script_lex.specs.declared.bytes.Start.TheVariants as start
 use Rattle.script_lex.specs.Bytes.{is_word_byte, is_plain, start_of}

@@ -6,13 +6,11 @@ use Rattle.std.proofs.lemmas.Bool.Decides.{nat_tests}
 use Rattle.std.proofs.lemmas.List.{map-append}
 use Rattle.std.proofs.lemmas.List.Folds.{list_all-append}
 use Rattle.rep_values.specs.Bytes.{is_printable}
-use Rattle.script_lex.specs.declared.lexeme.Lexeme.{Lexeme}
 use Rattle.script_lex.specs.declared.token.Token.{Token}
 use Rattle.script_lex.specs.declared.stop.LineStop.{LineStop}
 use Rattle.script_lex.specs.declared.stop.LineStop.TheVariants as stop
 use Rattle.script_lex.specs.Forms.{longest}
 use Rattle.script_lex.specs.Tokens.{token_of, with_front, tokens_from}
-use Rattle.script_lex.specs.Lexemes.{lexeme_token, is_lexeme}
 use Rattle.script_lex.specs.Lines.{or_rule, lexed, is_passed_over, HasTokens}
 use Rattle.script_lex.specs.Stop.{Gives}
 use Rattle.script_lex.proofs.Longest.{longest_up_to-le}
@@ -81,25 +79,31 @@ pub kept_more : (found more : List Token) (t : Token) (left left' whole : Option
 kept_more found more t left left' whole kept step pushed =
     rw pushed (more_tokens found t left' ∙ ap (option_map (λ ts. found ++ ts)) (sym step) ∙ kept)
 
--- the same, where it may find no memory and isn't kept
-pub found_more : {E : Type 0} (kept more : List Lexeme) (found : List Token) (x : Lexeme) (lacks failed : Bool) (pushed : Result Unit E) (left left' whole : Option (List Token))
-    → option_map (λ ts. found ++ ts) left ≡ whole → (lacks ≡ false → map lexeme_token kept ≡ found) → left ≡ with_front (Some (lexeme_token x)) left'
-    → failed ≡ is_err pushed → more ≡ (if is_ok pushed then kept ++ x ∷ [] else kept)
-    → (new : List Token) × (option_map (λ ts. new ++ ts) left' ≡ whole) × ((lacks || failed) ≡ false → map lexeme_token more ≡ new)
-found_more kept more found x lacks failed pushed left left' whole found_so kept_so step fails more_so =
-    (found ++ lexeme_token x ∷ [], kept_more found (found ++ lexeme_token x ∷ []) (lexeme_token x) left left' whole found_so step refl, go lacks failed pushed kept_so fails more_so)
-  where
-    go : {E : Type 0} (lacks failed : Bool) (pushed : Result Unit E) → (lacks ≡ false → map lexeme_token kept ≡ found) → failed ≡ is_err pushed
-        → more ≡ (if is_ok pushed then kept ++ x ∷ [] else kept) → (lacks || failed) ≡ false → map lexeme_token more ≡ found ++ lexeme_token x ∷ []
-    go false failed (Ok u) kept_so fails more_so none = rw more_so (map-append lexeme_token kept (x ∷ []) ∙ ap (λ ts. ts ++ lexeme_token x ∷ []) (kept_so refl))
-    go false failed (Err e) kept_so fails more_so none = cc
-    go true failed pushed kept_so fails more_so none = cc
+module _ {X : Type 0} (view : X → Token) where
+  -- the same, where it may find no memory and isn't kept
+  pub found_more : {E : Type 0} (kept more : List X) (found : List Token) (x : X) (lacks failed : Bool) (pushed : Result Unit E) (left left' whole : Option (List Token))
+      → option_map (λ ts. found ++ ts) left ≡ whole → (lacks ≡ false → map view kept ≡ found) → left ≡ with_front (Some (view x)) left'
+      → failed ≡ is_err pushed → more ≡ (if is_ok pushed then kept ++ x ∷ [] else kept)
+      → (new : List Token) × (option_map (λ ts. new ++ ts) left' ≡ whole) × ((lacks || failed) ≡ false → map view more ≡ new)
+  found_more kept more found x lacks failed pushed left left' whole found_so kept_so step fails more_so =
+      (found ++ view x ∷ [], kept_more found (found ++ view x ∷ []) (view x) left left' whole found_so step refl, go lacks failed pushed kept_so fails more_so)
+    where
+      go : {E : Type 0} (lacks failed : Bool) (pushed : Result Unit E) → (lacks ≡ false → map view kept ≡ found) → failed ≡ is_err pushed
+          → more ≡ (if is_ok pushed then kept ++ x ∷ [] else kept) → (lacks || failed) ≡ false → map view more ≡ found ++ view x ∷ []
+      go false failed (Ok u) kept_so fails more_so none = rw more_so (map-append view kept (x ∷ []) ∙ ap (λ ts. ts ++ view x ∷ []) (kept_so refl))
+      go false failed (Err e) kept_so fails more_so none = cc
+      go true failed pushed kept_so fails more_so none = cc
 
--- all that is kept lends the bytes of texts
-pub formed_more : {E : Type 0} (kept more : List Lexeme) (x : Lexeme) (pushed : Result Unit E) → list_all is_lexeme kept ≡ true → is_lexeme x ≡ true
-    → more ≡ (if is_ok pushed then kept ++ x ∷ [] else kept) → list_all is_lexeme more ≡ true
-formed_more kept more x (Ok u) formed one more_so = rw (more_so, list_all-append, formed, one) refl
-formed_more kept more x (Err e) formed one more_so = rw more_so formed
+-- all that is kept passes
+pub all_more : {X E : Type 0} (p : X → Bool) (kept more : List X) (x : X) (pushed : Result Unit E) → list_all p kept ≡ true → p x ≡ true
+    → more ≡ (if is_ok pushed then kept ++ x ∷ [] else kept) → list_all p more ≡ true
+all_more p kept more x (Ok u) formed one more_so = rw (more_so, list_all-append, formed, one) refl
+all_more p kept more x (Err e) formed one more_so = rw more_so formed
+
+-- at the beginning nothing is found
+pub none_found : (left : Option (List Token)) → option_map (λ ts. [] ++ ts) left ≡ left
+none_found None = refl
+none_found (Some ts) = refl
 
 pub broken : (found : List Token) (left whole : Option (List Token)) → option_map (λ ts. found ++ ts) left ≡ whole → left ≡ None → or_rule 4 whole ≡ Err 4
 broken found left whole kept none = rw (← kept, none) refl
@@ -150,9 +154,9 @@ has_tokens line t ts read = (go (is_passed_over line) refl, ap is_ok read)
 pub ruleset line_facts = (line_long, line_short)
 
 -- tokens that are copied are those of the line, and want of memory comes only where there are some
-pub line_tokens : {X : Type 0} (view : X → List Token) (line : List ℕ) (found : List Lexeme) (r : Result X LineStop) → lexed line ≡ Ok (map lexeme_token found)
-    → Gives (found ≢ []) view r (Ok (map lexeme_token found)) → Gives (HasTokens line) view r (lexed line)
-line_tokens view line found (Ok tokens) read gives = read ∙ gives
-line_tokens view line [] (Err stop.Memory) read gives = absurd (gives refl)
-line_tokens view line (x ∷ xs) (Err stop.Memory) read gives = has_tokens line (lexeme_token x) (map lexeme_token xs) read
-line_tokens view line found (Err (stop.Rule rule)) read gives = cc
+pub line_tokens : {X Y : Type 0} (view : Y → List Token) (token : X → Token) (line : List ℕ) (found : List X) (r : Result Y LineStop) → lexed line ≡ Ok (map token found)
+    → Gives (found ≢ []) view r (Ok (map token found)) → Gives (HasTokens line) view r (lexed line)
+line_tokens view token line found (Ok tokens) read gives = read ∙ gives
+line_tokens view token line [] (Err stop.Memory) read gives = absurd (gives refl)
+line_tokens view token line (x ∷ xs) (Err stop.Memory) read gives = has_tokens line (token x) (map token xs) read
+line_tokens view token line found (Err (stop.Rule rule)) read gives = cc

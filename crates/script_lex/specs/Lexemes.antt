@@ -1,5 +1,5 @@
 -- Tokens as they stand in a line.
-use Rattle.std.specs.Prelude.{◌≡◌, ℕ, suc, Bool, true, ◌==◌, nat_lt, if◌then◌else◌, List, length, take, Option, Some, None}
+use Rattle.std.specs.Prelude.{◌≡◌, ℕ, suc, Bool, true, ◌==◌, nat_lt, if◌then◌else◌, List, length, take, drop, Option, Some, None}
 use Rattle.std.specs.Borrow.{Bor}
 use Rattle.std.specs.List.{prefix_len}
 use Rattle.std.specs.Option.{is_some}
@@ -26,6 +26,13 @@ is_lexeme (lexeme.Word bytes) = is_text bytes.now
 is_lexeme (lexeme.Number minus size) = true
 is_lexeme (lexeme.Words bytes) = is_text bytes.now
 is_lexeme (lexeme.Symbol s) = true
+
+-- the bytes of a word stand in front of the others, and those of a text behind a quote
+abbrev pub Stands : List ℕ → Lexeme → Type 0
+Stands bytes (lexeme.Word word) = word.now ≡ take (length word.now) bytes
+Stands bytes (lexeme.Number minus size) = Unit {0}
+Stands bytes (lexeme.Words text) = text.now ≡ take (length text.now) (drop 1 bytes)
+Stands bytes (lexeme.Symbol s) = Unit {0}
 
 -- what is cut off is the token, and the bytes behind it are left; or there is no token
 abbrev pub IsCut : Option Token → List ℕ → Option (Lexeme × Bor (List ℕ)) → Type 0

@@ -1,11 +1,11 @@
 //! The token in front of some bytes.
-ghost use Rattle.std.specs.Prelude.{◌≡◌, suc, true, [], ◌∷◌, ◌≤◌, length, take, drop, MatchOption};
+ghost use Rattle.std.specs.Prelude.{◌≡◌, suc, true, [], ◌∷◌, ◌≤◌, length, take, drop, MatchOption, IfSome, ℕ, List};
 ghost use Rattle.std.specs.List.{list_all, prefix_len};
 ghost use Rattle.rep_values.specs.Bytes.{is_digit, is_printable};
 ghost use Rattle.script_lex.specs.Bytes.{is_word_byte, is_plain};
 ghost use Rattle.script_lex.specs.Forms.{longest, symbol_of};
 ghost use Rattle.script_lex.specs.Tokens.{digits_value, word_token, number_token, symbol_token, token_of};
-ghost use Rattle.script_lex.specs.Lexemes.{IsCut, closed_token, negative_token, symbol_len};
+ghost use Rattle.script_lex.specs.Lexemes.{IsCut, Stands, closed_token, negative_token, symbol_len};
 
 use crate::bytes::{Start, is_word_byte, start_of};
 use crate::{Lexeme, Symbol};
@@ -81,7 +81,8 @@ fn first_two(bytes: &[u8]) -> &[u8]
 fn word_front(bytes: &[u8], count: usize) -> Option<(Lexeme<'_>, &[u8])>
     requires within { count ≤ length bytes.now }
     requires word { list_all is_word_byte (take count bytes.now) ≡ true }
-    ensures { IsCut (word_token (take count bytes.now)) (drop count bytes.now) result }
+    ensures cut { IsCut (word_token (take count bytes.now)) (drop count bytes.now) result }
+    ensures stands { IfSome result (λ cut. Stands bytes.now cut.0) }
 {
     if count > WORD_BYTES {
         return None;
@@ -105,7 +106,8 @@ fn digits_value(digits: &[u8]) -> u64
 /// A number of so many digits in front, and the bytes behind it, unless it is too long.
 fn number_front(minus: bool, bytes: &[u8], count: usize) -> Option<(Lexeme<'_>, &[u8])>
     requires { count ≤ length bytes.now }
-    ensures { IsCut (number_token minus (take count bytes.now)) (drop count bytes.now) result }
+    ensures cut { IsCut (number_token minus (take count bytes.now)) (drop count bytes.now) result }
+    ensures stands { IfSome result (λ cut. (behind : List ℕ) → Stands behind cut.0) }
 {
     if count > DIGITS {
         return None;
@@ -117,7 +119,8 @@ fn number_front(minus: bool, bytes: &[u8], count: usize) -> Option<(Lexeme<'_>, 
 
 /// The number behind a minus, and the bytes behind that, where there are digits.
 fn minus_front(bytes: &[u8]) -> Option<(Lexeme<'_>, &[u8])>
-    ensures { IsCut (negative_token bytes.now) (drop (prefix_len is_digit bytes.now) bytes.now) result }
+    ensures cut { IsCut (negative_token bytes.now) (drop (prefix_len is_digit bytes.now) bytes.now) result }
+    ensures stands { IfSome result (λ cut. (behind : List ℕ) → Stands behind cut.0) }
 {
     match digit_run(bytes) {
         0 => None,
@@ -128,7 +131,8 @@ fn minus_front(bytes: &[u8]) -> Option<(Lexeme<'_>, &[u8])>
 /// The text behind a quote, up to the next one, and the bytes behind that, where there is a next one.
 fn text_front(bytes: &[u8]) -> Option<(Lexeme<'_>, &[u8])>
     requires printable { list_all is_printable bytes.now ≡ true }
-    ensures { IsCut (closed_token bytes.now) (drop (suc (prefix_len is_plain bytes.now)) bytes.now) result }
+    ensures cut { IsCut (closed_token bytes.now) (drop (suc (prefix_len is_plain bytes.now)) bytes.now) result }
+    ensures stands { IfSome result (λ cut. (quote : ℕ) → Stands (quote ∷ bytes.now) cut.0) }
 {
     let count = plain_run(bytes);
     if count == bytes.len() || count > TEXT_BYTES {
@@ -140,7 +144,8 @@ fn text_front(bytes: &[u8]) -> Option<(Lexeme<'_>, &[u8])>
 /// The symbol of two bytes or of one in front, and the bytes behind it.
 fn symbol_front(bytes: &[u8]) -> Option<(Lexeme<'_>, &[u8])>
     requires some { 1 ≤ length bytes.now }
-    ensures { IsCut (symbol_token (symbol_of (take (symbol_len bytes.now) bytes.now))) (drop (symbol_len bytes.now) bytes.now) result }
+    ensures cut { IsCut (symbol_token (symbol_of (take (symbol_len bytes.now) bytes.now))) (drop (symbol_len bytes.now) bytes.now) result }
+    ensures stands { IfSome result (λ cut. (behind : List ℕ) → Stands behind cut.0) }
 {
     let pair = first_two(bytes);
     if let Some(symbol) = symbol_of(pair) {
@@ -154,7 +159,8 @@ fn symbol_front(bytes: &[u8]) -> Option<(Lexeme<'_>, &[u8])>
 /// The token in front of printable bytes, the longest that there is, and the bytes behind it.
 pub fn token_front(bytes: &[u8]) -> Option<(Lexeme<'_>, &[u8])>
     requires printable { list_all is_printable bytes.now ≡ true }
-    ensures { IsCut (token_of (take (longest bytes.now) bytes.now)) (drop (longest bytes.now) bytes.now) result }
+    ensures cut { IsCut (token_of (take (longest bytes.now) bytes.now)) (drop (longest bytes.now) bytes.now) result }
+    ensures stands { IfSome result (λ cut. Stands bytes.now cut.0) }
 {
     let Some((first, rest)) = first_of(bytes) else {
         return None;

@@ -1,37 +1,30 @@
 //! The tokens of a line.
-ghost use Rattle.std.specs.Prelude.{◌≡◌, ◌≢◌, true, [], map, Ok, IsOk, IfOk};
+ghost use Rattle.std.specs.Prelude.{◌≡◌, ◌≢◌, ◌≤◌, true, [], length, map, Ok, IsOk, OnOk};
 ghost use Rattle.std.specs.List.{list_all};
 ghost use Rattle.rep_values.specs.Bytes.{is_printable};
 ghost use Rattle.script_lex.specs.Tokens.{tokens_from};
-ghost use Rattle.script_lex.specs.Lexemes.{lexeme_token, is_lexeme};
+ghost use Rattle.script_lex.specs.Spans.{span_token, is_span};
 ghost use Rattle.script_lex.specs.Lines.{lexed, or_rule, HasTokens};
 ghost use Rattle.script_lex.specs.Stop.{Gives};
 
 use crate::bytes::{are_printable, is_passed_over};
 use crate::front::{first_of, token_front};
-use crate::{Lexeme, LineStop, Token};
+use crate::{LineStop, Span, Token};
 use std::alloc::Global;
 
 /// The greatest number of bytes of a line, its end left out.
 const LINE_BYTES: usize = 1024;
 
-/// An empty list. Where there is memory, it has room for the tokens that a line of so many bytes mostly has.
-fn roomy_list<'a>(alloc: Global, bytes: usize) -> Vec<Lexeme<'a>>
-    ensures { result.items ≡ [] }
-{
-    match Vec::with_capacity(alloc, bytes / 3 + 1) {
-        Ok(list) => list,
-        Err(_) => Vec::new(alloc),
-    }
-}
-
 /// The tokens of printable bytes, or rule 4. Where a token finds no memory, those behind it are looked at all the same.
-fn lexemes_of(alloc: Global, line: &[u8]) -> Result<Vec<Lexeme<'_>>, LineStop>
-    requires { list_all is_printable line.now ≡ true }
-    ensures read { Gives (IsOk (or_rule 4 (tokens_from 0 line.now))) (λ found. map lexeme_token found.items) result (or_rule 4 (tokens_from 0 line.now)) }
-    ensures form { IfOk result (λ found. list_all is_lexeme found.items ≡ true) }
+fn spans_of(line: &[u8], found: &mut Vec<Span>) -> Result<(), LineStop>
+    requires short { length line.now ≤ 1024 }
+    requires printable { list_all is_printable line.now ≡ true }
+    requires empty { found.old.items ≡ [] }
+    ensures read { Gives (IsOk (or_rule 4 (tokens_from 0 line.now))) (λ _. map (span_token line.now) found.new.items) result (or_rule 4 (tokens_from 0 line.now)) }
+    ensures form { OnOk result (list_all (is_span line.now) found.new.items ≡ true) }
 {
-    let mut found = roomy_list(alloc, line.len());
+    // Most lines have fewer tokens, so their list is made at once. Where there is no memory, each token asks for its own.
+    let _ = found.reserve(line.len() / 3 + 1);
     let mut lacks = false;
     let mut rest = line;
     while let Some((first, after)) = first_of(rest) {
@@ -41,22 +34,25 @@ fn lexemes_of(alloc: Global, line: &[u8]) -> Result<Vec<Lexeme<'_>>, LineStop>
             let Some((lexeme, behind)) = token_front(rest) else {
                 return Err(LineStop::Rule(4));
             };
-            lacks |= found.push(lexeme).is_err();
+            let span = Span::of(line.len() - rest.len(), &lexeme);
+            lacks |= found.push(span).is_err();
             rest = behind;
         }
     }
     if lacks {
         return Err(LineStop::Memory);
     }
-    Ok(found)
+    Ok(())
 }
 
-/// The tokens of a line as they stand in it. It stops where `lex` does.
+/// The tokens of a line by where they stand in it. What the list had before is gone; its room stays, so where one list serves
+/// for many lines few of them take memory. It stops where `lex` does.
 #[tactic(auto, using(crate::proofs::Steps::line_facts))]
-pub fn lexemes(alloc: Global, line: &[u8]) -> Result<Vec<Lexeme<'_>>, LineStop>
-    ensures read { Gives (HasTokens line.now) (λ found. map lexeme_token found.items) result (lexed line.now) }
-    ensures form { IfOk result (λ found. list_all is_lexeme found.items ≡ true) }
+pub fn spans(line: &[u8], found: &mut Vec<Span>) -> Result<(), LineStop>
+    ensures read { Gives (HasTokens line.now) (λ _. map (span_token line.now) found.new.items) result (lexed line.now) }
+    ensures form { OnOk result (list_all (is_span line.now) found.new.items ≡ true) }
 {
+    found.clear();
     if line.len() > LINE_BYTES {
         return Err(LineStop::Rule(1));
     }
@@ -64,19 +60,19 @@ pub fn lexemes(alloc: Global, line: &[u8]) -> Result<Vec<Lexeme<'_>>, LineStop>
         return Err(LineStop::Rule(3));
     }
     if is_passed_over(line) {
-        return Ok(Vec::new(alloc));
+        return Ok(());
     }
-    lexemes_of(alloc, line)
+    spans_of(line, found)
 }
 
 /// The tokens, with bytes of their own.
-fn tokens_of(alloc: Global, found: &[Lexeme<'_>]) -> Result<Vec<Token>, LineStop>
-    requires { list_all is_lexeme found.now ≡ true }
-    ensures { Gives (found.now ≢ []) (λ tokens. tokens.items) result (Ok (map lexeme_token found.now)) }
+fn tokens_of(alloc: Global, line: &[u8], found: &[Span]) -> Result<Vec<Token>, LineStop>
+    requires { list_all (is_span line.now) found.now ≡ true }
+    ensures { Gives (found.now ≢ []) (λ tokens. tokens.items) result (Ok (map (span_token line.now) found.now)) }
 {
     let mut tokens = Vec::new(alloc);
-    for lexeme in found {
-        tokens.push(lexeme.token())?;
+    for span in found {
+        tokens.push(span.lexeme(line).token())?;
     }
     Ok(tokens)
 }
@@ -86,6 +82,7 @@ fn tokens_of(alloc: Global, found: &[Lexeme<'_>]) -> Result<Vec<Token>, LineStop
 pub fn lex(alloc: Global, line: &[u8]) -> Result<Vec<Token>, LineStop>
     ensures { Gives (HasTokens line.now) (λ tokens. tokens.items) result (lexed line.now) }
 {
-    let found = lexemes(alloc, line)?;
-    tokens_of(alloc, &found)
+    let mut found = Vec::new(alloc);
+    spans(line, &mut found)?;
+    tokens_of(alloc, line, &found)
 }

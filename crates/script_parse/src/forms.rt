@@ -1,12 +1,11 @@
 //! Lines as commands.
 ghost use Rattle.std.specs.Prelude.{◌≡◌, IsOk, IfOk};
-ghost use Rattle.script_lex.specs.Lines.{HasTokens};
 ghost use Rattle.script_lex.specs.Stop.{Gives};
 ghost use Rattle.script_words.specs.Reading.{whole};
 ghost use Rattle.script_words.specs.Readers.{Takes};
 ghost use Rattle.script_parse.specs.Named.{NamesColumn};
 ghost use Rattle.script_parse.specs.Heads.{row_of};
-ghost use Rattle.script_parse.specs.Parsed.{command_of, parsed, HasForm};
+ghost use Rattle.script_parse.specs.Parsed.{command_of, HasForm};
 
 use crate::Command;
 use crate::commands::{
@@ -17,7 +16,7 @@ use crate::commands::{
 use crate::declarations::declaration;
 use crate::heads::{Head, head_of};
 use crate::procedures::proc_line;
-use script_lex::{LineStop, lexemes};
+use script_lex::LineStop;
 use script_words::Reader;
 use std::alloc::Global;
 
@@ -77,15 +76,4 @@ pub(crate) fn command_of(alloc: Global, tokens: &mut Reader<'_>) -> Result<Comma
         return Err(LineStop::Rule(5));
     };
     form(alloc, head, tokens)
-}
-
-/// The command that a line is, which has no end of line in it. It stops at the first of the rules 1, 3, 4, 5 and 6 that
-/// the line breaks. Want of memory is answered only where the line has tokens, that is, where it breaks none of the rules 1, 3
-/// and 4 and isn't passed over. A declared group or constraint names a column.
-pub fn parse_line(alloc: Global, line: &[u8]) -> Result<Command, LineStop>
-    ensures read { Gives (HasTokens line.now) (λ command. command) result (parsed line.now) }
-    ensures named { IfOk result NamesColumn }
-{
-    let found = lexemes(alloc, line)?;
-    command_of(alloc, &mut Reader::of(&found))
 }

@@ -167,8 +167,8 @@ fn heads_at(first: u8) -> &'static [(&'static [u8], Head)]
 }
 
 /// The command word that the token is, if it is one.
-pub fn head_of(lexeme: &Lexeme<'_>) -> Option<Head>
-    ensures { result ≡ choice_of heads (lexeme_token lexeme.now) }
+pub fn head_of(lexeme: Lexeme<'_>) -> Option<Head>
+    ensures { result ≡ choice_of heads (lexeme_token lexeme.entry) }
 {
     match lexeme {
         Lexeme::Word(bytes) => match bytes.split_first() {

@@ -10,6 +10,7 @@ mod declarations;
 mod forms;
 mod heads;
 mod laws;
+mod line_parser;
 mod live_lines;
 mod methods;
 mod parts;
@@ -17,7 +18,7 @@ mod proc_line;
 mod procedures;
 
 pub use command::{Command, Link, ParentWords, Refresh, Shown, TestWords};
-pub use forms::parse_line;
 pub use laws::{form_laws, live_line_laws};
-pub use live_lines::{LiveCommand, parse_live};
+pub use line_parser::{LineParser, parse_line, parse_live};
+pub use live_lines::LiveCommand;
 pub use proc_line::{ActionWords, CallWords, ProcLine};

@@ -1,18 +1,17 @@
 //! Lines of scripts with live parts: three forms more.
 ghost use Rattle.std.specs.Prelude.{IfOk};
-ghost use Rattle.script_lex.specs.Lines.{HasTokens};
 ghost use Rattle.script_lex.specs.Stop.{Gives, GivesExactly};
 ghost use Rattle.script_words.specs.Reading.{whole};
 ghost use Rattle.script_words.specs.Parts.{choice};
 ghost use Rattle.script_words.specs.Readers.{ReadsExactly};
 ghost use Rattle.script_parse.specs.Parsed.{HasForm};
-ghost use Rattle.script_parse.specs.LiveLines.{live_heads, live_row_of, live_row, live_command_of, live_parsed, LiveNamesColumn};
+ghost use Rattle.script_parse.specs.LiveLines.{live_heads, live_row_of, live_row, live_command_of, LiveNamesColumn};
 
 use crate::Command;
 use crate::forms::command_of;
 use crate::parts::site;
 use rep_values::SiteName;
-use script_lex::{BrokenRule, LineStop, lexemes};
+use script_lex::{BrokenRule, LineStop};
 use script_words::Reader;
 use std::alloc::Global;
 
@@ -82,7 +81,10 @@ fn live_form(tokens: &mut Reader<'_>) -> Result<LiveCommand, BrokenRule>
 
 /// The command that the tokens are.
 #[tactic(auto, unfolding(crate::specs::LiveLines::live_command_of))]
-fn live_command_of(alloc: Global, tokens: &mut Reader<'_>) -> Result<LiveCommand, LineStop>
+pub(crate) fn live_command_of(
+    alloc: Global,
+    tokens: &mut Reader<'_>,
+) -> Result<LiveCommand, LineStop>
     ensures read { Gives (HasForm tokens.old) (λ command. command) result (live_command_of tokens.old) }
     ensures named { IfOk result LiveNamesColumn }
 {
@@ -90,15 +92,4 @@ fn live_command_of(alloc: Global, tokens: &mut Reader<'_>) -> Result<LiveCommand
         return Ok(live_form(tokens)?);
     }
     Ok(LiveCommand::Plain(command_of(alloc, tokens)?))
-}
-
-/// The command that a line of a script with live parts is; the line has no end of line in it. Where one of the words `live`,
-/// `session` and `end` is in front, it is the command of that form, or breaks rule 6; every other line is read as `parse_line`
-/// reads it. Want of memory is answered only where the line has tokens. A declared group or constraint names a column.
-pub fn parse_live(alloc: Global, line: &[u8]) -> Result<LiveCommand, LineStop>
-    ensures read { Gives (HasTokens line.now) (λ command. command) result (live_parsed line.now) }
-    ensures named { IfOk result LiveNamesColumn }
-{
-    let found = lexemes(alloc, line)?;
-    live_command_of(alloc, &mut Reader::of(&found))
 }

@@ -19,8 +19,8 @@ fn chosen<T: Copy>(table: &[(&[u8], T)], written: &[u8]) -> Option<T>
 }
 
 /// What stands beside the word or the symbol that the token is.
-pub fn choice_of<T: Copy>(table: &[(&[u8], T)], lexeme: &Lexeme<'_>) -> Option<T>
-    ensures { result ≡ choice_of (entries table.now) (lexeme_token lexeme.now) }
+pub fn choice_of<T: Copy>(table: &[(&[u8], T)], lexeme: Lexeme<'_>) -> Option<T>
+    ensures { result ≡ choice_of (entries table.now) (lexeme_token lexeme.entry) }
 {
     match lexeme {
         Lexeme::Word(bytes) => chosen(table, bytes),

@@ -3,6 +3,7 @@ ghost use Rattle.std.specs.Prelude.{◌≡◌, true, [], ◌∷◌, MatchOption,
 ghost use Rattle.std.specs.List.{list_all};
 ghost use Rattle.std.specs.Option.{option_map};
 ghost use Rattle.script_lex.specs.Lexemes.{lexeme_token, is_lexeme};
+ghost use Rattle.script_lex.specs.Spans.{span_token, is_span};
 ghost use Rattle.script_lex.specs.Stop.{GivesExactly};
 ghost use Rattle.script_words.specs.Words.{entries, is_named, is_valued, is_chosen};
 ghost use Rattle.script_words.specs.Reading.{front_of, begins, at, mark, ended};
@@ -12,43 +13,47 @@ ghost use Rattle.script_words.specs.Readers.{ReadsExactly, PassesExactly, Passes
 use crate::chosen::choice_of;
 use crate::words::{is_mark, is_value, name_of, number_of, value_of, whole_of};
 use rep_values::{Literal, Name};
-use script_lex::{BrokenRule, Lexeme};
+use script_lex::{BrokenRule, Lexeme, Span};
 use std::marker::Model;
 
-/// The tokens that are left. A call that stops at rule 6 leaves the line without a form, and is the last one on it.
+/// The tokens of a line that are left. A call that stops at rule 6 leaves the line without a form, and is the last one on it.
 #[derive(Drop)]
 pub struct Reader<'a> {
-    left: &'a [Lexeme<'a>],
+    line: &'a [u8],
+    left: &'a [Span],
 }
 
 impl<'a> Model for Reader<'a> {
     ghost use Rattle.std.specs.Prelude.{◌≡◌, true, List, map};
     ghost use Rattle.std.specs.List.{list_all};
     ghost use Rattle.script_lex.specs.declared.token.Token.{Token};
-    ghost use Rattle.script_lex.specs.Lexemes.{lexeme_token, is_lexeme};
+    ghost use Rattle.script_lex.specs.Spans.{span_token, is_span};
 
     ghost Value = { List Token };
 
-    ghost view = { λ r. map lexeme_token r.left.now };
+    ghost view = { λ r. map (span_token r.line.now) r.left.now };
 
-    ghost invariant = { λ r. list_all is_lexeme r.left.now ≡ true };
+    ghost invariant = { λ r. list_all (is_span r.line.now) r.left.now ≡ true };
 }
 
 impl<'a> Reader<'a> {
-    /// A reader of these tokens.
-    pub fn of(left: &'a [Lexeme<'a>]) -> Reader<'a>
-        requires { list_all is_lexeme left.now ≡ true }
-        ensures { result ≡ map lexeme_token left.now }
+    /// A reader of these tokens of the line.
+    pub fn of(line: &'a [u8], left: &'a [Span]) -> Reader<'a>
+        requires { list_all (is_span line.now) left.now ≡ true }
+        ensures { result ≡ map (span_token line.now) left.now }
     {
-        Reader { left }
+        Reader { line, left }
     }
 
     /// The next token, if there is one.
-    fn peek(&self) -> Option<&'a Lexeme<'a>>
-        ensures value { option_map (λ lexeme. lexeme_token lexeme.now) result ≡ front_of self.now }
-        ensures form { IfSome result (λ lexeme. is_lexeme lexeme.now ≡ true) }
+    fn peek(&self) -> Option<Lexeme<'a>>
+        ensures value { option_map lexeme_token result ≡ front_of self.now }
+        ensures form { IfSome result (λ lexeme. is_lexeme lexeme ≡ true) }
     {
-        self.left.first()
+        match self.left.first() {
+            Some(span) => Some(span.lexeme(self.line)),
+            None => None,
+        }
     }
 
     /// Passes over the next token, if there is one.
@@ -59,9 +64,9 @@ impl<'a> Reader<'a> {
     }
 
     /// Takes the next token, if there is one.
-    pub fn next(&mut self) -> Option<&'a Lexeme<'a>>
-        ensures value { MatchOption result (self.old ≡ []) (λ lexeme. self.old ≡ lexeme_token lexeme.now ∷ self.new) }
-        ensures form { IfSome result (λ lexeme. is_lexeme lexeme.now ≡ true) }
+    pub fn next(&mut self) -> Option<Lexeme<'a>>
+        ensures value { MatchOption result (self.old ≡ []) (λ lexeme. self.old ≡ lexeme_token lexeme ∷ self.new) }
+        ensures form { IfSome result (λ lexeme. is_lexeme lexeme ≡ true) }
     {
         let first = self.peek();
         self.skip();

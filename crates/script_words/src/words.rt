@@ -11,8 +11,8 @@ use rep_values::{Literal, Name, Text};
 use script_lex::{BrokenRule, Lexeme};
 
 /// NAME
-pub fn name_of(lexeme: &Lexeme<'_>) -> Option<Name>
-    ensures { result ≡ name_of (lexeme_token lexeme.now) }
+pub fn name_of(lexeme: Lexeme<'_>) -> Option<Name>
+    ensures { result ≡ name_of (lexeme_token lexeme.entry) }
 {
     match lexeme {
         Lexeme::Word(bytes) => Name::of(bytes),
@@ -21,10 +21,10 @@ pub fn name_of(lexeme: &Lexeme<'_>) -> Option<Name>
 }
 
 /// WHOLE
-pub fn whole_of(lexeme: &Lexeme<'_>) -> Option<u64>
-    ensures { result ≡ whole_of (lexeme_token lexeme.now) }
+pub fn whole_of(lexeme: Lexeme<'_>) -> Option<u64>
+    ensures { result ≡ whole_of (lexeme_token lexeme.entry) }
 {
-    match *lexeme {
+    match lexeme {
         Lexeme::Number { minus: false, size } => Some(size),
         Lexeme::Number { minus: true, .. } => None,
         Lexeme::Word(_) | Lexeme::Words(_) | Lexeme::Symbol(_) => None,
@@ -43,10 +43,10 @@ fn signed(minus: bool, size: u64) -> Option<i64>
 }
 
 /// A number.
-pub fn number_of(lexeme: &Lexeme<'_>) -> Option<i64>
-    ensures { result ≡ number_of (lexeme_token lexeme.now) }
+pub fn number_of(lexeme: Lexeme<'_>) -> Option<i64>
+    ensures { result ≡ number_of (lexeme_token lexeme.entry) }
 {
-    match *lexeme {
+    match lexeme {
         Lexeme::Number { minus, size } => signed(minus, size),
         Lexeme::Word(_) | Lexeme::Words(_) | Lexeme::Symbol(_) => None,
     }
@@ -74,11 +74,11 @@ fn num_of(minus: bool, size: u64) -> Result<Literal, BrokenRule>
 }
 
 /// VALUE, or rule 6.
-pub fn value_of(lexeme: &Lexeme<'_>) -> Result<Literal, BrokenRule>
-    requires { is_lexeme lexeme.now ≡ true }
-    ensures { IsTakenFor (value_of (lexeme_token lexeme.now)) result }
+pub fn value_of(lexeme: Lexeme<'_>) -> Result<Literal, BrokenRule>
+    requires { is_lexeme lexeme ≡ true }
+    ensures { IsTakenFor (value_of (lexeme_token lexeme.entry)) result }
 {
-    match *lexeme {
+    match lexeme {
         Lexeme::Number { minus, size } => num_of(minus, size),
         Lexeme::Words(bytes) => words_of(bytes),
         Lexeme::Word(_) | Lexeme::Symbol(_) => Err(BrokenRule(6)),
@@ -86,10 +86,10 @@ pub fn value_of(lexeme: &Lexeme<'_>) -> Result<Literal, BrokenRule>
 }
 
 /// Whether the token is a VALUE.
-pub fn is_value(lexeme: &Lexeme<'_>) -> bool
-    ensures { result ≡ is_valued (lexeme_token lexeme.now) }
+pub fn is_value(lexeme: Lexeme<'_>) -> bool
+    ensures { result ≡ is_valued (lexeme_token lexeme.entry) }
 {
-    match *lexeme {
+    match lexeme {
         Lexeme::Number { size, .. } => size <= i64::MAX as u64,
         Lexeme::Words(_) => true,
         Lexeme::Word(_) | Lexeme::Symbol(_) => false,
@@ -112,8 +112,8 @@ pub fn is_same(word: &[u8], written: &[u8]) -> bool
 }
 
 /// Whether the token is the word or the symbol that is written so.
-pub fn is_mark(lexeme: &Lexeme<'_>, mark: &[u8]) -> bool
-    ensures { result ≡ is_mark mark.now (lexeme_token lexeme.now) }
+pub fn is_mark(lexeme: Lexeme<'_>, mark: &[u8]) -> bool
+    ensures { result ≡ is_mark mark.now (lexeme_token lexeme.entry) }
 {
     match lexeme {
         Lexeme::Word(bytes) => is_same(mark, bytes),

@@ -1,0 +1,7 @@
+-- The command of the tokens is the line's.
+use Rattle.script_parse.specs.LiveLines.{live_command_of}
+use Rattle.script_parse.proofs.ParsedLines.{line_gives}
+use Rattle.script_parse.proofs.line_parser.LineParser.parse_live.Goals as goal
+
+pub returns-clause-read : goal.returns-clause-read
+returns-clause-read c = line_gives live_command_of c.args.line.now c.of.result c.live_command_of.result (rw (c.of.ensures, c.deref.ensures.value) c.in_ok-spans.ensures.read) c.live_command_of.ensures.read
