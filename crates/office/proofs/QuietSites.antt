@@ -1,5 +1,5 @@
 -- Sites at which nothing is ready.
-use Rattle.std.proofs.Common.{◌≡◌, ℕ, zero, suc, ◌+◌, ◌<◌, ◌≤◌, List, [], ◌∷◌, length, map, Bool, true, false, cond, Some, None, refl, subst, arith}
+use Rattle.std.proofs.Common.{◌≡◌, ℕ, suc, ◌+◌, ◌<◌, ◌≤◌, List, [], ◌∷◌, length, map, Bool, true, false, cond, Some, None, refl, subst, arith}
 use Rattle.std.specs.Prelude.{Option, ◌&&◌, nat_lt, is_some, is_none, slice_get}
 use Rattle.std.specs.List.{AllByRecursion}
 use Rattle.std.specs.declared.cmp.Ordering.{Ordering}
@@ -9,12 +9,11 @@ use Rattle.rep_lists.specs.Rising.{find_at, found_here}
 use Rattle.rep_values.specs.declared.name.SiteName.{SiteName}
 use Rattle.deferred_queue.specs.Streams.{is_same_site}
 use Rattle.deferred_queue.proofs.Sites.{is_same_site-true}
-use Rattle.site_state.specs.declared.answers.Why.{Why}
 use Rattle.site_state.specs.declared.answers.Why.TheVariants as why
 use Rattle.site_state.specs.declared.arrival.Arrival.{Arrival}
-use Rattle.site_state.specs.State.{SenderState, SiteState, sender_of, beside, arrived_in, arrived_at, arrivals}
+use Rattle.site_state.specs.State.{SenderState, SiteState, sender_of, beside, arrived_at, arrivals}
 use Rattle.site_state.specs.Journal.{finished}
-use Rattle.site_state.specs.Ready.{stale_found, is_ready, first_ready, first_ready_in}
+use Rattle.site_state.specs.Ready.{is_ready, first_ready, first_ready_in}
 use Rattle.site_state.proofs.Stepping.{arrived_has}
 use Rattle.office.specs.Working.{IsQuiet}
 

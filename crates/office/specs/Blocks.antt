@@ -1,5 +1,5 @@
 -- The statements that the lines of a text are.
-use Rattle.std.specs.Prelude.{◌≡◌, ℕ, Bool, true, false, List, [], ◌∷◌, Option, Some, None, Result, Ok, Err}
+use Rattle.std.specs.Prelude.{◌≡◌, ℕ, Bool, true, false, List, Option, Some, None, Result, Ok, Err}
 use Rattle.std.specs.List.{filter_map, AllByRecursion}
 use Rattle.rep_calls.specs.declared.statement.Statement.{Statement}
 use Rattle.script_parse.specs.declared.command.Command.{Command}
