@@ -1,4 +1,5 @@
 -- The lemmas of this crate, from the bottom up.
 mod Above
 mod Greatest
+mod RisingPasts
 mod Keeping
