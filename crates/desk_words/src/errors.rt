@@ -79,7 +79,7 @@ impl fmt::Display for ErrorNote {
         } = self;
         write!(
             f,
-            "at {site} transaction {position} of {origin} failed at its call {call}, and nothing of it is done there: {error}. To put it right, "
+            "at {site} position {position} of {origin} failed at its call {call}, and nothing of it is done there: {error}. To put it right, "
         )?;
         put_remedy(f, error)?;
         f.write_str(", and say ")?;

@@ -76,7 +76,7 @@ fn put_advice<W: fmt::Write>(
     }
 }
 
-impl fmt::Display for RefusalNote<'_> {
+impl<'a> fmt::Display for RefusalNote<'a> {
     fn fmt<W: fmt::Write>(&self, f: &mut fmt::Formatter<W>) -> fmt::Result {
         write!(f, "{}: ", self.refusal)?;
         put_advice(f, self.command, &self.refusal)

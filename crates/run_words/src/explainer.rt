@@ -134,12 +134,10 @@ impl Explainer {
 
     /// What a push is about to send.
     fn planned(&mut self, alloc: Global, command: &Command) -> Result<Option<Plan>, NoMemory> {
-        match command {
-            Command::Push { from, to, count } => {
-                plan(alloc, &self.world, &mut self.ways, from, to, *count)
-            }
-            _ => Ok(None),
+        if let Command::Push { from, to, count } = command {
+            return plan(alloc, &self.world, &mut self.ways, from, to, *count);
         }
+        Ok(None)
     }
 
     fn done(&mut self, alloc: Global, number: u32, command: &Command) -> Result<(), NoMemory> {
@@ -162,24 +160,24 @@ impl Explainer {
         bytes: &[u8],
         text: &mut String,
     ) -> Result<(), NoMemory> {
-        match command {
-            Command::Push { to, .. } => self.add_push(alloc, Stream::Rows, to, plan, bytes, text),
-            Command::Procedures(ProcLine::Push { to, .. }) => {
-                self.add_push(alloc, Stream::Calls, to, None, bytes, text)
-            }
-            Command::Commit | Command::Procedures(ProcLine::Send { .. }) => {
-                add_report(text, bytes)?;
-                add_nothing_done(bytes, text)
-            }
-            Command::Refresh {
-                how: Refresh::Force,
-                ..
-            } => {
-                add_report(text, bytes)?;
-                add_forced(bytes, text)
-            }
-            _ => add_report(text, bytes),
+        if let Command::Push { to, .. } = command {
+            return self.add_push(alloc, Stream::Rows, to, plan, bytes, text);
         }
+        if let Command::Procedures(ProcLine::Push { to, .. }) = command {
+            return self.add_push(alloc, Stream::Calls, to, None, bytes, text);
+        }
+        add_report(text, bytes)?;
+        if let Command::Commit | Command::Procedures(ProcLine::Send { .. }) = command {
+            add_nothing_done(bytes, text)?;
+        }
+        if let Command::Refresh {
+            how: Refresh::Force,
+            ..
+        } = command
+        {
+            add_forced(bytes, text)?;
+        }
+        Ok(())
     }
 
     /// Appends the line of a push and those of its errors.
@@ -355,19 +353,23 @@ impl Explainer {
                 refusal: refused.refusal,
             },
         )?;
-        match command {
-            Command::Execute {
-                site,
-                origin,
-                position,
-            } => self.add_error(alloc, Stream::Rows, site, origin, *position, text),
-            Command::Procedures(ProcLine::Execute {
-                site,
-                origin,
-                position,
-            }) => self.add_error(alloc, Stream::Calls, site, origin, *position, text),
-            _ => Ok(()),
+        if let Command::Execute {
+            site,
+            origin,
+            position,
+        } = command
+        {
+            self.add_error(alloc, Stream::Rows, site, origin, *position, text)?;
         }
+        if let Command::Procedures(ProcLine::Execute {
+            site,
+            origin,
+            position,
+        }) = command
+        {
+            self.add_error(alloc, Stream::Calls, site, origin, *position, text)?;
+        }
+        Ok(())
     }
 }
 
@@ -389,14 +391,9 @@ fn add_malformed(
     Ok(())
 }
 
-/// Whether some bytes stand in others.
-fn ends_with_none(bytes: &[u8]) -> bool {
-    bytes.ends_with(b" none\n")
-}
-
 /// Appends why a block has no number.
 fn add_nothing_done(bytes: &[u8], text: &mut String) -> Result<(), NoMemory> {
-    if ends_with_none(bytes) {
+    if bytes.ends_with(b" none\n") {
         add_note(
             text,
             &format_args!("the block changed nothing, so it is no transaction, and nothing is queued"),
@@ -407,7 +404,8 @@ fn add_nothing_done(bytes: &[u8], text: &mut String) -> Result<(), NoMemory> {
 
 /// Appends why a refresh was made by all rows.
 fn add_forced(bytes: &[u8], text: &mut String) -> Result<(), NoMemory> {
-    if bytes.windows(10).any(|word| word == b" complete ".as_slice()) {
+    let mut words = bytes.split(|byte| *byte == b' ').skip(2);
+    if words.next() == Some(b"complete".as_slice()) {
         add_note(
             text,
             &format_args!("the log doesn't reach back to the last refresh, so all rows were looked at"),

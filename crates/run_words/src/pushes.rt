@@ -29,33 +29,37 @@ enum State<'a> {
     Held(u64),
     /// It didn't arrive, and this push says no reason.
     Missing(u64),
-    /// It waits for an earlier position of its own stream.
-    Behind { position: u64, dep: u64 },
+    /// It waits for earlier positions of its own stream: all up to one, of which this is the first.
+    Behind { position: u64, first: u64, dep: u64 },
     /// It waits for a transaction of another master.
     After { position: u64, past: &'a Past },
     /// It arrived, and isn't finished.
     Waits(u64),
 }
 
-impl fmt::Display for State<'_> {
+impl<'a> fmt::Display for State<'a> {
     fn fmt<W: fmt::Write>(&self, f: &mut fmt::Formatter<W>) -> fmt::Result {
         match self {
-            State::Lost(position) => write!(f, "transaction {position} was lost: push again"),
+            State::Lost(position) => write!(f, "position {position} was lost: push again"),
             State::Held(position) => write!(
                 f,
-                "transaction {position} is held until the next push between the two sites, in either direction"
+                "position {position} is held until the next push between the two sites, in either direction"
             ),
-            State::Missing(position) => write!(f, "transaction {position} didn't arrive: push again"),
-            State::Behind { position, dep } => write!(
+            State::Missing(position) => write!(f, "position {position} didn't arrive: push again"),
+            State::Behind {
+                position,
+                first,
+                dep,
+            } => write!(
                 f,
-                "transaction {position} waits for transaction {dep} of the same sender"
+                "position {position} waits for all up to position {dep} of its sender, of which {first} isn't finished"
             ),
             State::After { position, past } => write!(
                 f,
-                "transaction {position} waits for transaction {} of {}, which its sender had seen before",
+                "position {position} waits for transaction {} of {}, which its sender had seen before",
                 past.number, past.origin
             ),
-            State::Waits(position) => write!(f, "transaction {position} waits"),
+            State::Waits(position) => write!(f, "position {position} arrived, and waits"),
         }
     }
 }
@@ -129,9 +133,11 @@ fn state_of<'a>(
             Fate::Pass | Fate::Twice => State::Missing(position),
         });
     };
-    if arrival.dep > 0 && !site.is_finished(from, arrival.dep) {
+    let mark = site.mark(from);
+    if arrival.dep > mark {
         return Some(State::Behind {
             position,
+            first: mark.saturating_add(1),
             dep: arrival.dep,
         });
     }

@@ -11,7 +11,7 @@ const SHOWN_BYTES: usize = 200;
 /// A value as scripts write it.
 pub struct ValueText<'a>(pub &'a Value);
 
-impl fmt::Display for ValueText<'_> {
+impl<'a> fmt::Display for ValueText<'a> {
     fn fmt<W: fmt::Write>(&self, f: &mut fmt::Formatter<W>) -> fmt::Result {
         match self.0 {
             Value::Num(number) => fmt::Display::fmt(number, f),
@@ -29,7 +29,7 @@ impl fmt::Display for ValueText<'_> {
 /// Values behind one another, a space between two.
 pub struct ValuesText<'a>(pub &'a [Value]);
 
-impl fmt::Display for ValuesText<'_> {
+impl<'a> fmt::Display for ValuesText<'a> {
     fn fmt<W: fmt::Write>(&self, f: &mut fmt::Formatter<W>) -> fmt::Result {
         let mut first = true;
         for value in self.0 {
@@ -46,7 +46,7 @@ impl fmt::Display for ValuesText<'_> {
 /// A line of a script as it can be shown: 200 bytes at most, and `?` for a byte that isn't printable.
 pub struct LineText<'a>(pub &'a [u8]);
 
-impl fmt::Display for LineText<'_> {
+impl<'a> fmt::Display for LineText<'a> {
     fn fmt<W: fmt::Write>(&self, f: &mut fmt::Formatter<W>) -> fmt::Result {
         for byte in self.0.iter().take(SHOWN_BYTES) {
             let shown = if byte.is_ascii_graphic() || *byte == b' ' {

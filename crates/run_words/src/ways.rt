@@ -76,28 +76,25 @@ impl Ways {
 
     /// What a line that was done says of directions.
     pub fn done(&mut self, alloc: Global, command: &Command) -> Result<(), NoMemory> {
-        match command {
-            Command::Link { from, to, link } => {
-                let place = self.place_for(alloc, from, to)?;
-                if let Some(way) = self.ways.get_mut(place) {
-                    way.is_up = *link == Link::Up;
+        if let Command::Link { from, to, link } = command {
+            let place = self.place_for(alloc, from, to)?;
+            if let Some(way) = self.ways.get_mut(place) {
+                way.is_up = *link == Link::Up;
+            }
+        }
+        if let Command::Fates { from, to, fates } = command {
+            let place = self.place_for(alloc, from, to)?;
+            if let Some(way) = self.ways.get_mut(place) {
+                for fate in fates.as_slice() {
+                    way.fates.push_back(*fate)?;
                 }
             }
-            Command::Fates { from, to, fates } => {
-                let place = self.place_for(alloc, from, to)?;
-                if let Some(way) = self.ways.get_mut(place) {
-                    for fate in fates.as_slice() {
-                        way.fates.push_back(*fate)?;
-                    }
-                }
+        }
+        if let Command::ClearFates { from, to } = command {
+            let place = self.place_for(alloc, from, to)?;
+            if let Some(way) = self.ways.get_mut(place) {
+                way.fates.clear();
             }
-            Command::ClearFates { from, to } => {
-                let place = self.place_for(alloc, from, to)?;
-                if let Some(way) = self.ways.get_mut(place) {
-                    way.fates.clear();
-                }
-            }
-            _ => {}
         }
         Ok(())
     }

@@ -95,7 +95,7 @@ fn put_ungrouped<W: fmt::Write>(
     Ok(())
 }
 
-impl RemarkText<'_> {
+impl<'a> RemarkText<'a> {
     fn group_name(&self, place: u32) -> Option<&Name> {
         let group = self.table.groups.as_slice().get(place as usize)?;
         Some(&group.name)
@@ -138,7 +138,7 @@ impl RemarkText<'_> {
     }
 }
 
-impl fmt::Display for RemarkText<'_> {
+impl<'a> fmt::Display for RemarkText<'a> {
     fn fmt<W: fmt::Write>(&self, f: &mut fmt::Formatter<W>) -> fmt::Result {
         let table = &self.table.name.0;
         match &self.remark {

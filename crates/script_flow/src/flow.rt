@@ -1,7 +1,7 @@
 //! Where a script stands, as far as its lines were done.
 
 use crate::Cause;
-use rep_declare::{Declare, table_shaped};
+use rep_declare::table_shaped;
 use rep_lists::NoMemory;
 use rep_values::TableName;
 use script_parse::{Command, ProcLine};
@@ -76,10 +76,10 @@ fn place_of(command: &Command) -> Place {
 
 /// The table whose shape a command would change.
 fn shaped(command: &Command) -> Option<TableName> {
-    match command {
-        Command::Declare(declaration) => table_shaped(declaration),
-        _ => None,
+    if let Command::Declare(declaration) = command {
+        return table_shaped(declaration);
     }
+    None
 }
 
 impl Flow {
@@ -190,25 +190,35 @@ impl Flow {
 
     /// A command was done.
     pub fn done(&mut self, line: u32, command: &Command) -> Result<(), NoMemory> {
-        match command {
-            Command::Row { table, .. } => {
-                if self.first_row(table).is_none() {
-                    self.rows.push((*table, line))?;
-                }
+        if let Command::Row { table, .. } = command {
+            if self.first_row(table).is_none() {
+                self.rows.push((*table, line))?;
             }
-            Command::Resume => {
-                self.resumed = Some(self.resumed.unwrap_or(line));
-                self.suspended = None;
-            }
-            Command::Suspend => self.suspended = Some(line),
-            Command::Txn { .. } => self.open(Block::Statements(line)),
-            Command::Procedures(ProcLine::Calls { .. }) => self.open(Block::Calls(line)),
-            Command::Commit
-            | Command::Abandon
-            | Command::Procedures(ProcLine::Send { .. }) => self.block = None,
-            _ => {}
         }
+        if let Command::Resume = command {
+            self.resumed = Some(self.resumed.unwrap_or(line));
+            self.suspended = None;
+        }
+        if let Command::Suspend = command {
+            self.suspended = Some(line);
+        }
+        self.follow_block(line, command);
         Ok(())
+    }
+
+    /// What a command that was done makes of the block.
+    fn follow_block(&mut self, line: u32, command: &Command) {
+        if let Command::Txn { .. } = command {
+            self.open(Block::Statements(line));
+        }
+        if let Command::Procedures(ProcLine::Calls { .. }) = command {
+            self.open(Block::Calls(line));
+        }
+        if let Command::Commit | Command::Abandon | Command::Procedures(ProcLine::Send { .. }) =
+            command
+        {
+            self.block = None;
+        }
     }
 
     fn open(&mut self, block: Block) {

@@ -69,14 +69,14 @@ fn columns(schema: &Schema, name: &TableName, names: &[Name]) -> Option<Named> {
 }
 
 /// The first column of the tests that the table doesn't have, or the table's name where there is no such table.
-fn tests(schema: &Schema, name: &TableName, tests: &Option<Items<TestWords>>) -> Option<Named> {
+fn tests(schema: &Schema, name: &TableName, words: &Option<Items<TestWords>>) -> Option<Named> {
     let Some(entry) = find_table(schema.tables.as_slice(), name) else {
         return table(schema, name);
     };
-    let Some(tests) = tests else {
+    let Some(words) = words else {
         return None;
     };
-    for test in tests.as_slice() {
+    for test in words.as_slice() {
         let named = column(entry, &test.column);
         if named.is_some() {
             return named;
@@ -85,29 +85,29 @@ fn tests(schema: &Schema, name: &TableName, tests: &Option<Items<TestWords>>) ->
     None
 }
 
-fn group(schema: &Schema, name: &TableName, group: &Name) -> Option<Named> {
+fn group(schema: &Schema, name: &TableName, own: &Name) -> Option<Named> {
     let Some(entry) = find_table(schema.tables.as_slice(), name) else {
         return table(schema, name);
     };
-    match find_group(entry.groups.as_slice(), group) {
+    match find_group(entry.groups.as_slice(), own) {
         Some(_) => None,
         None => Some(Named {
             of: NameOf::Group,
-            name: *group,
+            name: *own,
         }),
     }
 }
 
-fn constraint(schema: &Schema, name: &TableName, constraint: &Name) -> Option<Named> {
+fn constraint(schema: &Schema, name: &TableName, own: &Name) -> Option<Named> {
     let Some(entry) = find_table(schema.tables.as_slice(), name) else {
         return table(schema, name);
     };
-    if is_key_name(constraint) || find_constraint(entry.constraints.as_slice(), constraint).is_some() {
+    if is_key_name(own) || find_constraint(entry.constraints.as_slice(), own).is_some() {
         return None;
     }
     Some(Named {
         of: NameOf::Constraint,
-        name: *constraint,
+        name: *own,
     })
 }
 
@@ -243,8 +243,8 @@ pub fn unknown(schema: &Schema, command: &Command) -> Option<Named> {
             site: name,
             table,
             parent,
-            tests,
-        } => site(schema, name).or(unknown_in_snapshot(schema, table, parent, tests)),
+            tests: words,
+        } => site(schema, name).or(unknown_in_snapshot(schema, table, parent, words)),
         Command::Row { table: name, .. } => table(schema, name),
         Command::Statement(statement) => unknown_in_statement(schema, statement),
         Command::Txn { site: name }

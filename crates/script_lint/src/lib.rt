@@ -1,11 +1,9 @@
 //! A script read to its end, and all that is found in it.
 #![tactic(auto)]
 
-mod ending;
 mod finding;
 mod lint;
 mod linter;
-mod parts;
 
 pub use finding::{Finding, Level, Told};
 pub use lint::{Findings, lint};

@@ -1,4 +1,11 @@
 //! A script that is looked at line by line.
+ghost use Rattle.std.specs.Prelude.{◌≡◌, [], IfOk, OnOk};
+ghost use Rattle.script_parse.specs.Named.{NamesColumn};
+ghost use Rattle.world_state.specs.World.{first_world};
+ghost use Rattle.script_lint.specs.Answers.{TakesLine, Steps, with_answer};
+
+mod ending;
+mod parts;
 
 use crate::{Finding, Level, Told};
 use line_advice::{LineError, Mistake, read_line};
@@ -9,6 +16,7 @@ use rep_values::{Refusal, SiteName};
 use script_flow::{Cause, Flow, Spots, column_of, first_word, unknown};
 use script_parse::{Command, LineParser, ProcLine};
 use std::alloc::Global;
+use std::marker::Model;
 use std::mem;
 use world_run::World;
 use world_state::Refused;
@@ -39,21 +47,36 @@ struct Pending {
 /// The world of a script so far, and what was found in its lines.
 #[derive(Drop)]
 pub struct Linter {
-    pub(crate) world: World,
+    world: World,
     parser: LineParser,
-    pub(crate) schema: Schema,
-    pub(crate) flow: Flow,
-    pub(crate) spots: Spots,
+    schema: Schema,
+    flow: Flow,
+    spots: Spots,
     pending: Vec<Pending>,
-    pub(crate) pushes: Vec<(SiteName, SiteName)>,
-    pub(crate) shows: bool,
-    pub(crate) answers: Vec<Answer>,
-    pub(crate) findings: Vec<Finding>,
+    pushes: Vec<(SiteName, SiteName)>,
+    shows: bool,
+    answers: Vec<Answer>,
+    findings: Vec<Finding>,
+}
+
+impl Model for Linter {
+    ghost use Rattle.std.specs.Prelude.{◌≡◌, None};
+    ghost use Rattle.rep_schema.specs.Shape.{HasShape};
+    ghost use Rattle.script_lint.specs.Answers.{Checked};
+
+    ghost Value = { Checked };
+
+    ghost view = { λ l. record { world = l.world.world; answers = l.answers.items } };
+
+    ghost invariant = { λ l. (l.world.lent ≡ None) × HasShape l.schema };
 }
 
 impl Linter {
     /// No line yet.
-    pub fn make(alloc: Global) -> Result<Linter, NoMemory> {
+    pub fn make(alloc: Global) -> Result<Linter, NoMemory>
+        ensures world { IfOk result (λ linter. linter.world ≡ first_world) }
+        ensures answers { IfOk result (λ linter. linter.answers ≡ []) }
+    {
         Ok(Linter {
             world: World::make(alloc)?,
             parser: LineParser::new(alloc),
@@ -69,7 +92,9 @@ impl Linter {
     }
 
     /// Looks at the line of a number: it is done, or what the engine says of it is kept and told.
-    pub fn take_line(&mut self, alloc: Global, number: u32, line: &[u8]) -> Result<(), NoMemory> {
+    pub fn take_line(&mut self, alloc: Global, number: u32, line: &[u8]) -> Result<(), NoMemory>
+        ensures { OnOk result (TakesLine number line.now self.old self.new) }
+    {
         match read_line(alloc, &mut self.parser, line) {
             Ok(command) => self.step(alloc, number, line, command),
             Err(LineError::Mistake(mistake)) => self.malformed(number, line, &mistake),
@@ -83,7 +108,10 @@ impl Linter {
         number: u32,
         line: &[u8],
         command: Command,
-    ) -> Result<(), NoMemory> {
+    ) -> Result<(), NoMemory>
+        requires { NamesColumn command }
+        ensures { OnOk result (Steps number command self.old self.new) }
+    {
         match self.world.step(alloc, number, &command) {
             Ok(_) => self.done(alloc, number, command),
             Err(Refused {
@@ -94,7 +122,9 @@ impl Linter {
         }
     }
 
-    fn answer(&mut self, line: u32, verdict: Verdict) -> Result<(), NoMemory> {
+    fn answer(&mut self, line: u32, verdict: Verdict) -> Result<(), NoMemory>
+        ensures { OnOk result (self.new ≡ with_answer line verdict self.old) }
+    {
         self.answers.push(Answer { line, verdict })?;
         Ok(())
     }
@@ -105,7 +135,9 @@ impl Linter {
         line: Option<u32>,
         column: Option<usize>,
         told: Told,
-    ) -> Result<(), NoMemory> {
+    ) -> Result<(), NoMemory>
+        ensures { self.new ≡ self.old }
+    {
         self.findings.push(Finding {
             line,
             column,
@@ -121,10 +153,12 @@ impl Linter {
         number: u32,
         line: &[u8],
         mistake: &Mistake,
-    ) -> Result<(), NoMemory> {
+    ) -> Result<(), NoMemory>
+        ensures { OnOk result (self.new ≡ with_answer number (Verdict.Malformed mistake.now.rule) self.old) }
+    {
         self.answer(number, Verdict::Malformed(mistake.rule))?;
         match first_word(line) {
-            Some(b"txn" | b"calls") => self.flow.fail_block(number),
+            Some(b"txn") | Some(b"calls") => self.flow.fail_block(number),
             Some(b"resume") => self.flow.fail_resume(number),
             Some(_) | None => self.spots.keep_malformed(number, line)?,
         }
@@ -135,23 +169,13 @@ impl Linter {
         self.tell(Some(number), Some(mistake.column), told)
     }
 
-    fn done(&mut self, alloc: Global, number: u32, command: Command) -> Result<(), NoMemory> {
+    fn done(&mut self, alloc: Global, number: u32, command: Command) -> Result<(), NoMemory>
+        requires { NamesColumn command }
+        ensures { self.new ≡ self.old }
+    {
         self.flow.done(number, &command)?;
         self.spots.keep_declared(number, &command)?;
-        match &command {
-            Command::Declare(declaration) => {
-                if let Err(Refusal::Memory) = add_declaration(&mut self.schema, alloc, declaration)
-                {
-                    return Err(NoMemory);
-                }
-            }
-            Command::Push { from, to, .. } => self.pushes.push((*from, *to))?,
-            Command::Show { .. } => self.shows = true,
-            Command::Commit
-            | Command::Abandon
-            | Command::Procedures(ProcLine::Send { .. }) => self.pending = Vec::new(alloc),
-            _ => {}
-        }
+        self.keep(alloc, &command)?;
         if let Command::Statement(_) | Command::Procedures(ProcLine::Call(_)) = &command {
             self.pending.push(Pending {
                 line: number,
@@ -161,14 +185,44 @@ impl Linter {
         Ok(())
     }
 
+    /// Keeps what the end of the script looks at.
+    fn keep(&mut self, alloc: Global, command: &Command) -> Result<(), NoMemory>
+        requires { NamesColumn command.now }
+        ensures { self.new ≡ self.old }
+    {
+        if let Command::Declare(declaration) = command {
+            if let Err(Refusal::Memory) = add_declaration(&mut self.schema, alloc, declaration) {
+                return Err(NoMemory);
+            }
+        }
+        if let Command::Push { from, to, .. } = command {
+            self.pushes.push((*from, *to))?;
+        }
+        if let Command::Show { .. } = command {
+            self.shows = true;
+        }
+        if let Command::Commit | Command::Abandon | Command::Procedures(ProcLine::Send { .. }) =
+            command
+        {
+            self.pending.clear();
+        }
+        Ok(())
+    }
+
     /// The command that a refusal is about: the statement or the call of the block that was refused, or the line's own.
-    fn blamed(&mut self, alloc: Global, number: u32, line: u32, command: Command) -> Command {
+    fn blamed(&mut self, alloc: Global, number: u32, line: u32, command: Command) -> Command
+        ensures { self.new ≡ self.old }
+    {
         if line == number {
             return command;
         }
         for pending in mem::replace(&mut self.pending, Vec::new(alloc)) {
-            if pending.line == line {
-                return pending.command;
+            let Pending {
+                line: at,
+                command: blamed,
+            } = pending;
+            if at == line {
+                return blamed;
             }
         }
         command
@@ -181,7 +235,9 @@ impl Linter {
         line: &[u8],
         command: Command,
         refused: &Refused,
-    ) -> Result<(), NoMemory> {
+    ) -> Result<(), NoMemory>
+        ensures { OnOk result (self.new ≡ with_answer refused.now.line (Verdict.Refused refused.now.refusal) self.old) }
+    {
         let told = refused.line;
         self.answer(told, Verdict::Refused(refused.refusal))?;
         let cause = self.flow.cause(&command);
@@ -216,7 +272,9 @@ impl Linter {
     }
 
     /// Adds a line to those that are refused for the same cause as a finding's.
-    fn add_further(&mut self, place: usize, line: u32) {
+    fn add_further(&mut self, place: usize, line: u32)
+        ensures { self.new ≡ self.old }
+    {
         if let Some(finding) = self.findings.get_mut(place) {
             finding.further = finding.further.saturating_add(1);
             finding.last = line;
@@ -224,7 +282,14 @@ impl Linter {
     }
 
     /// A line that isn't for now is told with the first line that has its cause.
-    fn not_now(&mut self, line: u32, cause: Option<Cause>, command: Command) -> Result<(), NoMemory> {
+    fn not_now(
+        &mut self,
+        line: u32,
+        cause: Option<Cause>,
+        command: Command,
+    ) -> Result<(), NoMemory>
+        ensures { self.new ≡ self.old }
+    {
         let Some(cause) = cause else {
             return self.tell(
                 Some(line),
@@ -249,7 +314,9 @@ impl Linter {
     }
 
     /// A line with a name that stands for nothing is told with the line that was to declare it.
-    fn unknown(&mut self, line: u32, bytes: &[u8], command: Command) -> Result<(), NoMemory> {
+    fn unknown(&mut self, line: u32, bytes: &[u8], command: Command) -> Result<(), NoMemory>
+        ensures { self.new ≡ self.old }
+    {
         let Some(named) = unknown(&self.schema, &command) else {
             return self.tell(
                 Some(line),
@@ -285,7 +352,9 @@ impl Linter {
         line: u32,
         rule: u8,
         command: Command,
-    ) -> Result<(), NoMemory> {
+    ) -> Result<(), NoMemory>
+        ensures { self.new ≡ self.old }
+    {
         self.tell(
             Some(line),
             None,

@@ -1,4 +1,5 @@
 //! What is found at the end of a script.
+ghost use Rattle.std.specs.Prelude.{◌≡◌};
 
 use crate::{Linter, Told};
 use line_advice::NameOf;
@@ -35,7 +36,9 @@ impl Linter {
     }
 
     /// What is remarked of the tables.
-    fn remark_tables(&mut self, alloc: Global) -> Result<(), NoMemory> {
+    fn remark_tables(&mut self, alloc: Global) -> Result<(), NoMemory>
+        ensures { self.new ≡ self.old }
+    {
         let mut found = Vec::new(alloc);
         for table in self.schema.tables.as_slice() {
             for remark in table_remarks(alloc, &self.schema, table)? {
@@ -68,7 +71,9 @@ impl Linter {
     }
 
     /// What wasn't pushed from a site.
-    fn remark_pushes(&mut self, from: SiteName, names: &[SiteName]) -> Result<(), NoMemory> {
+    fn remark_pushes(&mut self, from: SiteName, names: &[SiteName]) -> Result<(), NoMemory>
+        ensures { self.new ≡ self.old }
+    {
         for to in names {
             let count = self.unfinished(&from, to);
             if count == 0 {
@@ -93,7 +98,9 @@ impl Linter {
     }
 
     /// The errors that stand at a site.
-    fn remark_errors(&mut self, site: SiteName) -> Result<(), NoMemory> {
+    fn remark_errors(&mut self, site: SiteName) -> Result<(), NoMemory>
+        ensures { self.new ≡ self.old }
+    {
         let rows = match self.world.site(&site) {
             Some(here) => here.errors().len(),
             None => 0,
@@ -114,7 +121,9 @@ impl Linter {
     }
 
     /// Tells what is found behind the last line.
-    pub fn end(&mut self, alloc: Global) -> Result<(), NoMemory> {
+    pub fn end(&mut self, alloc: Global) -> Result<(), NoMemory>
+        ensures { self.new ≡ self.old }
+    {
         if let Some(line) = self.flow.open_block() {
             self.tell(Some(line), None, Told::OpenBlock)?;
         }

@@ -1,4 +1,5 @@
 //! The tables and groups of a script's schema that break a rule.
+ghost use Rattle.std.specs.Prelude.{◌≡◌};
 
 use crate::{Linter, Told};
 use line_advice::NameOf;
@@ -62,7 +63,9 @@ fn broken_parts(alloc: Global, schema: &Schema) -> Result<Vec<Broken>, NoMemory>
 
 impl Linter {
     /// Tells of each table and each group that breaks a rule, at the line of its declaration.
-    pub(crate) fn broken_parts(&mut self, alloc: Global) -> Result<(), NoMemory> {
+    pub(super) fn broken_parts(&mut self, alloc: Global) -> Result<(), NoMemory>
+        ensures { self.new ≡ self.old }
+    {
         for Broken { rule, table, group } in broken_parts(alloc, &self.schema)? {
             let line = match &group {
                 Some(name) => self.spots.line_of(NameOf::Group, Some(table), name),
