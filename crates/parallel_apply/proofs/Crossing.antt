@@ -41,11 +41,19 @@ use Rattle.std.specs.contracts.option.Option as option
 use denote.Struct.Field.{u64-field}
 use Rattle.site_gate.specs.contracts.gate.SiteGate as gate
 use Rattle.site_gate.specs.contracts.pass.Pass as pass
-use Rattle.site_gate.proofs.Crossing.{field_pass_send, pass_send, gate_sync}
+use Rattle.site_gate.proofs.Crossing.{field_pass_send, pass_send, gate_send, gate_sync}
 use Rattle.parallel_apply.specs.contracts.turns.TurnLog as turn_log
 use Rattle.parallel_apply.specs.contracts.crew.Opening as opening
 use Rattle.parallel_apply.specs.contracts.crew.CrewTurns.TheImpl as told
 use Rattle.parallel_apply.specs.contracts.applier.Applier as applier
+use Rattle.std.specs.contracts.sync.Arc as arc
+use Rattle.std.specs.contracts.sync.Mutex as mutex
+use Rattle.std.specs.contracts.sync.Condvar as condvar
+use Rattle.std.specs.contracts.vec.Vec as vec
+use Rattle.parallel_apply.specs.contracts.seat.Job as job
+use Rattle.parallel_apply.specs.contracts.seat.Desk as desk
+use Rattle.parallel_apply.specs.contracts.seat.Seat as seat
+use Rattle.parallel_apply.specs.contracts.workers.Workers as workers
 use Rattle.parallel_apply.specs.contracts.claims.Claims as claims
 use Rattle.parallel_apply.specs.contracts.crew.Crew as crew
 use Rattle.parallel_apply.specs.contracts.crew.Crew.TheInside as inside
@@ -177,6 +185,22 @@ module _ (R : RattleType) (g : Ghosts R.Denot) (s : IsSend R) where
 
   pub crew_gate_sync : IsSync (gate.the_row (crew.the_row R g) (option.the_row u64-field.row) (opening.the_row R g) (told.ghosts R g told.no_dict told.no_dict))
   crew_gate_sync = gate_sync (crew.the_row R g) (option.the_row u64-field.row) (opening.the_row R g) (told.ghosts R g told.no_dict told.no_dict) crew_send
+
+  crew_gate_send : IsSend (gate.the_row (crew.the_row R g) (option.the_row u64-field.row) (opening.the_row R g) (told.ghosts R g told.no_dict told.no_dict))
+  crew_gate_send = gate_send (crew.the_row R g) (option.the_row u64-field.row) (opening.the_row R g) (told.ghosts R g told.no_dict told.no_dict) crew_send
+
+  field_gate_send : IsSend (arc.the_field (gate.the_row (crew.the_row R g) (option.the_row u64-field.row) (opening.the_row R g) (told.ghosts R g told.no_dict told.no_dict)) global.the_row heap.ghosts).row
+  field_gate_send = search (sendable, crosses, crew_gate_send, crew_gate_sync) depth 10
+
+  field_applier_send : IsSend (applier.the_field R (option.the_row u64-field.row) (opening.the_row R g) (told.ghosts R g told.no_dict told.no_dict) g).row
+  field_applier_send = search (sendable, applier_send) depth 10
+
+  -- a job may go to another thread, and the seats of workers may be shared
+  job_send : IsSend (job.the_row R (option.the_row u64-field.row) (opening.the_row R g) (told.ghosts R g told.no_dict told.no_dict) g)
+  job_send =
+      let all : AllSend (fields (job.the_type R (option.the_row u64-field.row) (opening.the_row R g) (told.ghosts R g told.no_dict told.no_dict) g)) = (field_gate_send, (field_applier_send, tt)) in
+      recorded_send _ _ _ (job.the_type R (option.the_row u64-field.row) (opening.the_row R g) (told.ghosts R g told.no_dict told.no_dict) g).to_one
+      (struct_send (shape (job.the_type R (option.the_row u64-field.row) (opening.the_row R g) (told.ghosts R g told.no_dict told.no_dict) g)) all)
 
 -- what a closure captures
 pub heap_sync : IsSync global.the_row

@@ -1,5 +1,5 @@
 //! A pass for a sender by a crew.
-ghost use Rattle.std.specs.Prelude.{◌≡◌, ◌+◌, ◌^◌, ◌<◌, ◌≤◌, true, IfOk, IfErr};
+ghost use Rattle.std.specs.Prelude.{◌≡◌, ◌+◌, ◌^◌, ◌<◌, ◌≤◌, true, length, IfOk, IfErr};
 ghost use Rattle.rep_laws.specs.Commuting.{IsSound};
 ghost use Rattle.site_state.specs.State.{is_master_site, arrivals};
 ghost use Rattle.site_state.specs.Steps.{begun};
@@ -19,12 +19,13 @@ use rep_values::SiteName;
 use site_core::Site;
 use site_gate::{Pass, SiteGate};
 use std::alloc::Global;
+use std::snapshot::Snapshot;
 use std::sync::Wait;
 use std::thread;
 use std::thread::Threads;
 
 /// What arrived from a master whose positions are well numbered can be passed in any order.
-fn can_pass_in_any_order<R: RowStore>(site: &Site<R>, origin: &SiteName)
+pub(crate) fn can_pass_in_any_order<R: RowStore>(site: &Site<R>, origin: &SiteName)
     requires sound { IsSound site.now.schema }
     requires master { is_master_site site.now.schema origin.now ≡ true }
     requires numbered { IsWellNumbered site.now.schema (arrivals origin.now site.now) }
@@ -66,6 +67,31 @@ fn apply_together<R: RowStore, X: Threads + Wait + Sync, W: Watch>(
     gate.close(rt, pass).into_site()
 }
 
+/// Ends a pass of which a crew made a part: what is still ready is applied, and the journal's order is that of a pass of one.
+pub(crate) fn settled<R: RowStore>(
+    site: Site<R>,
+    alloc: Global,
+    origin: &SiteName,
+    opened: Snapshot<Site<R>>,
+    from: u64,
+) -> Result<Site<R>, (Site<R>, NoMemory)>
+    requires passes { CanPassInAnyOrder origin.now opened.value }
+    requires part { IsPartlyApplied origin.now (begun opened.value) site }
+    requires from { from ≡ length opened.value.journal }
+    ensures ok { IfOk result (λ passed. passed ≡ site_pass origin.now opened.value) }
+    ensures err { IfErr result (λ refused. IsPartlyApplied origin.now (begun opened.value) refused.0) }
+{
+    let _opened = opened;
+    let mut site = site;
+    if let Err(refused) = site.finish_pass(alloc, origin) {
+        return Err((site, refused));
+    }
+    if let Err(refused) = site.settle_pass(alloc, from) {
+        return Err((site, refused));
+    }
+    Ok(site)
+}
+
 /// A pass of several appliers for a sender that is a master: the site that comes back is the site after the pass of one. Where
 /// there is no memory, some of what was ready is applied, each transaction whole and journalled.
 ///
@@ -96,14 +122,9 @@ pub fn apply_crew<R: RowStore, X: Threads + Wait + Sync, W: Watch>(
             Err(refused) => Err((site, refused)),
         };
     }
+    let opened = Snapshot::of(&site);
     site.begin_pass();
     let from = site.journal_len();
-    let mut site = apply_together(rt, alloc, site, origin, appliers, watch);
-    if let Err(refused) = site.finish_pass(alloc, origin) {
-        return Err((site, refused));
-    }
-    if let Err(refused) = site.settle_pass(alloc, from) {
-        return Err((site, refused));
-    }
-    Ok(site)
+    let site = apply_together(rt, alloc, site, origin, appliers, watch);
+    settled(site, alloc, origin, opened, from)
 }
