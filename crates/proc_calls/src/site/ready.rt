@@ -132,7 +132,9 @@ impl ProcSite {
     pub fn has_ready(&self, origin: &SiteName) -> bool
         ensures { result ≡ list_any (λ a. is_ready origin.now a.position (as_site self.now)) (arrivals origin.now (as_site self.now)) }
     {
-        for place in 0..self.arrived(origin) {
+        // What isn't above the low-water mark is finished.
+        let start = self.arrivals_above(origin, self.mark(origin));
+        for place in start..self.arrived(origin) {
             let position = self.position_at(origin, place);
             let Some(_) = self.stale(origin, position) else {
                 return true;
