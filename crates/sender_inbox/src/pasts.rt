@@ -13,8 +13,7 @@ use site_state::Arrival;
 fn reaches(past: &[Past], seen: &Past) -> bool
     ensures { result ≡ reaches past.now seen.now }
 {
-    past.iter()
-        .any(|p| p.origin.is_same(&seen.origin) && seen.number <= p.number)
+    past.iter().any(|p| p.origin.is_same(&seen.origin) && seen.number <= p.number)
 }
 
 /// Whether all of a past is within another one.
