@@ -1,6 +1,7 @@
 -- The lemmas of this crate, from the bottom up.
 pub mod Travelling
 pub mod SentCalls
+pub mod Repeats
 pub mod Delivering
 pub mod Passing
 pub mod Settled

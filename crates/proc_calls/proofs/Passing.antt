@@ -144,6 +144,24 @@ one_at_most (applied.Stale w) = omega arith
 
 -- ---- whether a position is ready
 
+-- what is finished isn't ready
+finished_waits : (origin : SiteName) (x : ProcState) (p : ℕ) → finished origin x.journal p ≡ true → is_ready origin p (as_site x) ≡ false
+finished_waits origin x p done = rw done refl
+
+-- none of those in front is
+none_in_front : (test : Arrival → Bool) (xs : List Arrival) (place : ℕ) → AllByRecursion (λ (a : Arrival). test a ≡ false) (take place xs) → list_any test xs ≡ list_any test (drop place xs)
+none_in_front test [] zero all = refl
+none_in_front test [] (suc place) all = refl
+none_in_front test (a ∷ xs) zero all = refl
+none_in_front test (a ∷ xs) (suc place) all = rw all.0 (none_in_front test xs place all.1)
+
+-- none is up to the low-water mark
+pub ready_starts : (origin : SiteName) (x : ProcState) (place : ℕ) → IsFirstAbove (low_water origin x.journal) (arrivals origin (as_site x)) place → AllByRecursion (λ (a : Arrival). 1 ≤ a.position) (arrivals origin (as_site x))
+    → list_any (λ (a : Arrival). is_ready origin a.position (as_site x)) (arrivals origin (as_site x)) ≡ list_any (λ (a : Arrival). is_ready origin a.position (as_site x)) (drop place (arrivals origin (as_site x)))
+ready_starts origin x place first ones = none_in_front (λ (a : Arrival). is_ready origin a.position (as_site x)) (arrivals origin (as_site x)) place
+    (before_each (λ (a : Arrival). is_ready origin a.position (as_site x) ≡ false) (low_water origin x.journal) (arrivals origin (as_site x)) place ones first.before
+    (λ a one low. finished_waits origin x a.position (low_water-below origin x.journal a.position one low)))
+
 module _ (origin : SiteName) (x : ProcState) (arrived : List Arrival) (place : ℕ) (a : Arrival) (found : slice_get arrived place ≡ Some a) where
   abbrev any_from : ℕ → Bool
   any_from n = list_any (λ (a : Arrival). is_ready origin a.position (as_site x)) (drop n arrived)

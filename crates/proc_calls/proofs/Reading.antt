@@ -51,6 +51,9 @@ module _ (x : ProcState) (rows : List Rows) (inboxes : List Incoming) (out : Cal
     pub nothing_arrived : arrivals origin (as_site x) ≡ []
     nothing_arrived = rw no_sender refl
 
+    pub nothing_at : (position : ℕ) → arrived_at origin position x.senders ≡ None
+    nothing_at position = rw no_sender refl
+
   -- ---- another master
 
   module _ (i : Incoming) (found : inbox_of origin inboxes ≡ Some i) where
@@ -63,6 +66,9 @@ module _ (x : ProcState) (rows : List Rows) (inboxes : List Incoming) (out : Cal
 
     pub arrivals_are : arrivals origin (as_site x) ≡ i.sender.arrived
     arrivals_are = rw sender_is refl
+
+    pub arrived_is : (position : ℕ) → find_at (beside position) i.sender.arrived ≡ arrived_at origin position x.senders
+    arrived_is position = rw sender_is refl
 
     pub mark_is : (n : ℕ) → IsLowWater (marks.finished i.marked) n → n ≡ low_water origin x.journal
     mark_is n is = mark_found x.journal inboxes h.follow origin i found n is

@@ -1,5 +1,4 @@
 -- The lemmas of this crate, from the bottom up.
 mod Above
 mod Greatest
-mod RisingPasts
 mod Keeping

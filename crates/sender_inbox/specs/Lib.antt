@@ -1,4 +1,3 @@
 -- The definitions of this crate.
 pub mod Incoming
-pub mod Reaching
 pub mod Kept

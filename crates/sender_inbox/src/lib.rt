@@ -3,6 +3,5 @@
 
 mod arrivals;
 mod inbox;
-mod pasts;
 
 pub use inbox::Inbox;

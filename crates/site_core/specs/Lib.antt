@@ -7,4 +7,3 @@ pub mod Settled
 pub mod Committing
 pub mod Working
 pub mod Ordering
-pub mod Looking

@@ -6,7 +6,6 @@ mod applying;
 mod committing;
 mod journal;
 mod laws;
-mod looking;
 mod seen;
 mod site;
 

@@ -1,5 +1,5 @@
 //! The touched keys of a snapshot.
-ghost use Rattle.std.specs.Prelude.{◌≡◌, ◌↔◌, ◌+◌, ◌<◌, ◌≤◌, [], drop, insert, length, slice_get, option_copied, IsTrue, IsOk, IfOk, IfErr, OnOk};
+ghost use Rattle.std.specs.Prelude.{◌≡◌, ◌↔◌, ◌+◌, ◌<◌, ◌≤◌, [], drop, insert, length, IsTrue, IsOk, IfOk, IfErr, OnOk};
 ghost use Rattle.rep_lists.specs.Rising.{IsRising, put_at};
 ghost use Rattle.rep_values.specs.Order.{key_cmp};
 ghost use Rattle.site_notes.specs.Noted.{IsBelowNext};
@@ -123,13 +123,6 @@ impl Touched {
             keys: listed(alloc, keys.as_slice())?,
             rising,
         })
-    }
-
-    /// The key at a place, from 0; None exactly where the place is at or behind the end.
-    pub(crate) fn get(&self, place: usize) -> Option<&Key>
-        ensures { option_copied result ≡ slice_get self.now.items place }
-    {
-        self.keys.get(place)
     }
 
     /// A copy of the keys, in their order.

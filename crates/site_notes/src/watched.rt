@@ -1,5 +1,5 @@
 //! One snapshot of a site.
-ghost use Rattle.std.specs.Prelude.{◌≡◌, ◌+◌, ◌≤◌, List, option_map, option_copied, slice_get, IsOk, IfOk, OnOk};
+ghost use Rattle.std.specs.Prelude.{◌≡◌, ◌+◌, ◌≤◌, List, option_map, option_copied, IsOk, IfOk, OnOk};
 ghost use Rattle.rep_lists.specs.Rising.{IsRising};
 ghost use Rattle.rep_values.specs.Order.{key_cmp};
 ghost use Rattle.site_state.specs.State.{LogState};
@@ -87,14 +87,6 @@ impl Watched {
         ensures { result ≡ self.now.snapshot.mark }
     {
         self.mark
-    }
-
-    /// The key at a place, from 0, of the rows that were changed at its site since then; None exactly where the place is at
-    /// or behind the end.
-    pub fn touched_at(&self, place: u64) -> Option<&Key>
-        ensures { option_copied result ≡ slice_get self.now.snapshot.touched place }
-    {
-        self.touched.get(place as usize)
     }
 
     /// Takes the room to note so many keys. Room that is there is never given up.

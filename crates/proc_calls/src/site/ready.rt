@@ -1,10 +1,10 @@
 //! What a site has of the other masters, and what of it is ready.
-ghost use Rattle.std.specs.Prelude.{◌≡◌, ◌<◌, ◌≤◌, length, map, slice_get, option_copied};
+ghost use Rattle.std.specs.Prelude.{◌≡◌, ◌<◌, ◌≤◌, length, map, slice_get, is_some, option_copied};
 ghost use Rattle.rep_lists.specs.Rising.{IsRising};
 ghost use Rattle.std.specs.List.{AllByRecursion, list_any};
 ghost use Rattle.deferred_queue.specs.Streams.{last_position, acked_by};
 ghost use Rattle.site_state.specs.declared.arrival.Arrival.{Arrival as ArrivalValue};
-ghost use Rattle.site_state.specs.State.{SenderState, sender_of, arrivals};
+ghost use Rattle.site_state.specs.State.{SenderState, sender_of, arrivals, arrived_at};
 ghost use Rattle.site_state.specs.Journal.{low_water};
 ghost use Rattle.site_state.specs.Ready.{stale_of, is_ready};
 ghost use Rattle.sender_inbox.specs.Incoming.{by_position, IsFirstAbove};
@@ -73,6 +73,16 @@ impl ProcSite {
         }
     }
 
+    /// Whether a position of a master arrived. It takes no memory.
+    pub fn has_arrived(&self, origin: &SiteName, position: u64) -> bool
+        ensures { result ≡ is_some (arrived_at origin.now position self.now.senders) }
+    {
+        let Some(inbox) = inbox_from(&self.inboxes, origin) else {
+            return false;
+        };
+        inbox.find(position).is_some()
+    }
+
     /// The place of a master's first position above a number, in rising order; the end where there is none.
     pub(super) fn arrivals_above(&self, origin: &SiteName, number: u64) -> usize
         ensures place { IsFirstAbove number (arrivals origin.now (as_site self.now)) result }
@@ -122,7 +132,9 @@ impl ProcSite {
     pub fn has_ready(&self, origin: &SiteName) -> bool
         ensures { result ≡ list_any (λ a. is_ready origin.now a.position (as_site self.now)) (arrivals origin.now (as_site self.now)) }
     {
-        for place in 0..self.arrived(origin) {
+        // What isn't above the low-water mark is finished.
+        let start = self.arrivals_above(origin, self.mark(origin));
+        for place in start..self.arrived(origin) {
             let position = self.position_at(origin, place);
             let Some(_) = self.stale(origin, position) else {
                 return true;

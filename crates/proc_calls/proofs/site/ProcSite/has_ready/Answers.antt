@@ -3,8 +3,13 @@ use Rattle.std.proofs.lemmas.List.{drop_all}
 use Rattle.rep_lists.proofs.Places.{found_at}
 use Rattle.site_state.specs.State.{arrivals}
 use Rattle.proc_state.specs.State.{as_site}
-use Rattle.proc_calls.proofs.Passing.{none_more, one_is}
+use Rattle.proc_calls.proofs.Passing.{ready_starts, none_more, one_is}
 use Rattle.proc_calls.proofs.site.ProcSite.has_ready.Goals as goal
+
+pub loop-place-init : goal.loop-place-init
+loop-place-init c =
+    let first = rw c.mark.ensures at c.arrivals_above-start.ensures.place in
+    record { so_far = ready_starts c.args.origin.now c.args.self.now c.arrivals_above-start.result first c.arrivals_above-start.ensures.from_one }
 
 pub position_at-position-requires : goal.position_at-position-requires
 position_at-position-requires c = rw c.arrived-place-end.ensures at c.loop-place-test.true
