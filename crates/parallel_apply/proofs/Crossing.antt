@@ -48,7 +48,6 @@ use Rattle.parallel_apply.specs.contracts.crew.CrewTurns.TheImpl as told
 use Rattle.parallel_apply.specs.contracts.applier.Applier as applier
 use Rattle.std.specs.contracts.sync.Arc as arc
 use Rattle.std.specs.contracts.sync.Mutex as mutex
-use Rattle.std.specs.contracts.sync.Condvar as condvar
 use Rattle.std.specs.contracts.vec.Vec as vec
 use Rattle.parallel_apply.specs.contracts.seat.Job as job
 use Rattle.parallel_apply.specs.contracts.seat.Desk as desk
@@ -193,14 +192,35 @@ module _ (R : RattleType) (g : Ghosts R.Denot) (s : IsSend R) where
   field_gate_send = search (sendable, crosses, crew_gate_send, crew_gate_sync) depth 10
 
   field_applier_send : IsSend (applier.the_field R (option.the_row u64-field.row) (opening.the_row R g) (told.ghosts R g told.no_dict told.no_dict) g).row
-  field_applier_send = search (sendable, applier_send) depth 10
+  field_applier_send =
+      let all : AllSend (fields (applier.the_type R (option.the_row u64-field.row) (opening.the_row R g) (told.ghosts R g told.no_dict told.no_dict) g)) =
+      (search sendable, (field_pass_send (crew.the_row R g) (option.the_row u64-field.row) (opening.the_row R g) (told.ghosts R g told.no_dict told.no_dict) crew_send, tt)) in
+      struct_send (shape (applier.the_type R (option.the_row u64-field.row) (opening.the_row R g) (told.ghosts R g told.no_dict told.no_dict) g)) all
 
-  -- a job may go to another thread, and the seats of workers may be shared
-  job_send : IsSend (job.the_row R (option.the_row u64-field.row) (opening.the_row R g) (told.ghosts R g told.no_dict told.no_dict) g)
-  job_send =
-      let all : AllSend (fields (job.the_type R (option.the_row u64-field.row) (opening.the_row R g) (told.ghosts R g told.no_dict told.no_dict) g)) = (field_gate_send, (field_applier_send, tt)) in
-      recorded_send _ _ _ (job.the_type R (option.the_row u64-field.row) (opening.the_row R g) (told.ghosts R g told.no_dict told.no_dict) g).to_one
-      (struct_send (shape (job.the_type R (option.the_row u64-field.row) (opening.the_row R g) (told.ghosts R g told.no_dict told.no_dict) g)) all)
+  field_job_send : IsSend (job.the_field R (option.the_row u64-field.row) (opening.the_row R g) g (told.ghosts R g told.no_dict told.no_dict)).row
+  field_job_send =
+      let all : AllSend (fields (job.the_type R (option.the_row u64-field.row) (opening.the_row R g) g (told.ghosts R g told.no_dict told.no_dict))) = (field_gate_send, (field_applier_send, tt)) in
+      struct_send (shape (job.the_type R (option.the_row u64-field.row) (opening.the_row R g) g (told.ghosts R g told.no_dict told.no_dict))) all
+
+  desk_send : IsSend (desk.the_row R (option.the_row u64-field.row) (opening.the_row R g) g (told.ghosts R g told.no_dict told.no_dict))
+  desk_send = search (sendable, field_job_send) depth 20
+
+  field_desk_sync : IsSync (mutex.the_field (desk.the_row R (option.the_row u64-field.row) (opening.the_row R g) g (told.ghosts R g told.no_dict told.no_dict))).row
+  field_desk_sync = search (sendable, crosses, desk_send) depth 10
+
+  -- the seats of workers may be shared among threads
+  pub seat_sync : IsSync (seat.the_row R (option.the_row u64-field.row) (opening.the_row R g) g (told.ghosts R g told.no_dict told.no_dict))
+  seat_sync =
+      let all : AllSync (fields (seat.the_type R (option.the_row u64-field.row) (opening.the_row R g) g (told.ghosts R g told.no_dict told.no_dict))) = (field_desk_sync, (search (sendable, crosses) depth 20, tt)) in
+      recorded_sync _ _ _ (seat.the_type R (option.the_row u64-field.row) (opening.the_row R g) g (told.ghosts R g told.no_dict told.no_dict)).to_one (struct_sync (shape (seat.the_type R (option.the_row u64-field.row) (opening.the_row R g) g (told.ghosts R g told.no_dict told.no_dict))) all)
+
+  field_seats_sync : IsSync (vec.the_field (seat.the_row R (option.the_row u64-field.row) (opening.the_row R g) g (told.ghosts R g told.no_dict told.no_dict)) global.the_row heap.ghosts).row
+  field_seats_sync = search (sendable, crosses, seat_sync) depth 10
+
+  pub workers_sync : IsSync (workers.the_row R (option.the_row u64-field.row) (opening.the_row R g) g (told.ghosts R g told.no_dict told.no_dict))
+  workers_sync =
+      let all : AllSync (fields (workers.the_type R (option.the_row u64-field.row) (opening.the_row R g) g (told.ghosts R g told.no_dict told.no_dict))) = (field_seats_sync, tt) in
+      recorded_sync _ _ _ (workers.the_type R (option.the_row u64-field.row) (opening.the_row R g) g (told.ghosts R g told.no_dict told.no_dict)).to_one (struct_sync (shape (workers.the_type R (option.the_row u64-field.row) (opening.the_row R g) g (told.ghosts R g told.no_dict told.no_dict))) all)
 
 -- what a closure captures
 pub heap_sync : IsSync global.the_row
@@ -210,3 +230,8 @@ pub four_sync : (name : Sym) (A B C D : RattleType) → IsSync A → IsSync B �
 four_sync name A B C D a b c d =
     let all : AllSync (fields (type_at name (A ∷ B ∷ C ∷ D ∷ []))) = (a, (b, (c, (d, tt)))) in
     recorded_sync _ _ _ (type_at name (A ∷ B ∷ C ∷ D ∷ [])).to_one (struct_sync (shape (type_at name (A ∷ B ∷ C ∷ D ∷ []))) all)
+
+pub four_send : (name : Sym) (A B C D : RattleType) → IsSend A → IsSend B → IsSend C → IsSend D → IsSend (TupleAt name (A ∷ B ∷ C ∷ D ∷ []))
+four_send name A B C D a b c d =
+    let all : AllSend (fields (type_at name (A ∷ B ∷ C ∷ D ∷ []))) = (a, (b, (c, (d, tt)))) in
+    recorded_send _ _ _ (type_at name (A ∷ B ∷ C ∷ D ∷ [])).to_one (struct_send (shape (type_at name (A ∷ B ∷ C ∷ D ∷ []))) all)
