@@ -1,5 +1,6 @@
 -- The lemmas of this crate, from the bottom up.
 mod Above
 mod Greatest
-mod RisingPasts
+pub mod Places
+pub mod RisingPasts
 mod Keeping

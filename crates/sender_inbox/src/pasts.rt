@@ -31,12 +31,12 @@ pub(crate) fn rising_with(arrived: &[Arrival], from: u64, low: u64, arrival: &Ar
     requires pasts { PastsRise from arrived.now }
     ensures { PastsRise result (put_at (beside arrival.now.position) arrival.now arrived.now) }
 {
-    if arrived.is_empty() {
+    let Some(last) = arrived.last() else {
         return from;
-    }
-    let last = &arrived[arrived.len() - 1];
+    };
     if arrival.position < last.position {
-        return from.max(arrived[first_above(arrived, arrival.position)].position);
+        let next = &arrived[first_above(arrived, arrival.position)];
+        return from.max(next.position);
     }
     if low < last.position && is_within(last.past.as_slice(), arrival.past.as_slice()) {
         return from;
