@@ -30,7 +30,7 @@ fn search(levels: &[PriorityLevel], value: &Value) -> Result<usize, usize>
 {
     levels.binary_search_by(
         |level: &PriorityLevel| -> Ordering
-            ensures { result ≡ beside_value value.now.now level.now }
+            ensures { result ≡ beside_value value.entry.now level.now }
         { compare_values(&level.value, value) },
     )
 }
@@ -52,7 +52,7 @@ fn level_found(level: Option<&PriorityLevel>) -> Option<i64>
 }
 
 fn level_among(group: Option<&PriorityGroup>, value: &Value) -> Option<i64>
-    requires { IfSome (option_copied group.entry) HasLevelShape }
+    requires { IfSome (option_copied group) HasLevelShape }
     ensures { result ≡ level_among (option_copied group.entry) value.now }
 {
     match group {

@@ -12,4 +12,4 @@ pub returns : goal.returns
 returns c =
     let facts = c.binary_search_by.ensures in
     let by_key = facts.position (beside_value c.args.value.now) (always_returns_same _ _ _ (λ a r g called. search rules)) in
-    searched (λ (l : PriorityLevel). l.value) value_cmp value_cmp_total c.args.value.now _ c.requires _ facts.bound by_key
+    searched (λ (l : PriorityLevel). l.value) value_cmp value_cmp_total c.args.value.now c.args.levels.now c.requires c.binary_search_by.result facts.bound by_key
