@@ -17,7 +17,7 @@ are_same (x ∷ xs) (y ∷ ys) = x == y && are_same xs ys
 -- no two attributes have the same name
 abbrev pub differ : List Attribute → Bool
 differ [] = true
-differ (a ∷ as) = not (list_any (λ b. are_same (attribute_name a) (attribute_name b)) as) && differ as
+differ (a ∷ more) = not (list_any (λ b. are_same (attribute_name a) (attribute_name b)) more) && differ more
 
 -- bytes are markup: nothing, a text, markup and markup behind it, or an element with markup inside, whose attributes have
 -- different names

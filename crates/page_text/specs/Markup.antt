@@ -1,6 +1,5 @@
 -- Texts and elements as bytes, and which bytes are markup.
-use Rattle.std.specs.Prelude.{ℕ, ◌==◌, ◌&&◌, ◌||◌, nat_le, not, Bool, true, cond, List, [], ◌∷◌, ◌++◌, map, flat_map, decimal, codes, IsTrue}
-use Rattle.std.specs.List.{list_any}
+use Rattle.std.specs.Prelude.{ℕ, ◌==◌, ◌&&◌, ◌||◌, nat_le, Bool, cond, List, [], ◌∷◌, ◌++◌, flat_map, decimal, codes}
 use Rattle.page_text.specs.declared.tag.Tag.{Tag}
 use Rattle.page_text.specs.declared.tag.Tag.TheVariants as tag
 use Rattle.page_text.specs.declared.attribute.Attribute.{Attribute}

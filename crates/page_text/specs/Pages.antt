@@ -1,6 +1,5 @@
 -- Pages, their parts and their tables as bytes.
 use Rattle.std.specs.Prelude.{ℕ, List, [], ◌∷◌, ◌++◌, flat_map, codes}
-use Rattle.page_text.specs.declared.look.Look.{Look}
 use Rattle.page_text.specs.declared.table.Cell.{Cell}
 use Rattle.page_text.specs.declared.table.Table.{Table}
 use Rattle.page_text.specs.declared.page.Heading.{Heading}
@@ -28,10 +27,17 @@ cell_bytes c = element tag.Cell (attribute.Class c.look ∷ []) (escaped c.words
 abbrev pub row_bytes : List Cell → List ℕ
 row_bytes cells = element tag.TableRow [] (flat_map cell_bytes cells)
 
--- a table: its caption, the heads of its columns, and its rows
+-- the heads of columns
+abbrev pub heads_bytes : List (List ℕ) → List ℕ
+heads_bytes columns = element tag.TableRow [] (flat_map (words_in tag.HeadCell) columns)
+
+-- what a table has in it: its caption, the heads of its columns, and its rows
+abbrev pub table_inside : Table → List ℕ
+table_inside t = words_in tag.Caption t.caption ++ (heads_bytes t.columns ++ flat_map row_bytes t.rows)
+
+-- a table
 abbrev pub table_bytes : Table → List ℕ
-table_bytes t = element tag.Table [] (words_in tag.Caption t.caption
-    ++ (element tag.TableRow [] (flat_map (words_in tag.HeadCell) t.columns) ++ flat_map row_bytes t.rows))
+table_bytes t = element tag.Table [] (table_inside t)
 
 -- ---- parts
 

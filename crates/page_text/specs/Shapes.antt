@@ -34,9 +34,13 @@ frame_bytes b = element tag.Rectangle (attribute.X b.corner.x ∷ attribute.Y b.
 abbrev pub inscription_bytes : Badge → List ℕ
 inscription_bytes b = element tag.Text (attribute.X (b.corner.x + b.width / 2) ∷ attribute.Y (b.corner.y + 12) ∷ attribute.Anchor anchor.Middle ∷ []) (escaped b.words)
 
--- a badge: what is shown to who points at it, its frame, and its words
+-- what a badge has in it: what is shown to who points at it, its frame, and its words
+abbrev pub badge_inside : Badge → List ℕ
+badge_inside b = element tag.Title [] (escaped b.tip) ++ (frame_bytes b ++ inscription_bytes b)
+
+-- a badge
 abbrev pub badge_bytes : Badge → List ℕ
-badge_bytes b = element tag.Group (attribute.Class b.look ∷ attribute.Lane b.lane ∷ []) (element tag.Title [] (escaped b.tip) ++ (frame_bytes b ++ inscription_bytes b))
+badge_bytes b = element tag.Group (attribute.Class b.look ∷ attribute.Lane b.lane ∷ []) (badge_inside b)
 
 -- a shape
 abbrev pub shape_bytes : Shape → List ℕ

@@ -1,6 +1,6 @@
 //! Tables and other parts of a page as bytes behind other bytes.
 ghost use Rattle.std.specs.Prelude.{◌≡◌, ◌++◌, flat_map, OnOk};
-ghost use Rattle.page_text.specs.Pages.{words_in, cell_bytes, row_bytes, table_bytes, heading_tag, part_bytes};
+ghost use Rattle.page_text.specs.Pages.{words_in, cell_bytes, row_bytes, heads_bytes, table_inside, table_bytes, heading_tag, part_bytes};
 
 use crate::attribute::Attribute;
 use crate::markup::{add_words, close, open};
@@ -53,16 +53,30 @@ fn add_rows(out: &mut Vec<u8>, rows: &[Items<Cell>]) -> Result<(), NoMemory>
     Ok(())
 }
 
+/// Puts the heads of columns.
+fn add_heads(out: &mut Vec<u8>, columns: &[Items<u8>]) -> Result<(), NoMemory>
+    ensures { OnOk result (out.new.items ≡ out.old.items ++ heads_bytes columns.now) }
+{
+    open(out, Tag::TableRow, &[])?;
+    add_each(out, Tag::HeadCell, columns)?;
+    close(out, Tag::TableRow)
+}
+
+/// Puts what a table has in it.
+fn add_table_inside(out: &mut Vec<u8>, table: &Table) -> Result<(), NoMemory>
+    ensures { OnOk result (out.new.items ≡ out.old.items ++ table_inside table.now) }
+{
+    add_words(out, Tag::Caption, &[], table.caption.as_slice())?;
+    add_heads(out, table.columns.as_slice())?;
+    add_rows(out, table.rows.as_slice())
+}
+
 /// Puts a table.
 fn add_table(out: &mut Vec<u8>, table: &Table) -> Result<(), NoMemory>
     ensures { OnOk result (out.new.items ≡ out.old.items ++ table_bytes table.now) }
 {
     open(out, Tag::Table, &[])?;
-    add_words(out, Tag::Caption, &[], table.caption.as_slice())?;
-    open(out, Tag::TableRow, &[])?;
-    add_each(out, Tag::HeadCell, table.columns.as_slice())?;
-    close(out, Tag::TableRow)?;
-    add_rows(out, table.rows.as_slice())?;
+    add_table_inside(out, table)?;
     close(out, Tag::Table)
 }
 

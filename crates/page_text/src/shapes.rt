@@ -1,6 +1,6 @@
 //! Drawings as bytes behind other bytes.
-ghost use Rattle.std.specs.Prelude.{◌≡◌, ◌++◌, flat_map, OnOk};
-ghost use Rattle.page_text.specs.Shapes.{line_bytes, area_bytes, label_bytes, frame_bytes, inscription_bytes, badge_bytes, shape_bytes, drawing_bytes};
+ghost use Rattle.std.specs.Prelude.{◌≡◌, ◌+◌, ◌/◌, ◌++◌, flat_map, OnOk};
+ghost use Rattle.page_text.specs.Shapes.{line_bytes, area_bytes, label_bytes, frame_bytes, inscription_bytes, badge_inside, badge_bytes, shape_bytes, drawing_bytes};
 
 use crate::attribute::Attribute;
 use crate::markup::{add_empty, add_words, close, open};
@@ -74,16 +74,39 @@ fn add_frame(out: &mut Vec<u8>, badge: &Badge) -> Result<(), NoMemory>
     add_empty(out, Tag::Rectangle, &attributes)
 }
 
+/// Where the words of a badge stand, from left to right.
+fn middle_of(left: u32, width: u32) -> u64
+    ensures { result ≡ left + width / 2 }
+{
+    u64::from(left) + u64::from(width / 2)
+}
+
+/// Where they stand, from the top down.
+fn below(top: u32) -> u64
+    ensures { result ≡ top + 12 }
+{
+    u64::from(top) + WORDS_BELOW
+}
+
 /// Puts the words of a badge.
 fn add_inscription(out: &mut Vec<u8>, badge: &Badge) -> Result<(), NoMemory>
     ensures { OnOk result (out.new.items ≡ out.old.items ++ inscription_bytes badge.now) }
 {
     let attributes = [
-        Attribute::X(u64::from(badge.corner.x) + u64::from(badge.width / 2)),
-        Attribute::Y(u64::from(badge.corner.y) + WORDS_BELOW),
+        Attribute::X(middle_of(badge.corner.x, badge.width)),
+        Attribute::Y(below(badge.corner.y)),
         Attribute::Anchor(Anchor::Middle),
     ];
     add_words(out, Tag::Text, &attributes, badge.words.as_slice())
+}
+
+/// Puts what a badge has in it.
+fn add_badge_inside(out: &mut Vec<u8>, badge: &Badge) -> Result<(), NoMemory>
+    ensures { OnOk result (out.new.items ≡ out.old.items ++ badge_inside badge.now) }
+{
+    add_words(out, Tag::Title, &[], badge.tip.as_slice())?;
+    add_frame(out, badge)?;
+    add_inscription(out, badge)
 }
 
 /// Puts a badge.
@@ -92,9 +115,7 @@ fn add_badge(out: &mut Vec<u8>, badge: &Badge) -> Result<(), NoMemory>
 {
     let attributes = [Attribute::Class(badge.look), Attribute::Lane(badge.lane)];
     open(out, Tag::Group, &attributes)?;
-    add_words(out, Tag::Title, &[], badge.tip.as_slice())?;
-    add_frame(out, badge)?;
-    add_inscription(out, badge)?;
+    add_badge_inside(out, badge)?;
     close(out, Tag::Group)
 }
 

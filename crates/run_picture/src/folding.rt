@@ -1,7 +1,7 @@
 //! Which lines of a run are drawn.
 
 use crate::badges::entry_at;
-use run_story::{Coming, Fared, Happening, Line, Outcome, Span, Story};
+use run_story::{Coming, Event, Fared, Line, Outcome, Packet, Span, Story};
 use site_state::Entry;
 
 /// With more lines than these in which something happens, only those are drawn in which there is something to see.
@@ -11,8 +11,7 @@ pub const MOST_EVENTS: usize = 300;
 fn is_event(line: &Line) -> bool {
     match line.outcome {
         Outcome::Refused(_) | Outcome::Malformed(_) => true,
-        Outcome::Done => !line.happenings.is_empty(),
-        Outcome::PassedOver | Outcome::Declared | Outcome::Shown => false,
+        Outcome::PassedOver | Outcome::Declared | Outcome::Shown | Outcome::Done => !line.is_still(),
     }
 }
 
@@ -44,14 +43,27 @@ fn has_notable(story: &Story, span: &Span) -> bool {
     false
 }
 
-/// Whether there is something to see in what happened.
-fn is_to_see(story: &Story, happening: &Happening) -> bool {
-    match happening {
-        Happening::Entries(span) => has_notable(story, span),
-        Happening::Packet(packet) => packet.fared != Fared::Came(Coming::New),
-        Happening::Nothing { .. } => false,
-        Happening::Linked { .. } | Happening::Refreshed { .. } | Happening::Joined { .. } => true,
+/// Whether each packet came as it should.
+fn are_plain(packets: &[Packet]) -> bool {
+    packets
+        .iter()
+        .all(|packet| packet.fared == Fared::Came(Coming::New))
+}
+
+/// Whether there is more to see in a line than that transactions were made, sent and applied.
+fn is_to_see(story: &Story, line: &Line) -> bool {
+    if let Some(Event::Linked { .. } | Event::Refreshed { .. } | Event::Joined { .. }) = line.event {
+        return true;
     }
+    if !are_plain(line.sent.as_slice()) || !are_plain(line.answered.as_slice()) {
+        return true;
+    }
+    for span in line.entries.iter() {
+        if has_notable(story, span) {
+            return true;
+        }
+    }
+    false
 }
 
 /// What becomes of a line in the picture.
@@ -65,28 +77,29 @@ pub enum Showing {
     Left,
 }
 
-/// What becomes of a line, in a run that is folded or not, before or behind the end of its declarations.
-pub fn showing(story: &Story, line: &Line, is_folded: bool, is_running: bool) -> Showing {
+/// What becomes of a line in which nothing happened, in a run that is folded or not, before or behind the end of its declarations.
+fn showing_still(line: &Line, is_folded: bool, is_running: bool) -> Showing {
     match line.outcome {
         Outcome::Refused(_) | Outcome::Malformed(_) => Showing::Drawn,
         Outcome::Declared | Outcome::Shown => Showing::Left,
-        Outcome::PassedOver => {
+        Outcome::PassedOver | Outcome::Done => {
             if is_running && !is_folded && !line.words.is_empty() {
                 Showing::Drawn
             } else {
                 Showing::Left
             }
         }
-        Outcome::Done => {
-            if !is_folded {
-                return Showing::Drawn;
-            }
-            for happening in line.happenings.iter() {
-                if is_to_see(story, happening) {
-                    return Showing::Drawn;
-                }
-            }
-            Showing::Folded
-        }
+    }
+}
+
+/// What becomes of a line. In a run that isn't folded each line is drawn in which something happened.
+pub fn showing(story: &Story, line: &Line, is_folded: bool, is_running: bool) -> Showing {
+    if line.is_still() {
+        return showing_still(line, is_folded, is_running);
+    }
+    if !is_folded || is_to_see(story, line) {
+        Showing::Drawn
+    } else {
+        Showing::Folded
     }
 }

@@ -10,7 +10,7 @@ use crate::standing::add_standing;
 use crate::words::{text_of, words_of};
 use page_text::{Heading, Look, Page, Part};
 use rep_lists::{Items, NoMemory};
-use run_story::{Happening, Story};
+use run_story::Story;
 use std::alloc::Global;
 
 /// What is said of a run above its picture.
@@ -19,11 +19,9 @@ fn summary(alloc: Global, story: &Story) -> Result<Items<u8>, NoMemory> {
     let sites = story.lanes().len();
     let mut packets: u64 = 0;
     for line in story.lines() {
-        for happening in line.happenings.iter() {
-            if let Happening::Packet(_) = happening {
-                packets = packets.saturating_add(1);
-            }
-        }
+        packets = packets
+            .saturating_add(line.sent.len() as u64)
+            .saturating_add(line.answered.len() as u64);
     }
     let text = format!(in alloc;
         "{lines} lines, {sites} sites, {packets} packets. At the left stand the lines of the script."

@@ -8,7 +8,7 @@ use crate::words::{cut_to, error_words, text_of};
 use page_text::{Anchor, Look, Point};
 use rep_lists::{Items, NoMemory};
 use rep_values::SiteName;
-use run_story::{Happening, Line, Outcome, Span, Story};
+use run_story::{Event, Line, Outcome, Packet, Span, Story};
 use script_parse::Link;
 use site_state::Entry;
 use std::alloc::Global;
@@ -175,27 +175,27 @@ impl Drawer<'_> {
         self.draw_way(ends, Look::Fetched, text_of(text), free)
     }
 
-    /// Draws what happened, but for packets.
-    fn draw_other(&mut self, happening: &Happening, free: &mut Free) -> Result<(), NoMemory> {
-        match happening {
-            Happening::Entries(span) => self.draw_span(span, free),
-            Happening::Packet(_) => Ok(()),
-            Happening::Nothing { site } => {
+    /// Draws what a line did beside sending packets.
+    fn draw_event(&mut self, event: &Event, free: &mut Free) -> Result<(), NoMemory> {
+        match event {
+            Event::Nothing { site } => {
                 let at = Point {
                     x: self.lane(site),
                     y: free.lanes.saturating_add(11),
                 };
                 let words = text_of(format!(in self.alloc; "nothing changed")?);
-                self.pen.label(Look::Faint, at, Anchor::Middle, words)
+                self.pen.label(Look::Faint, at, Anchor::Middle, words)?;
+                free.lanes = free.lanes.saturating_add(ROW);
+                Ok(())
             }
-            Happening::Linked { from, to, link } => self.draw_link(from, to, *link, free),
-            Happening::Refreshed {
+            Event::Linked { from, to, link } => self.draw_link(from, to, *link, free),
+            Event::Refreshed {
                 site,
                 master,
                 keys,
                 rows,
             } => self.draw_refresh(site, master, *keys, *rows, free),
-            Happening::Joined { site, source, rows } => {
+            Event::Joined { site, source, rows } => {
                 let words = text_of(format!(in self.alloc; "joins with {rows} rows")?);
                 let ends = self.ends(source, site);
                 self.draw_way(ends, Look::Fetched, words, free)
@@ -204,41 +204,47 @@ impl Drawer<'_> {
     }
 
     /// Draws packets that go together.
-    fn draw_packets(&mut self, bundle: &Bundle, free: &mut Free) -> Result<(), NoMemory> {
+    fn draw_bundle(&mut self, bundle: &Bundle, free: &mut Free) -> Result<(), NoMemory> {
         let ends = self.ends(&bundle.packet.from, &bundle.packet.to);
         free.lanes = draw_bundle(self.alloc, self.pen, ends, bundle, free.lanes)?;
         Ok(())
     }
 
-    /// Draws what happened in a line.
-    fn draw_happenings(
-        &mut self,
-        happenings: &[Happening],
-        free: &mut Free,
-    ) -> Result<(), NoMemory> {
+    /// Draws packets in their order.
+    fn draw_packets(&mut self, packets: &[Packet], free: &mut Free) -> Result<(), NoMemory> {
         let mut open: Option<Bundle> = None;
-        for happening in happenings {
-            let Happening::Packet(packet) = happening else {
-                if let Some(bundle) = open {
-                    self.draw_packets(&bundle, free)?;
-                }
-                open = None;
-                self.draw_other(happening, free)?;
-                continue;
-            };
+        for packet in packets {
             let longer = match open {
                 Some(bundle) => bundle.with(packet),
                 None => None,
             };
             if let (None, Some(bundle)) = (longer, open) {
-                self.draw_packets(&bundle, free)?;
+                self.draw_bundle(&bundle, free)?;
             }
             open = Some(longer.unwrap_or(Bundle::of(*packet)));
         }
-        if let Some(bundle) = open {
-            self.draw_packets(&bundle, free)?;
+        match open {
+            Some(bundle) => self.draw_bundle(&bundle, free),
+            None => Ok(()),
+        }
+    }
+
+    /// Draws what came to journals.
+    fn draw_spans(&mut self, spans: &[Span], free: &mut Free) -> Result<(), NoMemory> {
+        for span in spans {
+            self.draw_span(span, free)?;
         }
         Ok(())
+    }
+
+    /// Draws what happened in a line.
+    fn draw_happenings(&mut self, line: &Line, free: &mut Free) -> Result<(), NoMemory> {
+        if let Some(event) = &line.event {
+            self.draw_event(event, free)?;
+        }
+        self.draw_packets(line.sent.as_slice(), free)?;
+        self.draw_spans(line.entries.as_slice(), free)?;
+        self.draw_packets(line.answered.as_slice(), free)
     }
 
     /// Tells why a line was refused, or that it is none.
@@ -273,10 +279,10 @@ impl Drawer<'_> {
             lanes: top.saturating_add(4),
         };
         self.put_outcome(&line.outcome, &mut free)?;
-        if line.happenings.is_empty() {
+        if line.is_still() {
             return Ok(free.words);
         }
-        self.draw_happenings(line.happenings.as_slice(), &mut free)?;
+        self.draw_happenings(line, &mut free)?;
         Ok(free.below().saturating_add(3))
     }
 

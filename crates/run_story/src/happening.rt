@@ -65,17 +65,11 @@ pub struct Span {
     pub count: u64,
 }
 
-/// One thing that happens.
+/// What a line does beside sending packets.
 #[derive(Clone, Copy, Debug, PartialEq, Eq)]
-pub enum Happening {
-    /// These entries came to a journal.
-    Entries(Span),
-    /// A packet travelled.
-    Packet(Packet),
+pub enum Event {
     /// A block was closed and had changed nothing, or no call was sent.
-    Nothing {
-        site: SiteName,
-    },
+    Nothing { site: SiteName },
     /// A direction was set up or down.
     Linked {
         from: SiteName,
@@ -113,10 +107,24 @@ pub enum Outcome {
     Malformed(u8),
 }
 
-/// A line of a script, what came of it, and what happened in it.
+/// A line of a script, what came of it, and what happened in it: packets went to the receiver of a push, entries came to journals, and
+/// packets went back; or something else happened.
 #[derive(Drop)]
 pub struct Line {
     pub words: Items<u8>,
     pub outcome: Outcome,
-    pub happenings: Items<Happening>,
+    pub sent: Items<Packet>,
+    pub entries: Items<Span>,
+    pub answered: Items<Packet>,
+    pub event: Option<Event>,
+}
+
+impl Line {
+    /// Whether nothing happened in it.
+    pub fn is_still(&self) -> bool {
+        self.sent.is_empty()
+            && self.entries.is_empty()
+            && self.answered.is_empty()
+            && self.event.is_none()
+    }
 }

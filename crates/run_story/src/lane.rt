@@ -1,4 +1,5 @@
 //! The sites of a run.
+ghost use Rattle.std.specs.Prelude.{◌≡◌, None};
 
 use rep_values::SiteName;
 
@@ -26,7 +27,9 @@ pub struct Lane {
 
 impl Lane {
     /// A declared site that isn't there yet.
-    pub fn of(site: SiteName, kind: LaneKind) -> Lane {
+    pub fn of(site: SiteName, kind: LaneKind) -> Lane
+        ensures { result ≡ record { site = site; kind = kind; since = None; told = 0; told_calls = 0 } }
+    {
         Lane {
             site,
             kind,

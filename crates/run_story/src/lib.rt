@@ -2,8 +2,11 @@
 #![tactic(auto)]
 
 mod arrivals;
+mod events;
+mod following;
 mod happening;
 mod lane;
+mod looking;
 mod outlook;
 mod refreshing;
 mod station;
@@ -11,6 +14,6 @@ mod story;
 mod telling;
 mod ways;
 
-pub use happening::{Cargo, Coming, Fared, Happening, Line, Outcome, Packet, Span, Traffic};
+pub use happening::{Cargo, Coming, Event, Fared, Line, Outcome, Packet, Span, Traffic};
 pub use lane::{Lane, LaneKind};
 pub use story::{Story, story_of};

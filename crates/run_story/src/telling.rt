@@ -1,7 +1,7 @@
 //! What becomes of the packets of a push.
 
 use crate::arrivals::Arrivals;
-use crate::happening::{Cargo, Coming, Fared, Happening, Packet, Traffic};
+use crate::happening::{Cargo, Coming, Fared, Packet, Traffic};
 use crate::outlook::Outlook;
 use crate::ways::{Links, Way, Ways};
 use net_plan::Fate;
@@ -14,19 +14,19 @@ struct Teller<'a> {
     traffic: Traffic,
     from: SiteName,
     to: SiteName,
-    told: &'a mut Vec<Happening>,
+    told: &'a mut Vec<Packet>,
 }
 
 impl Teller<'_> {
     /// Tells what became of a packet.
     fn tell(&mut self, cargo: Cargo, fared: Fared) -> Result<(), NoMemory> {
-        self.told.push(Happening::Packet(Packet {
+        self.told.push(Packet {
             traffic: self.traffic,
             from: self.from,
             to: self.to,
             cargo,
             fared,
-        }))?;
+        })?;
         Ok(())
     }
 }
@@ -72,7 +72,7 @@ pub fn tell_sent(
     alloc: Global,
     ways: &mut Ways,
     outlook: &mut Outlook,
-    told: &mut Vec<Happening>,
+    told: &mut Vec<Packet>,
 ) -> Result<(), NoMemory> {
     let push = outlook.push;
     let mut teller = Teller {
@@ -98,7 +98,7 @@ pub fn tell_answer(
     links: &Links,
     outlook: &mut Outlook,
     low: u64,
-    told: &mut Vec<Happening>,
+    told: &mut Vec<Packet>,
 ) -> Result<(), NoMemory> {
     let push = outlook.push;
     let mut teller = Teller {

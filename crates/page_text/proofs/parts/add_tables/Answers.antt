@@ -1,4 +1,3 @@
-use Rattle.std.proofs.Common.{◌+◌, drop}
 use Rattle.rep_lists.proofs.Places.{drop_from_place}
 use Rattle.page_text.specs.Pages.{table_bytes}
 use Rattle.page_text.proofs.Putting.{put_more}
