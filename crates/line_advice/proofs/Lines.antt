@@ -1,5 +1,6 @@
 -- Lines that break a rule behind those of tokens, and the empty front of a line.
-use Rattle.std.proofs.Common.{◌≡◌, ◌≢◌, ℕ, Bool, true, false, cond, List, [], ◌∷◌, length, Option, Some, None, Result, Ok, Err, refl}
+use Rattle.std.proofs.Common.{◌≡◌, ◌≢◌, ℕ, Bool, true, false, cond, List, [], ◌∷◌, length, Option, Some, None, Result, Ok, Err, refl, arith}
+use Rattle.std.proofs.lemmas.Bool.Decides.{nat_tests}
 use Rattle.std.specs.Prelude.{nat_le}
 use Rattle.std.specs.List.{list_all}
 use Rattle.rep_values.specs.Bytes.{is_printable}
@@ -19,7 +20,7 @@ empty_read = refl
 -- and has no token
 pub empty_has : (most : ℕ) → has_at_most most [] ≡ true
 unfolding lexed
-empty_has most = refl
+empty_has most = let zero : nat_le 0 most ≡ true = grind (arith, nat_tests) in zero
 
 -- the rules of tokens
 pub lexed_rule : (line : List ℕ) (rule : ℕ) → lexed line ≡ Err rule → rule ≢ 1 → rule ≢ 3 → rule ≢ 4 → ⊥

@@ -1,5 +1,5 @@
 -- What is said of a line that gives no command.
-use Rattle.std.specs.Prelude.{ℕ, ◌≡◌, ◌≢◌, suc, ◌==◌, List, Result, Ok, Err}
+use Rattle.std.specs.Prelude.{ℕ, ◌≡◌, suc, Bool, List, Result, Ok, Err}
 use Rattle.std.specs.List.{prefix_len}
 use Rattle.rep_values.specs.Bytes.{is_printable}
 use Rattle.script_lex.specs.Bytes.{is_space}

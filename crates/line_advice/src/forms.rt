@@ -84,7 +84,8 @@ average, overwrite or discard"
             Form::Commit => "commit",
             Form::Abandon => "abandon",
             Form::Push => "push S S [count WHOLE]",
-            Form::Fate => "fate S S FATE+ or fate S S clear, a FATE being pass, lose, twice or late",
+            Form::Fate =>
+                "fate S S FATE+ or fate S S clear, a FATE being pass, lose, twice or late",
             Form::Link => "link S S up|down",
             Form::Clock => "clock S WHOLE",
             Form::Purge => "purge S",

@@ -43,11 +43,7 @@ pub fn read_front(line: &[u8], found: &mut Vec<Span>) -> usize
 
 /// How many bytes the longest front of the line has that breaks no rule of tokens and has so many tokens at most.
 #[tactic(auto, using(crate::proofs::Lines::empty_has))]
-pub fn counted_front(
-    line: &[u8],
-    most: usize,
-    found: &mut Vec<Span>,
-) -> Result<usize, NoMemory>
+pub fn counted_front(line: &[u8], most: usize, found: &mut Vec<Span>) -> Result<usize, NoMemory>
     ensures { IfOk result (IsLongest (has_at_most most) line.now) }
 {
     let mut place = line.len();

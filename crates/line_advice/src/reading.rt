@@ -134,32 +134,32 @@ fn mistake_of(alloc: Global, line: &[u8], rule: u8) -> Result<Mistake, NoMemory>
     ensures ok { IfOk result (IsMistake line.now) }
     ensures err { OnErr result (HasTokens line.now) }
 {
-    match rule {
-        1 => Ok(Mistake {
+    if rule == 1 {
+        return Ok(Mistake {
             rule,
             column: LINE_BYTES + 1,
             hint: Hint::LongLine(line.len()),
-        }),
-        3 => Ok(odd_byte(line)),
-        4 => Ok(no_token(alloc, line)),
-        5 => no_command(alloc, line),
-        _ => {
-            let (place, hint) = form_stop(alloc, line)?;
-            Ok(Mistake {
-                rule,
-                column: place + 1,
-                hint,
-            })
-        }
+        });
     }
+    if rule == 3 {
+        return Ok(odd_byte(line));
+    }
+    if rule == 4 {
+        return Ok(no_token(alloc, line));
+    }
+    if rule == 5 {
+        return no_command(alloc, line);
+    }
+    let (place, hint) = form_stop(alloc, line)?;
+    Ok(Mistake {
+        rule,
+        column: place + 1,
+        hint,
+    })
 }
 
 /// The command that a line is, as `parse_line` gives it, or what is wrong with it.
-pub fn read_line(
-    alloc: Global,
-    parser: &mut LineParser,
-    line: &[u8],
-) -> Result<Command, LineError>
+pub fn read_line(alloc: Global, parser: &mut LineParser, line: &[u8]) -> Result<Command, LineError>
     ensures read { ReadsLine line.now result }
     ensures named { IfOk result NamesColumn }
 {
