@@ -4,7 +4,7 @@ use rep_values::TableName;
 use std::fmt;
 
 /// Why a command is refused with `WrongPhase`. A number is that of a line.
-#[derive(Clone, Copy, Debug, PartialEq, Eq)]
+#[derive(Clone, Copy, PartialEq, Eq)]
 pub enum Cause {
     /// A block of statements is open from this line on.
     Block(u32),
