@@ -12,4 +12,4 @@ mod workers;
 
 pub use apply::apply_crew;
 pub use claims::MOST_APPLIERS;
-pub use workers::{Workers, with_workers};
+pub use workers::{Workers, beside_workers};

@@ -48,10 +48,7 @@ where
     changed: Condvar,
 }
 
-impl<R: RowStore> Seat<R>
-where
-    Crew<R>: Turns,
-{
+impl<R: RowStore> Seat<R> {
     pub(crate) fn new() -> Seat<R> {
         Seat {
             desk: Mutex::new(Desk::Empty),

@@ -1,5 +1,5 @@
 //! Threads that are kept over the passes of a run.
-ghost use Rattle.std.specs.Prelude.{◌≡◌, ◌+◌, ◌^◌, ◌<◌, ◌≤◌, true, vec_len, IfOk, IfErr};
+ghost use Rattle.std.specs.Prelude.{◌≡◌, ◌+◌, ◌^◌, ◌<◌, ◌≤◌, true, length, vec_len, IfOk, IfErr};
 ghost use Rattle.std.specs.Arc.{arc_value};
 ghost use Rattle.rep_laws.specs.Commuting.{IsSound};
 ghost use Rattle.site_state.specs.State.{is_master_site, arrivals};
@@ -51,11 +51,8 @@ fn serve<R: RowStore, X: Wait, W: Watch>(rt: &X, alloc: Global, seat: &Seat<R>, 
     }
 }
 
-impl<R: RowStore> Workers<R>
-where
-    Crew<R>: Turns,
-{
-    /// So many seats, or as many as there is memory for.
+impl<R: RowStore> Workers<R> {
+    // So many seats, or as many as there is memory for.
     fn seated(alloc: Global, number: u32) -> Workers<R>
         requires { number < 8 }
     {
@@ -66,6 +63,13 @@ where
             };
         }
         Workers { seats }
+    }
+
+    /// Seats for the workers of so many appliers, 1 to 8, of which the caller is one; or as many as there is memory for.
+    pub fn new(alloc: Global, appliers: u32) -> Workers<R>
+        requires { (1 ≤ appliers) × (appliers ≤ 8) }
+    {
+        Workers::seated(alloc, appliers - 1)
     }
 
     /// Whether there are none.
@@ -202,39 +206,35 @@ fn serve_all<R: RowStore, X: Threads + Wait + Sync, W: Watch>(
     workers: &Workers<R>,
     watch: &W,
 ) {
-    let seats = &workers.seats;
+    let seats = workers.seats.as_slice();
     let one = |place: usize|
-        requires { place < vec_len seats.now }
+        requires { place < length seats.now }
     { serve(rt, alloc, &seats[place], watch) };
-    let ended = thread::map_indices(rt, alloc, seats.len(), &one);
-    drop(ended);
+    drop(thread::map_indices(rt, alloc, seats.len(), &one));
 }
 
-/// Makes a call beside threads that its passes can use: one less than there are appliers, 1 to 8. They end behind the call. Where a
-/// thread can't be started, the call finds fewer of them.
-pub fn with_workers<
-    R: RowStore,
-    X: Threads + Wait + Sync,
-    W: Watch,
-    T,
-    F: FnMut(&Workers<R>) -> T,
->(rt: &X, alloc: Global, appliers: u32, watch: &W, run: &mut F) -> T
-    requires appliers { (1 ≤ appliers) × (appliers ≤ 8) }
-    requires run { (workers : _) → F.pre run.old workers }
-    ensures { (workers : _) × F.step run.old workers result run.new }
+/// Makes a call while a thread serves at each seat of workers. The threads end behind the call, and the seats are closed then: a
+/// later pass finds no workers. Where a thread can't be started, passes go on without it.
+pub fn beside_workers<R: RowStore, X: Threads + Wait + Sync, W: Watch, T, F: FnMut() -> T>(
+    rt: &X,
+    alloc: Global,
+    workers: &Workers<R>,
+    watch: &W,
+    run: &mut F,
+) -> T
+    requires { F.pre run.old }
+    ensures { F.step run.old result run.new }
 {
-    let workers = Workers::seated(alloc, appliers - 1);
     if workers.is_empty() {
-        return run(&workers);
+        return run();
     }
-    let shared = &workers;
-    let mut serve = || serve_all(rt, alloc, shared, watch);
+    let mut serve = || serve_all(rt, alloc, workers, watch);
     let mut lead = || -> T
-        requires { (workers : _) → F.pre run.now workers }
-        ensures { (workers : _) × F.step run.entry.now workers result run.exit.now }
+        requires { F.pre run.now }
+        ensures { F.step run.entry.now result run.exit.now }
     {
-        let result = run(shared);
-        shared.close(rt);
+        let result = run();
+        workers.close(rt);
         result
     };
     let ((), result) = join_mut(rt, &mut serve, &mut lead);
