@@ -40,7 +40,6 @@ use Rattle.site_core.specs.contracts.site.Site as site
 use Rattle.std.specs.contracts.option.Option as option
 use denote.Struct.Field.{u64-field}
 use Rattle.site_gate.specs.contracts.gate.SiteGate as gate
-use Rattle.site_gate.specs.contracts.pass.Pass as pass
 use Rattle.site_gate.proofs.Crossing.{field_pass_send, gate_send, gate_sync}
 use Rattle.parallel_apply.specs.contracts.turns.TurnLog as turn_log
 use Rattle.parallel_apply.specs.contracts.crew.Opening as opening

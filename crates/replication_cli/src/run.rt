@@ -8,7 +8,7 @@ ghost use Rattle.replication_cli.specs.Runs.{beginning, with_command, with_comma
 
 use crate::tally::Tally;
 use page_tables::PageTables;
-use parallel_apply::{Workers, with_workers};
+use parallel_apply::{Workers, beside_workers};
 use rep_io::Watch;
 use rep_lists::NoMemory;
 use rep_values::Refusal;
@@ -210,9 +210,11 @@ pub fn run_storm<X: Threads + Wait + Sync, W: Watch>(
     requires appliers { (1 ≤ appliers) × (appliers ≤ 8) }
     ensures { IfOk result (λ run. run ≡ with_commands beginning (storm_commands seed count)) }
 {
-    let mut run = |workers: &Workers<PageTables>| -> Result<Run, NoMemory>
+    let workers = Workers::new(alloc, appliers);
+    let shared = &workers;
+    let mut run = || -> Result<Run, NoMemory>
         requires { count ≤ most_rounds }
         ensures { IfOk result (λ run. run ≡ with_commands beginning (storm_commands seed count)) }
-    { storm_beside(rt, alloc, workers, seed, count, watch) };
-    with_workers(rt, alloc, appliers, watch, &mut run)
+    { storm_beside(rt, alloc, shared, seed, count, watch) };
+    beside_workers(rt, alloc, shared, watch, &mut run)
 }

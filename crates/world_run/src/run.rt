@@ -14,7 +14,7 @@ use crate::crew::crew_pass;
 use crate::laws::reported_worlds_hold;
 use crate::runner::Runner;
 use page_tables::PageTables;
-use parallel_apply::{Workers, with_workers};
+use parallel_apply::{Workers, beside_workers};
 use rep_io::{Sink, Source, Watch};
 use rep_lists::NoMemory;
 use rep_values::SiteName;
@@ -146,7 +146,9 @@ pub fn run_crew_through<X: Threads + Wait + Sync, S, K: Sink, R: Reader<S, K>, W
     ensures complete { RunsToItsEnd (R.left source.old) (K.taken sink.old) (R.faults source.old) (R.faults source.new) (K.faults sink.old) (K.faults sink.new) result }
     ensures worlds { EachLineHolds (R.left source.old) }
 {
-    let mut run = |workers: &Workers<PageTables>| -> Status
+    let workers = Workers::new(alloc, appliers);
+    let shared = &workers;
+    let mut run = || -> Status
         ensures told { Tells (Told (line_step script_step) first_world result) (R.left source.entry.now) (R.left source.exit.now) (K.taken sink.entry.now) (K.taken sink.exit.now) }
         ensures prompt { ReadsPromptly (line_step script_step) first_world result (R.reads reader.entry.now) (R.reads reader.exit.now) (R.left source.entry.now) (K.taken sink.entry.now) }
         ensures read { result ≡ Status.ReadFault → Rose (R.faults source.entry.now) (R.faults source.exit.now) }
@@ -161,8 +163,8 @@ pub fn run_crew_through<X: Threads + Wait + Sync, S, K: Sink, R: Reader<S, K>, W
         >
             requires { TakesPass origin site }
             ensures { AnswersPass origin site result }
-        { crew_pass(rt, alloc, workers, site, &origin, watch) };
+        { crew_pass(rt, alloc, shared, site, &origin, watch) };
         run_by(alloc, By { pass }, at_end, reader, source, sink)
     };
-    with_workers(rt, alloc, appliers, watch, &mut run)
+    beside_workers(rt, alloc, shared, watch, &mut run)
 }
