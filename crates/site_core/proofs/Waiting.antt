@@ -215,7 +215,7 @@ module _ (origin : SiteName) (start now : SiteState) where
     -- where nothing more is ready, all is passed
     pub passed_all : place ≤ length (arrivals origin start) → NoneReady origin now place (length (arrivals origin now)) → now ≡ apply_each origin (arrivals origin start) start
     passed_all le none =
-        let rest = rw (arrivals_stay origin start now place so_far) at none in
+        let rest = subst (λ (high : ℕ). NoneReady origin now place high) (ap length (arrivals_stay origin start now place so_far)) none in
         rw (take_all (length (arrivals origin start)) (arrivals origin start) (omega arith)) at (passed_over place (length (arrivals origin start)) le (omega arith) rest so_far)
 
     module _ (next : Placed) (is : IsNextReady origin now place next) where

@@ -156,10 +156,8 @@ impl<R: RowStore> Site<R> {
     {
         // What isn't above the low-water mark is finished.
         let start = self.arrivals_above(origin, above.max(self.mark(origin)));
-        match self.next_ready(origin, start) {
-            Some(next) => Some(next.position),
-            None => None,
-        }
+        let next = self.next_ready(origin, start)?;
+        Some(next.position)
     }
 
     /// Goes on with a pass that was begun: each position that arrived from a sender is applied in rising order, where it is

@@ -43,3 +43,15 @@ loop-next-preserved g c =
       errors_kept = subst (λ y. count_where is_error old.journal ≤ count_where is_error y.journal) (sym ok) (kept_more is_error old now origin next.position _ errors l.errors_kept);
       few = omega (arith, l.few, is.after, is.behind_is, c.counted-count.ensures.done, c.counted-count.ensures.errors, one_at_most c.in_ok-applied.applied);
     }
+
+pub loop-next-smaller : goal.loop-next-smaller
+loop-next-smaller g c =
+    let l = c.loop-next.invariant in
+    let is = c.in-Some.ensures.some in
+    let within = next_within c.args.origin.now c.args.self.now c.loop-next.self c.loop-next.place l.so_far c.in-Some.next is in
+    omega (arith, is.after, is.behind_is, within)
+
+pub returns-clause-ok : goal.returns-clause-ok
+returns-clause-ok g c =
+    let l = c.loop-next.invariant in
+    passed_all c.args.origin.now c.args.self.now c.loop-next.self c.loop-next.place l.so_far l.within c.in_default.ensures.none

@@ -1,5 +1,5 @@
-use Rattle.std.proofs.Common.{refl, arith}
-use Rattle.site_core.proofs.Waiting.{none_then, none_yet}
+use Rattle.std.proofs.Common.{arith}
+use Rattle.site_core.proofs.Waiting.{none_yet}
 use Rattle.site_core.proofs.site.Site.next_ready.Goals as goal
 
 pub loop-place-init : goal.loop-place-init
