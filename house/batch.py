@@ -109,7 +109,14 @@ T.Item.doc_spans = item_doc_spans
 COUNTS = {"crate": 2, "merge": 2, "fn": 3, "struct": 3, "enum": 3, "trait": 3, "type": 3, "const": 3, "variant": 3, "field": 3, "mod": 3, "def": 3, "file": 3, "move": 5}
 
 
+BUT = set()
+kept_before, doubt_before = T.Renamer.is_kept, T.Renamer.doubt
+T.Renamer.is_kept = lambda self, path, text, at: (path.startswith("crates/") and path.split("/")[1] in BUT) or kept_before(self, path, text, at)
+T.Renamer.doubt = lambda self, path, text, at, why: False if path.startswith("crates/") and path.split("/")[1] in BUT else doubt_before(self, path, text, at, why)
+
+
 def run_line(words, dry):
+    BUT.clear()
     flags = [w for w in words if w.startswith("--")]
     keep, all_methods = [], "--all-methods" in flags
     rest = []
@@ -117,6 +124,10 @@ def run_line(words, dry):
     while i < len(words):
         if words[i] == "--keep":
             keep.append(words[i + 1])
+            i += 2
+            continue
+        if words[i] == "--but":  # crates in which nothing changes
+            BUT.update(words[i + 1].split(","))
             i += 2
             continue
         if not words[i].startswith("--"):
@@ -147,6 +158,21 @@ def run_line(words, dry):
         run = T.Item(repo, args, kind, *rest)
     run.collect()
     run.finish()
+    if kind == "file" and not dry:
+        whole_names(rest[0], rest[1].split("/")[0], rest[1].split("/")[1].removesuffix(".antt"), rest[2].removesuffix(".antt"))
+
+
+def whole_names(crate, part, old, new):
+    """Whole names behind the point of a λ, which the tool takes for a part of a longer name."""
+    pattern = re.compile(rf"(?<!\w)Rattle\.{crate}\.{part}\.{old}(?=\.)")
+    for at, dirs, names in os.walk("crates"):
+        dirs[:] = [d for d in dirs if d not in ("out", "stdin", "stdout", "data")]
+        for name in names:
+            if name.endswith((".rt", ".antt", ".edit")):
+                text = open(f"{at}/{name}", encoding="utf-8").read()
+                after = pattern.sub(f"Rattle.{crate}.{part}.{new}", text)
+                if after != text:
+                    open(f"{at}/{name}", "w", encoding="utf-8").write(after)
 
 
 def run_defs(lines, dry):
