@@ -1,5 +1,5 @@
 //! What arrived from one sender.
-ghost use Rattle.std.specs.Prelude.{◌≡◌, ◌≢◌, ◌↔◌, ℕ, ◌<◌, ◌≤◌, ◌==◌, ◌||◌, false, [], None, Some, length, slice_get, option_copied, IsTrue, OnOk, OnErr};
+ghost use Rattle.std.specs.Prelude.{◌≡◌, ◌≢◌, ◌↔◌, ℕ, ◌<◌, ◌≤◌, ◌==◌, ◌||◌, false, [], None, Some, length, slice_get, option_copied, is_some, IsTrue, OnOk, OnErr};
 ghost use Rattle.rep_lists.specs.Rising.{find_at};
 ghost use Rattle.deferred_queue.specs.Streams.{is_same_site};
 ghost use Rattle.origin_marks.specs.Marks.{finished, IsLowWater};
@@ -10,8 +10,10 @@ ghost use Rattle.site_state.specs.Joining.{with_first};
 ghost use Rattle.site_state.specs.Packets.{with_arrival};
 ghost use Rattle.site_state.specs.Ready.{covered_at};
 ghost use Rattle.sender_inbox.specs.Incoming.{seen_in, IsFirstAbove, IsInbox};
+ghost use Rattle.sender_inbox.specs.Reaching.{PastsRise};
 
 use crate::arrivals::{find, first_above, number_at, put_in};
+use crate::pasts::rising_with;
 use origin_marks::Finished;
 use rep_lists::NoMemory;
 use rep_values::SiteName;
@@ -29,6 +31,8 @@ pub struct Inbox {
     finished: Finished,
     // The greatest number among the finished positions.
     greatest: u64,
+    // The position from which on each past is within each later one.
+    from: u64,
 }
 
 impl Model for Inbox {
@@ -39,7 +43,7 @@ impl Model for Inbox {
 
     ghost view = { λ i. record { sender = record { origin = i.origin; first = i.first; arrived = i.arrived.items }; marked = i.finished } };
 
-    ghost invariant = { λ i. IsKept i.origin i.arrived.items i.finished i.greatest };
+    ghost invariant = { λ i. IsKept i.origin i.arrived.items i.finished i.greatest i.from };
 }
 
 impl Inbox {
@@ -54,6 +58,7 @@ impl Inbox {
             arrived: Vec::new(alloc),
             finished: Finished::make(alloc),
             greatest: 0,
+            from: 0,
         }
     }
 
@@ -107,12 +112,34 @@ impl Inbox {
         find(&self.arrived, position)
     }
 
+    /// Whether a position arrived. It takes no memory.
+    pub fn has_arrived(&self, position: u64) -> bool
+        ensures { result ≡ is_some (find_at (beside position) self.now.sender.arrived) }
+    {
+        self.finished.is_finished(position) || find(&self.arrived, position).is_some()
+    }
+
     /// The position at a place in rising order.
     pub fn position_at(&self, place: usize) -> u64
         requires { place < length self.now.sender.arrived }
         ensures { (a : _) → slice_get self.now.sender.arrived place ≡ Some a → result ≡ a.position }
     {
         self.arrived[place].position
+    }
+
+    /// What arrived at a place in rising order of position.
+    pub fn arrival_at(&self, place: usize) -> &Arrival
+        requires { place < length self.now.sender.arrived }
+        ensures { slice_get self.now.sender.arrived place ≡ Some result.now }
+    {
+        &self.arrived[place]
+    }
+
+    /// A position from which on the pasts of what arrived rise: each one is within each later one.
+    pub fn pasts_rise_from(&self) -> u64
+        ensures { PastsRise result self.now.sender.arrived }
+    {
+        self.from
     }
 
     /// The place of the first position above a number, the end where there is none.
@@ -131,7 +158,10 @@ impl Inbox {
         ensures err { OnErr result (self.new.sender ≡ self.old.sender) }
         ensures marked { self.new.marked ≡ self.old.marked }
     {
+        let low = self.finished.low_water();
+        let from = rising_with(&self.arrived, self.from, low, &arrival);
         put_in(&mut self.arrived, arrival)?;
+        self.from = from;
         Ok(())
     }
 
