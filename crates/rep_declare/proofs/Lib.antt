@@ -6,6 +6,8 @@ mod ListNames
 mod SiteShapes
 mod TableShapes
 mod PriorityShapes
+mod PutLevels
+mod DeclaredLevels
 mod PlacesNamed
 mod LinesOfColumns
 mod GroupShapes

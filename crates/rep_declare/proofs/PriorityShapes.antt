@@ -1,26 +1,30 @@
 -- A priority group more, or a level more in one, keeps the shape of a schema.
-use Rattle.std.proofs.Common.{◌≡◌, ◌≢◌, ◌⊎◌, ℕ, ◌<◌, ℤ, Bool, true, false, cond, List, [], ◌∷◌, ◌++◌, length, Option, Some, None, refl, sym, ap, subst, inl, inr, arith}
-use Rattle.std.specs.List.{list_any, find}
-use Rattle.std.proofs.lemmas.Bool.{both_ways}
+use Rattle.std.proofs.Common.{◌≡◌, ◌≢◌, ◌⊎◌, ℕ, ◌+◌, ◌<◌, ◌≤◌, ℤ, Bool, true, false, cond, List, [], ◌∷◌, ◌++◌, length, Option, Some, None, refl, sym, ap, subst, inl, inr, arith}
+use Rattle.std.specs.List.{find}
+use Rattle.std.specs.declared.cmp.Ordering.{Ordering}
+use Rattle.std.specs.declared.cmp.Ordering.TheVariants.{Less, Equal, Greater}
 use Rattle.std.proofs.lemmas.List.{length_push}
 use Rattle.std.proofs.lemmas.List.Elements.{All-push, All-weaker}
+use Rattle.rep_lists.specs.Rising.{put_at, put_here}
+use Rattle.rep_lists.proofs.Rising.{rising_put}
 use Rattle.rep_values.specs.declared.literal.Literal.{Literal}
 use Rattle.rep_values.specs.declared.value.Value.{Value}
-use Rattle.rep_values.specs.declared.refusal.Refusal.TheVariants as refusal
 use Rattle.rep_values.specs.declared.refusal.Limit.TheVariants as limit
 use Rattle.rep_values.specs.Literal.{value_of_literal}
-use Rattle.rep_values.specs.Equality.{value_eq, value_eq-Decides}
+use Rattle.rep_values.specs.Order.{value_cmp}
+use Rattle.rep_values.specs.OrderLaws.{value_cmp_total}
 use Rattle.rep_schema.specs.declared.schema.Schema.{Schema}
 use Rattle.rep_schema.specs.declared.schema.PriorityGroup.{PriorityGroup}
 use Rattle.rep_schema.specs.declared.schema.PriorityLevel.{PriorityLevel}
 use Rattle.rep_schema.specs.Limits.{most_levels}
+use Rattle.rep_schema.specs.Levels.{beside_value}
 use Rattle.rep_schema.specs.Shape.{HasLevelShape, HasShape}
 use Rattle.rep_declare.specs.declared.declaration.Declare.TheVariants as declare
 use Rattle.rep_schema.specs.Named.{is_priority, priority_named}
-use Rattle.rep_declare.specs.Refusals.{has_level, level_count, refusal_of}
+use Rattle.rep_declare.specs.Refusals.{level_count, refusal_of}
 use Rattle.rep_declare.specs.Additions.{with_changed, with_priority, with_priorities, with_level, declared}
-use Rattle.rep_values.proofs.RefusalSteps.{or_then-None, refused-None, full-None}
-use Rattle.rep_declare.proofs.ListNames.{same_bytes-false, find-None, list_any-false, AreDistinct-push, length-with_changed, All-with_changed, AreDistinct-with_changed}
+use Rattle.rep_values.proofs.RefusalSteps.{or_then-None, full-None}
+use Rattle.rep_declare.proofs.ListNames.{same_bytes-false, find-None, AreDistinct-push, length-with_changed, All-with_changed, AreDistinct-with_changed}
 use Rattle.rep_declare.proofs.TableShapes.{HasShape-with_priorities}
 
 abbrev empty_group : List ℕ → PriorityGroup
@@ -68,33 +72,35 @@ module _ (schema : Schema) (shape : HasShape schema) (name : List ℕ) where
       at (inr more) = subst (λ groups. HasShape (with_priorities groups schema)) (sym more.1)
           (HasShape-with_priorities schema (schema.priorities ++ empty_group name ∷ []) shape (omega (arith, length_push schema.priorities (empty_group name)))
           (All-push HasLevelShape schema.priorities (empty_group name) shape.priorities
-          (record { number = omega arith; values = λ i j d below within. absurd (omega (arith, within)) }))
+          (record { number = omega arith; rising = tt }))
           (AreDistinct-push (λ p. p.name) schema.priorities (empty_group name) shape.priority_names
           (All-weaker (λ p. is_priority name p ≡ false) (λ p. p.name ≢ name) (λ p. same_bytes-false p.name name) schema.priorities
           (find-None (is_priority name) schema.priorities more.0))))
 
--- a level more, of a value that isn't there
-with_level-shape : (value : Value) (level : ℤ) (group : PriorityGroup) → HasLevelShape group → length group.levels < most_levels
-    → list_any (λ l. value_eq value l.value) group.levels ≡ false → HasLevelShape (with_level value level group)
-with_level-shape value level group shape room new =
+-- a put adds one value at most
+length-put_at : {X : Type 0} (at : X → Ordering) (y : X) (xs : List X) → length (put_at at y xs) ≤ length xs + 1
+length-put_at at y [] = omega arith
+length-put_at at y (x ∷ xs) = go (at x) (length-put_at at y xs)
+  where
+    go : (o : Ordering) → length (put_at at y xs) ≤ length xs + 1 → length (put_here o y x xs (put_at at y xs)) ≤ length (x ∷ xs) + 1
+    go Less later = omega (arith, later)
+    go Equal later = omega arith
+    go Greater later = omega arith
+
+-- a level more
+with_level-shape : (value : Value) (level : ℤ) (group : PriorityGroup) → HasLevelShape group → length group.levels < most_levels → HasLevelShape (with_level value level group)
+with_level-shape value level group shape room =
     let added : PriorityLevel = record { value = value; level = level } in
     record {
-      number = omega (arith, room, length_push group.levels added);
-      values = AreDistinct-push (λ l. l.value) group.levels added shape.values
-          (All-weaker (λ l. value_eq value l.value ≡ false) (λ l. l.value ≢ value) (λ l other same. both_ways _ other ((value_eq-Decides value l.value).1 (sym same))) group.levels
-          (list_any-false (λ l. value_eq value l.value) group.levels new));
+      number = omega (arith, room, length-put_at (beside_value value) added group.levels);
+      rising = rising_put (λ (l : PriorityLevel). l.value) value_cmp value_cmp_total added group.levels shape.rising;
     }
 
--- of the group that is found after an empty one is put where there was none, the same holds as of the one before
+-- the group that is found after an empty one is put where there was none has as many levels as the one before
 level_count-room : (found : Option PriorityGroup) (group : PriorityGroup) → (found ≡ Some group) ⊎ (group.levels ≡ []) → level_count found < most_levels
     → length group.levels < most_levels
 level_count-room found group (inl same) room = subst (λ o. level_count o < most_levels) same room
 level_count-room found group (inr none) room = rw none (omega arith)
-
-has_level-new : (value : Value) (found : Option PriorityGroup) (group : PriorityGroup) → (found ≡ Some group) ⊎ (group.levels ≡ []) → has_level value found ≡ false
-    → list_any (λ l. value_eq value l.value) group.levels ≡ false
-has_level-new value found group (inl same) new = subst (λ o. has_level value o ≡ false) same new
-has_level-new value found group (inr none) new = rw none refl
 
 -- with a level that isn't refused
 pub HasShape-Priority : (schema : Schema) (name : List ℕ) (literal : Literal) (level : ℤ) → HasShape schema → refusal_of schema (declare.Priority name literal level) ≡ None
@@ -106,11 +112,9 @@ HasShape-Priority schema name literal level shape passed =
     let shaped : HasShape with_it = HasShape-with_priority schema shape name in
     let change : PriorityGroup → PriorityGroup = with_level value level in
     let steps = or_then-None _ _ passed in
-    let new : has_level value (priority_named schema name) ≡ false = refused-None _ refusal.NameTaken steps.0 in
     let room : level_count (priority_named schema name) < most_levels = full-None _ _ limit.Levels (or_then-None _ _ steps.1).0 in
     let fits : (group : PriorityGroup) → find (is_priority name) groups ≡ Some group → HasLevelShape group → HasLevelShape (change group) = λ group found fits.
-    let before = find-with_priority name schema.priorities group found in
-    with_level-shape value level group fits (level_count-room (priority_named schema name) group before room) (has_level-new value (priority_named schema name) group before new) in
+    with_level-shape value level group fits (level_count-room (priority_named schema name) group (find-with_priority name schema.priorities group found) room) in
     HasShape-with_priorities with_it (with_changed (is_priority name) change groups) shaped
     (omega (arith, length-with_changed (is_priority name) change groups))
     (All-with_changed (is_priority name) change HasLevelShape groups shaped.priorities fits)

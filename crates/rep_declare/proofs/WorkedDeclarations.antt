@@ -1,6 +1,6 @@
 -- Declarations worked by hand: what each is refused for, and what it adds.
 use Rattle.std.proofs.Common.{◌≡◌, ℕ, List, [], ◌∷◌, ◌++◌, Some, None, true, false, pos, negsuc, refl}
-use Rattle.std.specs.Prelude.{codes, replicate}
+use Rattle.std.specs.Prelude.{codes, map, replicate}
 use Rattle.rep_values.specs.declared.name.SiteName.{SiteName}
 use Rattle.rep_values.specs.declared.name.TableName.{TableName}
 use Rattle.rep_values.specs.declared.literal.Literal.TheVariants as literal
@@ -14,6 +14,7 @@ use Rattle.rep_schema.specs.declared.schema.Method.TheVariants as method
 use Rattle.rep_schema.specs.declared.check.Check.{Check}
 use Rattle.rep_schema.specs.declared.check.Rel.TheVariants.{Lt, Ge}
 use Rattle.rep_schema.specs.Entries.{master_site, late_site, snapshot_site, plain_table}
+use Rattle.rep_schema.specs.Levels.{level_of}
 use Rattle.rep_declare.specs.declared.declaration.Declare.TheVariants as declare
 use Rattle.rep_declare.specs.declared.declaration.MethodWords.TheVariants as words
 use Rattle.rep_declare.specs.Refusals.{refusal_of}
@@ -98,3 +99,33 @@ method_brings_its_priority_group : declared (declare.Method table (codes "g") (w
       priorities = record { name = codes "p"; levels = [] } ∷ [];
     }
 method_brings_its_priority_group = refl
+
+-- the levels of red, 7 and blue are declared in this order
+abbrev levelled : Schema
+levelled =
+    declared (declare.Priority (codes "p") (literal.Words (codes "blue")) (pos 9))
+    (declared (declare.Priority (codes "p") (literal.Num (pos 7)) (pos 3))
+    (declared (declare.Priority (codes "p") (literal.Words (codes "red")) (pos 1)) small))
+
+levels_stand_by_value : levelled
+    ≡ record small {
+      priorities = record {
+        name = codes "p";
+        levels =
+            record { value = value.Num (pos 7); level = pos 3 } ∷
+            record { value = value.Words (codes "blue"); level = pos 9 } ∷
+            record { value = value.Words (codes "red"); level = pos 1 } ∷ [];
+      } ∷ [];
+    }
+levels_stand_by_value = refl
+
+-- the levels of 7, blue, red and green in it
+each_value_has_its_level : map (λ v. level_of levelled 0 (Some v)) (value.Num (pos 7) ∷ value.Words (codes "blue") ∷ value.Words (codes "red") ∷ value.Words (codes "green") ∷ [])
+    ≡ Some (pos 3) ∷ Some (pos 9) ∷ Some (pos 1) ∷ None ∷ []
+each_value_has_its_level = refl
+
+value_has_a_level_already : refusal_of levelled (declare.Priority (codes "p") (literal.Words (codes "blue")) (pos 2)) ≡ Some refusal.NameTaken
+value_has_a_level_already = refl
+
+other_group_has_its_own_levels : refusal_of levelled (declare.Priority (codes "r") (literal.Words (codes "blue")) (pos 2)) ≡ None
+other_group_has_its_own_levels = refl

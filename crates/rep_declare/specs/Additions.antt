@@ -1,6 +1,7 @@
 -- What a declaration adds to a schema.
 use Rattle.std.specs.Prelude.{ℕ, ◌≤◌, ℤ, Bool, true, cond, List, [], ◌∷◌, ◌++◌, length, Option, Some, None}
 use Rattle.std.specs.List.{position}
+use Rattle.rep_lists.specs.Rising.{put_at}
 use Rattle.rep_values.specs.declared.name.TableName.{TableName}
 use Rattle.rep_values.specs.declared.value.Value.{Value}
 use Rattle.rep_values.specs.Literal.{value_of_literal}
@@ -25,6 +26,7 @@ use Rattle.rep_declare.specs.declared.declaration.UniqueWords.{UniqueWords}
 use Rattle.rep_declare.specs.declared.declaration.UniqueWords.TheVariants as unique_words
 use Rattle.rep_schema.specs.Shape.{key_name}
 use Rattle.rep_schema.specs.Entries.{master_site, late_site, snapshot_site, plain_table}
+use Rattle.rep_schema.specs.Levels.{beside_value}
 use Rattle.rep_schema.specs.Named.{is_site, is_table, is_group, is_constraint, is_priority, column_place, places_named}
 
 -- the list with the first element that passes the test changed
@@ -110,9 +112,9 @@ with_method_on name method entry = cond (same_bytes name key_name)
     (with_key_methods (entry.key_methods ++ method ∷ []) entry)
     (with_constraints (with_changed (is_constraint name) (with_unique_method method) entry.constraints) entry)
 
--- a priority group with one more level
+-- a priority group with one more level, at its place in rising order of value
 abbrev pub with_level : Value → ℤ → PriorityGroup → PriorityGroup
-with_level value level group = record group { levels = group.levels ++ record { value = value; level = level } ∷ [] }
+with_level value level group = record group { levels = put_at (beside_value value) (record { value = value; level = level }) group.levels }
 
 -- a site with its level
 abbrev pub with_site_level : ℤ → SiteEntry → SiteEntry

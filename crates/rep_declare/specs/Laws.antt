@@ -1,14 +1,20 @@
--- Laws of the columns that a line names, and of what a declaration leaves of the tables.
-use Rattle.std.specs.Prelude.{◌≡◌, ◌↔◌, ℕ, Bool, false, List, [], None, Some, slice_get}
+-- Laws of the columns that a line names, of what a declaration leaves of the tables, and of levels.
+use Rattle.std.specs.Prelude.{◌≡◌, ◌↔◌, ◌==◌, ◌&&◌, ℕ, ℤ, Bool, false, cond, List, [], None, Some, slice_get}
 use Rattle.std.specs.List.{All, Contains}
 use Rattle.std.specs.List.Sorted.{IsStrictlyIncreasing}
+use Rattle.rep_values.specs.declared.literal.Literal.{Literal}
+use Rattle.rep_values.specs.declared.value.Value.{Value}
+use Rattle.rep_values.specs.Equality.{value_eq}
+use Rattle.rep_values.specs.Literal.{value_of_literal}
 use Rattle.rep_schema.specs.declared.schema.Column.{Column}
 use Rattle.rep_schema.specs.declared.schema.Schema.{Schema}
 use Rattle.rep_schema.specs.Tables.{Rows, AreTables}
+use Rattle.rep_schema.specs.Levels.{level_of}
 use Rattle.rep_schema.specs.Shape.{AreDistinct}
 use Rattle.rep_schema.specs.Named.{column_place, places_named}
 use Rattle.rep_declare.specs.declared.declaration.Declare.{Declare}
-use Rattle.rep_declare.specs.Additions.{declared}
+use Rattle.rep_declare.specs.declared.declaration.Declare.TheVariants as declare
+use Rattle.rep_declare.specs.Additions.{priority_number, with_priority, declared}
 use Rattle.rep_declare.specs.Refusals.{columns_step}
 use Rattle.rep_declare.specs.Shaping.{rows_with, ShapesNoRows}
 
@@ -39,3 +45,9 @@ LinesPassThatNameFreeColumns = (columns : List Column) (is_taken : ℕ → Bool)
 abbrev pub DeclaredTablesAreTables : Type 0
 DeclaredTablesAreTables = (declaration : Declare) (schema : Schema) (tables : List Rows) → AreTables schema tables → ShapesNoRows schema tables declaration
     → AreTables (declared declaration schema) (rows_with declaration tables)
+
+-- a declared level is its value's in the priority group of its name, and every other level is what it was
+abbrev pub OneValueGetsTheLevel : Type 0
+OneValueGetsTheLevel = (schema : Schema) (name : List ℕ) (value : Literal) (level : ℤ) (group : ℕ) (other : Value)
+    → level_of (declared (declare.Priority name value level) schema) group (Some other)
+    ≡ cond (group == priority_number (with_priority name schema.priorities) name && value_eq other (value_of_literal value)) (Some level) (level_of schema group (Some other))

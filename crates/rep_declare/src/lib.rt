@@ -17,7 +17,7 @@ mod table_changes;
 pub use additions::add_declaration;
 pub use declaration::{Declare, MethodWords, UniqueWords};
 pub use laws::{
-    declared_tables_are_tables, lines_pass_that_name_free_columns,
+    declared_tables_are_tables, lines_pass_that_name_free_columns, one_value_gets_the_level,
     places_are_those_of_named_columns,
 };
 pub use places::places_named;

@@ -14,6 +14,7 @@ pub mod TakingBack
 pub mod Leading
 pub mod Making
 pub mod Shapes
+pub mod Levels
 mod FewNumbers
 pub mod GroupShapes
 pub mod Coverage

@@ -2,6 +2,7 @@
 use Rattle.std.proofs.Common.{◌≡◌, ℕ, ◌<◌, List, [], ◌∷◌, get_or, pos, Some, None, true, false, zero, suc, refl, ap, arith}
 use Rattle.std.specs.Prelude.{codes, ◌≢◌}
 use Rattle.std.specs.List.{AllByRecursion, AllPairs}
+use Rattle.std.specs.declared.cmp.Ordering.TheVariants.{Less, Equal, Greater}
 use Rattle.std.proofs.lemmas.List.Elements.{All-from_recursion}
 use Rattle.rep_values.specs.declared.name.SiteName.{SiteName}
 use Rattle.rep_schema.specs.declared.schema.Schema.{Schema}
@@ -9,13 +10,15 @@ use Rattle.rep_schema.specs.declared.schema.SiteEntry.{SiteEntry}
 use Rattle.rep_schema.specs.declared.schema.TableEntry.{TableEntry}
 use Rattle.rep_schema.specs.declared.schema.Column.{Column}
 use Rattle.rep_schema.specs.declared.schema.Group.{Group}
-use Rattle.rep_values.specs.declared.value.Value.TheVariants.{Num}
+use Rattle.rep_schema.specs.declared.schema.PriorityGroup.{PriorityGroup}
+use Rattle.rep_schema.specs.declared.schema.PriorityLevel.{PriorityLevel}
+use Rattle.rep_values.specs.declared.value.Value.TheVariants.{Num, Words}
 use Rattle.rep_schema.specs.declared.check.Check.{Check}
 use Rattle.rep_schema.specs.declared.check.Rel.TheVariants.{Ge}
 use Rattle.rep_schema.specs.declared.schema.Kind.TheVariants as kind
 use Rattle.rep_schema.specs.declared.schema.Method.TheVariants as method
 use Rattle.rep_schema.proofs.KeptTables.{any_from_none}
-use Rattle.rep_schema.specs.Shape.{AreDistinct, ShareNone, IsPlaceIn, shadow_name, method_column, method_priority, AreColumns, HasGroupShape, HasTableShape, is_early_master, HasMaster, HasShape}
+use Rattle.rep_schema.specs.Shape.{AreDistinct, ShareNone, IsPlaceIn, shadow_name, method_column, method_priority, AreColumns, HasGroupShape, HasTableShape, HasLevelShape, is_early_master, HasMaster, HasShape}
 
 -- pairs by recursion on the list
 pairs_nil : {X : Type 0} (R : X → X → Type 0) → AllPairs R []
@@ -149,3 +152,27 @@ beyond_lacks_shape shape =
     let group = (shape.tables 0 table_t (omega arith)).groups 0 q_group (omega arith) in
     let below : 2 < 2 = group.columns.in_range 0 0 (omega arith) in
     omega arith
+
+-- a number comes before every text, whatever the levels are
+abbrev seven : PriorityLevel
+seven = record { value = Num (pos 7); level = pos 3 }
+
+abbrev blue : PriorityLevel
+blue = record { value = Words (codes "blue"); level = pos 9 }
+
+abbrev red : PriorityLevel
+red = record { value = Words (codes "red"); level = pos 1 }
+
+abbrev levelled : List PriorityLevel → PriorityGroup
+levelled levels = record { name = codes "p"; levels = levels }
+
+rising_values_have_shape : HasLevelShape (levelled (seven ∷ blue ∷ red ∷ []))
+rising_values_have_shape = record { number = omega arith; rising = ((refl, (refl, tt)), ((refl, tt), (tt, tt))) }
+
+-- rising levels aren't rising values
+rising_levels_lack_shape : ¬ HasLevelShape (levelled (red ∷ seven ∷ blue ∷ []))
+rising_levels_lack_shape shape = let falls : Greater ≡ Less = shape.rising.0.0 in cc
+
+-- a value has one level
+value_twice_lacks_shape : ¬ HasLevelShape (levelled (blue ∷ record blue { level = pos 2 } ∷ []))
+value_twice_lacks_shape shape = let stays : Equal ≡ Less = shape.rising.0.0 in cc

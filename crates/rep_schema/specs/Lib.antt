@@ -6,6 +6,7 @@ pub mod Fitting
 pub mod Kinds
 pub mod Checks
 pub mod Entries
+pub mod Levels
 pub mod Shape
 pub mod Groups
 pub mod Named

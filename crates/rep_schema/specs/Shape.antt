@@ -1,7 +1,8 @@
--- The shape of a schema: its counts are within the limits, its names are distinct, and each place in it is the place of something.
+-- The shape of a schema: its counts are within the limits, its names are distinct, levels rise by value, and each place in it is the place of something.
 use Rattle.std.specs.Prelude.{◌≡◌, ◌≢◌, ℕ, ◌<◌, ◌≤◌, Bool, true, not, ◌&&◌, List, [], length, map, codes, Option, Some, None, is_some, is_none, IfSome, Any}
 use Rattle.std.specs.List.{All, AllPairs, Contains, count_by}
 use Rattle.std.specs.List.Sorted.{IsStrictlyIncreasing}
+use Rattle.rep_lists.specs.Rising.{IsRising}
 use Rattle.rep_schema.specs.declared.schema.Schema.{Schema}
 use Rattle.rep_schema.specs.declared.schema.SiteEntry.{SiteEntry}
 use Rattle.rep_schema.specs.declared.schema.TableEntry.{TableEntry}
@@ -14,6 +15,7 @@ use Rattle.rep_schema.specs.declared.schema.UniqueMethod.{UniqueMethod}
 use Rattle.rep_schema.specs.declared.schema.UniqueMethod.TheVariants as unique
 use Rattle.rep_schema.specs.Limits.{most_masters, most_snapshots, most_tables, most_columns, most_keys, most_methods, most_constraints, most_levels, most_checks}
 use Rattle.rep_schema.specs.Tables.{key_count}
+use Rattle.rep_schema.specs.Levels.{by_value}
 
 -- the name of the columns in no named group
 abbrev pub shadow_name : List ℕ
@@ -109,10 +111,10 @@ pub record HasTableShape (priorities : ℕ) (entry : TableEntry) : Type 0 where
   pub check_number : length entry.checks ≤ most_checks
   pub check_names : AreDistinct (map (λ c. c.name) entry.checks)
 
--- the levels of a priority group
+-- the levels of a priority group: one for each value, in rising order of value
 pub record HasLevelShape (group : PriorityGroup) : Type 0 where
   pub number : length group.levels ≤ most_levels
-  pub values : AreDistinct (map (λ l. l.value) group.levels)
+  pub rising : IsRising by_value group.levels
 
 -- a site without a master is a master site, there from the start or late
 abbrev pub is_master : SiteEntry → Bool
@@ -130,7 +132,7 @@ is_snapshot site = is_some site.master
 abbrev pub HasMaster : List SiteEntry → SiteEntry → Type 0
 HasMaster sites site = IfSome site.master (λ master. Any (λ s. (s.name ≡ master) × (is_early_master s ≡ true)) sites)
 
--- counts within the limits, distinct names, and places of what is there
+-- counts within the limits, distinct names, levels in rising order of value, and places of what is there
 pub record HasShape (schema : Schema) : Type 0 where
   pub masters : count_by is_master schema.sites ≤ most_masters
   pub snapshots : count_by is_snapshot schema.sites ≤ most_snapshots

@@ -85,6 +85,7 @@ pub struct Constraint {
 #[derive(Drop)]
 pub struct PriorityGroup {
     pub name: Name,
+    /// In rising order of value.
     pub levels: Items<PriorityLevel>,
 }
 

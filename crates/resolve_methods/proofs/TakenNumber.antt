@@ -13,13 +13,14 @@ use Rattle.rep_schema.specs.declared.schema.Method.{Method}
 use Rattle.rep_schema.specs.declared.schema.Method.TheVariants as method
 use Rattle.rep_schema.specs.Tables.{Cells, columns_of, IsInRange, FitsKind, RowFits}
 use Rattle.rep_schema.specs.Fitting.{is_in_range}
+use Rattle.rep_schema.specs.Levels.{level_of}
 use Rattle.rep_schema.specs.Groups.{group_columns_of, columns_in_group, group_values}
 use Rattle.rep_schema.proofs.PartFit.{RowFits-values_at}
 use Rattle.rep_calls.specs.declared.call.Part.{Part}
 use Rattle.resolve_methods.specs.PartValues.{HasGroupValues}
 use Rattle.resolve_methods.specs.declared.decision.Decision.{Decision}
 use Rattle.resolve_methods.specs.declared.decision.Decision.TheVariants.{TakeNew, TakeNumber, Keep, Undecided, Range}
-use Rattle.resolve_methods.specs.Ranks.{number_of, level_of, site_level_of}
+use Rattle.resolve_methods.specs.Ranks.{number_of, site_level_of}
 use Rattle.resolve_methods.specs.Decide.{greater_stays, lesser_stays, only, by_order, taken_in_range, added, averaged, new_in, decided_by, or_next, first_decision, methods_of, decision_of}
 use Rattle.resolve_methods.proofs.InRange.{IsInRange-only, IsInRange-only_group}
 

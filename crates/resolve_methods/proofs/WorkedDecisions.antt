@@ -1,5 +1,5 @@
 -- What the methods decide, worked out by hand.
-use Rattle.std.proofs.Common.{◌≡◌, List, [], ◌∷◌, true, false, refl, pos, negsuc, map}
+use Rattle.std.proofs.Common.{◌≡◌, List, [], ◌∷◌, true, false, refl, pos, negsuc, map, arith}
 use Rattle.std.specs.Prelude.{ℕ, ℤ, codes, Some, None}
 use Rattle.rep_values.specs.declared.value.Value.TheVariants.{Num, Words}
 use Rattle.rep_schema.specs.declared.schema.Schema.{Schema}
@@ -11,6 +11,7 @@ use Rattle.rep_schema.specs.declared.schema.Kind.TheVariants as kind
 use Rattle.rep_schema.specs.declared.schema.Method.{Method}
 use Rattle.rep_schema.specs.declared.schema.Method.TheVariants as method
 use Rattle.rep_schema.specs.Tables.{Cells}
+use Rattle.rep_schema.specs.Shape.{HasLevelShape}
 use Rattle.rep_schema.specs.Groups.{group_columns_of}
 use Rattle.rep_calls.specs.declared.call.Part.{Part}
 use Rattle.resolve_methods.specs.declared.decision.Decision.{Decision}
@@ -40,12 +41,15 @@ table_t of_g of_q = record {
   convergent = false;
 }
 
--- the ranks low, middle and high have the levels 1, 2 and 3
+-- the ranks low, middle and high have the levels 1, 2 and 3; they stand in rising order of value
 abbrev ranks : PriorityGroup
 ranks = record {
   name = codes "p";
-  levels = record { value = Words (codes "low"); level = pos 1 } ∷ record { value = Words (codes "middle"); level = pos 2 } ∷ record { value = Words (codes "high"); level = pos 3 } ∷ [];
+  levels = record { value = Words (codes "high"); level = pos 3 } ∷ record { value = Words (codes "low"); level = pos 1 } ∷ record { value = Words (codes "middle"); level = pos 2 } ∷ [];
 }
+
+ranks_have_shape : HasLevelShape ranks
+ranks_have_shape = record { number = omega arith; rising = ((refl, (refl, tt)), ((refl, tt), (tt, tt))) }
 
 -- so do the sites L, M and H; N has none
 abbrev sites : List SiteEntry

@@ -10,11 +10,12 @@ use Rattle.rep_schema.specs.declared.schema.Method.{Method}
 use Rattle.rep_schema.specs.declared.schema.Method.TheVariants as method
 use Rattle.rep_schema.specs.Tables.{Cells}
 use Rattle.rep_schema.specs.Fitting.{is_in_range}
+use Rattle.rep_schema.specs.Levels.{level_of}
 use Rattle.rep_schema.specs.Groups.{shadow_group, groups_of, group_values, with_group_values}
 use Rattle.rep_calls.specs.declared.call.Part.{Part}
 use Rattle.resolve_methods.specs.declared.decision.Decision.{Decision}
 use Rattle.resolve_methods.specs.declared.decision.Decision.TheVariants.{TakeNew, TakeNumber, Keep, Undecided, Range}
-use Rattle.resolve_methods.specs.Ranks.{number_of, level_of, site_level_of}
+use Rattle.resolve_methods.specs.Ranks.{number_of, site_level_of}
 
 -- the greater one stays, by how the new one stands beside the current one
 abbrev pub greater_stays : Ordering → Decision

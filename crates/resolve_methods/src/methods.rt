@@ -3,8 +3,9 @@ ghost use Rattle.std.specs.Prelude.{◌≡◌, ◌<◌, length, slice_get, optio
 ghost use Rattle.rep_schema.specs.Tables.{columns_of, RowFits};
 ghost use Rattle.rep_schema.specs.Shape.{HasShape};
 ghost use Rattle.rep_schema.specs.Groups.{group_values};
+ghost use Rattle.rep_schema.specs.Levels.{level_of};
 ghost use Rattle.resolve_methods.specs.PartValues.{HasGroupValues};
-ghost use Rattle.resolve_methods.specs.Ranks.{number_of, level_of, site_level_of};
+ghost use Rattle.resolve_methods.specs.Ranks.{number_of, site_level_of};
 ghost use Rattle.resolve_methods.specs.Decide.{greater_stays, only, by_order, added, averaged, new_in, decided_by, first_decision, methods_of, decision_of};
 ghost use Rattle.resolve_methods.specs.OrderCases.{decided_at};
 

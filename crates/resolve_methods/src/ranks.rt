@@ -1,12 +1,16 @@
 //! What values are compared by: numbers, and levels of values and of sites.
-ghost use Rattle.std.specs.Prelude.{◌≡◌, Some, option_copied};
+ghost use Rattle.std.specs.Prelude.{◌≡◌, Some, option_copied, IfOk, IfErr, IfSome};
 ghost use Rattle.std.specs.List.{find};
+ghost use Rattle.rep_lists.specs.Rising.{IsRising, IsThere, IsGap};
 ghost use Rattle.rep_values.specs.Equality.{value_eq};
 ghost use Rattle.rep_values.specs.Name.{same_bytes};
-ghost use Rattle.resolve_methods.specs.Ranks.{number_of, level_found, level_among, level_of, site_found, site_level_of};
+ghost use Rattle.rep_schema.specs.Levels.{by_value, beside_value, level_found, level_among, level_of};
+ghost use Rattle.rep_schema.specs.Shape.{HasLevelShape, HasShape};
+ghost use Rattle.resolve_methods.specs.Ranks.{number_of, site_found, site_level_of};
 
 use rep_schema::{PriorityGroup, PriorityLevel, Schema, SiteEntry};
-use rep_values::{Text, Value};
+use rep_values::{Text, Value, compare_values};
+use std::cmp::Ordering;
 
 /// The number that a value is.
 pub(crate) fn number_of(value: Option<&Value>) -> Option<i64>
@@ -18,10 +22,27 @@ pub(crate) fn number_of(value: Option<&Value>) -> Option<i64>
     }
 }
 
+/// The place of a value's level, or else the place where it would stand.
+fn search(levels: &[PriorityLevel], value: &Value) -> Result<usize, usize>
+    requires { IsRising by_value levels.now }
+    ensures found { IfOk result (IsThere (beside_value value.now) levels.now) }
+    ensures absent { IfErr result (IsGap (beside_value value.now) levels.now) }
+{
+    levels.binary_search_by(
+        |level: &PriorityLevel| -> Ordering
+            ensures { result ≡ beside_value value.entry.now level.now }
+        { compare_values(&level.value, value) },
+    )
+}
+
 fn level_for<'a>(levels: &'a [PriorityLevel], value: &Value) -> Option<&'a PriorityLevel>
+    requires { IsRising by_value levels.now }
     ensures { option_copied result ≡ find (λ level. value_eq value.now level.value) levels.now }
 {
-    levels.iter().find(|level| *value == level.value)
+    match search(levels, value) {
+        Ok(place) => Some(&levels[place]),
+        Err(_) => None,
+    }
 }
 
 fn level_found(level: Option<&PriorityLevel>) -> Option<i64>
@@ -31,6 +52,7 @@ fn level_found(level: Option<&PriorityLevel>) -> Option<i64>
 }
 
 fn level_among(group: Option<&PriorityGroup>, value: &Value) -> Option<i64>
+    requires { IfSome (option_copied group) HasLevelShape }
     ensures { result ≡ level_among (option_copied group.entry) value.now }
 {
     match group {
@@ -41,6 +63,7 @@ fn level_among(group: Option<&PriorityGroup>, value: &Value) -> Option<i64>
 
 /// The level of a value in a priority group, where it has one.
 pub(crate) fn level_of(schema: &Schema, group: u32, value: Option<&Value>) -> Option<i64>
+    requires { HasShape schema.now }
     ensures { result ≡ level_of schema.now group (option_copied value.entry) }
 {
     match value {

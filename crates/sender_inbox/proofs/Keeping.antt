@@ -19,6 +19,7 @@ use Rattle.site_state.specs.State.{beside}
 use Rattle.site_state.specs.Arrivals.{NamesOthers}
 use Rattle.site_state.specs.Ready.{number_in}
 use Rattle.sender_inbox.specs.Incoming.{greatest_where, IsInbox}
+use Rattle.sender_inbox.specs.Reaching.{PastsRise}
 use Rattle.sender_inbox.specs.Kept.{IsKept}
 use Rattle.sender_inbox.proofs.Greatest.{greatest_where-put, greatest_where-more}
 
@@ -54,16 +55,17 @@ found-put a xs p there = λ none. go (nat_cmp a.position p) refl none
     go Greater at none = there (sym (find_put_other (λ (b : Arrival). b.position) nat_cmp nat_cmp_total a p xs (λ equal. cc)) ∙ none)
 
 -- at first
-pub IsKept-new : (origin : SiteName) (m : Marked) → ((p : ℕ) → finished m p ≡ false) → IsKept origin [] m 0
+pub IsKept-new : (origin : SiteName) (m : Marked) → ((p : ℕ) → finished m p ≡ false) → IsKept origin [] m 0 0
 IsKept-new origin m none = record {
   inbox = record { rising = tt; from_one = tt; passes = record { rising = tt; earlier = tt; others = tt }; come = λ p done. absurd (let not_done = none p in cc) };
+  pasts = tt;
   greatest_is = refl;
 }
 
 -- with one arrival more
-pub IsKept-put : (origin : SiteName) (a : Arrival) (xs : List Arrival) (m : Marked) (greatest : ℕ) → a.dep < a.position → NamesOthers origin a.past → find_at (beside a.position) xs ≡ None → IsKept origin xs m greatest
-    → IsKept origin (put_at (beside a.position) a xs) m greatest
-IsKept-put origin a xs m greatest earlier others absent kept = record {
+pub IsKept-put : (origin : SiteName) (a : Arrival) (xs : List Arrival) (m : Marked) (greatest from from' : ℕ) → a.dep < a.position → NamesOthers origin a.past → find_at (beside a.position) xs ≡ None
+    → PastsRise from' (put_at (beside a.position) a xs) → IsKept origin xs m greatest from → IsKept origin (put_at (beside a.position) a xs) m greatest from'
+IsKept-put origin a xs m greatest from from' earlier others absent rise kept = record {
   inbox = record {
     rising = rising_put (λ (b : Arrival). b.position) nat_cmp nat_cmp_total a xs kept.inbox.rising;
     from_one = all_put (beside a.position) (λ (b : Arrival). 1 ≤ b.position) a xs (omega (arith, earlier)) kept.inbox.from_one;
@@ -74,31 +76,34 @@ IsKept-put origin a xs m greatest earlier others absent kept = record {
     };
     come = λ p done. found-put a xs p (kept.inbox.come p done);
   };
+  pasts = rise;
   greatest_is = kept.greatest_is ∙ sym (greatest_where-put (finished m) a xs (unfinished origin xs m a.position kept.inbox absent) absent);
 }
 
 -- with the same finished positions
-pub IsKept-same : (origin : SiteName) (xs : List Arrival) (m n : Marked) (greatest : ℕ) → n.edges ≡ m.edges → IsKept origin xs m greatest → IsKept origin xs n greatest
-IsKept-same origin xs m n greatest same kept = record {
+pub IsKept-same : (origin : SiteName) (xs : List Arrival) (m n : Marked) (greatest from : ℕ) → n.edges ≡ m.edges → IsKept origin xs m greatest from → IsKept origin xs n greatest from
+IsKept-same origin xs m n greatest from same kept = record {
   inbox = record {
     rising = kept.inbox.rising;
     from_one = kept.inbox.from_one;
     passes = kept.inbox.passes;
     come = λ p done. kept.inbox.come p (ap (λ edges. is_between edges p) (sym same) ∙ done);
   };
+  pasts = kept.pasts;
   greatest_is = kept.greatest_is ∙ ap (λ edges. greatest_where (is_between edges) xs) (sym same);
 }
 
 -- with one finished position more
-pub IsKept-more : (origin : SiteName) (xs : List Arrival) (m n : Marked) (greatest number position : ℕ) → find_at (beside position) xs ≢ None → ((p : ℕ) → finished n p ≡ (p == position || finished m p))
-    → number ≡ number_in (find_at (beside position) xs) → IsKept origin xs m greatest → IsKept origin xs n (max greatest number)
-IsKept-more origin xs m n greatest number position there is number_is kept = record {
+pub IsKept-more : (origin : SiteName) (xs : List Arrival) (m n : Marked) (greatest from number position : ℕ) → find_at (beside position) xs ≢ None → ((p : ℕ) → finished n p ≡ (p == position || finished m p))
+    → number ≡ number_in (find_at (beside position) xs) → IsKept origin xs m greatest from → IsKept origin xs n (max greatest number) from
+IsKept-more origin xs m n greatest from number position there is number_is kept = record {
   inbox = record {
     rising = kept.inbox.rising;
     from_one = kept.inbox.from_one;
     passes = kept.inbox.passes;
     come = λ p done. come p (p == position) refl (sym (is p) ∙ done);
   };
+  pasts = kept.pasts;
   greatest_is = rw (number_is, kept.greatest_is) (sym (greatest_where-more (finished m) (finished n) position is xs kept.inbox.rising));
 }
   where

@@ -1,4 +1,6 @@
 -- The lemmas of this crate, from the bottom up.
 mod Above
 mod Greatest
+pub mod Places
+pub mod RisingPasts
 mod Keeping

@@ -1,3 +1,4 @@
 -- The definitions of this crate.
 pub mod Incoming
+pub mod Reaching
 pub mod Kept

@@ -10,8 +10,10 @@ ghost use Rattle.site_state.specs.Joining.{with_first};
 ghost use Rattle.site_state.specs.Packets.{with_arrival};
 ghost use Rattle.site_state.specs.Ready.{covered_at};
 ghost use Rattle.sender_inbox.specs.Incoming.{seen_in, IsFirstAbove, IsInbox};
+ghost use Rattle.sender_inbox.specs.Reaching.{PastsRise};
 
 use crate::arrivals::{find, first_above, number_at, put_in};
+use crate::pasts::rising_with;
 use origin_marks::Finished;
 use rep_lists::NoMemory;
 use rep_values::SiteName;
@@ -29,6 +31,8 @@ pub struct Inbox {
     finished: Finished,
     // The greatest number among the finished positions.
     greatest: u64,
+    // The position from which on each past is within each later one.
+    from: u64,
 }
 
 impl Model for Inbox {
@@ -39,7 +43,7 @@ impl Model for Inbox {
 
     ghost view = { λ i. record { sender = record { origin = i.origin; first = i.first; arrived = i.arrived.items }; marked = i.finished } };
 
-    ghost invariant = { λ i. IsKept i.origin i.arrived.items i.finished i.greatest };
+    ghost invariant = { λ i. IsKept i.origin i.arrived.items i.finished i.greatest i.from };
 }
 
 impl Inbox {
@@ -54,6 +58,7 @@ impl Inbox {
             arrived: Vec::new(alloc),
             finished: Finished::make(alloc),
             greatest: 0,
+            from: 0,
         }
     }
 
@@ -115,6 +120,21 @@ impl Inbox {
         self.arrived[place].position
     }
 
+    /// What arrived at a place in rising order of position.
+    pub fn arrival_at(&self, place: usize) -> &Arrival
+        requires { place < length self.now.sender.arrived }
+        ensures { slice_get self.now.sender.arrived place ≡ Some result.now }
+    {
+        &self.arrived[place]
+    }
+
+    /// A position from which on the pasts of what arrived rise: each one is within each later one.
+    pub fn pasts_rise_from(&self) -> u64
+        ensures { PastsRise result self.now.sender.arrived }
+    {
+        self.from
+    }
+
     /// The place of the first position above a number, the end where there is none.
     pub fn first_above(&self, number: u64) -> usize
         ensures { IsFirstAbove number self.now.sender.arrived result }
@@ -131,7 +151,10 @@ impl Inbox {
         ensures err { OnErr result (self.new.sender ≡ self.old.sender) }
         ensures marked { self.new.marked ≡ self.old.marked }
     {
+        let low = self.finished.low_water();
+        let from = rising_with(&self.arrived, self.from, low, &arrival);
         put_in(&mut self.arrived, arrival)?;
+        self.from = from;
         Ok(())
     }
 

@@ -3,5 +3,6 @@
 
 mod arrivals;
 mod inbox;
+mod pasts;
 
 pub use inbox::Inbox;

@@ -14,6 +14,7 @@ pub mod FinishedOnce
 pub mod Holding
 pub mod FirstNumbers
 pub mod Passing
+pub mod Waiting
 pub mod Beginning
 pub mod SettledSite
 pub mod RefreshedSite

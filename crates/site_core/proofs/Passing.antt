@@ -2,6 +2,7 @@
 use Rattle.std.proofs.Common.{◌≡◌, ℕ, zero, suc, ◌+◌, ◌<◌, ◌≤◌, List, [], ◌∷◌, ◌++◌, take, drop, get_or, Bool, true, false, max, Some, None, Ok, Err, refl, sym, ap, ◌∙◌, arith, subst}
 use Rattle.std.specs.Prelude.{◌&&◌, Option, Result, nat_lt, slice_get}
 use Rattle.std.specs.List.{AllByRecursion, AllWithin}
+use Rattle.std.proofs.lemmas.Bool.{and_right}
 use Rattle.std.proofs.lemmas.Bool.Decides.{nat_tests}
 use Rattle.std.proofs.lemmas.List.{take-append-drop}
 use Rattle.std.proofs.lemmas.Option.{slice_get_within, get_or_from_slice_get}
@@ -119,10 +120,6 @@ module _ (origin : SiteName) (above : ℕ) (x : SiteState) where
   skip_each [] rest all = refl
   skip_each (a ∷ xs) rest all = rw all.0 (skip_each xs rest all.1)
 
-  both_false : (b c : Bool) → c ≡ false → (b && c) ≡ false
-  both_false true c is = is
-  both_false false c is = refl
-
   low_passes : (a : Arrival) → 1 ≤ a.position → a.position ≤ max above (low_water origin x.journal) → Passes a
   low_passes a one low = go (nat_lt above a.position) refl
     where
@@ -139,10 +136,8 @@ module _ (origin : SiteName) (above : ℕ) (x : SiteState) where
 
   module _ (arrived : List Arrival) (place : ℕ) (a : Arrival) (found : slice_get arrived place ≡ Some a) where
     -- one that isn't ready
-    pub not_ready_more : (w : Why) → Some w ≡ stale_of origin a.position x → first_ready_in origin above x (drop place arrived) ≡ first_ready_in origin above x (drop (place + 1) arrived)
-    not_ready_more w stale =
-        let stays : is_ready origin a.position x ≡ false = rw (← stale) refl in
-        rw (drop_from_found arrived place a found, both_false (nat_lt above a.position) (is_ready origin a.position x) stays) refl
+    pub not_ready_more : is_ready origin a.position x ≡ false → first_ready_in origin above x (drop place arrived) ≡ first_ready_in origin above x (drop (place + 1) arrived)
+    not_ready_more stays = rw (drop_from_found arrived place a found, and_right (nat_lt above a.position) (is_ready origin a.position x) stays) refl
 
     -- the first that is
     pub first_is : None ≡ stale_of origin a.position x → above < a.position → Some a.position ≡ first_ready_in origin above x (drop place arrived)

@@ -7,3 +7,4 @@ pub mod Settled
 pub mod Committing
 pub mod Working
 pub mod Ordering
+pub mod Looking

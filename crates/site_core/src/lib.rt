@@ -6,6 +6,7 @@ mod applying;
 mod committing;
 mod journal;
 mod laws;
+mod looking;
 mod seen;
 mod site;
 

@@ -1,8 +1,7 @@
 //! What arrived is applied.
-ghost use Rattle.std.specs.Prelude.{◌≡◌, ℕ, ◌+◌, ◌<◌, ◌≤◌, ◌^◌, length, slice_get, take, None, Some, IfOk, IfSome, OnOk, OnErr};
+ghost use Rattle.std.specs.Prelude.{◌≡◌, ℕ, ◌+◌, ◌<◌, ◌≤◌, ◌^◌, take, None, Some, IfOk, IfSome, OnOk, OnErr};
 ghost use Rattle.std.specs.List.{AllByRecursion};
 ghost use Rattle.rep_lists.specs.Rising.{IsRising};
-ghost use Rattle.site_state.specs.declared.arrival.Arrival.{Arrival as ArrivalValue};
 ghost use Rattle.site_state.specs.State.{SenderState, sender_of, arrivals};
 ghost use Rattle.site_state.specs.Arrivals.{CanPass};
 ghost use Rattle.site_state.specs.Ready.{stale_of, first_ready};
@@ -151,30 +150,14 @@ impl<R: RowStore> Site<R> {
         }
     }
 
-    /// The position of a sender at a place in rising order.
-    fn position_at(&self, origin: &SiteName, place: usize) -> u64
-        requires { place < length (arrivals origin.now self.now) }
-        ensures { (a : ArrivalValue) → slice_get (arrivals origin.now self.now) place ≡ Some a → result ≡ a.position }
-    {
-        let Some(inbox) = inbox_from(&self.inboxes, origin) else {
-            unreachable!()
-        };
-        inbox.position_at(place)
-    }
-
     /// The least ready position of a sender above a number; None exactly where there is none.
     pub fn lowest_ready(&self, origin: &SiteName, above: u64) -> Option<u64>
         ensures { result ≡ first_ready origin.now above self.now }
     {
         // What isn't above the low-water mark is finished.
         let start = self.arrivals_above(origin, above.max(self.mark(origin)));
-        for place in start..self.arrived(origin) as usize {
-            let position = self.position_at(origin, place);
-            let Some(_) = self.stale(origin, position) else {
-                return Some(position);
-            };
-        }
-        None
+        let next = self.next_ready(origin, start)?;
+        Some(next.position)
     }
 
     /// Goes on with a pass that was begun: each position that arrived from a sender is applied in rising order, where it is
@@ -188,11 +171,11 @@ impl<R: RowStore> Site<R> {
     {
         let mut count = PassCount { done: 0, errors: 0 };
         // What isn't above the low-water mark is finished.
-        let start = self.arrivals_above(origin, self.mark(origin));
-        for place in start..self.arrived(origin) as usize {
-            let position = self.position_at(origin, place);
-            let applied = self.apply_one(alloc, origin, position)?;
+        let mut place = self.arrivals_above(origin, self.mark(origin));
+        while let Some(next) = self.next_ready(origin, place) {
+            let applied = self.apply_ready(alloc, origin, next.position, None)?;
             count = counted(count, &applied);
+            place = next.behind;
         }
         Ok(count)
     }

@@ -1,12 +1,14 @@
 //! What a site has of its senders, and what of it is ready.
-ghost use Rattle.std.specs.Prelude.{◌≡◌, length, map, slice_get, option_copied, IfOk};
+ghost use Rattle.std.specs.Prelude.{◌≡◌, ◌<◌, length, map, slice_get, option_copied, IfOk, IfSome, IfNone};
 ghost use Rattle.std.specs.List.{list_all};
 ghost use Rattle.site_state.specs.State.{arrivals, first_number};
 ghost use Rattle.site_state.specs.Journal.{low_water};
 ghost use Rattle.site_state.specs.Ready.{covered, is_covered, is_due, stale_of};
 ghost use Rattle.site_state.specs.Pasts.{past_of};
+ghost use Rattle.site_core.specs.Looking.{NoneReady, Tells, IsNextReady};
 
 use super::Site;
+use crate::looking::{Look, Placed};
 use crate::seen::past_seen;
 use journal_steps::{inbox_from, origin_at};
 use rep_calls::Past;
@@ -115,6 +117,52 @@ impl<R: RowStore> Site<R> {
         };
         if !self.is_due(origin, arrival) {
             return Some(Why::NotReady);
+        }
+        None
+    }
+
+    /// Looks at what arrived from a sender at a place. Where its past isn't covered here and pasts rise from its position on, those
+    /// of all behind it aren't covered either.
+    fn look(&self, origin: &SiteName, place: usize) -> Look
+        requires { place < length (arrivals origin.now self.now) }
+        ensures { Tells origin.now self.now place result }
+    {
+        let Some(inbox) = inbox_from(&self.inboxes, origin) else {
+            unreachable!()
+        };
+        inbox.laws();
+        let arrival = inbox.arrival_at(place);
+        if inbox.is_finished(arrival.position) {
+            return Look::Waits;
+        }
+        if inbox.low_water() < arrival.dep {
+            return Look::Waits;
+        }
+        if self.is_past_covered(arrival.past.as_slice()) {
+            return Look::Ready(arrival.position);
+        }
+        if inbox.pasts_rise_from() <= arrival.position {
+            return Look::Ends;
+        }
+        Look::Waits
+    }
+
+    /// The first position of a sender from a place on that is ready; None exactly where there is none.
+    pub(super) fn next_ready(&self, origin: &SiteName, start: usize) -> Option<Placed>
+        ensures some { IfSome result (IsNextReady origin.now self.now start) }
+        ensures none { IfNone result (NoneReady origin.now self.now start (length (arrivals origin.now self.now))) }
+    {
+        for place in start..self.arrived(origin) as usize {
+            match self.look(origin, place) {
+                Look::Ready(position) => {
+                    return Some(Placed {
+                        position,
+                        behind: place + 1,
+                    });
+                }
+                Look::Ends => return None,
+                Look::Waits => {}
+            }
         }
         None
     }

@@ -11,5 +11,5 @@ finish-requires-clause-from_one c = from_one-found c.self.inside.arrived.items c
 pub invariant_of-self : goal.invariant_of-self
 invariant_of-self c =
     let number = rw c.deref.ensures.value at c.number_at-number.ensures in
-    let kept = IsKept-more c.self.inside.origin c.self.inside.arrived.items c.self.inside.finished c.finish.new.self c.self.inside.greatest c.number_at-number.result c.args.position (rw (← c.self.view_is) at c.requires.arrived) c.finish.ensures.finished number c.self.invariant in
+    let kept = IsKept-more c.self.inside.origin c.self.inside.arrived.items c.self.inside.finished c.finish.new.self c.self.inside.greatest c.self.inside.from c.number_at-number.result c.args.position (rw (← c.self.view_is) at c.requires.arrived) c.finish.ensures.finished number c.self.invariant in
     rw c.max-self-inside.ensures kept
