@@ -8,7 +8,6 @@ use crate::crew::Crew;
 use rep_schema::RowStore;
 use site_gate::{SiteGate, Turns};
 use std::alloc::Global;
-use std::mem;
 use std::sync::{Arc, Condvar, Mutex, Wait};
 
 /// What a worker is handed: an applier of a crew, and the crew's gate.
@@ -25,17 +24,16 @@ where
 
 /// What lies at a seat.
 #[derive(Drop)]
-enum Desk<R: RowStore>
+struct Desk<R: RowStore>
 where
     Crew<R>: Turns,
 {
-    Empty,
-    /// A job that the worker hasn't taken yet.
-    Offered(Job<R>),
-    /// The worker is at a job.
-    Taken,
-    /// No job comes any more.
-    Closed,
+    // A job that nobody has taken yet.
+    offered: Option<Job<R>>,
+    // The worker is at a job.
+    at_work: bool,
+    // No job comes any more.
+    closed: bool,
 }
 
 /// A seat at which one worker waits for jobs.
@@ -45,38 +43,43 @@ where
     Crew<R>: Turns,
 {
     desk: Mutex<Desk<R>>,
+    // All who wait are woken at each change, whatever they wait for.
     changed: Condvar,
 }
 
 impl<R: RowStore> Seat<R> {
     pub(crate) fn new() -> Seat<R> {
+        let desk = Desk {
+            offered: None,
+            at_work: false,
+            closed: false,
+        };
         Seat {
-            desk: Mutex::new(Desk::Empty),
+            desk: Mutex::new(desk),
             changed: Condvar::new(),
         }
     }
 
-    /// Offers a job to the worker. Where another one lies there or the seat is closed, the job is let go.
+    /// Offers a job to the worker. Where another one lies there, the worker is at one, or the seat is closed, it is let go.
     pub(crate) fn offer<X: Wait>(&self, rt: &X, job: Job<R>) {
         let mut desk = self.desk.lock(rt);
-        if let Desk::Empty = *desk {
-            *desk = Desk::Offered(job);
+        if desk.offered.is_none() && !desk.at_work && !desk.closed {
+            desk.offered = Some(job);
         }
         drop(desk);
-        self.changed.notify_one();
+        self.changed.notify_all();
     }
 
     /// Waits for a job. None once the seat is closed.
     pub(crate) fn take<X: Wait>(&self, rt: &X) -> Option<Job<R>> {
         let mut desk = self.desk.lock(rt);
         for _ in rt.forever() {
-            match mem::replace(&mut *desk, Desk::Taken) {
-                Desk::Offered(job) => return Some(job),
-                Desk::Empty | Desk::Taken => *desk = Desk::Empty,
-                Desk::Closed => {
-                    *desk = Desk::Closed;
-                    return None;
-                }
+            if let Some(job) = desk.offered.take() {
+                desk.at_work = true;
+                return Some(job);
+            }
+            if desk.closed {
+                return None;
             }
             desk = self.changed.wait(rt, desk);
         }
@@ -85,29 +88,23 @@ impl<R: RowStore> Seat<R> {
 
     /// The worker is done with its job.
     pub(crate) fn leave<X: Wait>(&self, rt: &X) {
-        let mut desk = self.desk.lock(rt);
-        if let Desk::Taken = *desk {
-            *desk = Desk::Empty;
-        }
-        drop(desk);
-        self.changed.notify_one();
+        self.desk.lock(rt).at_work = false;
+        self.changed.notify_all();
     }
 
-    /// Takes a job back that the worker hasn't taken, or waits until the worker is done with it.
+    /// Takes a job back that the worker hasn't taken, and waits until the worker is done with the one that it has.
     pub(crate) fn clear<X: Wait>(&self, rt: &X) {
         let mut desk = self.desk.lock(rt);
-        if let Desk::Offered(_) = *desk {
-            *desk = Desk::Empty;
-        }
-        let desk = self
-            .changed
-            .wait_while(rt, desk, |desk| matches!(desk, Desk::Taken));
-        drop(desk);
+        desk.offered = None;
+        drop(self.changed.wait_while(rt, desk, |desk| desk.at_work));
     }
 
     /// Tells the worker that no job comes any more.
     pub(crate) fn close<X: Wait>(&self, rt: &X) {
-        *self.desk.lock(rt) = Desk::Closed;
-        self.changed.notify_one();
+        let mut desk = self.desk.lock(rt);
+        desk.offered = None;
+        desk.closed = true;
+        drop(desk);
+        self.changed.notify_all();
     }
 }
