@@ -117,7 +117,7 @@ impl World {
 
     /// The same beside workers, which take part in passes for what masters sent. What comes of it is as without them. It may wait
     /// for a lock.
-    pub fn step_crew<X: Wait + Sync, W: Watch>(
+    pub fn step_crew<X: Wait, W: Watch>(
         &mut self,
         rt: &X,
         alloc: Global,
