@@ -8,6 +8,7 @@ ghost use Rattle.script_drive.specs.Outcome.{Told};
 ghost use Rattle.script_drive.specs.Prompt.{ReadsPromptly};
 ghost use Rattle.site_rounds.specs.Passing.{TakesPass, AnswersPass};
 ghost use Rattle.world_run.specs.Completeness.{RunsToItsEnd};
+ghost use Rattle.world_run.specs.RunOf.{RunOf};
 ghost use Rattle.world_run.specs.Scripts.{script_step, EachLineHolds};
 
 use crate::crew::crew_pass;
@@ -125,6 +126,29 @@ pub fn run_crew<X: Threads + Wait + Sync, S: Source, K: Sink, W: Watch>(
     )
 }
 
+// Runs a script beside workers, which take part in passes for what masters sent.
+fn run_beside<X: Wait, S, K: Sink, R: Reader<S, K>, W: Watch>(
+    rt: &X,
+    alloc: Global,
+    workers: &Workers<PageTables>,
+    at_end: AtEnd,
+    reader: &mut R,
+    source: &mut S,
+    sink: &mut K,
+    watch: &W,
+) -> Status
+    ensures { RunOf (R.left source.old) (R.left source.new) (K.taken sink.old) (K.taken sink.new) (R.reads reader.old) (R.reads reader.new) (R.faults source.old) (R.faults source.new) (K.faults sink.old) (K.faults sink.new) result }
+{
+    let pass = |alloc: Global, site: Site<PageTables>, origin: SiteName| -> Result<
+        (Site<PageTables>, PassCount),
+        (Site<PageTables>, NoMemory),
+    >
+        requires { TakesPass origin site }
+        ensures { AnswersPass origin site result }
+    { crew_pass(rt, alloc, workers, site, &origin, watch) };
+    run_by(alloc, By { pass }, at_end, reader, source, sink)
+}
+
 /// Runs a script as `run_crew` does, through any reader. The memory of the world stays taken at the end where the caller asks for
 /// that.
 pub fn run_crew_through<X: Threads + Wait + Sync, S, K: Sink, R: Reader<S, K>, W: Watch>(
@@ -149,22 +173,7 @@ pub fn run_crew_through<X: Threads + Wait + Sync, S, K: Sink, R: Reader<S, K>, W
     let workers = Workers::new(alloc, appliers);
     let shared = &workers;
     let mut run = || -> Status
-        ensures told { Tells (Told (line_step script_step) first_world result) (R.left source.entry.now) (R.left source.exit.now) (K.taken sink.entry.now) (K.taken sink.exit.now) }
-        ensures prompt { ReadsPromptly (line_step script_step) first_world result (R.reads reader.entry.now) (R.reads reader.exit.now) (R.left source.entry.now) (K.taken sink.entry.now) }
-        ensures read { result ≡ Status.ReadFault → Rose (R.faults source.entry.now) (R.faults source.exit.now) }
-        ensures write { result ≡ Status.WriteFault → Rose (K.faults sink.entry.now) (K.faults sink.exit.now) }
-        ensures ran { result ≢ Status.Usage }
-        ensures complete { RunsToItsEnd (R.left source.entry.now) (K.taken sink.entry.now) (R.faults source.entry.now) (R.faults source.exit.now) (K.faults sink.entry.now) (K.faults sink.exit.now) result }
-        ensures worlds { EachLineHolds (R.left source.entry.now) }
-    {
-        let pass = |alloc: Global, site: Site<PageTables>, origin: SiteName| -> Result<
-            (Site<PageTables>, PassCount),
-            (Site<PageTables>, NoMemory),
-        >
-            requires { TakesPass origin site }
-            ensures { AnswersPass origin site result }
-        { crew_pass(rt, alloc, shared, site, &origin, watch) };
-        run_by(alloc, By { pass }, at_end, reader, source, sink)
-    };
+        ensures { RunOf (R.left source.entry.now) (R.left source.exit.now) (K.taken sink.entry.now) (K.taken sink.exit.now) (R.reads reader.entry.now) (R.reads reader.exit.now) (R.faults source.entry.now) (R.faults source.exit.now) (K.faults sink.entry.now) (K.faults sink.exit.now) result }
+    { run_beside(rt, alloc, shared, at_end, reader, source, sink, watch) };
     beside_workers(rt, alloc, shared, watch, &mut run)
 }
