@@ -2,12 +2,13 @@
 #![tactic(auto)]
 
 mod advice;
+mod broken;
 mod methods;
 mod parts;
 mod remark;
 mod rules;
 
 pub use advice::table_remarks;
-pub use parts::{convergent_rule, group_rule, table_rule};
+pub use broken::{BrokenPart, broken_parts};
 pub use remark::{Remark, RemarkText, method_word};
 pub use rules::rule_text;

@@ -50,7 +50,7 @@ fn rule_with(alloc: Global, schema: &Schema, table: TableEntry) -> Result<Option
 }
 
 /// The lowest rule that the schema breaks with this table alone, by its `check`.
-pub fn table_rule(
+pub(crate) fn table_rule(
     alloc: Global,
     schema: &Schema,
     table: &TableEntry,
@@ -61,7 +61,7 @@ pub fn table_rule(
 }
 
 /// The lowest rule that the schema breaks with this table alone, of which only its columns and this group are left.
-pub fn group_rule(
+pub(crate) fn group_rule(
     alloc: Global,
     schema: &Schema,
     table: &TableEntry,
@@ -73,7 +73,7 @@ pub fn group_rule(
 }
 
 /// The lowest rule that the schema breaks with this table alone, if that is to be convergent.
-pub fn convergent_rule(
+pub(crate) fn convergent_rule(
     alloc: Global,
     schema: &Schema,
     table: &TableEntry,

@@ -1,1 +1,4 @@
 -- The lemmas of this crate.
+mod FirstLines
+mod Worlds
+mod Schemas

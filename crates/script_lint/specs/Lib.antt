@@ -1,2 +1,5 @@
 -- The definitions of this crate.
-pub mod Answers
+pub mod Lines
+pub mod Checking
+pub mod Adding
+pub mod Taken

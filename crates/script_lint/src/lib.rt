@@ -1,10 +1,21 @@
 //! A script read to its end, and all that is found in it.
 #![tactic(auto)]
 
-mod finding;
+mod advice;
+mod answer;
+mod ending;
+mod error;
+mod findings;
+mod level;
+mod lines;
 mod lint;
 mod linter;
+mod steps;
+mod trail;
 
-pub use finding::{Finding, Level, Told};
-pub use lint::{Findings, lint};
-pub use linter::{Answer, Linter, Verdict};
+pub use advice::{Advice, AdviceFound};
+pub use answer::{Answer, Verdict};
+pub use error::{ErrorFound, Why};
+pub use findings::Findings;
+pub use level::Level;
+pub use lint::lint;

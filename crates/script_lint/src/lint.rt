@@ -1,45 +1,30 @@
 //! A whole script, looked at to its end.
+ghost use Rattle.std.specs.Prelude.{◌≡◌, map, IfOk};
+ghost use Rattle.script_lint.specs.Checking.{script_checked};
+ghost use Rattle.script_lint.specs.Adding.{answer_of};
 
-use crate::{Answer, Finding, Level, Linter, Told};
-use rep_lists::NoMemory;
+use crate::Findings;
+use crate::linter::Linter;
+use rep_lists::{Copies, NoMemory};
 use std::alloc::Global;
 
-/// The greatest number of lines of a script.
-const LINES: u32 = 200_000;
-
-/// What is found in a script, and what the engine says of its lines.
-#[derive(Drop)]
-pub struct Findings {
-    pub findings: Vec<Finding>,
-    pub answers: Vec<Answer>,
-}
-
-impl Findings {
-    /// Whether one of them is an error.
-    pub fn has_error(&self) -> bool {
-        self.findings
-            .iter()
-            .any(|finding| finding.told.level() == Level::Error)
-    }
-}
-
-/// Looks at each line of a script, and at what is left at its end.
-pub fn lint(alloc: Global, script: &[u8]) -> Result<Findings, NoMemory> {
+/// Looks at each line of a script, at one that is malformed or refused too, and at what is left at its end.
+///
+/// The errors are what the engine says of the script's lines, in their order: a line that is malformed by the rule that the parser
+/// tells, and one that is refused as the world behind the lines before it refuses it, where malformed ones are passed over.
+pub fn lint(alloc: Global, script: &[u8]) -> Result<Findings, NoMemory>
+    ensures errors { IfOk result (λ found. map answer_of found.errors.items ≡ (script_checked script.now).answers) }
+    ensures parts { IfOk result (λ found. found.parts.items ≡ (script_checked script.now).parts) }
+{
     let mut linter = Linter::make(alloc)?;
-    let mut number = 0u32;
-    for line in script.split(|byte| *byte == b'\n') {
-        if number == LINES {
-            if !line.is_empty() {
-                linter.tell(Some(LINES + 1), None, Told::TooManyLines)?;
-            }
-            break;
-        }
-        number += 1;
-        linter.take_line(alloc, number, line)?;
-    }
-    linter.end(alloc)?;
-    Ok(Findings {
-        findings: linter.findings,
-        answers: linter.answers,
-    })
+    linter.take_script(alloc, script)?;
+    let advice = linter.advice(alloc)?;
+    let schema = linter.steps.schema().copy(alloc)?;
+    let Linter {
+        trail,
+        errors,
+        parts,
+        ..
+    } = linter;
+    Ok(Findings::make(errors, parts, advice, trail.into_parts(), schema))
 }

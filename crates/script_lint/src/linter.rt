@@ -1,233 +1,98 @@
 //! A script that is looked at line by line.
-ghost use Rattle.std.specs.Prelude.{◌≡◌, [], IfOk, OnOk};
-ghost use Rattle.script_parse.specs.Named.{NamesColumn};
-ghost use Rattle.world_state.specs.World.{first_world};
-ghost use Rattle.script_lint.specs.Answers.{TakesLine, Steps, with_answer};
+ghost use Rattle.std.specs.Prelude.{◌≡◌, ◌++◌, ◌∷◌, [], Some, IfOk, OnOk};
+ghost use Rattle.script_lint.specs.Lines.{lines_of};
+ghost use Rattle.script_lint.specs.Checking.{Checked, malformed_at, refused_so, parts_beside, with_said, checked, checked_from, nothing_checked};
+ghost use Rattle.script_lint.specs.Taken.{said_of};
+ghost use Rattle.script_lint.specs.Adding.{with_answer, with_parts};
 
-mod ending;
-mod parts;
-
-use crate::{Finding, Level, Told};
-use line_advice::{LineError, Mistake, read_line};
-use rep_declare::add_declaration;
+use crate::lines::split_line;
+use crate::steps::{Came, Steps};
+use crate::trail::Trail;
+use crate::{Answer, ErrorFound, Verdict, Why};
+use line_advice::Mistake;
 use rep_lists::NoMemory;
-use rep_schema::Schema;
-use rep_values::{Refusal, SiteName};
-use script_flow::{Cause, Flow, Spots, column_of, first_word, unknown};
-use script_parse::{Command, LineParser, ProcLine};
+use rep_values::Refusal;
+use schema_advice::{BrokenPart, broken_parts};
+use script_parse::Command;
 use std::alloc::Global;
 use std::marker::Model;
-use std::mem;
-use world_run::World;
 use world_state::Refused;
 
-/// What the engine says of a line that it doesn't do.
-#[derive(Clone, Copy, Debug, PartialEq, Eq)]
-pub enum Verdict {
-    /// It breaks this rule of lines.
-    Malformed(u8),
-    /// It is refused.
-    Refused(Refusal),
-}
+/// The greatest number of lines of a script.
+const MOST_LINES: u32 = 200_000;
 
-/// What the engine says, and the line that it tells: its own, or a statement's of the block that a line closes.
-#[derive(Clone, Copy, Debug, PartialEq, Eq)]
-pub struct Answer {
-    pub line: u32,
-    pub verdict: Verdict,
-}
+/// The rule that a script has so many lines at most.
+const LINES_RULE: u8 = 2;
 
-/// A line of the open block.
+/// The lines of a script so far, and what was found in them.
 #[derive(Drop)]
-struct Pending {
-    line: u32,
-    command: Command,
-}
-
-/// The world of a script so far, and what was found in its lines.
-#[derive(Drop)]
-pub struct Linter {
-    world: World,
-    parser: LineParser,
-    schema: Schema,
-    flow: Flow,
-    spots: Spots,
-    pending: Vec<Pending>,
-    pushes: Vec<(SiteName, SiteName)>,
-    shows: bool,
-    answers: Vec<Answer>,
-    findings: Vec<Finding>,
+pub(crate) struct Linter {
+    pub(crate) steps: Steps,
+    pub(crate) trail: Trail,
+    pub(crate) errors: Vec<ErrorFound>,
+    pub(crate) parts: Vec<BrokenPart>,
 }
 
 impl Model for Linter {
-    ghost use Rattle.std.specs.Prelude.{◌≡◌, None};
-    ghost use Rattle.rep_schema.specs.Shape.{HasShape};
-    ghost use Rattle.script_lint.specs.Answers.{Checked};
+    ghost use Rattle.std.specs.Prelude.{map};
+    ghost use Rattle.script_lint.specs.Checking.{Checked};
+    ghost use Rattle.script_lint.specs.Adding.{answer_of};
 
     ghost Value = { Checked };
 
-    ghost view = { λ l. record { world = l.world.world; answers = l.answers.items } };
-
-    ghost invariant = { λ l. (l.world.lent ≡ None) × HasShape l.schema };
+    ghost view = { λ l. record { world = l.steps; answers = map answer_of l.errors.items; parts = l.parts.items } };
 }
 
 impl Linter {
     /// No line yet.
-    pub fn make(alloc: Global) -> Result<Linter, NoMemory>
-        ensures world { IfOk result (λ linter. linter.world ≡ first_world) }
-        ensures answers { IfOk result (λ linter. linter.answers ≡ []) }
+    pub(crate) fn make(alloc: Global) -> Result<Linter, NoMemory>
+        ensures { IfOk result (λ linter. linter ≡ nothing_checked) }
     {
         Ok(Linter {
-            world: World::make(alloc)?,
-            parser: LineParser::new(alloc),
-            schema: Schema::empty(alloc),
-            flow: Flow::new(alloc),
-            spots: Spots::new(alloc),
-            pending: Vec::new(alloc),
-            pushes: Vec::new(alloc),
-            shows: false,
-            answers: Vec::new(alloc),
-            findings: Vec::new(alloc),
+            steps: Steps::make(alloc)?,
+            trail: Trail::new(alloc),
+            errors: Vec::new(alloc),
+            parts: Vec::new(alloc),
         })
     }
 
-    /// Looks at the line of a number: it is done, or what the engine says of it is kept and told.
-    pub fn take_line(&mut self, alloc: Global, number: u32, line: &[u8]) -> Result<(), NoMemory>
-        ensures { OnOk result (TakesLine number line.now self.old self.new) }
+    /// Keeps an error.
+    fn add_error(&mut self, error: ErrorFound) -> Result<(), NoMemory>
+        ensures { OnOk result (self.new ≡ with_answer error.answer self.old) }
     {
-        match read_line(alloc, &mut self.parser, line) {
-            Ok(command) => self.step(alloc, number, line, command),
-            Err(LineError::Mistake(mistake)) => self.malformed(number, line, &mistake),
-            Err(LineError::Memory) => Err(NoMemory),
-        }
-    }
-
-    fn step(
-        &mut self,
-        alloc: Global,
-        number: u32,
-        line: &[u8],
-        command: Command,
-    ) -> Result<(), NoMemory>
-        requires { NamesColumn command }
-        ensures { OnOk result (Steps number command self.old self.new) }
-    {
-        match self.world.step(alloc, number, &command) {
-            Ok(_) => self.done(alloc, number, command),
-            Err(Refused {
-                refusal: Refusal::Memory,
-                ..
-            }) => Err(NoMemory),
-            Err(refused) => self.refused(alloc, number, line, command, &refused),
-        }
-    }
-
-    fn answer(&mut self, line: u32, verdict: Verdict) -> Result<(), NoMemory>
-        ensures { OnOk result (self.new ≡ with_answer line verdict self.old) }
-    {
-        self.answers.push(Answer { line, verdict })?;
+        self.errors.push(error)?;
         Ok(())
     }
 
-    /// Keeps a finding that no other line has for a cause.
-    pub(crate) fn tell(
-        &mut self,
-        line: Option<u32>,
-        column: Option<usize>,
-        told: Told,
-    ) -> Result<(), NoMemory>
-        ensures { self.new ≡ self.old }
+    /// Keeps the parts of the schema that break a rule, where a line was refused for one.
+    fn add_parts(&mut self, alloc: Global, refusal: &Refusal) -> Result<(), NoMemory>
+        ensures { OnOk result (self.new ≡ with_parts (parts_beside refusal.now self.old.world.schema) self.old) }
     {
-        self.findings.push(Finding {
-            line,
-            column,
-            told,
-            further: 0,
-            last: 0,
-        })?;
+        if let Refusal::SchemaRule(_) = refusal {
+            let parts = broken_parts(alloc, self.steps.schema())?;
+            self.parts.extend_from_slice(&parts)?;
+        }
         Ok(())
     }
 
-    fn malformed(
-        &mut self,
-        number: u32,
-        line: &[u8],
-        mistake: &Mistake,
-    ) -> Result<(), NoMemory>
-        ensures { OnOk result (self.new ≡ with_answer number (Verdict.Malformed mistake.now.rule) self.old) }
+    /// Keeps what is wrong with a malformed line.
+    fn malformed(&mut self, number: u32, line: &[u8], mistake: &Mistake) -> Result<(), NoMemory>
+        ensures { OnOk result (self.new ≡ with_said (Some (malformed_at number mistake.now.rule)) self.old) }
     {
-        self.answer(number, Verdict::Malformed(mistake.rule))?;
-        match first_word(line) {
-            Some(b"txn") | Some(b"calls") => self.flow.fail_block(number),
-            Some(b"resume") => self.flow.fail_resume(number),
-            Some(_) | None => self.spots.keep_malformed(number, line)?,
-        }
-        let told = Told::Malformed {
-            rule: mistake.rule,
-            hint: mistake.hint,
-        };
-        self.tell(Some(number), Some(mistake.column), told)
-    }
-
-    fn done(&mut self, alloc: Global, number: u32, command: Command) -> Result<(), NoMemory>
-        requires { NamesColumn command }
-        ensures { self.new ≡ self.old }
-    {
-        self.flow.done(number, &command)?;
-        self.spots.keep_declared(number, &command)?;
-        self.keep(alloc, &command)?;
-        if let Command::Statement(_) | Command::Procedures(ProcLine::Call(_)) = &command {
-            self.pending.push(Pending {
+        self.trail.malformed(number, line)?;
+        self.trail.count(number, None)?;
+        self.add_error(ErrorFound {
+            answer: Answer {
                 line: number,
-                command,
-            })?;
-        }
-        Ok(())
+                verdict: Verdict::Malformed(mistake.rule),
+            },
+            column: Some(mistake.column),
+            why: Why::Malformed(mistake.hint),
+            cause: None,
+        })
     }
 
-    /// Keeps what the end of the script looks at.
-    fn keep(&mut self, alloc: Global, command: &Command) -> Result<(), NoMemory>
-        requires { NamesColumn command.now }
-        ensures { self.new ≡ self.old }
-    {
-        if let Command::Declare(declaration) = command {
-            if let Err(Refusal::Memory) = add_declaration(&mut self.schema, alloc, declaration) {
-                return Err(NoMemory);
-            }
-        }
-        if let Command::Push { from, to, .. } = command {
-            self.pushes.push((*from, *to))?;
-        }
-        if let Command::Show { .. } = command {
-            self.shows = true;
-        }
-        if let Command::Commit | Command::Abandon | Command::Procedures(ProcLine::Send { .. }) =
-            command
-        {
-            self.pending.clear();
-        }
-        Ok(())
-    }
-
-    /// The command that a refusal is about: the statement or the call of the block that was refused, or the line's own.
-    fn blamed(&mut self, alloc: Global, number: u32, line: u32, command: Command) -> Command
-        ensures { self.new ≡ self.old }
-    {
-        if line == number {
-            return command;
-        }
-        for pending in mem::replace(&mut self.pending, Vec::new(alloc)) {
-            let Pending {
-                line: at,
-                command: blamed,
-            } = pending;
-            if at == line {
-                return blamed;
-            }
-        }
-        command
-    }
-
+    /// Keeps why a command was refused.
     fn refused(
         &mut self,
         alloc: Global,
@@ -236,133 +101,82 @@ impl Linter {
         command: Command,
         refused: &Refused,
     ) -> Result<(), NoMemory>
-        ensures { OnOk result (self.new ≡ with_answer refused.now.line (Verdict.Refused refused.now.refusal) self.old) }
+        ensures { OnOk result (self.new ≡ with_said (refused_so (Some refused.now)) self.old) }
     {
-        let told = refused.line;
-        self.answer(told, Verdict::Refused(refused.refusal))?;
-        let cause = self.flow.cause(&command);
-        self.flow.refused(number, &command);
-        self.spots.keep_declared(number, &command)?;
-        let command = self.blamed(alloc, number, told, command);
-        match refused.refusal {
-            Refusal::WrongPhase => self.not_now(told, cause, command),
-            Refusal::UnknownName => self.unknown(told, line, command),
-            Refusal::SchemaRule(rule) => self.schema_rule(alloc, told, rule, command),
-            refusal => self.tell(Some(told), None, Told::Refused { command, refusal }),
-        }
-    }
-
-    /// The place of the last error that was found at a line.
-    fn error_at(&self, line: u32) -> Option<usize> {
-        self.findings
-            .iter()
-            .position(|finding| finding.line == Some(line) && finding.told.level() == Level::Error)
-    }
-
-    /// The place of a finding that tells of this cause.
-    fn caused_by(&self, cause: Cause) -> Option<usize> {
-        for place in 0..self.findings.len() {
-            if let Told::NotNow(other) = self.findings[place].told {
-                if other == cause {
-                    return Some(place);
-                }
-            }
-        }
-        None
-    }
-
-    /// Adds a line to those that are refused for the same cause as a finding's.
-    fn add_further(&mut self, place: usize, line: u32)
-        ensures { self.new ≡ self.old }
-    {
-        if let Some(finding) = self.findings.get_mut(place) {
-            finding.further = finding.further.saturating_add(1);
-            finding.last = line;
-        }
-    }
-
-    /// A line that isn't for now is told with the first line that has its cause.
-    fn not_now(
-        &mut self,
-        line: u32,
-        cause: Option<Cause>,
-        command: Command,
-    ) -> Result<(), NoMemory>
-        ensures { self.new ≡ self.old }
-    {
-        let Some(cause) = cause else {
-            return self.tell(
-                Some(line),
-                None,
-                Told::Refused {
-                    command,
-                    refusal: Refusal::WrongPhase,
-                },
-            );
-        };
-        let first = match self.flow.first_cause(cause) {
-            Some(failed) => self.error_at(failed),
-            None => None,
-        };
-        match first.or(self.caused_by(cause)) {
-            Some(place) => {
-                self.add_further(place, line);
-                Ok(())
-            }
-            None => self.tell(Some(line), None, Told::NotNow(cause)),
-        }
-    }
-
-    /// A line with a name that stands for nothing is told with the line that was to declare it.
-    fn unknown(&mut self, line: u32, bytes: &[u8], command: Command) -> Result<(), NoMemory>
-        ensures { self.new ≡ self.old }
-    {
-        let Some(named) = unknown(&self.schema, &command) else {
-            return self.tell(
-                Some(line),
-                None,
-                Told::Refused {
-                    command,
-                    refusal: Refusal::UnknownName,
-                },
-            );
-        };
-        let first = match self.spots.line_of_any(named.of, &named.name) {
-            Some(failed) => self.error_at(failed),
-            None => None,
-        };
-        if let Some(place) = first {
-            self.add_further(place, line);
-            return Ok(());
-        }
-        self.tell(
-            Some(line),
-            column_of(bytes, &named.name),
-            Told::Unknown {
-                of: named.of,
-                name: named.name,
+        let note = self
+            .trail
+            .refused(alloc, number, line, self.steps.schema(), command, refused)?;
+        self.trail.count(number, note.cause)?;
+        self.add_error(ErrorFound {
+            answer: Answer {
+                line: refused.line,
+                verdict: Verdict::Refused(refused.refusal),
             },
-        )
+            column: note.column,
+            why: note.why,
+            cause: note.cause,
+        })?;
+        self.add_parts(alloc, &refused.refusal)
     }
 
-    /// The schema breaks a rule: each of its tables and groups that breaks one is told.
-    fn schema_rule(
+    /// Keeps what came of the line of a number.
+    fn add(
         &mut self,
         alloc: Global,
-        line: u32,
-        rule: u8,
-        command: Command,
+        number: u32,
+        line: &[u8],
+        came: Came,
     ) -> Result<(), NoMemory>
-        ensures { self.new ≡ self.old }
+        ensures { OnOk result (self.new ≡ with_said (said_of number came) self.old) }
     {
-        self.tell(
-            Some(line),
-            None,
-            Told::Refused {
-                command,
-                refusal: Refusal::SchemaRule(rule),
+        match came {
+            Came::Done(command) => self.trail.done(number, command),
+            Came::Malformed(mistake) => self.malformed(number, line, &mistake),
+            Came::Refused(command, refused) => {
+                self.refused(alloc, number, line, command, &refused)
+            }
+        }
+    }
+
+    /// Looks at the line of a number.
+    fn take_line(&mut self, alloc: Global, number: u32, line: &[u8]) -> Result<(), NoMemory>
+        ensures { OnOk result (self.new ≡ checked number line.now self.old) }
+    {
+        let came = self.steps.take(alloc, number, line)?;
+        self.add(alloc, number, line, came)
+    }
+
+    /// Keeps that a line is one too many.
+    fn too_many(&mut self, number: u32) -> Result<(), NoMemory>
+        ensures { OnOk result (self.new ≡ with_said (Some (malformed_at number 2)) self.old) }
+    {
+        self.trail.count(number, None)?;
+        self.add_error(ErrorFound {
+            answer: Answer {
+                line: number,
+                verdict: Verdict::Malformed(LINES_RULE),
             },
-        )?;
-        self.broken_parts(alloc)
+            column: None,
+            why: Why::TooManyLines,
+            cause: None,
+        })
+    }
+
+    /// Looks at all lines of a script.
+    pub(crate) fn take_script(&mut self, alloc: Global, script: &[u8]) -> Result<(), NoMemory>
+        ensures { OnOk result (self.new ≡ checked_from 1 (lines_of script.now) self.old) }
+    {
+        let mut left = script;
+        let mut number = 1u32;
+        while !left.is_empty() {
+            let (line, behind) = split_line(left);
+            if number > MOST_LINES {
+                return self.too_many(number);
+            }
+            self.take_line(alloc, number, line)?;
+            number += 1;
+            left = behind;
+        }
+        Ok(())
     }
 }

@@ -1,0 +1,89 @@
+-- What the engine says of the lines of a script.
+use Rattle.std.specs.Prelude.{ℕ, ◌+◌, nat_lt, if◌then◌else◌, List, [], ◌∷◌, ◌++◌, Option, Some, None, Result, Ok, Err}
+use Rattle.rep_values.specs.declared.refusal.Refusal.{Refusal}
+use Rattle.rep_values.specs.declared.refusal.Refusal.TheVariants as refusal
+use Rattle.rep_schema.specs.declared.schema.Schema.{Schema}
+use Rattle.schema_advice.specs.declared.broken.BrokenPart.{BrokenPart}
+use Rattle.schema_advice.specs.Broken.{broken_parts}
+use Rattle.script_parse.specs.declared.command.Command.{Command}
+use Rattle.script_parse.specs.Parsed.{parsed}
+use Rattle.script_drive.specs.Lines.{most_lines}
+use Rattle.world_state.specs.declared.refused.Refused.{Refused}
+use Rattle.world_state.specs.World.{WorldState, first_world}
+use Rattle.world_state.specs.Steps.{step_refused}
+use Rattle.world_run.specs.Scripts.{script_step}
+use Rattle.script_lint.specs.Lines.{lines_of}
+use Rattle.script_lint.specs.declared.answer.Answer.{Answer}
+use Rattle.script_lint.specs.declared.answer.Verdict.{Verdict}
+use Rattle.script_lint.specs.declared.answer.Verdict.TheVariants as verdict
+
+-- ---- a line
+
+abbrev pub malformed_at : ℕ → ℕ → Answer
+malformed_at number rule = record { line = number; verdict = verdict.Malformed rule }
+
+-- what is told of a refusal, if there is one
+abbrev pub refused_so : Option Refused → Option Answer
+refused_so None = None
+refused_so (Some r) = Some (record { line = r.line; verdict = verdict.Refused r.refusal })
+
+-- that a line breaks a rule, or what the world tells of its command, where it refuses that
+abbrev pub said_by : WorldState → ℕ → Result Command ℕ → Option Answer
+said_by w number (Err rule) = Some (malformed_at number rule)
+said_by w number (Ok command) = refused_so (step_refused number command w)
+
+-- what the engine says of the line of a number, None where it does it
+abbrev pub said_at : WorldState → ℕ → List ℕ → Option Answer
+said_at w number line = said_by w number (parsed line)
+
+-- the world behind the line, which a malformed one leaves
+abbrev pub world_past : WorldState → ℕ → List ℕ → WorldState
+world_past w number line = (script_step w number line).state
+
+-- ---- the lines so far
+
+-- the world behind them, what the engine said of them, and the parts of the schema that break a rule, each time that it refused a
+-- line for one
+pub record Checked : Type 0 where
+  pub world : WorldState
+  pub answers : List Answer
+  pub parts : List BrokenPart
+
+-- no line yet
+abbrev pub nothing_checked : Checked
+nothing_checked = record { world = first_world; answers = []; parts = [] }
+
+-- the parts that are told beside a refusal: those of the schema where it is for one of its rules
+abbrev pub parts_beside : Refusal → Schema → List BrokenPart
+parts_beside (refusal.SchemaRule rule) schema = broken_parts schema
+parts_beside other schema = []
+
+-- and beside a verdict
+abbrev pub parts_with : Verdict → Schema → List BrokenPart
+parts_with (verdict.Malformed rule) schema = []
+parts_with (verdict.Refused why) schema = parts_beside why schema
+
+-- one answer more, or none
+abbrev pub with_said : Option Answer → Checked → Checked
+with_said None c = c
+with_said (Some said) c = record {
+  world = c.world;
+  answers = c.answers ++ said ∷ [];
+  parts = c.parts ++ parts_with said.verdict c.world.schema;
+}
+
+-- one line more
+abbrev pub checked : ℕ → List ℕ → Checked → Checked
+checked number line c = with_said (said_at c.world number line) (record c { world = world_past c.world number line })
+
+-- ---- a script
+
+-- lines from a number on; the first that is one too many is the last
+abbrev pub checked_from : ℕ → List (List ℕ) → Checked → Checked
+checked_from number [] c = c
+checked_from number (line ∷ lines) c =
+    if nat_lt most_lines number then with_said (Some (malformed_at number 2)) c else checked_from (number + 1) lines (checked number line c)
+
+-- all lines of a script
+abbrev pub script_checked : List ℕ → Checked
+script_checked script = checked_from 1 (lines_of script) nothing_checked

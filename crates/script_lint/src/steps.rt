@@ -1,0 +1,167 @@
+//! The world of a script, line by line: a malformed line is passed over.
+ghost use Rattle.std.specs.Prelude.{◌≡◌, true, IfOk, OnOk, IfSome};
+ghost use Rattle.report_text.specs.Refusals.{is_memory};
+ghost use Rattle.rep_schema.specs.Shape.{HasShape};
+ghost use Rattle.script_parse.specs.Named.{NamesColumn};
+ghost use Rattle.world_state.specs.World.{first_world};
+ghost use Rattle.world_state.specs.Steps.{world_step, step_refused};
+ghost use Rattle.script_lint.specs.Checking.{refused_so, said_at, world_past};
+ghost use Rattle.script_lint.specs.Taken.{schema_with, said_of};
+
+use line_advice::{LineError, Mistake, read_line};
+use rep_declare::add_declaration;
+use rep_lists::{Copies, NoMemory};
+use rep_schema::Schema;
+use rep_values::Refusal;
+use script_parse::{Command, LineParser};
+use std::alloc::Global;
+use std::marker::Model;
+use world_run::World;
+use world_state::Refused;
+
+/// What came of a line.
+#[derive(Drop)]
+pub(crate) enum Came {
+    Done(Command),
+    Malformed(Mistake),
+    Refused(Command, Refused),
+}
+
+/// The world of the lines so far, and its schema.
+#[derive(Drop)]
+pub(crate) struct Steps {
+    world: World,
+    schema: Schema,
+    parser: LineParser,
+}
+
+impl Model for Steps {
+    ghost use Rattle.std.specs.Prelude.{◌≡◌, None};
+    ghost use Rattle.rep_schema.specs.Shape.{HasShape};
+    ghost use Rattle.world_state.specs.World.{WorldState};
+
+    ghost Value = { WorldState };
+
+    ghost view = { λ s. s.world.world };
+
+    ghost invariant = { λ s. (s.world.lent ≡ None) × HasShape s.schema × (s.schema ≡ s.world.world.schema) };
+}
+
+/// The schema with what a command declares; None where it declares nothing, or the schema refuses it.
+fn schema_with(
+    alloc: Global,
+    schema: &Schema,
+    command: &Command,
+) -> Result<Option<Schema>, NoMemory>
+    requires shape { HasShape schema.now }
+    requires named { NamesColumn command.now }
+    ensures value { IfOk result (λ next. next ≡ schema_with command.now schema.now) }
+    ensures shape { IfOk result (λ next. IfSome next HasShape) }
+{
+    let Command::Declare(declaration) = command else {
+        return Ok(None);
+    };
+    let mut next = schema.copy(alloc)?;
+    match add_declaration(&mut next, alloc, declaration) {
+        Ok(()) => Ok(Some(next)),
+        Err(Refusal::Memory) => Err(NoMemory),
+        Err(_) => Ok(None),
+    }
+}
+
+/// Whether it was for want of memory.
+fn is_memory(refusal: &Refusal) -> bool
+    ensures { result ≡ is_memory refusal.now }
+{
+    if let Refusal::Memory = refusal {
+        return true;
+    }
+    false
+}
+
+impl Steps {
+    /// No line yet.
+    pub(crate) fn make(alloc: Global) -> Result<Steps, NoMemory>
+        ensures { IfOk result (λ steps. steps ≡ first_world) }
+    {
+        Ok(Steps {
+            world: World::make(alloc)?,
+            schema: Schema::empty(alloc),
+            parser: LineParser::new(alloc),
+        })
+    }
+
+    /// The world behind the lines so far.
+    pub(crate) fn world(&self) -> &World {
+        &self.world
+    }
+
+    /// What is declared.
+    pub(crate) fn schema(&self) -> &Schema
+        ensures { result.now ≡ self.now.schema }
+    {
+        &self.schema
+    }
+
+    /// Runs the command of a line, and tells why it is refused, if it is.
+    fn run(
+        &mut self,
+        alloc: Global,
+        number: u32,
+        command: &Command,
+    ) -> Result<Option<Refused>, NoMemory>
+        requires { NamesColumn command.now }
+        ensures world { OnOk result (self.new ≡ world_step number command.now self.old) }
+        ensures told { IfOk result (λ told. told ≡ step_refused number command.now self.old) }
+    {
+        let next = schema_with(alloc, &self.schema, command)?;
+        match self.world.step(alloc, number, command) {
+            Ok(_) => {
+                if let Some(schema) = next {
+                    self.schema = schema;
+                }
+                Ok(None)
+            }
+            Err(refused) => {
+                if is_memory(&refused.refusal) {
+                    return Err(NoMemory);
+                }
+                Ok(Some(refused))
+            }
+        }
+    }
+
+    /// What comes of the command of a line.
+    fn take_command(
+        &mut self,
+        alloc: Global,
+        number: u32,
+        command: Command,
+    ) -> Result<Came, NoMemory>
+        requires { NamesColumn command }
+        ensures world { OnOk result (self.new ≡ world_step number command self.old) }
+        ensures said { IfOk result (λ came. said_of number came ≡ refused_so (step_refused number command self.old)) }
+    {
+        Ok(match self.run(alloc, number, &command)? {
+            None => Came::Done(command),
+            Some(refused) => Came::Refused(command, refused),
+        })
+    }
+
+    /// What comes of the line of a number.
+    pub(crate) fn take(
+        &mut self,
+        alloc: Global,
+        number: u32,
+        line: &[u8],
+    ) -> Result<Came, NoMemory>
+        ensures world { OnOk result (self.new ≡ world_past self.old number line.now) }
+        ensures said { IfOk result (λ came. said_of number came ≡ said_at self.old number line.now) }
+    {
+        match read_line(alloc, &mut self.parser, line) {
+            Ok(command) => self.take_command(alloc, number, command),
+            Err(LineError::Mistake(mistake)) => Ok(Came::Malformed(mistake)),
+            Err(LineError::Memory) => Err(NoMemory),
+        }
+    }
+}
