@@ -2,3 +2,4 @@
 pub mod Parts
 pub mod Methods
 pub mod Broken
+pub mod Remarks

@@ -11,11 +11,11 @@ pub enum Remark {
     /// Some columns are in no group.
     Ungrouped,
     /// No method of the group decides every conflict.
-    Undecided(u32),
+    Undecided(usize),
     /// By this method of the group sites that write it at once end apart.
-    Parting { group: u32, method: Method },
+    Parting { group: usize, method: Method },
     /// The constraint has methods, by which sites end with rows of their own. None stands for the key.
-    OwnRows(Option<u32>),
+    OwnRows(Option<usize>),
     /// The table would be convergent, but for this rule.
     Hindered(u8),
     /// The table keeps all rules of convergent ones.
@@ -96,21 +96,21 @@ fn put_ungrouped<W: fmt::Write>(
 }
 
 impl<'a> RemarkText<'a> {
-    fn group_name(&self, place: u32) -> Option<&Name> {
-        let group = self.table.groups.as_slice().get(place as usize)?;
+    fn group_name(&self, place: usize) -> Option<&Name> {
+        let group = self.table.groups.as_slice().get(place)?;
         Some(&group.name)
     }
 
-    fn put_group<W: fmt::Write>(&self, f: &mut fmt::Formatter<W>, place: u32) -> fmt::Result {
+    fn put_group<W: fmt::Write>(&self, f: &mut fmt::Formatter<W>, place: usize) -> fmt::Result {
         match self.group_name(place) {
             Some(name) => write!(f, "group {name} of {}", self.table.name.0),
             None => write!(f, "a group of {}", self.table.name.0),
         }
     }
 
-    fn put_undecided<W: fmt::Write>(&self, f: &mut fmt::Formatter<W>, place: u32) -> fmt::Result {
+    fn put_undecided<W: fmt::Write>(&self, f: &mut fmt::Formatter<W>, place: usize) -> fmt::Result {
         self.put_group(f, place)?;
-        let last = match self.table.groups.as_slice().get(place as usize) {
+        let last = match self.table.groups.as_slice().get(place) {
             Some(group) => group.methods.as_slice().last(),
             None => None,
         };
@@ -120,11 +120,11 @@ impl<'a> RemarkText<'a> {
     fn put_own_rows<W: fmt::Write>(
         &self,
         f: &mut fmt::Formatter<W>,
-        place: Option<u32>,
+        place: Option<usize>,
     ) -> fmt::Result {
         let table = &self.table.name.0;
         let constraints = self.table.constraints.as_slice();
-        match place.and_then(|place| constraints.get(place as usize)) {
+        match place.and_then(|place| constraints.get(place)) {
             Some(constraint) => write!(
                 f,
                 "constraint {} of {table}: each site keeps its own row under a value that two write at once",

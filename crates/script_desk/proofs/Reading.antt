@@ -14,3 +14,5 @@ consumes_more None next last bytes more front piece = tt
 consumes_more (Some whole) None last bytes more front piece = absurd front
 consumes_more (Some whole) (Some rest) None bytes more front piece = absurd piece
 consumes_more (Some whole) (Some rest) (Some left) bytes more front piece = front ∙ ap (λ (xs : List ℕ). bytes ++ xs) piece ∙ sym (append_assoc bytes more left)
+
+pub ruleset reading_facts = (consumes_none, consumes_more)

@@ -2,3 +2,4 @@
 mod FirstLines
 mod Worlds
 mod Schemas
+mod Lines

@@ -1,6 +1,6 @@
 -- What is declared behind a line.
-use Rattle.std.proofs.Common.{◌≡◌, ℕ, List, Some, None, refl, sym, ap, ◌∙◌, subst}
-use Rattle.std.specs.Prelude.{Option}
+use Rattle.std.proofs.Common.{◌≡◌, ℕ, List, Some, None, refl, sym, ap, inl, inr, ◌∙◌, subst}
+use Rattle.std.specs.Prelude.{◌⊎◌, Option}
 use Rattle.rep_values.specs.declared.name.SiteName.{SiteName}
 use Rattle.rep_values.proofs.RefusalSteps.{or_then-None}
 use Rattle.rep_values.specs.declared.refusal.Refusal.{Refusal}
@@ -24,6 +24,7 @@ use Rattle.world_state.specs.Steps.{resumed, world_done}
 use Rattle.snapshot_worlds.proofs.Staying.{IsPlain, plain_stays, refused_stays}
 use Rattle.environment_lines.specs.Doing.{IsDone, IsShort, IsRefused}
 use Rattle.script_lint.specs.Taken.{schema_with, declared_unless}
+use Rattle.script_lint.proofs.Worlds.{world_step-done, step_refused-done, world_step-told, step_refused-told}
 
 -- the schema that a command makes, or the old one
 abbrev pub Lands : Option Schema → Schema → Schema → Type 0
@@ -84,6 +85,15 @@ lands number (command.Join site source) w w' out done = plain number w w' (comma
 lands number (command.Show what site) w w' out done = plain number w w' (command.Show what site) tt done.world
 lands number (command.Procedures line) w w' out done = plain number w w' (command.Procedures line) tt done.world
 
+-- the same, by what was found of it
+pub lands-none : (number : ℕ) (c : Command) (w w' : WorldState) (out : List ℕ) (schema : Schema) → IsDone number c w w' out → schema ≡ w.schema → None ≡ schema_with c schema → schema ≡ w'.schema
+lands-none number c w w' out schema done same none =
+    same ∙ subst (λ (o : Option Schema). Lands o w.schema w'.schema) (sym (none ∙ ap (schema_with c) same)) (lands number c w w' out done)
+
+pub lands-some : (number : ℕ) (c : Command) (w w' : WorldState) (out : List ℕ) (schema made : Schema) → IsDone number c w w' out → schema ≡ w.schema → Some made ≡ schema_with c schema → made ≡ w'.schema
+lands-some number c w w' out schema made done same some =
+    subst (λ (o : Option Schema). Lands o w.schema w'.schema) (sym (some ∙ ap (schema_with c) same)) (lands number c w w' out done)
+
 -- a refused line leaves it
 pub schema-refused : (number : ℕ) (c : Command) (w w' : WorldState) (r : Refused) → IsRefused number c w w' r → w.schema ≡ w'.schema
 schema-refused number c w w' r refused = sym (ap (λ (y : WorldState). y.schema) refused.world ∙ (refused_stays c w).schema)
@@ -123,3 +133,10 @@ schema-short number (command.PurgeLog master table) w w' r short = sym (ap (λ (
 schema-short number command.Suspend w w' r short = sym (ap (λ (y : WorldState). y.schema) (short.kept refl))
 schema-short number (command.Join site source) w w' r short = sym (ap (λ (y : WorldState). y.schema) (short.kept refl))
 schema-short number (command.Show what site) w w' r short = sym (ap (λ (y : WorldState). y.schema) (short.kept refl))
+
+-- and so does a line that isn't done
+pub schema-err : (number : ℕ) (c : Command) (w w' : WorldState) (r : Refused) (schema : Schema) → IsShort number c w w' r ⊎ IsRefused number c w w' r → schema ≡ w.schema → schema ≡ w'.schema
+schema-err number c w w' r schema (inl short) same = same ∙ schema-short number c w w' r short
+schema-err number c w w' r schema (inr refused) same = same ∙ schema-refused number c w w' r refused
+
+pub ruleset step_facts = (lands-none, lands-some, schema-err, world_step-done, step_refused-done, world_step-told, step_refused-told)

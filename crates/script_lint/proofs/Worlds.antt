@@ -1,6 +1,6 @@
 -- What a step leaves of the schema, and what is told of it.
-use Rattle.std.proofs.Common.{◌≡◌, ℕ, List, Some, None, true, false, refl, sym, ap, ◌∙◌}
-use Rattle.std.specs.Prelude.{Option, Result, Ok, Err}
+use Rattle.std.proofs.Common.{◌≡◌, ℕ, List, Some, None, true, false, refl, sym, ap, inl, inr, ◌∙◌}
+use Rattle.std.specs.Prelude.{◌⊎◌, Option, Result, Ok, Err}
 use Rattle.rep_values.specs.declared.refusal.Refusal.{Refusal}
 use Rattle.rep_values.specs.declared.refusal.Refusal.TheVariants as refusal
 use Rattle.report_text.specs.Refusals.{is_memory}
@@ -35,6 +35,15 @@ world_step-refused number c w w' r refused = refused.world ∙ go (world_refusal
     go None told = absurd (cc told)
     go (Some why) told = refl
 
+-- a line of which it was told that it was refused: it wasn't for want of memory
+pub world_step-told : (number : ℕ) (c : Command) (w w' : WorldState) (r : Refused) → is_memory r.refusal ≡ false → IsShort number c w w' r ⊎ IsRefused number c w w' r → w' ≡ world_step number c w
+world_step-told number c w w' r told (inl short) = let memory = rw short.memory at told in absurd (cc memory)
+world_step-told number c w w' r told (inr refused) = world_step-refused number c w w' r refused
+
+pub step_refused-told : (number : ℕ) (c : Command) (w w' : WorldState) (r : Refused) → is_memory r.refusal ≡ false → IsShort number c w w' r ⊎ IsRefused number c w w' r → Some r ≡ step_refused number c w
+step_refused-told number c w w' r told (inl short) = let memory = rw short.memory at told in absurd (cc memory)
+step_refused-told number c w w' r told (inr refused) = sym refused.told
+
 -- the world behind a line that is a command, and behind one that is none
 pub world_past-command : (w : WorldState) (number : ℕ) (line : List ℕ) (c : Command) → parsed line ≡ Ok c → world_step number c w ≡ world_past w number line
 unfolding script_step
@@ -43,3 +52,5 @@ world_past-command w number line c read = rw read refl
 pub world_past-malformed : (w : WorldState) (number : ℕ) (line : List ℕ) (rule : ℕ) → parsed line ≡ Err rule → w ≡ world_past w number line
 unfolding script_step
 world_past-malformed w number line rule read = rw read refl
+
+pub ruleset past_facts = (world_past-command, world_past-malformed)

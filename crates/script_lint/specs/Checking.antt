@@ -1,5 +1,5 @@
 -- What the engine says of the lines of a script.
-use Rattle.std.specs.Prelude.{ℕ, ◌+◌, nat_lt, if◌then◌else◌, List, [], ◌∷◌, ◌++◌, Option, Some, None, Result, Ok, Err}
+use Rattle.std.specs.Prelude.{ℕ, ◌+◌, nat_lt, Bool, true, false, if◌then◌else◌, List, [], ◌∷◌, ◌++◌, Option, Some, None, Result, Ok, Err}
 use Rattle.rep_values.specs.declared.refusal.Refusal.{Refusal}
 use Rattle.rep_values.specs.declared.refusal.Refusal.TheVariants as refusal
 use Rattle.rep_schema.specs.declared.schema.Schema.{Schema}
@@ -53,10 +53,14 @@ pub record Checked : Type 0 where
 abbrev pub nothing_checked : Checked
 nothing_checked = record { world = first_world; answers = []; parts = [] }
 
--- the parts that are told beside a refusal: those of the schema where it is for one of its rules
+-- a refusal is for a rule of schemas
+abbrev pub is_for_rule : Refusal → Bool
+is_for_rule (refusal.SchemaRule rule) = true
+is_for_rule other = false
+
+-- the parts that are told beside a refusal: those of the schema where it is for a rule
 abbrev pub parts_beside : Refusal → Schema → List BrokenPart
-parts_beside (refusal.SchemaRule rule) schema = broken_parts schema
-parts_beside other schema = []
+parts_beside why schema = if is_for_rule why then broken_parts schema else []
 
 -- and beside a verdict
 abbrev pub parts_with : Verdict → Schema → List BrokenPart

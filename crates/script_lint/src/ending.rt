@@ -15,11 +15,11 @@ use world_run::World;
 fn subject(table: &TableEntry, remark: &Remark) -> Option<(NameOf, Name)> {
     match remark {
         Remark::Undecided(group) | Remark::Parting { group, .. } => {
-            let group = table.groups.as_slice().get(*group as usize)?;
+            let group = table.groups.as_slice().get(*group)?;
             Some((NameOf::Group, group.name))
         }
         Remark::OwnRows(Some(constraint)) => {
-            let constraint = table.constraints.as_slice().get(*constraint as usize)?;
+            let constraint = table.constraints.as_slice().get(*constraint)?;
             Some((NameOf::Constraint, constraint.name))
         }
         Remark::OwnRows(None) | Remark::Ungrouped | Remark::Hindered(_) | Remark::Convergent => {

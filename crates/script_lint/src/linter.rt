@@ -1,7 +1,7 @@
 //! A script that is looked at line by line.
 ghost use Rattle.std.specs.Prelude.{◌≡◌, ◌++◌, ◌∷◌, [], Some, IfOk, OnOk};
 ghost use Rattle.script_lint.specs.Lines.{lines_of};
-ghost use Rattle.script_lint.specs.Checking.{Checked, malformed_at, refused_so, parts_beside, with_said, checked, checked_from, nothing_checked};
+ghost use Rattle.script_lint.specs.Checking.{Checked, malformed_at, refused_so, is_for_rule, parts_beside, with_said, checked, checked_from, nothing_checked};
 ghost use Rattle.script_lint.specs.Taken.{said_of};
 ghost use Rattle.script_lint.specs.Adding.{with_answer, with_parts};
 
@@ -23,6 +23,16 @@ const MOST_LINES: u32 = 200_000;
 
 /// The rule that a script has so many lines at most.
 const LINES_RULE: u8 = 2;
+
+/// Whether a line is refused for a rule of schemas.
+fn is_for_rule(refusal: &Refusal) -> bool
+    ensures { result ≡ is_for_rule refusal.now }
+{
+    if let Refusal::SchemaRule(_) = refusal {
+        return true;
+    }
+    false
+}
 
 /// The lines of a script so far, and what was found in them.
 #[derive(Drop)]
@@ -68,7 +78,7 @@ impl Linter {
     fn add_parts(&mut self, alloc: Global, refusal: &Refusal) -> Result<(), NoMemory>
         ensures { OnOk result (self.new ≡ with_parts (parts_beside refusal.now self.old.world.schema) self.old) }
     {
-        if let Refusal::SchemaRule(_) = refusal {
+        if is_for_rule(refusal) {
             let parts = broken_parts(alloc, self.steps.schema())?;
             self.parts.extend_from_slice(&parts)?;
         }
@@ -76,6 +86,7 @@ impl Linter {
     }
 
     /// Keeps what is wrong with a malformed line.
+    #[tactic(auto, using(crate::proofs::Lines::added_facts))]
     fn malformed(&mut self, number: u32, line: &[u8], mistake: &Mistake) -> Result<(), NoMemory>
         ensures { OnOk result (self.new ≡ with_said (Some (malformed_at number mistake.now.rule)) self.old) }
     {
@@ -93,6 +104,7 @@ impl Linter {
     }
 
     /// Keeps why a command was refused.
+    #[tactic(auto, using(crate::proofs::Lines::added_facts))]
     fn refused(
         &mut self,
         alloc: Global,
@@ -147,6 +159,7 @@ impl Linter {
     }
 
     /// Keeps that a line is one too many.
+    #[tactic(auto, using(crate::proofs::Lines::added_facts))]
     fn too_many(&mut self, number: u32) -> Result<(), NoMemory>
         ensures { OnOk result (self.new ≡ with_said (Some (malformed_at number 2)) self.old) }
     {
@@ -163,6 +176,7 @@ impl Linter {
     }
 
     /// Looks at all lines of a script.
+    #[tactic(auto, using(crate::proofs::Lines::left_facts))]
     pub(crate) fn take_script(&mut self, alloc: Global, script: &[u8]) -> Result<(), NoMemory>
         ensures { OnOk result (self.new ≡ checked_from 1 (lines_of script.now) self.old) }
     {

@@ -104,6 +104,7 @@ impl Steps {
     }
 
     /// Runs the command of a line, and tells why it is refused, if it is.
+    #[tactic(auto, using(crate::proofs::Schemas::step_facts))]
     fn run(
         &mut self,
         alloc: Global,
@@ -117,9 +118,10 @@ impl Steps {
         let next = schema_with(alloc, &self.schema, command)?;
         match self.world.step(alloc, number, command) {
             Ok(_) => {
-                if let Some(schema) = next {
-                    self.schema = schema;
-                }
+                let Some(schema) = next else {
+                    return Ok(None);
+                };
+                self.schema = schema;
                 Ok(None)
             }
             Err(refused) => {
@@ -149,6 +151,7 @@ impl Steps {
     }
 
     /// What comes of the line of a number.
+    #[tactic(auto, using(crate::proofs::Worlds::past_facts))]
     pub(crate) fn take(
         &mut self,
         alloc: Global,
