@@ -7,13 +7,14 @@ use rep_values::{Name, TableName};
 use script_parse::Command;
 use std::alloc::Global;
 
-/// Where something was declared, or was to be: its name, the table that it belongs to, and its line.
+/// Where something was declared, or was to be: its name, the table that it belongs to, its line, and whether the line was done.
 #[derive(Clone, Copy)]
 struct Spot {
     of: NameOf,
     table: Option<TableName>,
     name: Name,
     line: u32,
+    done: bool,
 }
 
 /// The lines of declarations.
@@ -59,31 +60,30 @@ impl Spots {
         }
     }
 
-    /// Keeps the line of something.
-    fn keep(
-        &mut self,
-        of: NameOf,
-        table: Option<TableName>,
-        name: Name,
-        line: u32,
-    ) -> Result<(), NoMemory> {
-        self.spots.push(Spot {
-            of,
-            table,
-            name,
-            line,
-        })?;
-        Ok(())
-    }
-
-    /// Keeps the line of what a command declares.
-    pub fn keep_declared(&mut self, line: u32, command: &Command) -> Result<(), NoMemory> {
+    /// Keeps the line of what a command declares, if it does.
+    fn keep(&mut self, line: u32, command: &Command, done: bool) -> Result<(), NoMemory> {
         if let Command::Declare(declaration) = command {
             if let Some((of, table, name)) = declared(declaration) {
-                self.keep(of, table, name, line)?;
+                self.spots.push(Spot {
+                    of,
+                    table,
+                    name,
+                    line,
+                    done,
+                })?;
             }
         }
         Ok(())
+    }
+
+    /// Keeps the line of what a command has declared.
+    pub fn keep_done(&mut self, line: u32, command: &Command) -> Result<(), NoMemory> {
+        self.keep(line, command, true)
+    }
+
+    /// Keeps the line of what a refused command was to declare.
+    pub fn keep_refused(&mut self, line: u32, command: &Command) -> Result<(), NoMemory> {
+        self.keep(line, command, false)
     }
 
     /// Keeps the line of a site or a table that a malformed line was to declare.
@@ -96,26 +96,33 @@ impl Spots {
             b"table" | b"proctable" => NameOf::Table,
             _ => return Ok(()),
         };
-        match Name::of(name) {
-            Some(name) => self.keep(of, None, name, line),
-            None => Ok(()),
+        if let Some(name) = Name::of(name) {
+            self.spots.push(Spot {
+                of,
+                table: None,
+                name,
+                line,
+                done: false,
+            })?;
         }
+        Ok(())
     }
 
-    /// The line of something, the first where there are several.
+    /// The line that declared something.
     pub fn line_of(&self, of: NameOf, table: Option<TableName>, name: &Name) -> Option<u32> {
         for spot in self.spots.as_slice() {
-            if spot.of == of && spot.name.is_same(name) && same_table(spot.table, table) {
+            if spot.done && spot.of == of && spot.name.is_same(name) && same_table(spot.table, table)
+            {
                 return Some(spot.line);
             }
         }
         None
     }
 
-    /// The line of something, whatever table it belongs to.
-    pub fn line_of_any(&self, of: NameOf, name: &Name) -> Option<u32> {
+    /// The first line that was to declare something of this name, whatever table it belongs to, and was refused or malformed.
+    pub fn failed_line_of(&self, of: NameOf, name: &Name) -> Option<u32> {
         for spot in self.spots.as_slice() {
-            if spot.of == of && spot.name.is_same(name) {
+            if !spot.done && spot.of == of && spot.name.is_same(name) {
                 return Some(spot.line);
             }
         }

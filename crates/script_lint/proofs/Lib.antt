@@ -3,3 +3,4 @@ mod FirstLines
 mod Worlds
 mod Schemas
 mod Lines
+mod Ends

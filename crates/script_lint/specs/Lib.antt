@@ -3,3 +3,4 @@ pub mod Lines
 pub mod Checking
 pub mod Adding
 pub mod Taken
+pub mod Laws

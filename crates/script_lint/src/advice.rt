@@ -53,15 +53,15 @@ impl fmt::Display for Advice {
             Advice::NoShow => f.write_str("there is no `show`, so the report has no rows"),
             Advice::NeverPushed { from, to, count } => write!(
                 f,
-                "{count} transactions of {from} wait for {to}, and there is no `push {from} {to}`"
+                "of the transactions of {from} {count} wait for {to}, and there is no `push {from} {to}`"
             ),
             Advice::Unfinished { from, to, count } => write!(
                 f,
-                "{count} transactions of {from} aren't acknowledged by {to} at the end: push once more"
+                "of the transactions of {from} {count} wait for an acknowledgement of {to} at the end: push once more"
             ),
             Advice::Errors { site, count } => write!(
                 f,
-                "{count} errors stand at {site} at the end: `show errors {site}` lists them"
+                "of the errors at {site} {count} stand at the end: `show errors {site}` lists them"
             ),
         }
     }

@@ -154,7 +154,7 @@ impl Trail {
     /// Follows a command that was done.
     pub(crate) fn done(&mut self, number: u32, command: Command) -> Result<(), NoMemory> {
         self.flow.done(number, &command)?;
-        self.spots.keep_declared(number, &command)?;
+        self.spots.keep_done(number, &command)?;
         if let Command::Push { from, to, .. } = &command {
             self.pushes.push((*from, *to))?;
         }
@@ -210,7 +210,7 @@ impl Trail {
             let refusal = Refusal::UnknownName;
             return Note::of(Why::Refused { command, refusal }, None);
         };
-        let cause = match self.spots.line_of_any(named.of, &named.name) {
+        let cause = match self.spots.failed_line_of(named.of, &named.name) {
             Some(failed) => self.error_at(failed),
             None => None,
         };
@@ -233,7 +233,7 @@ impl Trail {
     ) -> Result<Note, NoMemory> {
         let cause = self.flow.cause(&command);
         self.flow.refused(number, &command);
-        self.spots.keep_declared(number, &command)?;
+        self.spots.keep_refused(number, &command)?;
         let command = self.blamed(alloc, refused.line, command);
         match refused.refusal {
             Refusal::WrongPhase => self.not_now(cause, command),
