@@ -16,9 +16,10 @@ use Rattle.world_state.specs.declared.refused.Refused.{Refused}
 use Rattle.world_state.specs.World.{WorldState}
 use Rattle.world_state.specs.Steps.{step_refused}
 use Rattle.world_run.specs.Scripts.{script_step, stepped_by}
-use Rattle.script_lint.specs.Checking.{Checked, malformed_at, refused_so, said_by, said_at, world_past, with_said, checked, checked_from}
+use Rattle.script_steps.specs.Saying.{malformed_at, refused_so, said_by, said_at, world_past}
+use Rattle.script_lint.specs.Checking.{Checked, with_said, checked, checked_from}
 use Rattle.script_lint.specs.Laws.{is_malformed}
-use Rattle.script_lint.specs.declared.answer.Answer.{Answer}
+use Rattle.script_steps.specs.declared.answer.Answer.{Answer}
 
 abbrev said_malformed : Option Answer → Bool
 said_malformed None = false

@@ -4,10 +4,11 @@ use Rattle.std.proofs.lemmas.Bool.{lt-ltb, le-ltb}
 use Rattle.schema_advice.specs.declared.broken.BrokenPart.{BrokenPart}
 use Rattle.world_state.specs.declared.refused.Refused.{Refused}
 use Rattle.script_drive.specs.Lines.{most_lines}
-use Rattle.script_lint.specs.Lines.{lines_of}
-use Rattle.script_lint.specs.Checking.{Checked, malformed_at, refused_so, parts_beside, with_said, checked, checked_from}
+use Rattle.script_steps.specs.Lines.{lines_of}
+use Rattle.script_steps.specs.Saying.{malformed_at, refused_so}
+use Rattle.script_lint.specs.Checking.{Checked, parts_beside, with_said, checked, checked_from}
 use Rattle.script_lint.specs.Adding.{with_answer, with_parts}
-use Rattle.script_lint.specs.declared.answer.Verdict.TheVariants as verdict
+use Rattle.script_steps.specs.declared.answer.Verdict.TheVariants as verdict
 
 -- what is kept of a malformed line
 pub with_answer-malformed : (number rule : ℕ) (c : Checked) → with_answer (malformed_at number rule) c ≡ with_said (Some (malformed_at number rule)) c

@@ -1,7 +1,7 @@
 -- What one more error, and further broken parts, make of what was found.
 use Rattle.std.specs.Prelude.{List, [], ◌∷◌, ◌++◌}
 use Rattle.schema_advice.specs.declared.broken.BrokenPart.{BrokenPart}
-use Rattle.script_lint.specs.declared.answer.Answer.{Answer}
+use Rattle.script_steps.specs.declared.answer.Answer.{Answer}
 use Rattle.script_lint.specs.declared.error.ErrorFound.{ErrorFound}
 use Rattle.script_lint.specs.Checking.{Checked}
 

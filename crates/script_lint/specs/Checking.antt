@@ -1,44 +1,17 @@
 -- What the engine says of the lines of a script.
-use Rattle.std.specs.Prelude.{ℕ, ◌+◌, nat_lt, Bool, true, false, if◌then◌else◌, List, [], ◌∷◌, ◌++◌, Option, Some, None, Result, Ok, Err}
+use Rattle.std.specs.Prelude.{ℕ, ◌+◌, nat_lt, Bool, true, false, if◌then◌else◌, List, [], ◌∷◌, ◌++◌, Option, Some, None}
 use Rattle.rep_values.specs.declared.refusal.Refusal.{Refusal}
 use Rattle.rep_values.specs.declared.refusal.Refusal.TheVariants as refusal
 use Rattle.rep_schema.specs.declared.schema.Schema.{Schema}
 use Rattle.schema_advice.specs.declared.broken.BrokenPart.{BrokenPart}
 use Rattle.schema_advice.specs.Broken.{broken_parts}
-use Rattle.script_parse.specs.declared.command.Command.{Command}
-use Rattle.script_parse.specs.Parsed.{parsed}
 use Rattle.script_drive.specs.Lines.{most_lines}
-use Rattle.world_state.specs.declared.refused.Refused.{Refused}
 use Rattle.world_state.specs.World.{WorldState, first_world}
-use Rattle.world_state.specs.Steps.{step_refused}
-use Rattle.world_run.specs.Scripts.{script_step}
-use Rattle.script_lint.specs.Lines.{lines_of}
-use Rattle.script_lint.specs.declared.answer.Answer.{Answer}
-use Rattle.script_lint.specs.declared.answer.Verdict.{Verdict}
-use Rattle.script_lint.specs.declared.answer.Verdict.TheVariants as verdict
-
--- ---- a line
-
-abbrev pub malformed_at : ℕ → ℕ → Answer
-malformed_at number rule = record { line = number; verdict = verdict.Malformed rule }
-
--- what is told of a refusal, if there is one
-abbrev pub refused_so : Option Refused → Option Answer
-refused_so None = None
-refused_so (Some r) = Some (record { line = r.line; verdict = verdict.Refused r.refusal })
-
--- that a line breaks a rule, or what the world tells of its command, where it refuses that
-abbrev pub said_by : WorldState → ℕ → Result Command ℕ → Option Answer
-said_by w number (Err rule) = Some (malformed_at number rule)
-said_by w number (Ok command) = refused_so (step_refused number command w)
-
--- what the engine says of the line of a number, None where it does it
-abbrev pub said_at : WorldState → ℕ → List ℕ → Option Answer
-said_at w number line = said_by w number (parsed line)
-
--- the world behind the line, which a malformed one leaves
-abbrev pub world_past : WorldState → ℕ → List ℕ → WorldState
-world_past w number line = (script_step w number line).state
+use Rattle.script_steps.specs.Lines.{lines_of}
+use Rattle.script_steps.specs.Saying.{malformed_at, said_at, world_past}
+use Rattle.script_steps.specs.declared.answer.Answer.{Answer}
+use Rattle.script_steps.specs.declared.answer.Verdict.{Verdict}
+use Rattle.script_steps.specs.declared.answer.Verdict.TheVariants as verdict
 
 -- ---- the lines so far
 

@@ -6,9 +6,9 @@ use Rattle.script_drive.specs.Lines.{line_step}
 use Rattle.world_state.specs.World.{first_world}
 use Rattle.world_run.specs.Scripts.{script_step}
 use Rattle.script_lint.specs.Checking.{script_checked}
-use Rattle.script_lint.specs.declared.answer.Answer.{Answer}
-use Rattle.script_lint.specs.declared.answer.Verdict.{Verdict}
-use Rattle.script_lint.specs.declared.answer.Verdict.TheVariants as verdict
+use Rattle.script_steps.specs.declared.answer.Answer.{Answer}
+use Rattle.script_steps.specs.declared.answer.Verdict.{Verdict}
+use Rattle.script_steps.specs.declared.answer.Verdict.TheVariants as verdict
 
 abbrev pub is_malformed_so : Verdict → Bool
 is_malformed_so (verdict.Malformed rule) = true

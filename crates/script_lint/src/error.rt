@@ -1,11 +1,11 @@
 //! Lines that the engine doesn't do.
 
-use crate::Answer;
 use desk_words::RefusalNote;
 use line_advice::Hint;
 use rep_values::Refusal;
 use script_flow::{Cause, Named};
 use script_parse::Command;
+use script_steps::Answer;
 use std::fmt;
 
 /// Why the engine doesn't do a line. Its `Display` is a sentence without its full stop.

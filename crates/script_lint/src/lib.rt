@@ -2,22 +2,19 @@
 #![tactic(auto)]
 
 mod advice;
-mod answer;
 mod ending;
 mod error;
 mod findings;
 mod laws;
 mod level;
-mod lines;
 mod lint;
 mod linter;
-mod steps;
 mod trail;
 
 pub use advice::{Advice, AdviceFound};
-pub use answer::{Answer, Verdict};
 pub use error::{ErrorFound, Why};
 pub use findings::Findings;
 pub use laws::malformed_lines_end_runs;
 pub use level::Level;
 pub use lint::lint;
+pub use script_steps::{Answer, Verdict};

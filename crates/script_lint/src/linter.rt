@@ -1,19 +1,19 @@
 //! A script that is looked at line by line.
 ghost use Rattle.std.specs.Prelude.{◌≡◌, ◌++◌, ◌∷◌, [], Some, IfOk, OnOk};
-ghost use Rattle.script_lint.specs.Lines.{lines_of};
-ghost use Rattle.script_lint.specs.Checking.{Checked, malformed_at, refused_so, is_for_rule, parts_beside, with_said, checked, checked_from, nothing_checked};
-ghost use Rattle.script_lint.specs.Taken.{said_of};
+ghost use Rattle.script_steps.specs.Lines.{lines_of};
+ghost use Rattle.script_steps.specs.Saying.{malformed_at, refused_so};
+ghost use Rattle.script_lint.specs.Checking.{Checked, is_for_rule, parts_beside, with_said, checked, checked_from, nothing_checked};
+ghost use Rattle.script_steps.specs.Coming.{said_of};
 ghost use Rattle.script_lint.specs.Adding.{with_answer, with_parts};
 
-use crate::lines::split_line;
-use crate::steps::{Came, Steps};
 use crate::trail::Trail;
-use crate::{Answer, ErrorFound, Verdict, Why};
+use crate::{ErrorFound, Why};
 use line_advice::Mistake;
 use rep_lists::NoMemory;
 use rep_values::Refusal;
 use schema_advice::{BrokenPart, broken_parts};
 use script_parse::Command;
+use script_steps::{Answer, Came, Steps, Verdict, split_line};
 use std::alloc::Global;
 use std::marker::Model;
 use world_state::Refused;
@@ -142,7 +142,7 @@ impl Linter {
         ensures { OnOk result (self.new ≡ with_said (said_of number came) self.old) }
     {
         match came {
-            Came::Done(command) => self.trail.done(number, command),
+            Came::Done(command, _) => self.trail.done(number, command),
             Came::Malformed(mistake) => self.malformed(number, line, &mistake),
             Came::Refused(command, refused) => {
                 self.refused(alloc, number, line, command, &refused)

@@ -1,5 +1,5 @@
 -- From the first line on.
-use Rattle.script_lint.specs.Lines.{lines_of}
+use Rattle.script_steps.specs.Lines.{lines_of}
 use Rattle.script_lint.specs.Checking.{nothing_checked}
 use Rattle.std.proofs.Common.{refl}
 use Rattle.script_lint.proofs.Ends.{stops_where_told}

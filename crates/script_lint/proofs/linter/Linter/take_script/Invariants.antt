@@ -1,6 +1,6 @@
 -- The lines to come lead where all lead.
 use Rattle.std.proofs.Common.{◌≡◌, ◌≤◌, length}
-use Rattle.script_lint.specs.Lines.{lines_of}
+use Rattle.script_steps.specs.Lines.{lines_of}
 use Rattle.script_lint.specs.Checking.{checked_from}
 use Rattle.script_lint.proofs.linter.Linter.take_script.Given as goal
 

@@ -1,8 +1,8 @@
 -- The bytes before the first end of a line, and those behind it.
 use Rattle.std.proofs.Common.{◌+◌, ◌<◌, ◌∷◌, length, take, sym, ap, ◌∙◌, arith}
-use Rattle.script_lint.specs.Lines.{lines_of}
-use Rattle.script_lint.proofs.FirstLines.{lines_of-at, lines_of-whole, to_end}
-use Rattle.script_lint.proofs.lines.split_line.Goals as goal
+use Rattle.script_steps.specs.Lines.{lines_of}
+use Rattle.script_steps.proofs.FirstLines.{lines_of-at, lines_of-whole, to_end}
+use Rattle.script_steps.proofs.lines.split_line.Goals as goal
 
 pub returns-then-end-script-clause-line : goal.returns-then-end-script-clause-line
 returns-then-end-script-clause-line c = lines_of-whole c.args.script.now c.unbroken_len-end.result c.requires c.if-end-script.true c.unbroken_len-end.ensures.front

@@ -3,7 +3,8 @@ use Rattle.std.proofs.Common.{◌≡◌, ℕ, List, Some, None, true, false, ref
 use Rattle.std.specs.Prelude.{◌⊎◌, Option, Result, Ok, Err}
 use Rattle.rep_values.specs.declared.refusal.Refusal.{Refusal}
 use Rattle.rep_values.specs.declared.refusal.Refusal.TheVariants as refusal
-use Rattle.report_text.specs.Refusals.{is_memory}
+use Rattle.report_text.specs.Refusals.{is_memory, refused_text}
+use Rattle.report_text.specs.Texts.{malformed_text}
 use Rattle.rep_schema.specs.declared.schema.Schema.{Schema}
 use Rattle.rep_declare.specs.declared.declaration.Declare.{Declare}
 use Rattle.rep_declare.specs.Refusals.{refusal_of}
@@ -17,8 +18,8 @@ use Rattle.world_state.specs.Refusals.{world_refusal}
 use Rattle.world_state.specs.Steps.{world_done, world_refused, world_step, step_by, step_refused, told_by}
 use Rattle.world_run.specs.Scripts.{script_step}
 use Rattle.environment_lines.specs.Doing.{IsDone, IsShort, IsRefused}
-use Rattle.script_lint.specs.Checking.{world_past}
-use Rattle.script_lint.specs.Taken.{schema_with, declared_unless}
+use Rattle.environment_lines.specs.Texts.{told_text, line_text}
+use Rattle.script_steps.specs.Saying.{world_past, prints_at}
 
 -- a line that was done
 pub world_step-done : (number : ℕ) (c : Command) (w w' : WorldState) (out : List ℕ) → IsDone number c w w' out → w' ≡ world_step number c w
@@ -44,6 +45,14 @@ pub step_refused-told : (number : ℕ) (c : Command) (w w' : WorldState) (r : Re
 step_refused-told number c w w' r told (inl short) = let memory = rw short.memory at told in absurd (cc memory)
 step_refused-told number c w w' r told (inr refused) = sym refused.told
 
+-- what each of them prints
+pub line_text-done : (number : ℕ) (c : Command) (w w' : WorldState) (out : List ℕ) → IsDone number c w w' out → out ≡ line_text number c w
+line_text-done number c w w' out done = done.text ∙ sym (ap (λ (o : Option Refusal). told_text (told_by o number c w) c w) done.passes)
+
+pub line_text-told : (number : ℕ) (c : Command) (w w' : WorldState) (r : Refused) → is_memory r.refusal ≡ false → IsShort number c w w' r ⊎ IsRefused number c w w' r → refused_text r.line r.refusal ≡ line_text number c w
+line_text-told number c w w' r told (inl short) = let memory = rw short.memory at told in absurd (cc memory)
+line_text-told number c w w' r told (inr refused) = sym (ap (λ (o : Option Refused). told_text o c w) refused.told)
+
 -- the world behind a line that is a command, and behind one that is none
 pub world_past-command : (w : WorldState) (number : ℕ) (line : List ℕ) (c : Command) → parsed line ≡ Ok c → world_step number c w ≡ world_past w number line
 unfolding script_step
@@ -53,4 +62,13 @@ pub world_past-malformed : (w : WorldState) (number : ℕ) (line : List ℕ) (ru
 unfolding script_step
 world_past-malformed w number line rule read = rw read refl
 
-pub ruleset past_facts = (world_past-command, world_past-malformed)
+-- what such a line prints, and what is said of it
+pub prints_at-command : (w : WorldState) (number : ℕ) (line : List ℕ) (c : Command) → parsed line ≡ Ok c → line_text number c w ≡ prints_at w number line
+unfolding script_step
+prints_at-command w number line c read = rw read refl
+
+pub prints_at-malformed : (w : WorldState) (number : ℕ) (line : List ℕ) (rule : ℕ) → parsed line ≡ Err rule → malformed_text number rule ≡ prints_at w number line
+unfolding script_step
+prints_at-malformed w number line rule read = rw read refl
+
+pub ruleset past_facts = (world_past-command, world_past-malformed, prints_at-command, prints_at-malformed)

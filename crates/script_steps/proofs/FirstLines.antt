@@ -3,7 +3,7 @@ use Rattle.std.proofs.Common.{◌≡◌, ℕ, ◌+◌, ◌-◌, ◌<◌, List, [
 use Rattle.std.proofs.lemmas.List.{drop_more, drop_all, take_all, length-drop}
 use Rattle.rep_lines.specs.Lines.{newline, last_line, lines_after, IsUnbroken}
 use Rattle.rep_lines.proofs.LineLemmas.{whole_lines-unbroken, pending-unbroken, lines_after-append}
-use Rattle.script_lint.specs.Lines.{lines_of}
+use Rattle.script_steps.specs.Lines.{lines_of}
 
 last_line-some : (script : List ℕ) → 0 < length script → last_line script ≡ script ∷ []
 last_line-some [] some = absurd (omega (arith, some))

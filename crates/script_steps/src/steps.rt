@@ -1,35 +1,30 @@
-//! The world of a script, line by line: a malformed line is passed over.
+//! The world of a script, line by line.
 ghost use Rattle.std.specs.Prelude.{◌≡◌, true, IfOk, OnOk, IfSome};
 ghost use Rattle.report_text.specs.Refusals.{is_memory};
 ghost use Rattle.rep_schema.specs.Shape.{HasShape};
 ghost use Rattle.script_parse.specs.Named.{NamesColumn};
 ghost use Rattle.world_state.specs.World.{first_world};
 ghost use Rattle.world_state.specs.Steps.{world_step, step_refused};
-ghost use Rattle.script_lint.specs.Checking.{refused_so, said_at, world_past};
-ghost use Rattle.script_lint.specs.Taken.{schema_with, said_of};
+ghost use Rattle.environment_lines.specs.Texts.{line_text};
+ghost use Rattle.script_steps.specs.Saying.{refused_so, said_at, world_past, prints_at};
+ghost use Rattle.script_steps.specs.Coming.{schema_with, said_of, printed_by, refused_in, text_in};
 
-use line_advice::{LineError, Mistake, read_line};
+use crate::Came;
+use line_advice::{LineError, read_line};
 use rep_declare::add_declaration;
 use rep_lists::{Copies, NoMemory};
 use rep_schema::Schema;
 use rep_values::Refusal;
+use report_text::Lines;
 use script_parse::{Command, LineParser};
 use std::alloc::Global;
 use std::marker::Model;
 use world_run::World;
 use world_state::Refused;
 
-/// What came of a line.
-#[derive(Drop)]
-pub(crate) enum Came {
-    Done(Command),
-    Malformed(Mistake),
-    Refused(Command, Refused),
-}
-
 /// The world of the lines so far, and its schema.
 #[derive(Drop)]
-pub(crate) struct Steps {
+pub struct Steps {
     world: World,
     schema: Schema,
     parser: LineParser,
@@ -81,7 +76,7 @@ fn is_memory(refusal: &Refusal) -> bool
 
 impl Steps {
     /// No line yet.
-    pub(crate) fn make(alloc: Global) -> Result<Steps, NoMemory>
+    pub fn make(alloc: Global) -> Result<Steps, NoMemory>
         ensures { IfOk result (λ steps. steps ≡ first_world) }
     {
         Ok(Steps {
@@ -92,43 +87,46 @@ impl Steps {
     }
 
     /// The world behind the lines so far.
-    pub(crate) fn world(&self) -> &World {
+    pub fn world(&self) -> &World
+        ensures { result.now.world ≡ self.now }
+    {
         &self.world
     }
 
     /// What is declared.
-    pub(crate) fn schema(&self) -> &Schema
+    pub fn schema(&self) -> &Schema
         ensures { result.now ≡ self.now.schema }
     {
         &self.schema
     }
 
-    /// Runs the command of a line, and tells why it is refused, if it is.
+    /// Runs the command of a line, and answers what it prints, or why it is refused.
     #[tactic(auto, using(crate::proofs::Schemas::step_facts))]
     fn run(
         &mut self,
         alloc: Global,
         number: u32,
         command: &Command,
-    ) -> Result<Option<Refused>, NoMemory>
+    ) -> Result<Result<Lines, Refused>, NoMemory>
         requires { NamesColumn command.now }
         ensures world { OnOk result (self.new ≡ world_step number command.now self.old) }
-        ensures told { IfOk result (λ told. told ≡ step_refused number command.now self.old) }
+        ensures told { IfOk result (λ ran. refused_in ran ≡ step_refused number command.now self.old) }
+        ensures text { IfOk result (λ ran. text_in ran ≡ line_text number command.now self.old) }
     {
         let next = schema_with(alloc, &self.schema, command)?;
         match self.world.step(alloc, number, command) {
-            Ok(_) => {
+            Ok(lines) => {
                 let Some(schema) = next else {
-                    return Ok(None);
+                    return Ok(Ok(lines));
                 };
                 self.schema = schema;
-                Ok(None)
+                Ok(Ok(lines))
             }
             Err(refused) => {
                 if is_memory(&refused.refusal) {
                     return Err(NoMemory);
                 }
-                Ok(Some(refused))
+                Ok(Err(refused))
             }
         }
     }
@@ -143,16 +141,17 @@ impl Steps {
         requires { NamesColumn command }
         ensures world { OnOk result (self.new ≡ world_step number command self.old) }
         ensures said { IfOk result (λ came. said_of number came ≡ refused_so (step_refused number command self.old)) }
+        ensures prints { IfOk result (λ came. printed_by number came ≡ line_text number command self.old) }
     {
         Ok(match self.run(alloc, number, &command)? {
-            None => Came::Done(command),
-            Some(refused) => Came::Refused(command, refused),
+            Ok(lines) => Came::Done(command, lines),
+            Err(refused) => Came::Refused(command, refused),
         })
     }
 
-    /// What comes of the line of a number.
+    /// What comes of the line of a number, which is the next one. Where there is no memory, no further line may be taken.
     #[tactic(auto, using(crate::proofs::Worlds::past_facts))]
-    pub(crate) fn take(
+    pub fn take(
         &mut self,
         alloc: Global,
         number: u32,
@@ -160,6 +159,7 @@ impl Steps {
     ) -> Result<Came, NoMemory>
         ensures world { OnOk result (self.new ≡ world_past self.old number line.now) }
         ensures said { IfOk result (λ came. said_of number came ≡ said_at self.old number line.now) }
+        ensures prints { IfOk result (λ came. printed_by number came ≡ prints_at self.old number line.now) }
     {
         match read_line(alloc, &mut self.parser, line) {
             Ok(command) => self.take_command(alloc, number, command),

@@ -23,8 +23,8 @@ use Rattle.world_state.specs.Refusals.{declaring_step, declare_step, world_refus
 use Rattle.world_state.specs.Steps.{resumed, world_done}
 use Rattle.snapshot_worlds.proofs.Staying.{IsPlain, plain_stays, refused_stays}
 use Rattle.environment_lines.specs.Doing.{IsDone, IsShort, IsRefused}
-use Rattle.script_lint.specs.Taken.{schema_with, declared_unless}
-use Rattle.script_lint.proofs.Worlds.{world_step-done, step_refused-done, world_step-told, step_refused-told}
+use Rattle.script_steps.specs.Coming.{schema_with, declared_unless}
+use Rattle.script_steps.proofs.Worlds.{world_step-done, step_refused-done, world_step-told, step_refused-told, line_text-done, line_text-told}
 
 -- the schema that a command makes, or the old one
 abbrev pub Lands : Option Schema → Schema → Schema → Type 0
@@ -139,4 +139,4 @@ pub schema-err : (number : ℕ) (c : Command) (w w' : WorldState) (r : Refused) 
 schema-err number c w w' r schema (inl short) same = same ∙ schema-short number c w w' r short
 schema-err number c w w' r schema (inr refused) same = same ∙ schema-refused number c w w' r refused
 
-pub ruleset step_facts = (lands-none, lands-some, schema-err, world_step-done, step_refused-done, world_step-told, step_refused-told)
+pub ruleset step_facts = (lands-none, lands-some, schema-err, world_step-done, step_refused-done, world_step-told, step_refused-told, line_text-done, line_text-told)

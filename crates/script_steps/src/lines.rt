@@ -1,7 +1,7 @@
 //! A script, line by line.
 ghost use Rattle.std.specs.Prelude.{◌≡◌, ◌<◌, ◌≤◌, ◌∷◌, length, take, slice_index};
 ghost use Rattle.rep_lines.specs.Lines.{newline, IsUnbroken};
-ghost use Rattle.script_lint.specs.Lines.{lines_of};
+ghost use Rattle.script_steps.specs.Lines.{lines_of};
 
 use memchr::memchr;
 
@@ -15,7 +15,7 @@ fn unbroken_len(script: &[u8]) -> usize
 }
 
 /// The first line of a script, and what stands behind it.
-pub(crate) fn split_line(script: &[u8]) -> (&[u8], &[u8])
+pub fn split_line(script: &[u8]) -> (&[u8], &[u8])
     requires { 0 < length script.now }
     ensures line { lines_of script.now ≡ result.0.now ∷ lines_of result.1.now }
     ensures shorter { length result.1.now < length script.now }
