@@ -4,9 +4,12 @@
 mod explain;
 mod explainer;
 mod failed;
+mod lines;
 mod pushes;
 mod texts;
+mod told;
 mod ways;
 
 pub use explain::explain;
 pub use explainer::{Explainer, Next};
+pub use told::Told;

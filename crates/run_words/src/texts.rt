@@ -1,6 +1,5 @@
 //! Pieces of text.
 
-use rep_lists::NoMemory;
 use rep_values::Value;
 use std::alloc::AllocError;
 use std::fmt;
@@ -58,14 +57,6 @@ impl<'a> fmt::Display for LineText<'a> {
         }
         Ok(())
     }
-}
-
-/// Appends the bytes of a report, which are ASCII.
-pub fn add_report(text: &mut String, bytes: &[u8]) -> Result<(), NoMemory> {
-    for byte in bytes {
-        text.push(char::from(*byte))?;
-    }
-    Ok(())
 }
 
 /// Appends a line of its own, four spaces further in.

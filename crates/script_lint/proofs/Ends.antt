@@ -1,22 +1,20 @@
 -- A run ends at the first line that is told as malformed.
 use Rattle.std.proofs.Common.{◌≡◌, ◌<◌, ◌≤◌, ℕ, ◌+◌, Bool, true, false, List, [], ◌∷◌, ◌++◌, length, Some, None, refl, sym, ap, ◌∙◌, subst}
-use Rattle.std.specs.Prelude.{nat_lt, nat_le, ◌||◌, if◌then◌else◌, Option, Result, Ok, Err}
+use Rattle.std.specs.Prelude.{nat_lt, ◌||◌, if◌then◌else◌, Option, Result, Ok, Err}
 use Rattle.std.specs.List.{list_any}
-use Rattle.std.proofs.lemmas.Bool.{ltb-true, ltb-false, lt-ltb, le-ltb, lt-leb}
+use Rattle.std.proofs.lemmas.Bool.{ltb-true, ltb-false}
 use Rattle.std.proofs.lemmas.List.Folds.{list_any-append}
 use Rattle.rep_values.specs.declared.refusal.Refusal.{Refusal}
 use Rattle.rep_lines.specs.Runs.{Stepped, is_stopped}
-use Rattle.rep_lines.proofs.LimitLemmas.{limited-many, limited-long, limited-within}
-use Rattle.report_text.specs.Texts.{malformed_text}
-use Rattle.script_lex.specs.Lines.{lexed}
 use Rattle.script_parse.specs.declared.command.Command.{Command}
 use Rattle.script_parse.specs.Parsed.{parsed}
-use Rattle.script_drive.specs.Lines.{most_lines, most_bytes, line_step}
+use Rattle.script_drive.specs.Lines.{most_lines, line_step}
 use Rattle.world_state.specs.declared.refused.Refused.{Refused}
 use Rattle.world_state.specs.World.{WorldState}
 use Rattle.world_state.specs.Steps.{step_refused}
 use Rattle.world_run.specs.Scripts.{script_step, stepped_by}
 use Rattle.script_steps.specs.Saying.{malformed_at, refused_so, said_by, said_at, world_past}
+use Rattle.script_steps.proofs.Limits.{line_step-within, line_step-many}
 use Rattle.script_lint.specs.Checking.{Checked, with_said, checked, checked_from}
 use Rattle.script_lint.specs.Laws.{is_malformed}
 use Rattle.script_steps.specs.declared.answer.Answer.{Answer}
@@ -26,8 +24,8 @@ said_malformed None = false
 said_malformed (Some said) = is_malformed said
 
 -- an answer is that a line is malformed
-abbrev Tells : Checked → Bool
-Tells c = list_any is_malformed c.answers
+abbrev tells_malformed : Checked → Bool
+tells_malformed c = list_any is_malformed c.answers
 
 or_false : (b : Bool) → b ≡ (b || false)
 or_false true = refl
@@ -37,31 +35,27 @@ or_true : (b : Bool) → (b || true) ≡ true
 or_true true = refl
 or_true false = refl
 
-tells_said : (said : Option Answer) (c : Checked) → Tells (with_said said c) ≡ (Tells c || said_malformed said)
-tells_said None c = or_false (Tells c)
-tells_said (Some said) c = list_any-append is_malformed c.answers (said ∷ []) ∙ ap (λ (b : Bool). Tells c || b) (sym (or_false (is_malformed said)))
+tells_said : (said : Option Answer) (c : Checked) → tells_malformed (with_said said c) ≡ (tells_malformed c || said_malformed said)
+tells_said None c = or_false (tells_malformed c)
+tells_said (Some said) c = list_any-append is_malformed c.answers (said ∷ []) ∙ ap (λ (b : Bool). tells_malformed c || b) (sym (or_false (is_malformed said)))
 
 said_world : (said : Option Answer) (c : Checked) → (with_said said c).world ≡ c.world
 said_world None c = refl
 said_world (Some said) c = refl
 
 -- what was told stays told
-tells_more : (said : Option Answer) (c : Checked) → Tells c ≡ true → Tells (with_said said c) ≡ true
+tells_more : (said : Option Answer) (c : Checked) → tells_malformed c ≡ true → tells_malformed (with_said said c) ≡ true
 tells_more said c told = tells_said said c ∙ ap (λ (b : Bool). b || said_malformed said) told
 
-tells_on : (number : ℕ) (lines : List (List ℕ)) (c : Checked) → Tells c ≡ true → Tells (checked_from number lines c) ≡ true
+tells_on : (number : ℕ) (lines : List (List ℕ)) (c : Checked) → tells_malformed c ≡ true → tells_malformed (checked_from number lines c) ≡ true
 tells_on number [] c told = told
 tells_on number (line ∷ lines) c told = go (nat_lt most_lines number)
   where
-    go : (many : Bool) → Tells (if many then with_said (Some (malformed_at number 2)) c else checked_from (number + 1) lines (checked number line c)) ≡ true
+    go : (many : Bool) → tells_malformed (if many then with_said (Some (malformed_at number 2)) c else checked_from (number + 1) lines (checked number line c)) ≡ true
     go true = tells_more (Some (malformed_at number 2)) c told
     go false = tells_on (number + 1) lines (checked number line c) (tells_more (said_at c.world number line) (record c { world = world_past c.world number line }) told)
 
 -- ---- a line
-
-parsed_long : (line : List ℕ) → most_bytes < length line → parsed line ≡ Err 1
-unfolding lexed
-parsed_long line long = rw (lt-leb (length line) 1024 long) refl
 
 refused_no_rule : (told : Option Refused) → said_malformed (refused_so told) ≡ false
 refused_no_rule None = refl
@@ -80,39 +74,28 @@ meets_step : (w : WorldState) (number : ℕ) (line : List ℕ) → Meets w numbe
 unfolding script_step
 meets_step w number line = record { stops = stops_read w number (parsed line); state = refl }
 
-meets_long : (w : WorldState) (number : ℕ) (line : List ℕ) → parsed line ≡ Err 1 → Meets w number line (record { state = w; prints = malformed_text number 1; stops = true })
-unfolding script_step
-meets_long w number line broken = rw broken (record { stops = refl; state = refl })
-
 meets : (w : WorldState) (number : ℕ) (line : List ℕ) → number ≤ most_lines → Meets w number line (line_step script_step w number line)
-meets w number line few = go (nat_lt most_bytes (length line)) refl
-  where
-    go : (long : Bool) → nat_lt most_bytes (length line) ≡ long → Meets w number line (line_step script_step w number line)
-    go true is =
-        let long : most_bytes < length line = ltb-true most_bytes (length line) is in
-        subst (Meets w number line) (sym (limited-long most_lines most_bytes malformed_text script_step w number line few long)) (meets_long w number line (parsed_long line long))
-    go false is =
-        subst (Meets w number line) (sym (limited-within most_lines most_bytes malformed_text script_step w number line few (ltb-false most_bytes (length line) is))) (meets_step w number line)
+meets w number line few = subst (Meets w number line) (sym (line_step-within w number line few)) (meets_step w number line)
 
 -- ---- lines
 
 -- a run from a world on is stopped where a line to come is told as malformed
-pub stops_where_told : (number : ℕ) (lines : List (List ℕ)) (c : Checked) → Tells c ≡ false → is_stopped (line_step script_step) c.world number lines ≡ Tells (checked_from number lines c)
+pub stops_where_told : (number : ℕ) (lines : List (List ℕ)) (c : Checked) → tells_malformed c ≡ false → is_stopped (line_step script_step) c.world number lines ≡ tells_malformed (checked_from number lines c)
 stops_where_told number [] c none = sym none
 stops_where_told number (line ∷ lines) c none = go (nat_lt most_lines number) refl
   where
     within : number ≤ most_lines → (told : Bool) → said_malformed (said_at c.world number line) ≡ told
-        → is_stopped (line_step script_step) c.world number (line ∷ lines) ≡ Tells (checked_from (number + 1) lines (checked number line c))
+        → is_stopped (line_step script_step) c.world number (line ∷ lines) ≡ tells_malformed (checked_from (number + 1) lines (checked number line c))
     within few true is =
         let m = meets c.world number line few in
-        let told : Tells (checked number line c) ≡ true =
-        tells_said (said_at c.world number line) (record c { world = world_past c.world number line }) ∙ ap (λ (b : Bool). Tells c || b) is ∙ or_true (Tells c) in
+        let told : tells_malformed (checked number line c) ≡ true =
+        tells_said (said_at c.world number line) (record c { world = world_past c.world number line }) ∙ ap (λ (b : Bool). tells_malformed c || b) is ∙ or_true (tells_malformed c) in
         ap (λ (b : Bool). b || is_stopped (line_step script_step) (line_step script_step c.world number line).state (number + 1) lines) (m.stops ∙ is)
         ∙ sym (tells_on (number + 1) lines (checked number line c) told)
     within few false is =
         let m = meets c.world number line few in
-        let told : Tells (checked number line c) ≡ false =
-        tells_said (said_at c.world number line) (record c { world = world_past c.world number line }) ∙ ap (λ (b : Bool). Tells c || b) is ∙ sym (or_false (Tells c)) ∙ none in
+        let told : tells_malformed (checked number line c) ≡ false =
+        tells_said (said_at c.world number line) (record c { world = world_past c.world number line }) ∙ ap (λ (b : Bool). tells_malformed c || b) is ∙ sym (or_false (tells_malformed c)) ∙ none in
         let world : (line_step script_step c.world number line).state ≡ (checked number line c).world =
         m.state ∙ sym (said_world (said_at c.world number line) (record c { world = world_past c.world number line })) in
         ap (λ (b : Bool). b || is_stopped (line_step script_step) (line_step script_step c.world number line).state (number + 1) lines) (m.stops ∙ is)
@@ -120,9 +103,9 @@ stops_where_told number (line ∷ lines) c none = go (nat_lt most_lines number) 
         ∙ stops_where_told (number + 1) lines (checked number line c) told
 
     go : (many : Bool) → nat_lt most_lines number ≡ many
-        → is_stopped (line_step script_step) c.world number (line ∷ lines) ≡ Tells (if many then with_said (Some (malformed_at number 2)) c else checked_from (number + 1) lines (checked number line c))
+        → is_stopped (line_step script_step) c.world number (line ∷ lines) ≡ tells_malformed (if many then with_said (Some (malformed_at number 2)) c else checked_from (number + 1) lines (checked number line c))
     go true is =
         let many : most_lines < number = ltb-true most_lines number is in
-        ap (λ (s : Stepped WorldState). s.stops || is_stopped (line_step script_step) s.state (number + 1) lines) (limited-many most_lines most_bytes malformed_text script_step c.world number line many)
-        ∙ sym (tells_said (Some (malformed_at number 2)) c ∙ or_true (Tells c))
+        ap (λ (s : Stepped WorldState). s.stops || is_stopped (line_step script_step) s.state (number + 1) lines) (line_step-many c.world number line many)
+        ∙ sym (tells_said (Some (malformed_at number 2)) c ∙ or_true (tells_malformed c))
     go false is = within (ltb-false most_lines number is) (said_malformed (said_at c.world number line)) refl

@@ -1,4 +1,5 @@
 -- The lemmas of this crate.
 pub mod FirstLines
-mod Worlds
+pub mod Limits
+pub mod Worlds
 mod Schemas

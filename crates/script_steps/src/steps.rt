@@ -6,6 +6,7 @@ ghost use Rattle.script_parse.specs.Named.{NamesColumn};
 ghost use Rattle.world_state.specs.World.{first_world};
 ghost use Rattle.world_state.specs.Steps.{world_step, step_refused};
 ghost use Rattle.environment_lines.specs.Texts.{line_text};
+ghost use Rattle.line_advice.specs.Mistakes.{ReadsLine};
 ghost use Rattle.script_steps.specs.Saying.{refused_so, said_at, world_past, prints_at};
 ghost use Rattle.script_steps.specs.Coming.{schema_with, said_of, printed_by, refused_in, text_in};
 
@@ -131,8 +132,17 @@ impl Steps {
         }
     }
 
-    /// What comes of the command of a line.
-    fn take_command(
+    /// The command that a line is, or what is wrong with it.
+    pub fn read(&mut self, alloc: Global, line: &[u8]) -> Result<Command, LineError>
+        ensures read { ReadsLine line.now result }
+        ensures named { IfOk result NamesColumn }
+        ensures kept { self.new ≡ self.old }
+    {
+        read_line(alloc, &mut self.parser, line)
+    }
+
+    /// What comes of the command of the line of a number, which is the next one. Where there is no memory, no further line may be taken.
+    pub fn take_command(
         &mut self,
         alloc: Global,
         number: u32,
@@ -151,17 +161,12 @@ impl Steps {
 
     /// What comes of the line of a number, which is the next one. Where there is no memory, no further line may be taken.
     #[tactic(auto, using(crate::proofs::Worlds::past_facts))]
-    pub fn take(
-        &mut self,
-        alloc: Global,
-        number: u32,
-        line: &[u8],
-    ) -> Result<Came, NoMemory>
+    pub fn take(&mut self, alloc: Global, number: u32, line: &[u8]) -> Result<Came, NoMemory>
         ensures world { OnOk result (self.new ≡ world_past self.old number line.now) }
         ensures said { IfOk result (λ came. said_of number came ≡ said_at self.old number line.now) }
         ensures prints { IfOk result (λ came. printed_by number came ≡ prints_at self.old number line.now) }
     {
-        match read_line(alloc, &mut self.parser, line) {
+        match self.read(alloc, line) {
             Ok(command) => self.take_command(alloc, number, command),
             Err(LineError::Mistake(mistake)) => Ok(Came::Malformed(mistake)),
             Err(LineError::Memory) => Err(NoMemory),
