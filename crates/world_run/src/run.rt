@@ -14,7 +14,6 @@ use crate::crew::crew_pass;
 use crate::laws::reported_worlds_hold;
 use crate::runner::Runner;
 use page_tables::PageTables;
-use parallel_apply::{Workers, beside_workers};
 use rep_io::{Sink, Source, Watch};
 use rep_lists::NoMemory;
 use rep_values::SiteName;
@@ -94,8 +93,8 @@ pub fn run_alone_through<S, K: Sink, R: Reader<S, K>>(
     run_by(alloc, Serial, at_end, reader, source, sink)
 }
 
-/// Runs a script as `run_alone` does, with so many appliers, 1 to 8: passes for what masters sent are made by as many threads, which
-/// are kept over the whole run. The report is that of one applier, byte for byte. It may wait for a lock.
+/// Runs a script as `run_alone` does, with so many appliers, 1 to 8: passes for what masters sent are made by as many threads.
+/// The report is that of one applier, byte for byte. It may wait for a lock.
 pub fn run_crew<X: Threads + Wait + Sync, S: Source, K: Sink, W: Watch>(
     rt: &X,
     alloc: Global,
@@ -146,25 +145,13 @@ pub fn run_crew_through<X: Threads + Wait + Sync, S, K: Sink, R: Reader<S, K>, W
     ensures complete { RunsToItsEnd (R.left source.old) (K.taken sink.old) (R.faults source.old) (R.faults source.new) (K.faults sink.old) (K.faults sink.new) result }
     ensures worlds { EachLineHolds (R.left source.old) }
 {
-    let workers = Workers::new(alloc, appliers);
-    let shared = &workers;
-    let mut run = || -> Status
-        ensures told { Tells (Told (line_step script_step) first_world result) (R.left source.entry.now) (R.left source.exit.now) (K.taken sink.entry.now) (K.taken sink.exit.now) }
-        ensures prompt { ReadsPromptly (line_step script_step) first_world result (R.reads reader.entry.now) (R.reads reader.exit.now) (R.left source.entry.now) (K.taken sink.entry.now) }
-        ensures read { result ≡ Status.ReadFault → Rose (R.faults source.entry.now) (R.faults source.exit.now) }
-        ensures write { result ≡ Status.WriteFault → Rose (K.faults sink.entry.now) (K.faults sink.exit.now) }
-        ensures ran { result ≢ Status.Usage }
-        ensures complete { RunsToItsEnd (R.left source.entry.now) (K.taken sink.entry.now) (R.faults source.entry.now) (R.faults source.exit.now) (K.faults sink.entry.now) (K.faults sink.exit.now) result }
-        ensures worlds { EachLineHolds (R.left source.entry.now) }
-    {
-        let pass = |alloc: Global, site: Site<PageTables>, origin: SiteName| -> Result<
-            (Site<PageTables>, PassCount),
-            (Site<PageTables>, NoMemory),
-        >
-            requires { TakesPass origin site }
-            ensures { AnswersPass origin site result }
-        { crew_pass(rt, alloc, shared, site, &origin, watch) };
-        run_by(alloc, By { pass }, at_end, reader, source, sink)
-    };
-    beside_workers(rt, alloc, shared, watch, &mut run)
+    let pass = |alloc: Global, site: Site<PageTables>, origin: SiteName| -> Result<
+        (Site<PageTables>, PassCount),
+        (Site<PageTables>, NoMemory),
+    >
+        requires takes { TakesPass origin site }
+        requires appliers { (1 ≤ appliers) × (appliers ≤ 8) }
+        ensures { AnswersPass origin site result }
+    { crew_pass(rt, alloc, site, &origin, appliers, watch) };
+    run_by(alloc, By { pass }, at_end, reader, source, sink)
 }
