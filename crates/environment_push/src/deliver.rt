@@ -21,7 +21,7 @@ fn is_repeat(site: &Site<PageTables>, sealed: &Sealed) -> bool
     let Some(at) = sealed.stream_position() else {
         return false;
     };
-    site.arrival(&at.from, at.position).is_some()
+    site.has_arrived(&at.from, at.position)
 }
 
 /// A site takes in a packet. One that comes again is not unsealed, since it changes nothing.

@@ -40,12 +40,18 @@ use Rattle.site_core.specs.contracts.site.Site as site
 use Rattle.std.specs.contracts.option.Option as option
 use denote.Struct.Field.{u64-field}
 use Rattle.site_gate.specs.contracts.gate.SiteGate as gate
-use Rattle.site_gate.specs.contracts.pass.Pass as pass
-use Rattle.site_gate.proofs.Crossing.{field_pass_send, pass_send, gate_sync}
+use Rattle.site_gate.proofs.Crossing.{field_pass_send, gate_send, gate_sync}
 use Rattle.parallel_apply.specs.contracts.turns.TurnLog as turn_log
 use Rattle.parallel_apply.specs.contracts.crew.Opening as opening
 use Rattle.parallel_apply.specs.contracts.crew.CrewTurns.TheImpl as told
 use Rattle.parallel_apply.specs.contracts.applier.Applier as applier
+use Rattle.std.specs.contracts.sync.Arc as arc
+use Rattle.std.specs.contracts.sync.Mutex as mutex
+use Rattle.std.specs.contracts.vec.Vec as vec
+use Rattle.parallel_apply.specs.contracts.seat.Job as job
+use Rattle.parallel_apply.specs.contracts.seat.Desk as desk
+use Rattle.parallel_apply.specs.contracts.seat.Seat as seat
+use Rattle.parallel_apply.specs.contracts.workers.Workers as workers
 use Rattle.parallel_apply.specs.contracts.claims.Claims as claims
 use Rattle.parallel_apply.specs.contracts.crew.Crew as crew
 use Rattle.parallel_apply.specs.contracts.crew.Crew.TheInside as inside
@@ -164,19 +170,46 @@ module _ (R : RattleType) (g : Ghosts R.Denot) (s : IsSend R) where
   pub crew_send : IsSend (crew.the_row R g)
   crew_send = view_send _ _ _ _ _ inside_send
 
-  -- its passes, its appliers, and its gate among threads
-  pub crew_pass_send : IsSend (pass.the_row (crew.the_row R g) (option.the_row u64-field.row) (opening.the_row R g) (told.ghosts R g told.no_dict told.no_dict))
-  crew_pass_send = pass_send (crew.the_row R g) (option.the_row u64-field.row) (opening.the_row R g) (told.ghosts R g told.no_dict told.no_dict) crew_send
-
-  pub applier_send : IsSend (applier.the_row R (option.the_row u64-field.row) (opening.the_row R g) (told.ghosts R g told.no_dict told.no_dict) g)
-  applier_send =
-      let all : AllSend (fields (applier.the_type R (option.the_row u64-field.row) (opening.the_row R g) (told.ghosts R g told.no_dict told.no_dict) g)) =
-      (search sendable, (field_pass_send (crew.the_row R g) (option.the_row u64-field.row) (opening.the_row R g) (told.ghosts R g told.no_dict told.no_dict) crew_send, tt)) in
-      recorded_send _ _ _ (applier.the_type R (option.the_row u64-field.row) (opening.the_row R g) (told.ghosts R g told.no_dict told.no_dict) g).to_one
-      (struct_send (shape (applier.the_type R (option.the_row u64-field.row) (opening.the_row R g) (told.ghosts R g told.no_dict told.no_dict) g)) all)
-
+  -- its gate may be shared among threads, and go to another one
   pub crew_gate_sync : IsSync (gate.the_row (crew.the_row R g) (option.the_row u64-field.row) (opening.the_row R g) (told.ghosts R g told.no_dict told.no_dict))
   crew_gate_sync = gate_sync (crew.the_row R g) (option.the_row u64-field.row) (opening.the_row R g) (told.ghosts R g told.no_dict told.no_dict) crew_send
+
+  crew_gate_send : IsSend (gate.the_row (crew.the_row R g) (option.the_row u64-field.row) (opening.the_row R g) (told.ghosts R g told.no_dict told.no_dict))
+  crew_gate_send = gate_send (crew.the_row R g) (option.the_row u64-field.row) (opening.the_row R g) (told.ghosts R g told.no_dict told.no_dict) crew_send
+
+  field_gate_send : IsSend (arc.the_field (gate.the_row (crew.the_row R g) (option.the_row u64-field.row) (opening.the_row R g) (told.ghosts R g told.no_dict told.no_dict)) global.the_row heap.ghosts).row
+  field_gate_send = search (sendable, crosses, crew_gate_send, crew_gate_sync) depth 10
+
+  field_applier_send : IsSend (applier.the_field R (option.the_row u64-field.row) (opening.the_row R g) (told.ghosts R g told.no_dict told.no_dict) g).row
+  field_applier_send =
+      let all : AllSend (fields (applier.the_type R (option.the_row u64-field.row) (opening.the_row R g) (told.ghosts R g told.no_dict told.no_dict) g)) =
+      (search sendable, (field_pass_send (crew.the_row R g) (option.the_row u64-field.row) (opening.the_row R g) (told.ghosts R g told.no_dict told.no_dict) crew_send, tt)) in
+      struct_send (shape (applier.the_type R (option.the_row u64-field.row) (opening.the_row R g) (told.ghosts R g told.no_dict told.no_dict) g)) all
+
+  field_job_send : IsSend (job.the_field R (option.the_row u64-field.row) (opening.the_row R g) g (told.ghosts R g told.no_dict told.no_dict)).row
+  field_job_send =
+      let all : AllSend (fields (job.the_type R (option.the_row u64-field.row) (opening.the_row R g) g (told.ghosts R g told.no_dict told.no_dict))) = (field_gate_send, (field_applier_send, tt)) in
+      struct_send (shape (job.the_type R (option.the_row u64-field.row) (opening.the_row R g) g (told.ghosts R g told.no_dict told.no_dict))) all
+
+  desk_send : IsSend (desk.the_row R (option.the_row u64-field.row) (opening.the_row R g) g (told.ghosts R g told.no_dict told.no_dict))
+  desk_send = search (sendable, field_job_send) depth 20
+
+  field_desk_sync : IsSync (mutex.the_field (desk.the_row R (option.the_row u64-field.row) (opening.the_row R g) g (told.ghosts R g told.no_dict told.no_dict))).row
+  field_desk_sync = search (sendable, crosses, desk_send) depth 10
+
+  -- the seats of workers may be shared among threads
+  pub seat_sync : IsSync (seat.the_row R (option.the_row u64-field.row) (opening.the_row R g) g (told.ghosts R g told.no_dict told.no_dict))
+  seat_sync =
+      let all : AllSync (fields (seat.the_type R (option.the_row u64-field.row) (opening.the_row R g) g (told.ghosts R g told.no_dict told.no_dict))) = (field_desk_sync, (search (sendable, crosses) depth 20, tt)) in
+      recorded_sync _ _ _ (seat.the_type R (option.the_row u64-field.row) (opening.the_row R g) g (told.ghosts R g told.no_dict told.no_dict)).to_one (struct_sync (shape (seat.the_type R (option.the_row u64-field.row) (opening.the_row R g) g (told.ghosts R g told.no_dict told.no_dict))) all)
+
+  field_seats_sync : IsSync (vec.the_field (seat.the_row R (option.the_row u64-field.row) (opening.the_row R g) g (told.ghosts R g told.no_dict told.no_dict)) global.the_row heap.ghosts).row
+  field_seats_sync = search (sendable, crosses, seat_sync) depth 10
+
+  pub workers_sync : IsSync (workers.the_row R (option.the_row u64-field.row) (opening.the_row R g) g (told.ghosts R g told.no_dict told.no_dict))
+  workers_sync =
+      let all : AllSync (fields (workers.the_type R (option.the_row u64-field.row) (opening.the_row R g) g (told.ghosts R g told.no_dict told.no_dict))) = (field_seats_sync, tt) in
+      recorded_sync _ _ _ (workers.the_type R (option.the_row u64-field.row) (opening.the_row R g) g (told.ghosts R g told.no_dict told.no_dict)).to_one (struct_sync (shape (workers.the_type R (option.the_row u64-field.row) (opening.the_row R g) g (told.ghosts R g told.no_dict told.no_dict))) all)
 
 -- what a closure captures
 pub heap_sync : IsSync global.the_row
@@ -186,3 +219,8 @@ pub four_sync : (name : Sym) (A B C D : RattleType) → IsSync A → IsSync B �
 four_sync name A B C D a b c d =
     let all : AllSync (fields (type_at name (A ∷ B ∷ C ∷ D ∷ []))) = (a, (b, (c, (d, tt)))) in
     recorded_sync _ _ _ (type_at name (A ∷ B ∷ C ∷ D ∷ [])).to_one (struct_sync (shape (type_at name (A ∷ B ∷ C ∷ D ∷ []))) all)
+
+pub four_send : (name : Sym) (A B C D : RattleType) → IsSend A → IsSend B → IsSend C → IsSend D → IsSend (TupleAt name (A ∷ B ∷ C ∷ D ∷ []))
+four_send name A B C D a b c d =
+    let all : AllSend (fields (type_at name (A ∷ B ∷ C ∷ D ∷ []))) = (a, (b, (c, (d, tt)))) in
+    recorded_send _ _ _ (type_at name (A ∷ B ∷ C ∷ D ∷ [])).to_one (struct_send (shape (type_at name (A ∷ B ∷ C ∷ D ∷ []))) all)

@@ -1,7 +1,12 @@
 -- A crew: a site, how it was when the crew began, and the turns that led from there to here.
-use Rattle.std.specs.Prelude.{◌≡◌, ℕ, Bool, true, false, List, Option, Some, None, IfSome}
+use Rattle.std.specs.Prelude.{◌≡◌, ℕ, ◌+◌, ◌^◌, ◌<◌, Bool, true, false, List, Option, Some, None, IfSome, Result, Ok, Err}
 use Rattle.rep_values.specs.declared.name.SiteName.{SiteName}
-use Rattle.site_state.specs.State.{SiteState}
+use Rattle.rep_lists.specs.declared.memory.NoMemory.{NoMemory}
+use Rattle.rep_laws.specs.Commuting.{IsSound}
+use Rattle.site_state.specs.State.{SiteState, is_master_site, arrivals}
+use Rattle.site_state.specs.Steps.{begun}
+use Rattle.site_state.specs.Passes.{site_pass}
+use Rattle.journal_order.specs.Waited.{IsWellNumbered}
 use Rattle.site_state.specs.declared.answers.Applied.{Applied}
 use Rattle.site_state.specs.declared.answers.Applied.TheVariants as applied
 use Rattle.site_state.specs.Ready.{stale_of}
@@ -57,3 +62,15 @@ pub record IsOfEarlierClaim (c : CrewState) (done : Evaluated) : Type 0 where
 -- positions were applied to a site, each of them ready in its turn
 abbrev pub IsPartlyApplied : SiteName → SiteState → SiteState → Type 0
 IsPartlyApplied origin x y = (positions : List ℕ) × AreReadyInTurn origin positions x × (y ≡ applied_in_turn origin positions x)
+
+-- what a pass of a crew asks of a site and a sender
+pub record TakesCrew (origin : SiteName) (x : SiteState) : Type 0 where
+  pub sound : IsSound x.schema
+  pub master : is_master_site x.schema origin ≡ true
+  pub numbered : IsWellNumbered x.schema (arrivals origin x)
+  pub few : x.moment + 1 < 2 ^ 64
+
+-- what it answers: the site after a pass of one, or, where there is no memory, after some positions
+abbrev pub AnswersCrew : SiteName → SiteState → Result SiteState (SiteState × NoMemory) → Type 0
+AnswersCrew origin x (Ok passed) = passed ≡ site_pass origin x
+AnswersCrew origin x (Err refused) = IsPartlyApplied origin (begun x) refused.0

@@ -1,7 +1,6 @@
 //! What each applier of a crew does.
-ghost use Rattle.std.specs.Prelude.{◌≡◌, ◌<◌, ◌≤◌};
-ghost use Rattle.std.specs.List.{All};
-ghost use Rattle.site_gate.specs.Passes.{IsPassOf, opening_of};
+ghost use Rattle.std.specs.Prelude.{◌<◌};
+ghost use Rattle.site_gate.specs.Passes.{IsPassOf};
 
 use crate::claim::evaluate;
 use crate::crew::Crew;
@@ -19,33 +18,6 @@ where
 {
     pub number: u32,
     pub pass: Pass<Crew<R>>,
-}
-
-/// So many appliers, or as many as there is memory for.
-pub(crate) fn appliers_at<R: RowStore>(
-    alloc: Global,
-    gate: &SiteGate<Crew<R>>,
-    pass: &mut Pass<Crew<R>>,
-    number: u32,
-) -> Vec<Applier<R>>
-    requires gate { IsPassOf gate.now pass.old }
-    requires number { number ≤ 8 }
-    ensures gate { IsPassOf gate.now pass.new }
-    ensures opening { opening_of pass.new ≡ opening_of pass.old }
-    ensures passes { All (λ applier. IsPassOf gate.now applier.pass) result.items }
-    ensures numbers { All (λ applier. applier.number < 8) result.items }
-{
-    let mut appliers = Vec::new(alloc);
-    for number in 0..number {
-        let applier = Applier {
-            number,
-            pass: gate.split(pass),
-        };
-        let Ok(()) = appliers.push(applier) else {
-            break;
-        };
-    }
-    appliers
 }
 
 /// Claims one position after the other, each in a turn, evaluates it outside the lock, and puts it in, in a turn of its own,

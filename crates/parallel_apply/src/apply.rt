@@ -1,30 +1,27 @@
 //! A pass for a sender by a crew.
-ghost use Rattle.std.specs.Prelude.{◌≡◌, ◌+◌, ◌^◌, ◌<◌, ◌≤◌, true, IfOk, IfErr};
+ghost use Rattle.std.specs.Prelude.{◌≡◌, ◌+◌, ◌^◌, ◌<◌, ◌≤◌, true, length, IsSome, IfSome, IfOk, IfErr};
 ghost use Rattle.rep_laws.specs.Commuting.{IsSound};
 ghost use Rattle.site_state.specs.State.{is_master_site, arrivals};
 ghost use Rattle.site_state.specs.Steps.{begun};
 ghost use Rattle.site_state.specs.Passes.{site_pass};
 ghost use Rattle.journal_order.specs.Waited.{IsWellNumbered};
 ghost use Rattle.event_laws.specs.Confluence.{CanPassInAnyOrder};
-ghost use Rattle.site_gate.specs.Passes.{IsPassOf};
-ghost use Rattle.parallel_apply.specs.Crews.{IsPartlyApplied};
+ghost use Rattle.parallel_apply.specs.Crews.{IsPartlyApplied, TakesCrew, AnswersCrew};
 
-use crate::applier::{Applier, appliers_at, work};
 use crate::claim::appliers_for;
-use crate::crew::Crew;
+use crate::workers::{Workers, beside_workers};
 use rep_io::Watch;
 use rep_lists::NoMemory;
 use rep_schema::RowStore;
 use rep_values::SiteName;
 use site_core::Site;
-use site_gate::{Pass, SiteGate};
 use std::alloc::Global;
+use std::snapshot::Snapshot;
 use std::sync::Wait;
-use std::thread;
 use std::thread::Threads;
 
 /// What arrived from a master whose positions are well numbered can be passed in any order.
-fn can_pass_in_any_order<R: RowStore>(site: &Site<R>, origin: &SiteName)
+pub(crate) fn can_pass_in_any_order<R: RowStore>(site: &Site<R>, origin: &SiteName)
     requires sound { IsSound site.now.schema }
     requires master { is_master_site site.now.schema origin.now ≡ true }
     requires numbered { IsWellNumbered site.now.schema (arrivals origin.now site.now) }
@@ -34,43 +31,36 @@ fn can_pass_in_any_order<R: RowStore>(site: &Site<R>, origin: &SiteName)
     site.arrivals_can_pass(origin);
 }
 
-/// So many appliers apply what is ready of a sender side by side, until none of them finds more.
-fn apply_together<R: RowStore, X: Threads + Wait + Sync, W: Watch>(
-    rt: &X,
-    alloc: Global,
+/// Ends a pass of which a crew made a part: what is still ready is applied, and the journal's order is that of a pass of one.
+pub(crate) fn settled<R: RowStore>(
     site: Site<R>,
+    alloc: Global,
     origin: &SiteName,
-    appliers: u32,
-    watch: &W,
-) -> Site<R>
-    requires passes { CanPassInAnyOrder origin.now site }
-    requires appliers { appliers ≤ 8 }
-    ensures { IsPartlyApplied origin.now site result }
+    opened: Snapshot<Site<R>>,
+    from: u64,
+) -> Result<Site<R>, (Site<R>, NoMemory)>
+    requires passes { CanPassInAnyOrder origin.now opened.value }
+    requires part { IsPartlyApplied origin.now (begun opened.value) site }
+    requires from { from ≡ length opened.value.journal }
+    ensures ok { IfOk result (λ passed. passed ≡ site_pass origin.now opened.value) }
+    ensures err { IfErr result (λ refused. IsPartlyApplied origin.now (begun opened.value) refused.0) }
 {
-    let crew = match Crew::make(alloc, site, origin) {
-        Ok(crew) => crew,
-        Err(site) => return site,
-    };
-    let (gate, mut pass) = match SiteGate::make(alloc, crew) {
-        Ok(made) => made,
-        Err((crew, _)) => return crew.into_site(),
-    };
-    let crew = appliers_at(alloc, &gate, &mut pass, appliers);
-    let shared = &gate;
-    let apply = |applier: Applier<R>| -> Pass<Crew<R>>
-        requires gate { IsPassOf shared.now applier.pass }
-        requires number { applier.number < 8 }
-    { work(rt, alloc, shared, watch, applier) };
-    let passes = thread::map_vec(rt, crew, &apply);
-    drop(passes);
-    gate.close(rt, pass).into_site()
+    let _opened = opened;
+    let mut site = site;
+    if let Err(refused) = site.finish_pass(alloc, origin) {
+        return Err((site, refused));
+    }
+    if let Err(refused) = site.settle_pass(alloc, from) {
+        return Err((site, refused));
+    }
+    Ok(site)
 }
 
 /// A pass of several appliers for a sender that is a master: the site that comes back is the site after the pass of one. Where
 /// there is no memory, some of what was ready is applied, each transaction whole and journalled.
 ///
 /// The schema breaks no rule, and what arrived from the sender is well numbered, as it is at every site of a script's world;
-/// there are 1 to 8 appliers. Threads are started where two positions are ready.
+/// there are 1 to 8 appliers. Threads are started for this pass alone, where two positions are ready.
 pub fn apply_crew<R: RowStore, X: Threads + Wait + Sync, W: Watch>(
     rt: &X,
     alloc: Global,
@@ -87,23 +77,17 @@ pub fn apply_crew<R: RowStore, X: Threads + Wait + Sync, W: Watch>(
     ensures ok { IfOk result (λ passed. passed ≡ site_pass origin.now site) }
     ensures err { IfErr result (λ refused. IsPartlyApplied origin.now (begun site) refused.0) }
 {
-    let mut site = site;
-    can_pass_in_any_order(&site, origin);
-    let appliers = appliers_for(&site, origin, appliers);
-    if appliers < 2 {
-        return match site.apply_pass(alloc, origin) {
-            Ok(_) => Ok(site),
-            Err(refused) => Err((site, refused)),
+    let ready = appliers_for(&site, origin, appliers);
+    let workers = Workers::new(alloc, ready.max(1));
+    let mut waiting = Some(site);
+    let mut pass = || -> Result<Site<R>, (Site<R>, NoMemory)>
+        requires { IsSome waiting × IfSome waiting (TakesCrew origin.now) }
+        ensures { IfSome waiting.entry (λ site. AnswersCrew origin.entry.now site result) }
+    {
+        let Some(site) = waiting.take() else {
+            unreachable!()
         };
-    }
-    site.begin_pass();
-    let from = site.journal_len();
-    let mut site = apply_together(rt, alloc, site, origin, appliers, watch);
-    if let Err(refused) = site.finish_pass(alloc, origin) {
-        return Err((site, refused));
-    }
-    if let Err(refused) = site.settle_pass(alloc, from) {
-        return Err((site, refused));
-    }
-    Ok(site)
+        workers.pass(rt, alloc, site, origin, watch)
+    };
+    beside_workers(rt, alloc, &workers, watch, &mut pass)
 }

@@ -6,7 +6,10 @@ mod apply;
 mod claim;
 mod claims;
 mod crew;
+mod seat;
 mod turns;
+mod workers;
 
 pub use apply::apply_crew;
 pub use claims::MOST_APPLIERS;
+pub use workers::{Workers, beside_workers};

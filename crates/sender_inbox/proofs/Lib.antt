@@ -1,6 +1,7 @@
 -- The lemmas of this crate, from the bottom up.
 mod Above
 mod Greatest
+mod LastPlaces
 pub mod Places
 pub mod RisingPasts
 mod Keeping

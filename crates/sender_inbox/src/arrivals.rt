@@ -9,8 +9,8 @@ use rep_lists::NoMemory;
 use site_state::Arrival;
 use std::cmp::Ordering;
 
-/// The place of a position, or else the place where it would stand.
-fn search(arrived: &[Arrival], position: u64) -> Result<usize, usize>
+/// The place of a position, or else the place where it would stand, by halving.
+fn search_all(arrived: &[Arrival], position: u64) -> Result<usize, usize>
     requires { IsRising by_position arrived.now }
     ensures found { IfOk result (IsThere (beside position) arrived.now) }
     ensures absent { IfErr result (IsGap (beside position) arrived.now) }
@@ -20,6 +20,22 @@ fn search(arrived: &[Arrival], position: u64) -> Result<usize, usize>
             ensures { result ≡ beside position arrival.now }
         { arrival.position.cmp(&position) },
     )
+}
+
+/// The place of a position, or else the place where it would stand. Most that are asked for are the last one or behind it.
+fn search(arrived: &[Arrival], position: u64) -> Result<usize, usize>
+    requires { IsRising by_position arrived.now }
+    ensures found { IfOk result (IsThere (beside position) arrived.now) }
+    ensures absent { IfErr result (IsGap (beside position) arrived.now) }
+{
+    let Some(last) = arrived.last() else {
+        return Err(0);
+    };
+    match position.cmp(&last.position) {
+        Ordering::Greater => Err(arrived.len()),
+        Ordering::Equal => Ok(arrived.len() - 1),
+        Ordering::Less => search_all(arrived, position),
+    }
 }
 
 /// What arrived at a position.

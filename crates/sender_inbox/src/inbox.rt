@@ -1,5 +1,5 @@
 //! What arrived from one sender.
-ghost use Rattle.std.specs.Prelude.{◌≡◌, ◌≢◌, ◌↔◌, ℕ, ◌<◌, ◌≤◌, ◌==◌, ◌||◌, false, [], None, Some, length, slice_get, option_copied, IsTrue, OnOk, OnErr};
+ghost use Rattle.std.specs.Prelude.{◌≡◌, ◌≢◌, ◌↔◌, ℕ, ◌<◌, ◌≤◌, ◌==◌, ◌||◌, false, [], None, Some, length, slice_get, option_copied, is_some, IsTrue, OnOk, OnErr};
 ghost use Rattle.rep_lists.specs.Rising.{find_at};
 ghost use Rattle.deferred_queue.specs.Streams.{is_same_site};
 ghost use Rattle.origin_marks.specs.Marks.{finished, IsLowWater};
@@ -110,6 +110,13 @@ impl Inbox {
         ensures { option_copied result ≡ find_at (beside position) self.now.sender.arrived }
     {
         find(&self.arrived, position)
+    }
+
+    /// Whether a position arrived. It takes no memory.
+    pub fn has_arrived(&self, position: u64) -> bool
+        ensures { result ≡ is_some (find_at (beside position) self.now.sender.arrived) }
+    {
+        self.finished.is_finished(position) || find(&self.arrived, position).is_some()
     }
 
     /// The position at a place in rising order.

@@ -1,7 +1,7 @@
 //! Two offices that sell of one item, and a line between them that loses letters, and brings them twice and out of order.
 #![tactic(auto)]
 
-use anyhow::{Result, bail};
+use anyhow::{Context, Result, bail};
 use office::{Letter, Office};
 use rep_values::{Name, SiteName, TableName, Value};
 
@@ -9,10 +9,7 @@ const TEXT: &str =
     "site NYC\nsite LON\n\ntable STOCK ITEM:NUMBER:key QTY:NUMBER\ngroup STOCK qty QTY\nmethod STOCK qty additive\nrow STOCK 1 100\n";
 
 fn named(name: &str) -> Result<Name> {
-    match Name::of(name.as_bytes()) {
-        Some(name) => Ok(name),
-        None => bail!("this is no name"),
-    }
+    Name::of(name.as_bytes()).context("this is no name")
 }
 
 /// Brings a letter, and applies what is ready then.

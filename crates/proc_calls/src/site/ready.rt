@@ -80,7 +80,7 @@ impl ProcSite {
         let Some(inbox) = inbox_from(&self.inboxes, origin) else {
             return false;
         };
-        inbox.find(position).is_some()
+        inbox.has_arrived(position)
     }
 
     /// The place of a master's first position above a number, in rising order; the end where there is none.

@@ -1,5 +1,5 @@
 //! Transactions that are evaluated away from the site.
-ghost use Rattle.std.specs.Prelude.{◌≡◌, false, Some, None, option_copied, IfOk, OnOk, OnErr};
+ghost use Rattle.std.specs.Prelude.{◌≡◌, false, Some, None, is_some, IfOk, OnOk, OnErr};
 ghost use Rattle.rep_laws.specs.Commuting.{IsSound};
 ghost use Rattle.site_state.specs.State.{arrived_at};
 ghost use Rattle.site_state.specs.Ready.{stale_of};
@@ -17,14 +17,14 @@ use std::alloc::Global;
 use txn_work::{Outcome, SharedSchema, Work};
 
 impl<R: RowStore> Site<R> {
-    /// What arrived at a position of a sender; None exactly where nothing did. It takes no memory.
-    pub fn arrival(&self, origin: &SiteName, position: u64) -> Option<&Arrival>
-        ensures { option_copied result ≡ arrived_at origin.now position self.now.senders }
+    /// Whether a position of a sender arrived. It takes no memory.
+    pub fn has_arrived(&self, origin: &SiteName, position: u64) -> bool
+        ensures { result ≡ is_some (arrived_at origin.now position self.now.senders) }
     {
         let Some(inbox) = inbox_from(&self.inboxes, origin) else {
-            return None;
+            return false;
         };
-        inbox.find(position)
+        inbox.has_arrived(position)
     }
 
     /// Whether what arrived at a position touches a constraint of a table. It takes no memory.

@@ -1,15 +1,16 @@
-use Rattle.std.proofs.Common.{rules}
-use Rattle.std.specs.Ordering.{nat_cmp}
-use Rattle.std.proofs.lemmas.Fn.{always_returns_same}
-use Rattle.std.proofs.lemmas.Cmp.{nat_cmp_total}
-use Rattle.rep_lists.proofs.Rising.{searched}
-use Rattle.site_state.specs.declared.arrival.Arrival.{Arrival}
-use Rattle.site_state.specs.State.{beside}
+use Rattle.std.proofs.Common.{sym}
+use Rattle.origin_marks.proofs.Counts.{cmp_equal, cmp_greater}
+use Rattle.sender_inbox.proofs.LastPlaces.{gap_behind, there_at_last}
 use Rattle.sender_inbox.proofs.arrivals.search.Goals as goal
 
--- the closure tells where an arrival stands, and the positions rise
-pub returns : goal.returns
-returns c =
-    let facts = c.binary_search_by.ensures in
-    let by_key = facts.position (beside c.args.position) (always_returns_same _ _ _ (λ a r g called. search rules)) in
-    searched (λ (a : Arrival). a.position) nat_cmp nat_cmp_total c.args.position _ c.requires _ facts.bound by_key
+-- behind the last one
+pub returns-in-Greater-clause-absent : goal.returns-in-Greater-clause-absent
+returns-in-Greater-clause-absent c =
+    let l = c.in-Some.last.now in
+    gap_behind c.args.arrived.now c.requires l (sym c.in-Some.ensures.value) c.args.position (cmp_greater c.args.position l.position (sym c.in-Greater.ensures))
+
+-- the last one
+pub returns-in-Equal-clause-found : goal.returns-in-Equal-clause-found
+returns-in-Equal-clause-found c =
+    let l = c.in-Some.last.now in
+    there_at_last c.args.arrived.now c.requires l (sym c.in-Some.ensures.value) c.args.position (cmp_equal c.args.position l.position (sym c.in-Equal.ensures))
