@@ -2,13 +2,13 @@
 
 use crate::texts::add_note;
 use crate::ways::Ways;
+use deferred_queue::Sent;
 use net_plan::Fate;
 use page_tables::PageTables;
 use rep_calls::Past;
 use rep_lists::NoMemory;
 use rep_values::SiteName;
 use site_core::Site;
-use site_state::Arrival;
 use std::alloc::{AllocError, Global};
 use std::fmt;
 use world_run::World;
@@ -108,40 +108,48 @@ pub fn plan(
     }))
 }
 
-/// The transaction of another master that an arrival waits for, if there is one.
-fn missing_past<'a>(site: &Site<PageTables>, arrival: &'a Arrival) -> Option<&'a Past> {
-    arrival
-        .past
+/// The transaction of another master that one waits for at a site, if there is one.
+fn missing_past<'a>(site: &Site<PageTables>, sent: &Sent<'a>) -> Option<&'a Past> {
+    sent.past
         .iter()
         .find(|past| !past.origin.is_same(site.name()) && site.covered(&past.origin) < past.number)
 }
 
-/// What became of a position at the receiver, where it isn't finished.
+/// What became of a position that didn't arrive.
+fn missing(position: u64, fate: Fate) -> State<'static> {
+    match fate {
+        Fate::Lose => State::Lost(position),
+        Fate::Late => State::Held(position),
+        Fate::Pass | Fate::Twice => State::Missing(position),
+    }
+}
+
+/// What became of a position of a sender at the receiver, where it isn't finished.
 fn state_of<'a>(
-    site: &'a Site<PageTables>,
-    from: &SiteName,
+    sender: &'a Site<PageTables>,
+    site: &Site<PageTables>,
     position: u64,
     fate: Fate,
 ) -> Option<State<'a>> {
+    let from = sender.name();
     if site.is_finished(from, position) {
         return None;
     }
-    let Some(arrival) = site.arrival(from, position) else {
-        return Some(match fate {
-            Fate::Lose => State::Lost(position),
-            Fate::Late => State::Held(position),
-            Fate::Pass | Fate::Twice => State::Missing(position),
-        });
+    if !site.has_arrived(from, position) {
+        return Some(missing(position, fate));
+    }
+    let Some(sent) = sender.queue().entry(site.name(), position) else {
+        return Some(State::Waits(position));
     };
     let mark = site.mark(from);
-    if arrival.dep > mark {
+    if sent.dep > mark {
         return Some(State::Behind {
             position,
             first: mark.saturating_add(1),
-            dep: arrival.dep,
+            dep: sent.dep,
         });
     }
-    Some(match missing_past(site, arrival) {
+    Some(match missing_past(site, &sent) {
         Some(past) => State::After { position, past },
         None => State::Waits(position),
     })
@@ -174,7 +182,7 @@ impl Plan {
 
     /// Tells what became of each position that the push sent and the receiver didn't finish.
     pub fn add_notes(&self, world: &World, text: &mut String) -> Result<(), NoMemory> {
-        let Some(site) = world.site(&self.to) else {
+        let (Some(sender), Some(site)) = (world.site(&self.from), world.site(&self.to)) else {
             return Ok(());
         };
         if self.fates.is_empty() {
@@ -189,7 +197,7 @@ impl Plan {
         let mut position = self.acked;
         for fate in self.fates.as_slice() {
             position = position.saturating_add(1);
-            if let Some(state) = state_of(site, &self.from, position, *fate) {
+            if let Some(state) = state_of(sender, site, position, *fate) {
                 add_note(text, &state)?;
             }
         }
