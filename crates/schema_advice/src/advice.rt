@@ -112,8 +112,8 @@ fn plain_remarks(
 {
     let mut found = Vec::new(alloc);
     let groups = table.groups.as_slice();
-    let has_shadow = has_shadow(groups, table.columns.as_slice());
-    add_if(has_shadow, Remark::Ungrouped, &mut found)?;
+    let is_ungrouped = has_shadow(groups, table.columns.as_slice());
+    add_if(is_ungrouped, Remark::Ungrouped, &mut found)?;
     add_groups(master_count(schema), groups, &mut found)?;
     let has_methods = !table.key_methods.is_empty();
     add_if(has_methods, Remark::OwnRows(None), &mut found)?;

@@ -9,7 +9,6 @@ use rep_lists::NoMemory;
 use script_drive::Status;
 use script_lint::{Findings, lint};
 use std::alloc::Global;
-use std::fmt::Write;
 
 /// The findings as lines, or want of memory.
 fn text_of(alloc: Global, found: &Findings) -> Result<String, NoMemory> {
@@ -33,6 +32,7 @@ fn status_of(found: &Findings) -> Status
 }
 
 /// The findings of a script as lines, and how a run ends that tells them.
+#[tactic(auto, using(crate::proofs::Ends::end_facts))]
 fn linted(alloc: Global, script: &[u8]) -> Result<(String, Status), NoMemory>
     ensures { IfOk result (λ told. LintEnds script.now told.1) }
 {
@@ -42,6 +42,7 @@ fn linted(alloc: Global, script: &[u8]) -> Result<(String, Status), NoMemory>
 }
 
 /// Reads a script to its end, and writes all that is found in it. Malformed where the engine doesn't do one of its lines.
+#[tactic(auto, using(crate::proofs::Ends::end_facts))]
 pub fn tell_findings<S: Source, K: Sink>(alloc: Global, source: &mut S, sink: &mut K) -> Status
     ensures told { LintReads (S.left source.old) (S.left source.new) result }
     ensures read { result ≡ Status.ReadFault → Rose (S.faults source.old) (S.faults source.new) }

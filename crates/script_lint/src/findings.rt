@@ -56,7 +56,7 @@ fn put_further<W: fmt::Write>(
 }
 
 impl Findings {
-    /// Of an error, how many further lines each has for a consequence; where declarations stand; and what is declared.
+    /// All that is found, and what it is told by: the lines of declarations, the further lines of each error, and what is declared.
     pub(crate) fn make(
         errors: Vec<ErrorFound>,
         parts: Vec<BrokenPart>,
@@ -129,17 +129,12 @@ impl Findings {
         found: &AdviceFound,
     ) -> fmt::Result {
         put_place(f, found.line, None, Level::Advice)?;
-        let table = match found.advice {
-            Advice::Table { place, remark } => match self.schema.tables.as_slice().get(place) {
-                Some(table) => Some(RemarkText { table, remark }),
-                None => None,
-            },
-            _ => None,
-        };
-        match table {
-            Some(text) => writeln!(f, "{text}"),
-            None => writeln!(f, "{}", found.advice),
+        if let Advice::Table { place, remark } = found.advice {
+            if let Some(table) = self.schema.tables.as_slice().get(place) {
+                return writeln!(f, "{}", RemarkText { table, remark });
+            }
         }
+        writeln!(f, "{}", found.advice)
     }
 }
 

@@ -21,10 +21,10 @@ pub fn lint(alloc: Global, script: &[u8]) -> Result<Findings, NoMemory>
     let advice = linter.advice(alloc)?;
     let schema = linter.steps.schema().copy(alloc)?;
     let Linter {
+        steps: _steps,
         trail,
         errors,
         parts,
-        ..
     } = linter;
     Ok(Findings::make(errors, parts, advice, trail.into_parts(), schema))
 }

@@ -1,8 +1,8 @@
 //! A script that is looked at line by line.
-ghost use Rattle.std.specs.Prelude.{◌≡◌, ◌++◌, ◌∷◌, [], Some, IfOk, OnOk};
+ghost use Rattle.std.specs.Prelude.{◌≡◌, Some, IfOk, OnOk};
 ghost use Rattle.script_steps.specs.Lines.{lines_of};
 ghost use Rattle.script_steps.specs.Saying.{malformed_at, refused_so};
-ghost use Rattle.script_lint.specs.Checking.{Checked, is_for_rule, parts_beside, with_said, checked, checked_from, nothing_checked};
+ghost use Rattle.script_lint.specs.Checking.{is_for_rule, parts_beside, with_said, checked, checked_from, nothing_checked};
 ghost use Rattle.script_steps.specs.Coming.{said_of};
 ghost use Rattle.script_lint.specs.Adding.{with_answer, with_parts};
 

@@ -1,5 +1,5 @@
 //! The world of a script, line by line.
-ghost use Rattle.std.specs.Prelude.{◌≡◌, true, IfOk, OnOk, IfSome};
+ghost use Rattle.std.specs.Prelude.{◌≡◌, IfOk, OnOk, IfSome};
 ghost use Rattle.report_text.specs.Refusals.{is_memory};
 ghost use Rattle.rep_schema.specs.Shape.{HasShape};
 ghost use Rattle.script_parse.specs.Named.{NamesColumn};
@@ -43,6 +43,16 @@ impl Model for Steps {
     ghost invariant = { λ s. (s.world.lent ≡ None) × HasShape s.schema × (s.schema ≡ s.world.world.schema) };
 }
 
+/// Whether it was for want of memory.
+fn is_memory(refusal: &Refusal) -> bool
+    ensures { result ≡ is_memory refusal.now }
+{
+    if let Refusal::Memory = refusal {
+        return true;
+    }
+    false
+}
+
 /// The schema with what a command declares; None where it declares nothing, or the schema refuses it.
 fn schema_with(
     alloc: Global,
@@ -60,19 +70,13 @@ fn schema_with(
     let mut next = schema.copy(alloc)?;
     match add_declaration(&mut next, alloc, declaration) {
         Ok(()) => Ok(Some(next)),
-        Err(Refusal::Memory) => Err(NoMemory),
-        Err(_) => Ok(None),
+        Err(refusal) => {
+            if is_memory(&refusal) {
+                return Err(NoMemory);
+            }
+            Ok(None)
+        }
     }
-}
-
-/// Whether it was for want of memory.
-fn is_memory(refusal: &Refusal) -> bool
-    ensures { result ≡ is_memory refusal.now }
-{
-    if let Refusal::Memory = refusal {
-        return true;
-    }
-    false
 }
 
 impl Steps {
