@@ -16,8 +16,8 @@ pub struct RefusalNote<'a> {
 
 /// What to do where a direction is down.
 fn put_link<W: fmt::Write>(f: &mut fmt::Formatter<W>, command: &Command) -> fmt::Result {
-    if let Command::Push { from, to, .. } | Command::Procedures(ProcLine::Push { from, to }) =
-        command
+    if let Command::Push { from, to, .. }
+    | Command::Procedures(ProcLine::Push { from, to }) = command
     {
         return write!(f, "say `link {from} {to} up` first");
     }
@@ -47,17 +47,31 @@ fn put_advice<W: fmt::Write>(
     refusal: &Refusal,
 ) -> fmt::Result {
     match refusal {
-        Refusal::UnknownName => f.write_str("upper and lower case differ; declare the name, or write the declared one"),
-        Refusal::NameTaken => f.write_str("each name, each level and each grouped column stands once"),
-        Refusal::WrongPhase => f.write_str("declarations stand above `resume`, statements in a block, and all else behind `resume` and outside of blocks"),
-        Refusal::RowShape => f.write_str("give a value for each column that the site doesn't fill in, numbers for NUMBER and DATE, texts for TEXT and SITE"),
+        Refusal::UnknownName => f.write_str(
+            "upper and lower case differ; declare the name, or write the declared one",
+        ),
+        Refusal::NameTaken => f.write_str(
+            "each name, each level and each grouped column stands once",
+        ),
+        Refusal::WrongPhase => f.write_str(
+            "declarations stand above `resume`, statements in a block, and all else behind `resume` and outside of blocks",
+        ),
+        Refusal::RowShape => f.write_str(
+            "give a value for each column that the site doesn't fill in, numbers for NUMBER and DATE, texts for TEXT and SITE",
+        ),
         Refusal::KeyTaken => f.write_str("`update` changes it"),
         Refusal::NoRow => f.write_str("`insert` adds one"),
         Refusal::UniqueTaken(_) => f.write_str("give it other values"),
         Refusal::ValueRange => f.write_str("numbers go from -1000000000000000 to 1000000000000000"),
-        Refusal::KeyNotOwn => f.write_str("in a convergent table a new key begins with the name of the site that writes it"),
-        Refusal::RuleBroken(_) => f.write_str("its maximum never falls, and its minimum never rises"),
-        Refusal::Barred => f.write_str("nothing is deleted from it, and a block writes convergent tables alone or others alone"),
+        Refusal::KeyNotOwn => f.write_str(
+            "in a convergent table a new key begins with the name of the site that writes it",
+        ),
+        Refusal::RuleBroken(_) => f.write_str(
+            "its maximum never falls, and its minimum never rises",
+        ),
+        Refusal::Barred => f.write_str(
+            "nothing is deleted from it, and a block writes convergent tables alone or others alone",
+        ),
         Refusal::FilledBySite => f.write_str("leave it out"),
         Refusal::LinkDown => put_link(f, command),
         Refusal::NoSuchError => put_errors(f, command),
@@ -69,9 +83,14 @@ fn put_advice<W: fmt::Write>(
         Refusal::LogTooYoung(_, _) => put_refresh(f, command),
         Refusal::Suspended => f.write_str("say `resume` first"),
         Refusal::LimitReached(limit) => write!(f, "there may be {}", limit_text(*limit)),
-        Refusal::SchemaRule(rule) => f.write_str(rule_text(*rule).unwrap_or("see the rules of schemas")),
+        Refusal::SchemaRule(rule) => f.write_str(rule_text(*rule).unwrap_or(
+            "see the rules of schemas",
+        )),
         Refusal::CheckFailed(_) => f.write_str("give values that meet it"),
-        Refusal::NotQuiet(site, _) => write!(f, "push from each master to {site}, and execute or drop the errors that `show errors {site}` lists"),
+        Refusal::NotQuiet(site, _) => write!(
+            f,
+            "push from each master to {site}, and execute or drop the errors that `show errors {site}` lists"
+        ),
         Refusal::Memory => f.write_str("give the program more"),
     }
 }

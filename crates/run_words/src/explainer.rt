@@ -345,7 +345,10 @@ impl Explainer {
         self.told = Some(Refusing { cause, line });
         add_note(text, &cause)?;
         if let Some(first) = self.flow.first_cause(cause) {
-            add_note(text, &format_args!("line {first} was to do that, and was refused"))?;
+            add_note(
+                text,
+                &format_args!("line {first} was to do that, and was refused"),
+            )?;
         }
         Ok(())
     }
@@ -400,11 +403,13 @@ impl Explainer {
         {
             self.add_error(alloc, Stream::Rows, site, origin, *position, text)?;
         }
-        if let Command::Procedures(ProcLine::Execute {
-            site,
-            origin,
-            position,
-        }) = command
+        if let Command::Procedures(
+            ProcLine::Execute {
+                site,
+                origin,
+                position,
+            },
+        ) = command
         {
             self.add_error(alloc, Stream::Calls, site, origin, *position, text)?;
         }
@@ -452,17 +457,16 @@ fn tell_malformed(
 }
 
 /// Tells that a line is one too many.
-pub(crate) fn tell_too_many(
-    alloc: Global,
-    number: u32,
-    told: &mut Told,
-) -> Result<(), NoMemory>
+pub(crate) fn tell_too_many(alloc: Global, number: u32, told: &mut Told) -> Result<(), NoMemory>
     ensures { OnOk result (told.new ≡ told.old ++ malformed_text number 2) }
 {
     let lines = malformed_lines(alloc, number, LINES_RULE)?;
     told.add_report(alloc, lines.bytes())?;
     let mut text = String::new(alloc);
-    add_note(&mut text, &format_args!("a script has 200000 lines at most: the run ends here"))?;
+    add_note(
+        &mut text,
+        &format_args!("a script has 200000 lines at most: the run ends here"),
+    )?;
     told.add_words(text)
 }
 
@@ -487,7 +491,9 @@ fn add_nothing_done(bytes: &[u8], text: &mut String) -> Result<(), NoMemory> {
     if bytes.ends_with(b" none\n") {
         add_note(
             text,
-            &format_args!("the block changed nothing, so it is no transaction, and nothing is queued"),
+            &format_args!(
+                "the block changed nothing, so it is no transaction, and nothing is queued"
+            ),
         )?;
     }
     Ok(())
@@ -499,7 +505,9 @@ fn add_forced(bytes: &[u8], text: &mut String) -> Result<(), NoMemory> {
     if words.next() == Some(b"complete".as_slice()) {
         add_note(
             text,
-            &format_args!("the log doesn't reach back to the last refresh, so all rows were looked at"),
+            &format_args!(
+                "the log doesn't reach back to the last refresh, so all rows were looked at"
+            ),
         )?;
     }
     Ok(())

@@ -5,9 +5,7 @@ use error_queue::ErrorEntry;
 use page_tables::PageTables;
 use rep_calls::{Call, Part};
 use rep_lists::NoMemory;
-use rep_schema::{
-    RowStore, SHADOW, TableEntry, has_place, is_grouped, named_columns,
-};
+use rep_schema::{RowStore, SHADOW, TableEntry, has_place, is_grouped, named_columns};
 use rep_values::{ApplyError, Key, Name, Row, SiteName, Value};
 use schema_advice::method_word;
 use std::alloc::{AllocError, Global};
@@ -22,8 +20,7 @@ pub struct Here<'a> {
 /// Whether a column belongs to a group by its number.
 fn is_in_group(table: &TableEntry, group: u8, place: usize) -> bool {
     if group == SHADOW {
-        return !table.columns.as_slice()[place].key
-            && !is_grouped(table.groups.as_slice(), place);
+        return !table.columns.as_slice()[place].key && !is_grouped(table.groups.as_slice(), place);
     }
     has_place(named_columns(table.groups.as_slice(), group), place)
 }

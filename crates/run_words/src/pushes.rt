@@ -66,9 +66,7 @@ impl<'a> fmt::Display for State<'a> {
 
 /// How many positions a push sends.
 fn sent_count(site: &Site<PageTables>, to: &SiteName, count: Option<u64>) -> u64 {
-    let waiting = site
-        .last_sent(to)
-        .saturating_sub(site.queue().acked(to));
+    let waiting = site.last_sent(to).saturating_sub(site.queue().acked(to));
     match count {
         Some(most) => most.min(waiting),
         None => waiting,
@@ -110,9 +108,8 @@ pub fn plan(
 
 /// The transaction of another master that one waits for at a site, if there is one.
 fn missing_past<'a>(site: &Site<PageTables>, sent: &Sent<'a>) -> Option<&'a Past> {
-    sent.past
-        .iter()
-        .find(|past| !past.origin.is_same(site.name()) && site.covered(&past.origin) < past.number)
+    sent.past.iter().find(|past| !past.origin.is_same(site.name())
+        && site.covered(&past.origin) < past.number)
 }
 
 /// What became of a position that didn't arrive.
@@ -174,7 +171,9 @@ impl Plan {
             ),
             Some(Fate::Late) => add_note(
                 text,
-                &format_args!("the acknowledgement is held until the next push between the two sites"),
+                &format_args!(
+                    "the acknowledgement is held until the next push between the two sites"
+                ),
             ),
             Some(Fate::Pass) | Some(Fate::Twice) => Ok(()),
         }

@@ -65,11 +65,7 @@ fn add_group(
 }
 
 /// Adds what is remarked of groups.
-fn add_groups(
-    masters: usize,
-    groups: &[Group],
-    found: &mut Vec<Remark>,
-) -> Result<(), NoMemory>
+fn add_groups(masters: usize, groups: &[Group], found: &mut Vec<Remark>) -> Result<(), NoMemory>
     ensures { OnOk result (found.new.items ≡ found.old.items ++ groups_remarks masters 0 groups.now) }
 {
     for place in 0..groups.len() {
@@ -79,10 +75,7 @@ fn add_groups(
 }
 
 /// Adds what is remarked of constraints.
-fn add_constraints(
-    constraints: &[Constraint],
-    found: &mut Vec<Remark>,
-) -> Result<(), NoMemory>
+fn add_constraints(constraints: &[Constraint], found: &mut Vec<Remark>) -> Result<(), NoMemory>
     ensures { OnOk result (found.new.items ≡ found.old.items ++ constraint_remarks 0 constraints.now) }
 {
     for place in 0..constraints.len() {

@@ -53,7 +53,10 @@ impl fmt::Display for Cause {
                 table.0
             ),
             Cause::Suspended(line) => {
-                write!(f, "all is suspended from line {line} on: say `resume` first")
+                write!(
+                    f,
+                    "all is suspended from line {line} on: say `resume` first"
+                )
             }
             Cause::Running => f.write_str("nothing is suspended: say `suspend` first"),
         }

@@ -214,8 +214,9 @@ impl Flow {
         if let Command::Procedures(ProcLine::Calls { .. }) = command {
             self.open(Block::Calls(line));
         }
-        if let Command::Commit | Command::Abandon | Command::Procedures(ProcLine::Send { .. }) =
-            command
+        if let Command::Commit
+        | Command::Abandon
+        | Command::Procedures(ProcLine::Send { .. }) = command
         {
             self.block = None;
         }

@@ -122,10 +122,14 @@ fn unknown_in_declaration(schema: &Schema, declaration: &Declare) -> Option<Name
         Declare::SiteLevel { site: name, .. } => site(schema, name),
         Declare::Convergent { table: name } => table(schema, name),
         Declare::Group {
-            table, columns: names, ..
+            table,
+            columns: names,
+            ..
         }
         | Declare::Unique {
-            table, columns: names, ..
+            table,
+            columns: names,
+            ..
         } => columns(schema, table, names.as_slice()),
         Declare::Method {
             table,
@@ -180,8 +184,11 @@ fn unknown_in_snapshot(
 ) -> Option<Named> {
     match parent {
         None => tests(schema, own, words),
-        Some(parent) => columns(schema, own, parent.columns.as_slice())
-            .or(tests(schema, &parent.table, words)),
+        Some(parent) => columns(schema, own, parent.columns.as_slice()).or(tests(
+            schema,
+            &parent.table,
+            words,
+        )),
     }
 }
 
@@ -224,7 +231,9 @@ fn unknown_in_procedures(schema: &Schema, line: &ProcLine) -> Option<Named> {
             two_sites(schema, from, to)
         }
         ProcLine::Execute {
-            site: here, origin, ..
+            site: here,
+            origin,
+            ..
         } => two_sites(schema, here, origin),
     }
 }
@@ -257,10 +266,14 @@ pub fn unknown(schema: &Schema, command: &Command) -> Option<Named> {
         | Command::ClearFates { from, to }
         | Command::Link { from, to, .. } => two_sites(schema, from, to),
         Command::Execute {
-            site: here, origin, ..
+            site: here,
+            origin,
+            ..
         }
         | Command::DropError {
-            site: here, origin, ..
+            site: here,
+            origin,
+            ..
         } => two_sites(schema, here, origin),
         Command::Join { site: late, source } => two_sites(schema, late, source),
         Command::PurgeLog {

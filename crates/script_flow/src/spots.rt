@@ -41,7 +41,9 @@ fn declared(declaration: &Declare) -> Option<(NameOf, Option<TableName>, Name)> 
         Declare::Table { name, .. } => Some((NameOf::Table, None, name.0)),
         Declare::Group { table, group, .. } => Some((NameOf::Group, Some(*table), *group)),
         Declare::Unique {
-            table, constraint, ..
+            table,
+            constraint,
+            ..
         } => Some((NameOf::Constraint, Some(*table), *constraint)),
         Declare::Check { table, check, .. } => Some((NameOf::Check, Some(*table), *check)),
         Declare::Method { .. }
@@ -111,7 +113,10 @@ impl Spots {
     /// The line that declared something.
     pub fn line_of(&self, of: NameOf, table: Option<TableName>, name: &Name) -> Option<u32> {
         for spot in self.spots.as_slice() {
-            if spot.done && spot.of == of && spot.name.is_same(name) && same_table(spot.table, table)
+            if spot.done
+                && spot.of == of
+                && spot.name.is_same(name)
+                && same_table(spot.table, table)
             {
                 return Some(spot.line);
             }
@@ -142,7 +147,11 @@ fn run_of(bytes: &[u8], space: bool) -> usize {
 fn word_in(bytes: &[u8]) -> Option<(&[u8], &[u8])> {
     let (_, rest) = bytes.split_at(run_of(bytes, true));
     let (word, behind) = rest.split_at(run_of(rest, false));
-    if word.is_empty() { None } else { Some((word, behind)) }
+    if word.is_empty() {
+        None
+    } else {
+        Some((word, behind))
+    }
 }
 
 /// The first two words between spaces.

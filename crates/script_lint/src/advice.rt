@@ -8,7 +8,10 @@ use std::fmt;
 #[derive(Clone, Copy, Debug)]
 pub enum Advice {
     /// Something is remarked of the table at this place.
-    Table { place: usize, remark: Remark },
+    Table {
+        place: usize,
+        remark: Remark,
+    },
     /// The block of this line is open at the script's end.
     OpenBlock,
     /// The declarations haven't ended at the script's end.
@@ -28,7 +31,10 @@ pub enum Advice {
         count: u64,
     },
     /// So many errors stand at the site.
-    Errors { site: SiteName, count: u64 },
+    Errors {
+        site: SiteName,
+        count: u64,
+    },
 }
 
 /// An advice, and the line that it is about.

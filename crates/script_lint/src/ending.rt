@@ -119,12 +119,7 @@ impl Linter {
             })?;
             return Ok(found);
         }
-        add_remarks(
-            alloc,
-            self.steps.schema(),
-            self.trail.spots(),
-            &mut found,
-        )?;
+        add_remarks(alloc, self.steps.schema(), self.trail.spots(), &mut found)?;
         for site in self.steps.schema().sites.as_slice() {
             self.add_left(site.name, &mut found)?;
         }

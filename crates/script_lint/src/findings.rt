@@ -38,10 +38,7 @@ fn put_place<W: fmt::Write>(
 }
 
 /// How many further lines have the same cause.
-fn put_further<W: fmt::Write>(
-    f: &mut fmt::Formatter<W>,
-    further: Option<&Further>,
-) -> fmt::Result {
+fn put_further<W: fmt::Write>(f: &mut fmt::Formatter<W>, further: Option<&Further>) -> fmt::Result {
     let Some(Further { count, last }) = further else {
         return Ok(());
     };
@@ -101,18 +98,18 @@ impl Findings {
     }
 
     /// A table or a group that breaks a rule.
-    fn put_part<W: fmt::Write>(
-        &self,
-        f: &mut fmt::Formatter<W>,
-        part: &BrokenPart,
-    ) -> fmt::Result {
+    fn put_part<W: fmt::Write>(&self, f: &mut fmt::Formatter<W>, part: &BrokenPart) -> fmt::Result {
         let table = &part.table.0;
         let text = rule_text(part.rule).unwrap_or("there is none of this number");
         match &part.group {
             Some(group) => {
                 let line = self.spots.line_of(NameOf::Group, Some(part.table), group);
                 put_place(f, line, None, Level::Rule)?;
-                writeln!(f, "{} broken by group {group} of {table}: {text}", part.rule)
+                writeln!(
+                    f,
+                    "{} broken by group {group} of {table}: {text}",
+                    part.rule
+                )
             }
             None => {
                 let line = self.spots.line_of(NameOf::Table, None, table);

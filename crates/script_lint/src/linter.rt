@@ -132,13 +132,7 @@ impl Linter {
     }
 
     /// Keeps what came of the line of a number.
-    fn add(
-        &mut self,
-        alloc: Global,
-        number: u32,
-        line: &[u8],
-        came: Came,
-    ) -> Result<(), NoMemory>
+    fn add(&mut self, alloc: Global, number: u32, line: &[u8], came: Came) -> Result<(), NoMemory>
         ensures { OnOk result (self.new ≡ with_said (said_of number came) self.old) }
     {
         match came {

@@ -99,9 +99,7 @@ impl Trail {
 
     /// Whether a push from one site to the other was done.
     pub(crate) fn is_pushed(&self, from: &SiteName, to: &SiteName) -> bool {
-        self.pushes
-            .iter()
-            .any(|(first, second)| first.is_same(from) && second.is_same(to))
+        self.pushes.iter().any(|(first, second)| first.is_same(from) && second.is_same(to))
     }
 
     /// The lines of declarations, and the further lines of each error.
