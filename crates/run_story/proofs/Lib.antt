@@ -1,0 +1,4 @@
+-- The lemmas of this crate.
+mod Ranges
+mod Spans
+pub mod Stories

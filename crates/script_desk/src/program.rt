@@ -1,0 +1,62 @@
+//! What the program does with the words of its command line.
+
+use crate::reading::read_whole;
+use crate::words::{Asked, asked_by};
+use page_text::page_bytes;
+use rep_io::{Sink, Source, offer};
+use rep_lists::{Items, NoMemory};
+use run_picture::picture;
+use run_story::{Outcome, Story, story_of};
+use script_drive::Status;
+use std::alloc::Global;
+
+/// The title of a picture.
+const TITLE: &[u8] = b"A run of replication";
+
+/// How a story ended.
+fn status_of(story: &Story) -> Status {
+    match story.lines().last() {
+        Some(line) => match line.outcome {
+            Outcome::Malformed(_) => Status::Malformed,
+            _ => Status::Done,
+        },
+        None => Status::Done,
+    }
+}
+
+/// The picture of a script as a page, and how its run ended.
+fn pictured(alloc: Global, script: &[u8]) -> Result<(Items<u8>, Status), NoMemory> {
+    let story = story_of(alloc, script)?;
+    let page = picture(alloc, TITLE, &story)?;
+    let bytes = page_bytes(alloc, &page)?;
+    Ok((bytes, status_of(&story)))
+}
+
+/// Draws a script's run, and writes the page.
+fn draw<S: Source, K: Sink>(alloc: Global, source: &mut S, sink: &mut K) -> Status {
+    let script = match read_whole(alloc, source) {
+        Ok(script) => script,
+        Err(status) => return status,
+    };
+    let Ok((page, status)) = pictured(alloc, &script) else {
+        return Status::Memory;
+    };
+    match offer(sink, page.as_slice()) {
+        Ok(()) => status,
+        Err(_) => Status::WriteFault,
+    }
+}
+
+/// What the program does with the words behind its name. For `picture` it reads the script of the source to its end, runs it, and
+/// writes a page on which its run is drawn. For all other words it answers `Usage`, and reads and writes nothing.
+pub fn run_desk<S: Source, K: Sink>(
+    alloc: Global,
+    words: &[&str],
+    source: &mut S,
+    sink: &mut K,
+) -> Status {
+    match asked_by(words) {
+        None => Status::Usage,
+        Some(Asked::Picture) => draw(alloc, source, sink),
+    }
+}
