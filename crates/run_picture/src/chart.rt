@@ -1,17 +1,27 @@
 //! The lanes of a run with what happened, from the top down.
+ghost use Rattle.std.specs.Prelude.{◌≡◌, ◌≢◌, ◌++◌, [], flat_map, IfOk, OnOk};
+ghost use Rattle.run_picture.specs.Marks.{marks_of, line_marks};
+ghost use Rattle.run_picture.specs.Folding.{shown_marks};
 
 use crate::folding::{Showing, is_folded, showing};
 use crate::heads::draw_lanes;
 use crate::layout::{Layout, WIDTH};
 use crate::pen::Pen;
-use crate::rows::Drawer;
-use page_text::{Drawing, Part};
+use crate::rows::Scene;
+use page_text::{Drawing, Shape};
 use rep_lists::{Items, NoMemory};
-use run_story::{Lane, Story};
+use run_story::{Lane, Line, Story};
 use std::alloc::Global;
 
 /// Where the first row begins.
 const TOP: u32 = 8;
+
+/// How far the rows are drawn: the height below them, and how many lines were left out behind the last one.
+#[derive(Clone, Copy)]
+struct Progress {
+    y: u32,
+    left_out: u64,
+}
 
 /// Notes at which height the lanes begin whose sites are there from a line on.
 fn note_starts(lanes: &[Lane], number: usize, y: u32, starts: &mut Vec<Option<u32>>) {
@@ -44,60 +54,114 @@ fn no_starts(alloc: Global, lanes: usize) -> Result<Vec<Option<u32>>, NoMemory> 
     Ok(starts)
 }
 
-/// Draws the rows of a story. It gives the height below them.
-fn draw_rows(
-    drawer: &mut Drawer<'_>,
-    story: &Story,
-    starts: &mut Vec<Option<u32>>,
-) -> Result<u32, NoMemory> {
-    let lines = story.lines();
-    let folded = is_folded(lines);
-    let running = first_running(story.lanes());
-    let mut y = TOP;
-    let mut left_out: u64 = 0;
-    for place in 0..lines.len() {
-        let line = &lines[place];
-        let number = place + 1;
-        match showing(story, line, folded, running < number) {
-            Showing::Left => {}
-            Showing::Folded => left_out += 1,
-            Showing::Drawn => {
-                if left_out > 0 {
-                    y = drawer.draw_fold(left_out, y)?;
-                    left_out = 0;
-                }
-                y = drawer.draw_line(number, line, y)?;
-            }
-        }
-        note_starts(story.lanes(), number, y, starts);
+/// Tells how many lines are left out, if some are.
+fn draw_left_out(scene: &Scene<'_>, pen: &mut Pen, progress: &mut Progress) -> Result<(), NoMemory>
+    ensures { OnOk result (pen.new ≡ pen.old) }
+{
+    if progress.left_out > 0 {
+        progress.y = scene.draw_fold(pen, progress.left_out, progress.y)?;
+        progress.left_out = 0;
     }
-    if left_out > 0 {
-        y = drawer.draw_fold(left_out, y)?;
-    }
-    Ok(y.saturating_add(10))
+    Ok(())
 }
 
-/// The lanes of a run with what happened.
-pub fn chart(alloc: Global, layout: &Layout, story: &Story) -> Result<Part, NoMemory> {
-    let lanes = story.lanes();
-    let mut starts = no_starts(alloc, lanes.len())?;
-    let mut rows = Pen::new(Vec::new(alloc));
-    let mut drawer = Drawer {
+/// Draws a line, counts it among those that are left out, or doesn't look at it.
+fn draw_or_count(
+    scene: &Scene<'_>,
+    pen: &mut Pen,
+    number: usize,
+    line: &Line,
+    showing: Showing,
+    progress: &mut Progress,
+) -> Result<(), NoMemory>
+    ensures drawn { showing ≡ Showing.Drawn → OnOk result (pen.new ≡ pen.old ++ line_marks scene.now.story.now line.now) }
+    ensures left { showing ≢ Showing.Drawn → OnOk result (pen.new ≡ pen.old) }
+{
+    match showing {
+        Showing::Left => Ok(()),
+        Showing::Folded => {
+            progress.left_out = progress.left_out.saturating_add(1);
+            Ok(())
+        }
+        Showing::Drawn => {
+            draw_left_out(scene, pen, progress)?;
+            progress.y = scene.draw_line(pen, number, line, progress.y)?;
+            Ok(())
+        }
+    }
+}
+
+/// Shows the line at a place.
+fn show_line(
+    scene: &Scene<'_>,
+    pen: &mut Pen,
+    place: usize,
+    line: &Line,
+    folded: bool,
+    progress: &mut Progress,
+) -> Result<(), NoMemory>
+    ensures { OnOk result (pen.new ≡ pen.old ++ shown_marks scene.now.story.now folded line.now) }
+{
+    let is_running = first_running(scene.story.lanes()) <= place;
+    let showing = showing(scene.story, line, folded, is_running);
+    draw_or_count(scene, pen, place.saturating_add(1), line, showing, progress)
+}
+
+/// Draws the rows of a story. It gives the height below them.
+fn draw_rows(
+    scene: &Scene<'_>,
+    pen: &mut Pen,
+    folded: bool,
+    starts: &mut Vec<Option<u32>>,
+) -> Result<u32, NoMemory>
+    ensures { OnOk result (pen.new ≡ pen.old ++ flat_map (shown_marks scene.now.story.now folded) scene.now.story.now.lines) }
+{
+    let lines = scene.story.lines();
+    let mut progress = Progress {
+        y: TOP,
+        left_out: 0,
+    };
+    for place in 0..lines.len() {
+        show_line(scene, pen, place, &lines[place], folded, &mut progress)?;
+        note_starts(scene.story.lanes(), place.saturating_add(1), progress.y, starts);
+    }
+    draw_left_out(scene, pen, &mut progress)?;
+    Ok(progress.y.saturating_add(10))
+}
+
+/// Shapes behind others.
+fn joined(front: Vec<Shape>, back: Vec<Shape>) -> Result<Items<Shape>, NoMemory>
+    ensures { IfOk result (λ shapes. shapes ≡ front.items ++ back.items) }
+{
+    let mut shapes = front;
+    let mut back = back;
+    shapes.append(&mut back)?;
+    Ok(Items::from_vec(shapes))
+}
+
+/// The lanes of a run with what happened. The marks of the entries of journals are, in their order, those of the lines that are
+/// shown.
+pub fn chart(
+    alloc: Global,
+    layout: &Layout,
+    story: &Story,
+    folded: bool,
+) -> Result<Drawing, NoMemory>
+    ensures { IfOk result (λ drawing. marks_of drawing.shapes ≡ flat_map (shown_marks story.now folded) story.now.lines) }
+{
+    let scene = Scene {
         alloc,
-        pen: &mut rows,
         layout: *layout,
         story,
     };
-    let bottom = draw_rows(&mut drawer, story, &mut starts)?;
-    let mut pen = Pen::new(Vec::new(alloc));
-    draw_lanes(&mut pen, layout, lanes, &starts, bottom)?;
-    let mut shapes = pen.into_shapes();
-    for shape in rows.into_shapes() {
-        shapes.push(shape)?;
-    }
-    Ok(Part::Drawing(Drawing {
+    let mut starts = no_starts(alloc, story.lanes().len())?;
+    let mut rows = Pen::new(alloc);
+    let bottom = draw_rows(&scene, &mut rows, folded, &mut starts)?;
+    let mut lanes = Pen::new(alloc);
+    draw_lanes(&mut lanes, layout, story.lanes(), &starts, bottom)?;
+    Ok(Drawing {
         width: WIDTH,
         height: bottom,
-        shapes: Items::from_vec(shapes),
-    }))
+        shapes: joined(lanes.into_shapes(), rows.into_shapes())?,
+    })
 }

@@ -10,6 +10,7 @@ use run_story::{Lane, Story};
 use std::alloc::Global;
 
 /// The rows of a site, under its name.
+#[derive(Drop)]
 struct Held<'a> {
     lane: &'a Lane,
     store: &'a PageTables,
@@ -18,14 +19,52 @@ struct Held<'a> {
     is_master: bool,
 }
 
+impl Held<'_> {
+    /// Whether it shows the table at a place.
+    fn has(&self, place: usize) -> bool {
+        self.tables.get(place).copied().unwrap_or(false)
+            && place < self.store.schema().tables.len()
+            && u32::try_from(place).is_ok()
+    }
+
+    /// Its table at a place, or an empty one where it has none there.
+    fn table(
+        &self,
+        alloc: Global,
+        masters: &[&PageTables],
+        place: usize,
+        entry: &TableEntry,
+    ) -> Result<Table, NoMemory> {
+        let caption = self.lane.site.0.bytes();
+        match u32::try_from(place) {
+            Ok(table) if place < self.store.schema().tables.len() => {
+                table_at(alloc, caption, masters, self.store, table, entry)
+            }
+            _ => no_table(alloc, caption),
+        }
+    }
+}
+
+/// A table without columns.
+fn no_table(alloc: Global, caption: &[u8]) -> Result<Table, NoMemory> {
+    Ok(Table {
+        caption: words_of(alloc, caption)?,
+        columns: Items::new(alloc),
+        rows: Items::new(alloc),
+    })
+}
+
 /// The sites with rows that `push` carries.
 fn row_holders<'a>(alloc: Global, story: &'a Story) -> Result<Vec<Held<'a>>, NoMemory> {
     let mut holders = Vec::new(alloc);
     for lane in story.lanes() {
         if let Some(site) = story.world().site(&lane.site) {
             let mut tables = Vec::new(alloc);
-            for table in 0..site.store().schema().tables.len() {
-                tables.push(site.held().has(table as u32))?;
+            for place in 0..site.store().schema().tables.len() {
+                tables.push(match u32::try_from(place) {
+                    Ok(table) => site.held().has(table),
+                    Err(_) => false,
+                })?;
             }
             holders.push(Held {
                 lane,
@@ -79,10 +118,8 @@ fn tables_of(
 ) -> Result<Vec<Table>, NoMemory> {
     let mut tables = Vec::new(alloc);
     for holder in holders {
-        if holder.tables.get(place).copied().unwrap_or(false) {
-            let caption = holder.lane.site.0.bytes();
-            let table = place as u32;
-            tables.push(table_at(alloc, caption, masters, holder.store, table, entry)?)?;
+        if holder.has(place) {
+            tables.push(holder.table(alloc, masters, place, entry)?)?;
         }
     }
     Ok(tables)
@@ -92,7 +129,7 @@ fn tables_of(
 fn is_same_at(holders: &[Held<'_>], tables: &[Table], place: usize) -> bool {
     let mut shown = 0;
     for holder in holders {
-        if holder.tables.get(place).copied().unwrap_or(false) {
+        if holder.has(place) {
             if let Some(table) = tables.get(shown) {
                 if holder.is_master && !is_same(table) {
                     return false;

@@ -1,6 +1,9 @@
 //! Which lines of a run are drawn.
+ghost use Rattle.std.specs.Prelude.{◌≡◌, ◌≢◌, [], false, true};
+ghost use Rattle.std.specs.List.{list_all, list_any};
+ghost use Rattle.run_picture.specs.Folding.{is_notable, is_plain, has_notable, is_to_see, is_still_event, IsShowing};
 
-use crate::badges::entry_at;
+use crate::badges::{entry_at, entry_count};
 use run_story::{Coming, Event, Fared, Line, Outcome, Packet, Span, Story};
 use site_state::Entry;
 
@@ -17,11 +20,19 @@ fn is_event(line: &Line) -> bool {
 
 /// Whether the lines of a run are folded.
 pub fn is_folded(lines: &[Line]) -> bool {
-    lines.iter().filter(|line| is_event(line)).count() > MOST_EVENTS
+    let mut events: usize = 0;
+    for line in lines {
+        if is_event(line) {
+            events = events.saturating_add(1);
+        }
+    }
+    events > MOST_EVENTS
 }
 
 /// Whether an entry tells of more than that a transaction was made or applied.
-fn is_notable(entry: &Entry) -> bool {
+fn is_notable(entry: &Entry) -> bool
+    ensures { result ≡ is_notable entry.now }
+{
     match entry {
         Entry::Local { .. } | Entry::Done { .. } => false,
         Entry::Error { .. }
@@ -31,10 +42,12 @@ fn is_notable(entry: &Entry) -> bool {
     }
 }
 
-/// Whether such an entry is among some.
-fn has_notable(story: &Story, span: &Span) -> bool {
-    for more in 0..span.count {
-        if let Some(entry) = entry_at(story, span, span.first.saturating_add(more)) {
+/// Whether such an entry is among those that a span tells.
+fn has_notable(story: &Story, span: &Span) -> bool
+    ensures { result ≡ has_notable story.now span.now }
+{
+    for place in 0..entry_count(story, span) {
+        if let Some(entry) = entry_at(story, span, place) {
             if is_notable(entry) {
                 return true;
             }
@@ -43,27 +56,59 @@ fn has_notable(story: &Story, span: &Span) -> bool {
     false
 }
 
-/// Whether each packet came as it should.
-fn are_plain(packets: &[Packet]) -> bool {
-    packets
-        .iter()
-        .all(|packet| packet.fared == Fared::Came(Coming::New))
+/// Whether a packet came as it should.
+fn is_plain(packet: &Packet) -> bool
+    ensures { result ≡ is_plain packet.now }
+{
+    match packet.fared {
+        Fared::Came(Coming::New) => true,
+        Fared::Came(Coming::Again)
+        | Fared::Twice(_)
+        | Fared::Lost
+        | Fared::Held
+        | Fared::Released(_)
+        | Fared::CutOff => false,
+    }
 }
 
-/// Whether there is more to see in a line than that transactions were made, sent and applied.
-fn is_to_see(story: &Story, line: &Line) -> bool {
-    if let Some(Event::Linked { .. } | Event::Refreshed { .. } | Event::Joined { .. }) = line.event {
-        return true;
-    }
-    if !are_plain(line.sent.as_slice()) || !are_plain(line.answered.as_slice()) {
-        return true;
-    }
-    for span in line.entries.iter() {
+/// Whether each packet came as it should.
+fn are_plain(packets: &[Packet]) -> bool
+    ensures { result ≡ list_all is_plain packets.now }
+{
+    packets.iter().all(|packet| is_plain(packet))
+}
+
+/// Whether such an entry is among those that some spans tell.
+fn have_notable(story: &Story, spans: &[Span]) -> bool
+    ensures { result ≡ list_any (has_notable story.now) spans.now }
+{
+    for span in spans {
         if has_notable(story, span) {
             return true;
         }
     }
     false
+}
+
+/// Whether something happened beside packets and entries that is always drawn.
+fn is_still_event(event: &Option<Event>) -> bool
+    ensures { result ≡ is_still_event event.now }
+{
+    match event {
+        Some(Event::Linked { .. } | Event::Refreshed { .. } | Event::Joined { .. }) => false,
+        Some(Event::Nothing { .. }) | None => true,
+    }
+}
+
+/// Whether there is more to see in a line than that transactions were made, sent and applied.
+fn is_to_see(story: &Story, line: &Line) -> bool
+    ensures { result ≡ is_to_see story.now line.now }
+{
+    !is_still_event(&line.event)
+        || !are_plain(line.sent.as_slice())
+        || !are_plain(line.answered.as_slice())
+        || !line.turns.is_empty()
+        || have_notable(story, line.entries.as_slice())
 }
 
 /// What becomes of a line in the picture.
@@ -93,7 +138,9 @@ fn showing_still(line: &Line, is_folded: bool, is_running: bool) -> Showing {
 }
 
 /// What becomes of a line. In a run that isn't folded each line is drawn in which something happened.
-pub fn showing(story: &Story, line: &Line, is_folded: bool, is_running: bool) -> Showing {
+pub fn showing(story: &Story, line: &Line, is_folded: bool, is_running: bool) -> Showing
+    ensures { IsShowing story.now is_folded line.now result }
+{
     if line.is_still() {
         return showing_still(line, is_folded, is_running);
     }

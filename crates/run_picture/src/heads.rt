@@ -1,4 +1,5 @@
 //! The lanes of a picture and their names.
+ghost use Rattle.std.specs.Prelude.{◌≡◌, OnOk};
 
 use crate::layout::{Layout, WIDTH};
 use crate::pen::Pen;
@@ -28,7 +29,7 @@ fn kind_words(alloc: Global, kind: &LaneKind) -> Result<Items<u8>, NoMemory> {
 
 /// The names of the sites above their lanes.
 pub fn heads(alloc: Global, layout: &Layout, lanes: &[Lane]) -> Result<Part, NoMemory> {
-    let mut pen = Pen::new(Vec::new(alloc));
+    let mut pen = Pen::new(alloc);
     for place in 0..lanes.len() {
         let lane = &lanes[place];
         let x = layout.lane(place);
@@ -45,6 +46,30 @@ pub fn heads(alloc: Global, layout: &Layout, lanes: &[Lane]) -> Result<Part, NoM
     }))
 }
 
+/// Draws a lane.
+fn draw_lane(
+    pen: &mut Pen,
+    x: u32,
+    lane: &Lane,
+    start: u32,
+    bottom: u32,
+) -> Result<(), NoMemory>
+    ensures { OnOk result (pen.new ≡ pen.old) }
+{
+    let from = Point { x, y: 0 };
+    let middle = Point { x, y: start };
+    let to = Point { x, y: bottom };
+    match (lane.kind, lane.since) {
+        (LaneKind::Snapshot(_), _) => pen.line(Look::ThinLane, from, to),
+        (LaneKind::Master, _) => pen.line(Look::Lane, from, to),
+        (LaneKind::Late, None) => pen.line(Look::LateLane, from, to),
+        (LaneKind::Late, Some(_)) => {
+            pen.line(Look::LateLane, from, middle)?;
+            pen.line(Look::Lane, middle, to)
+        }
+    }
+}
+
 /// Draws the lanes down to a height. A late master's begins where it joins.
 pub fn draw_lanes(
     pen: &mut Pen,
@@ -52,22 +77,12 @@ pub fn draw_lanes(
     lanes: &[Lane],
     starts: &[Option<u32>],
     bottom: u32,
-) -> Result<(), NoMemory> {
+) -> Result<(), NoMemory>
+    ensures { OnOk result (pen.new ≡ pen.old) }
+{
     for place in 0..lanes.len() {
-        let x = layout.lane(place);
         let start = starts.get(place).copied().flatten().unwrap_or(0);
-        let from = Point { x, y: 0 };
-        let middle = Point { x, y: start };
-        let to = Point { x, y: bottom };
-        match (lanes[place].kind, lanes[place].since) {
-            (LaneKind::Snapshot(_), _) => pen.line(Look::ThinLane, from, to)?,
-            (LaneKind::Master, _) => pen.line(Look::Lane, from, to)?,
-            (LaneKind::Late, None) => pen.line(Look::LateLane, from, to)?,
-            (LaneKind::Late, Some(_)) => {
-                pen.line(Look::LateLane, from, middle)?;
-                pen.line(Look::Lane, middle, to)?;
-            }
-        }
+        draw_lane(pen, layout.lane(place), &lanes[place], start, bottom)?;
     }
     Ok(())
 }

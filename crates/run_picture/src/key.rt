@@ -87,7 +87,7 @@ fn draw_arrows(alloc: Global, pen: &mut Pen) -> Result<(), NoMemory> {
 
 /// The key of a picture.
 pub fn key(alloc: Global) -> Result<Part, NoMemory> {
-    let mut pen = Pen::new(Vec::new(alloc));
+    let mut pen = Pen::new(alloc);
     draw_badges(alloc, &mut pen)?;
     draw_arrows(alloc, &mut pen)?;
     Ok(Part::Drawing(Drawing {

@@ -1,4 +1,5 @@
 //! Packets as arrows between lanes.
+ghost use Rattle.std.specs.Prelude.{◌≡◌, OnOk};
 
 use crate::pen::Pen;
 use crate::words::text_of;
@@ -151,13 +152,17 @@ impl Arrow {
     }
 
     /// Draws it from its lane to the other.
-    pub fn draw(&self, pen: &mut Pen) -> Result<(), NoMemory> {
+    pub fn draw(&self, pen: &mut Pen) -> Result<(), NoMemory>
+        ensures { OnOk result (pen.new ≡ pen.old) }
+    {
         pen.line(self.look, self.start(), self.end())?;
         pen.head(self.look, self.end(), self.is_right())
     }
 
     /// Draws it twice.
-    fn draw_twice(&self, pen: &mut Pen) -> Result<(), NoMemory> {
+    fn draw_twice(&self, pen: &mut Pen) -> Result<(), NoMemory>
+        ensures { OnOk result (pen.new ≡ pen.old) }
+    {
         self.draw(pen)?;
         let lower = Arrow {
             y: self.y.saturating_add(4),
@@ -167,7 +172,9 @@ impl Arrow {
     }
 
     /// Draws its first half, to a cross or to bars.
-    pub fn draw_stopped(&self, pen: &mut Pen, is_lost: bool) -> Result<(), NoMemory> {
+    pub fn draw_stopped(&self, pen: &mut Pen, is_lost: bool) -> Result<(), NoMemory>
+        ensures { OnOk result (pen.new ≡ pen.old) }
+    {
         pen.line(self.look, self.start(), self.middle())?;
         if is_lost {
             pen.cross(self.look, self.middle())
@@ -177,7 +184,9 @@ impl Arrow {
     }
 
     /// Draws its second half, from bars on.
-    pub fn draw_released(&self, pen: &mut Pen) -> Result<(), NoMemory> {
+    pub fn draw_released(&self, pen: &mut Pen) -> Result<(), NoMemory>
+        ensures { OnOk result (pen.new ≡ pen.old) }
+    {
         pen.bars(self.look, self.middle())?;
         pen.line(self.look, self.middle(), self.end())?;
         pen.head(self.look, self.end(), self.is_right())
@@ -206,6 +215,27 @@ fn words_look(fared: Fared) -> Look {
     }
 }
 
+/// Draws the arrow of packets that fared so.
+fn draw_fared(pen: &mut Pen, arrow: &Arrow, fared: Fared) -> Result<(), NoMemory>
+    ensures { OnOk result (pen.new ≡ pen.old) }
+{
+    match fared {
+        Fared::Came(_) => arrow.draw(pen),
+        Fared::Twice(_) => arrow.draw_twice(pen),
+        Fared::Lost | Fared::CutOff => arrow.draw_stopped(pen, true),
+        Fared::Held => arrow.draw_stopped(pen, false),
+        Fared::Released(_) => arrow.draw_released(pen),
+    }
+}
+
+/// Whether the words of packets stand at the second half of their way.
+fn are_words_late(fared: Fared) -> bool {
+    match fared {
+        Fared::Released(_) => true,
+        Fared::Came(_) | Fared::Twice(_) | Fared::Lost | Fared::CutOff | Fared::Held => false,
+    }
+}
+
 /// Draws packets below a height. It gives the height below them.
 pub fn draw_bundle(
     alloc: Global,
@@ -213,30 +243,18 @@ pub fn draw_bundle(
     ends: Ends,
     bundle: &Bundle,
     top: u32,
-) -> Result<u32, NoMemory> {
+) -> Result<u32, NoMemory>
+    ensures { OnOk result (pen.new ≡ pen.old) }
+{
     let packet = &bundle.packet;
     let arrow = Arrow {
         look: look_of(packet),
         ends,
         y: top,
     };
-    let mut is_late = false;
-    match packet.fared {
-        Fared::Came(_) => arrow.draw(pen)?,
-        Fared::Twice(_) => arrow.draw_twice(pen)?,
-        Fared::Lost | Fared::CutOff => arrow.draw_stopped(pen, true)?,
-        Fared::Held => arrow.draw_stopped(pen, false)?,
-        Fared::Released(_) => {
-            is_late = true;
-            arrow.draw_released(pen)?;
-        }
-    }
+    draw_fared(pen, &arrow, packet.fared)?;
+    let at = arrow.words_at(are_words_late(packet.fared));
     let words = words_beside(alloc, bundle)?;
-    pen.label(
-        words_look(packet.fared),
-        arrow.words_at(is_late),
-        Anchor::Middle,
-        words,
-    )?;
+    pen.label(words_look(packet.fared), at, Anchor::Middle, words)?;
     Ok(top.saturating_add(PACKET_ROW))
 }

@@ -1,39 +1,64 @@
 //! Shapes that are drawn one after the other, from the top down.
+ghost use Rattle.std.specs.Prelude.{◌≡◌, [], ◌∷◌, ◌++◌, OnOk};
+ghost use Rattle.run_picture.specs.Marks.{mark_of_badge, marks_of};
 
 use page_text::{Anchor, Badge, Label, Look, Point, Shape};
 use rep_lists::{Items, NoMemory};
+use std::alloc::Global;
+use std::marker::Model;
 
-/// The shapes so far.
+/// The shapes so far. Contracts see the marks of entries among them.
 #[derive(Drop)]
 pub struct Pen {
     shapes: Vec<Shape>,
 }
 
+impl Model for Pen {
+    ghost use Rattle.std.specs.Prelude.{List};
+    ghost use Rattle.run_picture.specs.Marks.{Mark, marks_of};
+
+    ghost Value = { List Mark };
+
+    ghost view = { λ p. marks_of p.shapes.items };
+}
+
 impl Pen {
-    /// Nothing is drawn.
-    pub fn new(shapes: Vec<Shape>) -> Pen {
-        Pen { shapes }
+    /// Nothing is drawn. It takes no memory.
+    pub fn new(alloc: Global) -> Pen
+        ensures { result ≡ [] }
+    {
+        Pen {
+            shapes: Vec::new(alloc),
+        }
     }
 
     /// What was drawn.
-    pub fn into_shapes(self) -> Vec<Shape> {
+    pub fn into_shapes(self) -> Vec<Shape>
+        ensures { marks_of result.items ≡ self }
+    {
         self.shapes
     }
 
     /// A straight line.
-    pub fn line(&mut self, look: Look, from: Point, to: Point) -> Result<(), NoMemory> {
+    #[tactic(auto, using(crate::proofs::Drawing::marks_on))]
+    pub fn line(&mut self, look: Look, from: Point, to: Point) -> Result<(), NoMemory>
+        ensures { OnOk result (self.new ≡ self.old) }
+    {
         self.shapes.push(Shape::Line { look, from, to })?;
         Ok(())
     }
 
     /// Words.
+    #[tactic(auto, using(crate::proofs::Drawing::marks_on))]
     pub fn label(
         &mut self,
         look: Look,
         at: Point,
         anchor: Anchor,
         words: Items<u8>,
-    ) -> Result<(), NoMemory> {
+    ) -> Result<(), NoMemory>
+        ensures { OnOk result (self.new ≡ self.old) }
+    {
         self.shapes.push(Shape::Label(Label {
             look,
             at,
@@ -44,13 +69,18 @@ impl Pen {
     }
 
     /// A badge.
-    pub fn badge(&mut self, badge: Badge) -> Result<(), NoMemory> {
+    #[tactic(auto, using(crate::proofs::Drawing::marks_on))]
+    pub fn badge(&mut self, badge: Badge) -> Result<(), NoMemory>
+        ensures { OnOk result (self.new ≡ self.old ++ mark_of_badge badge ∷ []) }
+    {
         self.shapes.push(Shape::Badge(badge))?;
         Ok(())
     }
 
     /// The head of an arrow, which points to the right or to the left.
-    pub fn head(&mut self, look: Look, tip: Point, to_right: bool) -> Result<(), NoMemory> {
+    pub fn head(&mut self, look: Look, tip: Point, to_right: bool) -> Result<(), NoMemory>
+        ensures { OnOk result (self.new ≡ self.old) }
+    {
         let x = if to_right {
             tip.x.saturating_sub(7)
         } else {
@@ -69,7 +99,9 @@ impl Pen {
     }
 
     /// A cross.
-    pub fn cross(&mut self, look: Look, at: Point) -> Result<(), NoMemory> {
+    pub fn cross(&mut self, look: Look, at: Point) -> Result<(), NoMemory>
+        ensures { OnOk result (self.new ≡ self.old) }
+    {
         let left = at.x.saturating_sub(4);
         let right = at.x.saturating_add(4);
         let above = at.y.saturating_sub(4);
@@ -87,7 +119,9 @@ impl Pen {
     }
 
     /// Two bars.
-    pub fn bars(&mut self, look: Look, at: Point) -> Result<(), NoMemory> {
+    pub fn bars(&mut self, look: Look, at: Point) -> Result<(), NoMemory>
+        ensures { OnOk result (self.new ≡ self.old) }
+    {
         let above = at.y.saturating_sub(5);
         let below = at.y.saturating_add(5);
         let right = at.x.saturating_add(4);

@@ -2,6 +2,7 @@
 
 use crate::chart::chart;
 use crate::ending::add_ending;
+use crate::folding::is_folded;
 use crate::heads::heads;
 use crate::key::key;
 use crate::layout::Layout;
@@ -44,7 +45,8 @@ pub fn picture(alloc: Global, title: &[u8], story: &Story) -> Result<Page, NoMem
     })?;
     parts.push(key(alloc)?)?;
     parts.push(heads(alloc, &layout, story.lanes())?)?;
-    parts.push(chart(alloc, &layout, story)?)?;
+    let folded = is_folded(story.lines());
+    parts.push(Part::Drawing(chart(alloc, &layout, story, folded)?))?;
     add_standing(alloc, story, &mut parts)?;
     add_marks(alloc, story, &mut parts)?;
     add_ending(alloc, story, &mut parts)?;

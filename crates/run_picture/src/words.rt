@@ -1,12 +1,17 @@
 //! The words of a picture.
+ghost use Rattle.std.specs.Prelude.{◌≡◌, IfOk};
+ghost use Rattle.run_picture.specs.Cells.{value_words};
 
+use itoa::Buffer;
 use rep_lists::{Items, NoMemory};
 use rep_values::{ApplyError, Name, SiteName, Value};
 use report_text::{Lines, MOST_LINE, error_line};
 use std::alloc::Global;
 
 /// Bytes as words of their own.
-pub fn words_of(alloc: Global, bytes: &[u8]) -> Result<Items<u8>, NoMemory> {
+pub fn words_of(alloc: Global, bytes: &[u8]) -> Result<Items<u8>, NoMemory>
+    ensures { IfOk result (λ words. words ≡ bytes.now) }
+{
     Ok(Items::from_vec(Vec::from_slice(alloc, bytes)?))
 }
 
@@ -55,9 +60,14 @@ pub fn error_words(
 }
 
 /// A value as a cell shows it: a number in decimal, or a text as it is.
-pub fn value_words(alloc: Global, value: &Value) -> Result<Items<u8>, NoMemory> {
+pub fn value_words(alloc: Global, value: &Value) -> Result<Items<u8>, NoMemory>
+    ensures { IfOk result (λ words. words ≡ value_words value.now) }
+{
     match value {
-        Value::Num(number) => Ok(text_of(format!(in alloc; "{number}")?)),
+        Value::Num(number) => {
+            let mut buffer = Buffer::new();
+            words_of(alloc, buffer.format(*number).as_bytes())
+        }
         Value::Words(text) => words_of(alloc, text.bytes()),
     }
 }

@@ -2,3 +2,4 @@
 mod Ranges
 mod Spans
 pub mod Stories
+mod Scripts

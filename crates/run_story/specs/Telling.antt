@@ -1,6 +1,7 @@
 -- What was told of the journals of a run's sites.
-use Rattle.std.specs.Prelude.{◌≡◌, ℕ, ◌+◌, ◌==◌, ◌&&◌, ◌≤◌, ◌-◌, nat_lt, max, is_some, Bool, true, false, cond, List, [], ◌∷◌, ◌++◌, length, reverse, slice_get, flat_map, Option, Some, None}
+use Rattle.std.specs.Prelude.{◌≡◌, ℕ, ◌+◌, ◌==◌, ◌&&◌, ◌≤◌, ◌-◌, nat_lt, max, is_some, Bool, true, false, cond, List, [], ◌∷◌, ◌++◌, length, map, reverse, slice_get, flat_map, Option, Some, None}
 use Rattle.std.specs.List.{filter_map, range_with_len, AllByRecursion}
+use Rattle.rep_lines.specs.Lines.{lines_after}
 use Rattle.rep_values.specs.declared.name.SiteName.{SiteName}
 use Rattle.site_state.specs.declared.entry.Entry.{Entry}
 use Rattle.site_state.specs.State.{SiteState}
@@ -10,6 +11,8 @@ use Rattle.world_run.specs.Lent.{LentWorld, site_here}
 use Rattle.run_story.specs.declared.happening.Traffic.{Traffic}
 use Rattle.run_story.specs.declared.happening.Traffic.TheVariants.{Rows, Calls}
 use Rattle.run_story.specs.declared.happening.Span.{Span}
+use Rattle.run_story.specs.declared.happening.Outcome.{Outcome}
+use Rattle.run_story.specs.declared.happening.Outcome.TheVariants.{PassedOver, Declared, Shown, Done, Refused, Malformed}
 use Rattle.run_story.specs.declared.happening.Line.{Line}
 use Rattle.run_story.specs.declared.lane.Lane.{Lane}
 
@@ -18,6 +21,11 @@ pub record StoryView : Type 0 where
   pub world : LentWorld
   pub lanes : List Lane
   pub lines : List Line
+
+-- what a contract sees of a world that is followed: the world, and its sites
+pub record Followed : Type 0 where
+  pub world : LentWorld
+  pub lanes : List Lane
 
 -- ---- journals
 
@@ -125,3 +133,33 @@ pub record TellsJournals (story : StoryView) : Type 0 where
 pub record IsTold (story : StoryView) : Type 0 where
   pub counts : Counts story.lanes (spans_of story.lines)
   pub reach : AllReach story.world story.lanes
+
+-- the entries that a line tells keep this, whatever was told before
+pub record KeepsTold (old new : Followed) (entries : List Span) : Type 0 where
+  pub counts : (spans : List Span) → Counts old.lanes spans → Counts new.lanes (spans ++ entries)
+  pub reach : AllReach old.world old.lanes → AllReach new.world new.lanes
+
+-- ---- lines
+
+-- a line that breaks a rule ends the run
+abbrev pub ends_run : Outcome → Bool
+ends_run PassedOver = false
+ends_run Declared = false
+ends_run Shown = false
+ends_run Done = false
+ends_run (Refused refused) = false
+ends_run (Malformed rule) = true
+
+abbrev pub ends_run_in : Option Line → Bool
+ends_run_in None = false
+ends_run_in (Some line) = ends_run line.outcome
+
+-- the words of lines
+abbrev pub words_of : List Line → List (List ℕ)
+words_of lines = map (λ line. line.words) lines
+
+-- they are the lines of a script, up to one that ends the run, or all
+pub record AreLinesOf (script : List ℕ) (lines : List Line) : Type 0 where
+  pub rest : List (List ℕ)
+  pub all : words_of lines ++ rest ≡ lines_after [] script
+  pub whole : ends_run_in (slice_get lines (length lines - 1)) ≡ false → rest ≡ []

@@ -1,15 +1,16 @@
 //! What is told of a line that was done.
 
-use crate::following::Following;
 use crate::happening::{Event, Packet, Traffic};
-use crate::looking::{Before, Renewal};
+use crate::looking::{Before, Renewal, written_at};
 use crate::outlook::{Outlook, Push};
 use crate::refreshing::{all_rows, snapshot_rows};
+use crate::roads::Roads;
 use crate::station::Station;
 use crate::telling::{tell_answer, tell_sent};
-use rep_lists::NoMemory;
+use live_laws::LiveTurn;
+use rep_lists::{Items, NoMemory};
 use rep_values::SiteName;
-use script_parse::{Command, ProcLine};
+use script_parse::Command;
 use std::alloc::Global;
 use world_run::World;
 
@@ -19,6 +20,7 @@ pub struct Told {
     pub sent: Vec<Packet>,
     pub answered: Vec<Packet>,
     pub event: Option<Event>,
+    pub turns: Items<LiveTurn>,
 }
 
 impl Told {
@@ -28,6 +30,7 @@ impl Told {
             sent: Vec::new(alloc),
             answered: Vec::new(alloc),
             event: None,
+            turns: Items::new(alloc),
         }
     }
 }
@@ -46,21 +49,50 @@ fn low_of(world: &World, push: &Push) -> u64 {
     }
 }
 
-/// Tells a push that was done.
-fn tell_push(
+/// Tells what came to the receiver of a push.
+pub fn tell_coming(
+    alloc: Global,
+    roads: &mut Roads,
+    outlook: &mut Outlook,
+    told: &mut Told,
+) -> Result<(), NoMemory> {
+    match outlook.push.traffic {
+        Traffic::Rows => tell_sent(alloc, &mut roads.rows, outlook, &mut told.sent),
+        Traffic::Calls => tell_sent(alloc, &mut roads.calls, outlook, &mut told.sent),
+    }
+}
+
+/// Tells what went back behind a push.
+pub fn tell_going_back(
     alloc: Global,
     world: &World,
-    following: &mut Following,
+    roads: &mut Roads,
     outlook: &mut Outlook,
     told: &mut Told,
 ) -> Result<(), NoMemory> {
     let low = low_of(world, &outlook.push);
-    let ways = match outlook.push.traffic {
-        Traffic::Rows => &mut following.rows,
-        Traffic::Calls => &mut following.calls,
-    };
-    tell_sent(alloc, ways, outlook, &mut told.sent)?;
-    tell_answer(alloc, ways, &following.links, outlook, low, &mut told.answered)
+    let is_up = roads.links.is_up(&outlook.push.to, &outlook.push.from);
+    match outlook.push.traffic {
+        Traffic::Rows => {
+            tell_answer(alloc, &mut roads.rows, is_up, outlook, low, &mut told.answered)
+        }
+        Traffic::Calls => {
+            tell_answer(alloc, &mut roads.calls, is_up, outlook, low, &mut told.answered)
+        }
+    }
+}
+
+/// Tells a push that was done.
+fn tell_push(
+    alloc: Global,
+    world: &World,
+    roads: &mut Roads,
+    outlook: Outlook,
+    told: &mut Told,
+) -> Result<(), NoMemory> {
+    let mut outlook = outlook;
+    tell_coming(alloc, roads, &mut outlook, told)?;
+    tell_going_back(alloc, world, roads, &mut outlook, told)
 }
 
 /// What is told of a refresh that was done.
@@ -90,56 +122,50 @@ fn joined(world: &World, site: &SiteName, source: &SiteName) -> Event {
     }
 }
 
-/// Follows a line about procedures that was done.
-fn follow_procedures(
-    alloc: Global,
-    following: &mut Following,
-    line: &ProcLine,
-) -> Result<(), NoMemory> {
-    match line {
-        ProcLine::Calls { site } => {
-            following.block = Some(*site);
-            Ok(())
-        }
-        ProcLine::Fates { from, to, fates } => {
-            following.add_fates(alloc, Traffic::Calls, from, to, fates.as_slice())
-        }
-        _ => Ok(()),
+/// What is told of a block that was closed: something only where no entry came of it.
+fn closed(world: &World, site: &SiteName, written: u64) -> Option<Event> {
+    if written_at(world, site) == written {
+        Some(Event::Nothing { site: *site })
+    } else {
+        None
     }
 }
 
-/// Follows a line that was done, and tells what it did, beside what came to journals.
+/// What is told of a command that was done.
+fn event_of(world: &World, command: &Command) -> Option<Event> {
+    match command {
+        Command::Link { from, to, link } => Some(Event::Linked {
+            from: *from,
+            to: *to,
+            link: *link,
+        }),
+        Command::Join { site, source } => Some(joined(world, site, source)),
+        _ => None,
+    }
+}
+
+/// What is told of a refresh, if the command is one.
+fn renewed(world: &World, command: &Command, renewal: &Renewal) -> Option<Event> {
+    match command {
+        Command::Refresh { site, .. } => Some(refreshed(world, site, renewal)),
+        _ => None,
+    }
+}
+
+/// Tells what a line did, beside what came to journals.
 pub fn tell(
     alloc: Global,
     world: &World,
-    following: &mut Following,
+    roads: &mut Roads,
     command: &Command,
     before: Before,
     told: &mut Told,
 ) -> Result<(), NoMemory> {
-    match (command, before) {
-        (_, Before::Push(mut outlook)) => tell_push(alloc, world, following, &mut outlook, told)?,
-        (Command::Refresh { site, .. }, Before::Refresh(renewal)) => {
-            told.event = Some(refreshed(world, site, &renewal));
-        }
-        (Command::Declare(declaration), _) => following.declare(declaration)?,
-        (Command::Txn { site }, _) => following.block = Some(*site),
-        (Command::Abandon, _) => following.block = None,
-        (Command::Fates { from, to, fates }, _) => {
-            following.add_fates(alloc, Traffic::Rows, from, to, fates.as_slice())?;
-        }
-        (Command::ClearFates { from, to }, _) => following.clear_fates(alloc, from, to)?,
-        (Command::Link { from, to, link }, _) => {
-            following.links.set(from, to, *link)?;
-            told.event = Some(Event::Linked {
-                from: *from,
-                to: *to,
-                link: *link,
-            });
-        }
-        (Command::Join { site, source }, _) => told.event = Some(joined(world, site, source)),
-        (Command::Procedures(line), _) => follow_procedures(alloc, following, line)?,
-        _ => {}
+    match before {
+        Before::Push(outlook) => tell_push(alloc, world, roads, outlook, told)?,
+        Before::Refresh(renewal) => told.event = renewed(world, command, &renewal),
+        Before::Block { site, written } => told.event = closed(world, &site, written),
+        Before::Nothing => told.event = event_of(world, command),
     }
     Ok(())
 }

@@ -1,4 +1,4 @@
-//! The sites of a script and the ways between them, as far as the script is followed.
+//! The sites of a script, as far as the script is followed, and what was told of their journals.
 ghost use Rattle.std.specs.Prelude.{◌≡◌, [], ◌++◌, map, length, is_some, IfOk, OnOk};
 ghost use Rattle.world_run.specs.Lent.{site_here};
 ghost use Rattle.run_story.specs.declared.happening.Traffic.TheVariants.{Rows, Calls};
@@ -6,24 +6,11 @@ ghost use Rattle.run_story.specs.Telling.{journal_of, new_span, since_at, lane_a
 
 use crate::happening::{Span, Traffic};
 use crate::lane::{Lane, LaneKind};
-use crate::ways::{Links, Ways};
-use net_plan::Fate;
 use rep_declare::Declare;
 use rep_lists::NoMemory;
 use rep_values::SiteName;
 use std::alloc::Global;
 use world_run::World;
-
-/// The sites of a script and the ways between them.
-#[derive(Drop)]
-pub struct Following {
-    pub lanes: Vec<Lane>,
-    pub rows: Ways,
-    pub calls: Ways,
-    pub links: Links,
-    /// The site of the open block.
-    pub block: Option<SiteName>,
-}
 
 /// Tells the entries of a journal that weren't told yet.
 fn tell_new(
@@ -47,7 +34,7 @@ fn tell_new(
 }
 
 /// How many entries a site's journal has, 0 where the site isn't there.
-fn rows_length(world: &World, site: &SiteName) -> u64
+pub fn rows_length(world: &World, site: &SiteName) -> u64
     ensures { result ≡ length (journal_of Rows site.now world.now) }
 {
     match world.site(site) {
@@ -57,7 +44,7 @@ fn rows_length(world: &World, site: &SiteName) -> u64
 }
 
 /// How many entries a site's journal of calls has, 0 where it has none.
-fn calls_length(world: &World, site: &SiteName) -> u64
+pub fn calls_length(world: &World, site: &SiteName) -> u64
     ensures { result ≡ length (journal_of Calls site.now world.now) }
 {
     match world.proc_site(site) {
@@ -105,18 +92,19 @@ fn look_at(
     tell_new(entries, place, Traffic::Calls, lane.told_calls, calls)
 }
 
-/// Tells what came to the journals of all sites since they were looked at.
-fn tell_all(world: &World, lanes: &[Lane], entries: &mut Vec<Span>) -> Result<(), NoMemory>
-    ensures { OnOk result (entries.new.items ≡ entries.old.items ++ spans_from world.now 0 lanes.now) }
+/// What came to the journals of all sites since they were looked at.
+pub fn entries_of(alloc: Global, world: &World, lanes: &[Lane]) -> Result<Vec<Span>, NoMemory>
+    ensures { IfOk result (λ entries. entries.items ≡ spans_from world.now 0 lanes.now) }
 {
+    let mut entries = Vec::new(alloc);
     for place in 0..lanes.len() {
-        look_at(world, place, &lanes[place], entries)?;
+        look_at(world, place, &lanes[place], &mut entries)?;
     }
-    Ok(())
+    Ok(entries)
 }
 
 /// The lanes behind a line of this number, with what is told there.
-fn lanes_at(
+pub fn lanes_at(
     alloc: Global,
     world: &World,
     number: u32,
@@ -131,96 +119,22 @@ fn lanes_at(
     Ok(after)
 }
 
-/// Adds fates to a way.
-fn add_fates(
-    ways: &mut Ways,
-    alloc: Global,
-    from: &SiteName,
-    to: &SiteName,
-    fates: &[Fate],
-) -> Result<(), NoMemory> {
-    let mut way = ways.take(alloc, from, to);
-    way.add_fates(fates)?;
-    ways.put(way)
+/// A site is declared.
+#[tactic(auto, using(crate::proofs::Stories::adds_none, crate::proofs::Stories::adds_one))]
+pub fn declare(lanes: &mut Vec<Lane>, declaration: &Declare) -> Result<(), NoMemory>
+    ensures { OnOk result (AddsLanes lanes.old.items lanes.new.items) }
+{
+    let lane = match declaration {
+        Declare::Site { name } => Lane::of(*name, LaneKind::Master),
+        Declare::LateSite { name } => Lane::of(*name, LaneKind::Late),
+        Declare::SnapSite { name, master } => Lane::of(*name, LaneKind::Snapshot(*master)),
+        _ => return Ok(()),
+    };
+    lanes.push(lane)?;
+    Ok(())
 }
 
-impl Following {
-    /// Nothing is declared. It takes no memory.
-    pub fn new(alloc: Global) -> Following
-        ensures { result.lanes.items ≡ [] }
-    {
-        Following {
-            lanes: Vec::new(alloc),
-            rows: Ways::new(alloc),
-            calls: Ways::new(alloc),
-            links: Links::new(alloc),
-            block: None,
-        }
-    }
-
-    /// The lane of a site.
-    pub fn lane_of(&self, site: &SiteName) -> Option<&Lane> {
-        self.lanes.iter().find(|lane| lane.site.is_same(site))
-    }
-
-    /// A site is declared.
-    pub fn declare(&mut self, declaration: &Declare) -> Result<(), NoMemory>
-        ensures { OnOk result (AddsLanes self.old.lanes.items self.new.lanes.items) }
-    {
-        let lane = match declaration {
-            Declare::Site { name } => Lane::of(*name, LaneKind::Master),
-            Declare::LateSite { name } => Lane::of(*name, LaneKind::Late),
-            Declare::SnapSite { name, master } => Lane::of(*name, LaneKind::Snapshot(*master)),
-            _ => return Ok(()),
-        };
-        self.lanes.push(lane)?;
-        Ok(())
-    }
-
-    /// Tells what came to the journals since they were looked at, behind a line of this number.
-    pub fn look(
-        &mut self,
-        alloc: Global,
-        world: &World,
-        number: u32,
-        entries: &mut Vec<Span>,
-    ) -> Result<(), NoMemory>
-        ensures told { OnOk result (entries.new.items ≡ entries.old.items ++ spans_from world.now 0 self.old.lanes.items) }
-        ensures lanes { OnOk result (self.new.lanes.items ≡ map (lane_at world.now number) self.old.lanes.items) }
-    {
-        tell_all(world, &self.lanes, entries)?;
-        self.lanes = lanes_at(alloc, world, number, &self.lanes)?;
-        Ok(())
-    }
-
-    /// Adds fates.
-    pub fn add_fates(
-        &mut self,
-        alloc: Global,
-        traffic: Traffic,
-        from: &SiteName,
-        to: &SiteName,
-        fates: &[Fate],
-    ) -> Result<(), NoMemory>
-        ensures { self.new.lanes ≡ self.old.lanes }
-    {
-        match traffic {
-            Traffic::Rows => add_fates(&mut self.rows, alloc, from, to, fates),
-            Traffic::Calls => add_fates(&mut self.calls, alloc, from, to, fates),
-        }
-    }
-
-    /// Takes fates back.
-    pub fn clear_fates(
-        &mut self,
-        alloc: Global,
-        from: &SiteName,
-        to: &SiteName,
-    ) -> Result<(), NoMemory>
-        ensures { self.new.lanes ≡ self.old.lanes }
-    {
-        let mut way = self.rows.take(alloc, from, to);
-        way.clear_fates();
-        self.rows.put(way)
-    }
+/// The lane of a site.
+pub fn lane_of<'a>(lanes: &'a [Lane], site: &SiteName) -> Option<&'a Lane> {
+    lanes.iter().find(|lane| lane.site.is_same(site))
 }

@@ -1,5 +1,6 @@
 //! What happens in a line of a script.
 
+use live_laws::LiveTurn;
 use rep_lists::Items;
 use rep_values::SiteName;
 use script_parse::Link;
@@ -59,6 +60,7 @@ pub struct Packet {
 /// entry at 0.
 #[derive(Clone, Copy, Debug, PartialEq, Eq)]
 pub struct Span {
+    /// The lane's place among those of the story.
     pub lane: usize,
     pub traffic: Traffic,
     pub first: u64,
@@ -108,7 +110,7 @@ pub enum Outcome {
 }
 
 /// A line of a script, what came of it, and what happened in it: packets went to the receiver of a push, entries came to journals, and
-/// packets went back; or something else happened.
+/// packets went back; or something else happened. The end of a live part has its turns too, in the order in which they were made.
 #[derive(Drop)]
 pub struct Line {
     pub words: Items<u8>,
@@ -117,6 +119,7 @@ pub struct Line {
     pub entries: Items<Span>,
     pub answered: Items<Packet>,
     pub event: Option<Event>,
+    pub turns: Items<LiveTurn>,
 }
 
 impl Line {
@@ -125,6 +128,7 @@ impl Line {
         self.sent.is_empty()
             && self.entries.is_empty()
             && self.answered.is_empty()
+            && self.turns.is_empty()
             && self.event.is_none()
     }
 }

@@ -3,12 +3,16 @@
 
 mod arrivals;
 mod events;
+mod follower;
 mod following;
 mod happening;
 mod lane;
+mod living;
 mod looking;
 mod outlook;
+mod part;
 mod refreshing;
+mod roads;
 mod station;
 mod story;
 mod telling;

@@ -1,10 +1,11 @@
 //! What is seen of a world before a line is run.
 
-use crate::following::Following;
+use crate::following::{calls_length, lane_of, rows_length};
 use crate::happening::Traffic;
-use crate::lane::LaneKind;
+use crate::lane::{Lane, LaneKind};
 use crate::outlook::{Outlook, Push, outlook};
 use crate::refreshing::keys_of_refresh;
+use crate::roads::Roads;
 use crate::station::Station;
 use crate::ways::Ways;
 use rep_lists::NoMemory;
@@ -26,6 +27,16 @@ pub enum Before {
     Nothing,
     Push(Outlook),
     Refresh(Renewal),
+    /// A block is to be closed at a site whose journals have so many entries.
+    Block {
+        site: SiteName,
+        written: u64,
+    },
+}
+
+/// How many entries both journals of a site have.
+pub fn written_at(world: &World, site: &SiteName) -> u64 {
+    rows_length(world, site).saturating_add(calls_length(world, site))
 }
 
 /// What there is to be seen before a push, where both sites are there.
@@ -45,15 +56,52 @@ fn before_push<S: Station>(
     }
 }
 
+/// What is seen before rows are pushed.
+pub fn before_rows(
+    alloc: Global,
+    world: &World,
+    roads: &Roads,
+    from: &SiteName,
+    to: &SiteName,
+    count: Option<u64>,
+) -> Result<Before, NoMemory> {
+    let push = Push {
+        traffic: Traffic::Rows,
+        from: *from,
+        to: *to,
+        count,
+    };
+    before_push(alloc, push, &roads.rows, world.site(from), world.site(to))
+}
+
+/// What is seen before calls are pushed.
+fn before_calls(
+    alloc: Global,
+    world: &World,
+    roads: &Roads,
+    from: &SiteName,
+    to: &SiteName,
+) -> Result<Before, NoMemory> {
+    let push = Push {
+        traffic: Traffic::Calls,
+        from: *from,
+        to: *to,
+        count: None,
+    };
+    let sender = world.proc_site(from);
+    let receiver = world.proc_site(to);
+    before_push(alloc, push, &roads.calls, sender, receiver)
+}
+
 /// What is seen before a refresh.
 fn before_refresh(
     alloc: Global,
     world: &World,
-    following: &Following,
+    lanes: &[Lane],
     name: &SiteName,
     how: Refresh,
 ) -> Result<Before, NoMemory> {
-    let Some(lane) = following.lane_of(name) else {
+    let Some(lane) = lane_of(lanes, name) else {
         return Ok(Before::Nothing);
     };
     let LaneKind::Snapshot(master) = lane.kind else {
@@ -68,35 +116,34 @@ fn before_refresh(
     }
 }
 
+/// What is seen before a block is closed.
+fn before_end(world: &World, roads: &Roads) -> Before {
+    match roads.block {
+        Some(site) => Before::Block {
+            site,
+            written: written_at(world, &site),
+        },
+        None => Before::Nothing,
+    }
+}
+
 /// What is seen before a line is run.
 pub fn before(
     alloc: Global,
     world: &World,
-    following: &Following,
+    lanes: &[Lane],
+    roads: &Roads,
     command: &Command,
 ) -> Result<Before, NoMemory> {
     match command {
-        Command::Push { from, to, count } => {
-            let push = Push {
-                traffic: Traffic::Rows,
-                from: *from,
-                to: *to,
-                count: *count,
-            };
-            before_push(alloc, push, &following.rows, world.site(from), world.site(to))
-        }
+        Command::Push { from, to, count } => before_rows(alloc, world, roads, from, to, *count),
         Command::Procedures(ProcLine::Push { from, to }) => {
-            let push = Push {
-                traffic: Traffic::Calls,
-                from: *from,
-                to: *to,
-                count: None,
-            };
-            let sender = world.proc_site(from);
-            let receiver = world.proc_site(to);
-            before_push(alloc, push, &following.calls, sender, receiver)
+            before_calls(alloc, world, roads, from, to)
         }
-        Command::Refresh { site, how } => before_refresh(alloc, world, following, site, *how),
+        Command::Refresh { site, how } => before_refresh(alloc, world, lanes, site, *how),
+        Command::Commit | Command::Procedures(ProcLine::Send { .. }) => {
+            Ok(before_end(world, roads))
+        }
         _ => Ok(Before::Nothing),
     }
 }

@@ -1,5 +1,6 @@
 //! What there is to be told of refreshes and joins.
 
+use environment::young_step;
 use page_tables::PageTables;
 use rep_lists::NoMemory;
 use rep_schema::RowStore;
@@ -8,39 +9,12 @@ use site_core::Site;
 use site_notes::{Notes, Watched};
 use std::alloc::Global;
 
-/// Whether the log of a table was purged above a mark.
-fn is_young(logs: &Notes, table: u32, mark: u64) -> bool {
-    match logs.log(table) {
-        Some(log) => mark < log.purged(),
-        None => false,
-    }
-}
-
-/// Whether the log of a snapshot's table, or that of its parents, doesn't reach back to its last refresh.
-fn has_young_log(logs: &Notes, snapshot: &Watched) -> bool {
-    let mark = snapshot.mark();
-    if is_young(logs, snapshot.table(), mark) {
-        return true;
-    }
-    match snapshot.parent() {
-        Some(parent) => is_young(logs, parent.table, mark),
-        None => false,
-    }
-}
-
 /// Whether a refresh goes by the logs of the master.
 fn goes_by_logs(how: Refresh, logs: &Notes, snapshots: &Notes) -> bool {
     match how {
         Refresh::Fast => true,
         Refresh::Complete => false,
-        Refresh::Force => {
-            for place in 0..snapshots.snapshot_count() {
-                if has_young_log(logs, snapshots.snapshot_at(place)) {
-                    return false;
-                }
-            }
-            true
-        }
+        Refresh::Force => young_step(logs, snapshots).is_none(),
     }
 }
 
@@ -100,8 +74,10 @@ pub fn snapshot_rows(site: &Site<PageTables>) -> u64 {
 pub fn all_rows(site: &Site<PageTables>) -> u64 {
     let store = site.store();
     let mut sum: u64 = 0;
-    for table in 0..store.schema().tables.len() {
-        sum = sum.saturating_add(store.count(table as u32));
+    for place in 0..store.schema().tables.len() {
+        if let Ok(table) = u32::try_from(place) {
+            sum = sum.saturating_add(store.count(table));
+        }
     }
     sum
 }

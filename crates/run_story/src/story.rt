@@ -1,194 +1,170 @@
-//! A run that is followed line by line.
+//! A script that is followed line by line.
+ghost use Rattle.std.specs.Prelude.{◌≡◌, ◌-◌, [], ◌∷◌, ◌++◌, length, slice_get, IfOk};
+ghost use Rattle.run_story.specs.Telling.{words_of, ends_run, ends_run_in, TellsJournals, AreLinesOf};
 
-use crate::events::{Told, tell};
-use crate::following::Following;
-use crate::happening::{Event, Line, Outcome, Span};
+use crate::events::Told;
+use crate::follower::{Answer, Follower};
+use crate::happening::{Line, Outcome};
 use crate::lane::Lane;
-use crate::looking::before;
 use rep_lists::{Items, NoMemory};
-use rep_values::Refusal;
-use script_lex::LineStop;
-use script_parse::{Command, ProcLine, parse_line};
 use std::alloc::Global;
+use std::marker::Model;
+use std::sync::Wait;
+use std::thread::Threads;
 use world_run::World;
 
-/// The most lines of a script.
-const MOST_LINES: usize = 200_000;
-
-/// A script that is followed: its world, its sites, and what came of each of its lines.
+/// A script that was followed: its world, its sites, and what came of each of its lines.
 #[derive(Drop)]
 pub struct Story {
-    world: World,
-    following: Following,
+    follower: Follower,
     lines: Vec<Line>,
 }
 
-/// What came of a command that was done.
-fn done(command: &Command) -> Outcome {
-    match command {
-        Command::Declare(_) | Command::Snapshot { .. } | Command::Row { .. } => Outcome::Declared,
-        Command::Procedures(ProcLine::Table { .. } | ProcLine::Procedure { .. }) => {
-            Outcome::Declared
-        }
-        Command::Show { .. } => Outcome::Shown,
-        _ => Outcome::Done,
-    }
+impl Model for Story {
+    ghost use Rattle.std.specs.Prelude.{◌≡◌, None};
+    ghost use Rattle.run_story.specs.Telling.{StoryView, IsTold};
+
+    ghost Value = { StoryView };
+
+    ghost view = { λ s. record { world = s.follower.world; lanes = s.follower.lanes; lines = s.lines.items } };
+
+    ghost invariant = { λ s. IsTold (record { world = s.follower.world; lanes = s.follower.lanes; lines = s.lines.items }) × (s.follower.world.lent ≡ None) };
 }
 
-/// Whether a command closes the open block, refused or not.
-fn closes_block(command: &Command) -> bool {
-    match command {
-        Command::Commit | Command::Procedures(ProcLine::Send { .. }) => true,
-        _ => false,
+/// A line with what came of it.
+fn line_of(
+    alloc: Global,
+    words: &[u8],
+    answer: Answer,
+    told: Told,
+) -> Result<Line, NoMemory>
+    ensures words { IfOk result (λ line. line.words ≡ words.now) }
+    ensures entries { IfOk result (λ line. line.entries ≡ answer.entries.items) }
+{
+    let Told {
+        sent,
+        answered,
+        event,
+        turns,
+    } = told;
+    let Answer { outcome, entries } = answer;
+    Ok(Line {
+        words: Items::from_vec(Vec::from_slice(alloc, words)?),
+        outcome,
+        sent: Items::from_vec(sent),
+        entries: Items::from_vec(entries),
+        answered: Items::from_vec(answered),
+        event,
+        turns,
+    })
+}
+
+/// Whether a line ends the run of which this came.
+fn ends_run(outcome: &Outcome) -> bool
+    ensures { result ≡ ends_run outcome.now }
+{
+    match outcome {
+        Outcome::Malformed(_) => true,
+        Outcome::PassedOver
+        | Outcome::Declared
+        | Outcome::Shown
+        | Outcome::Done
+        | Outcome::Refused(_) => false,
     }
 }
 
 impl Story {
     /// A script of which nothing was read.
-    pub fn make(alloc: Global) -> Result<Story, NoMemory> {
+    #[tactic(auto, using(crate::proofs::Stories::nothing_is_told))]
+    fn make(alloc: Global) -> Result<Story, NoMemory>
+        ensures { IfOk result (λ story. story.lines ≡ []) }
+    {
         Ok(Story {
-            world: World::make(alloc)?,
-            following: Following::new(alloc),
+            follower: Follower::make(alloc)?,
             lines: Vec::new(alloc),
         })
     }
 
-    /// The world behind the lines so far.
-    pub fn world(&self) -> &World {
-        &self.world
+    /// The world behind the lines.
+    #[tactic(auto, using(crate::proofs::Stories::told_stories_tell))]
+    pub fn world(&self) -> &World
+        ensures value { result.now ≡ self.now.world }
+        ensures tells { TellsJournals self.now }
+    {
+        self.follower.world()
     }
 
     /// The declared sites, in declared order.
-    pub fn lanes(&self) -> &[Lane] {
-        &self.following.lanes
+    pub fn lanes(&self) -> &[Lane]
+        ensures { result.now ≡ self.now.lanes }
+    {
+        self.follower.lanes()
     }
 
-    /// The lines so far.
-    pub fn lines(&self) -> &[Line] {
+    /// The lines of the script, up to the one that ended the run.
+    pub fn lines(&self) -> &[Line]
+        ensures { result.now ≡ self.now.lines }
+    {
         &self.lines
     }
 
-    /// Runs a command, and tells what came of it, beside what came to journals.
-    fn step(
-        &mut self,
+    /// Runs the next line of the script, and tells what came of it.
+    #[tactic(auto, using(crate::proofs::Stories::told_on))]
+    fn take<X: Threads + Wait + Sync>(
+        self,
+        rt: &X,
         alloc: Global,
-        number: u32,
-        command: &Command,
-        told: &mut Told,
-    ) -> Result<Outcome, NoMemory> {
-        let before = before(alloc, &self.world, &self.following, command)?;
-        match self.world.step(alloc, number, command) {
-            Ok(_) => {
-                tell(alloc, &self.world, &mut self.following, command, before, told)?;
-                Ok(done(command))
-            }
-            Err(refused) => {
-                if let Refusal::Memory = refused.refusal {
-                    return Err(NoMemory);
-                }
-                Ok(Outcome::Refused(refused))
-            }
-        }
-    }
-
-    /// Closes the open block behind a command that does. Where it was done and no entry came of it, that is told.
-    fn close_block(&mut self, command: &Command, outcome: &Outcome, has_entries: bool, told: &mut Told) {
-        if !closes_block(command) {
-            return;
-        }
-        if let (Outcome::Done, Some(site), false) = (outcome, self.following.block, has_entries) {
-            told.event = Some(Event::Nothing { site });
-        }
-        self.following.block = None;
-    }
-
-    /// Runs a command, and tells what came of it.
-    fn run(
-        &mut self,
-        alloc: Global,
-        number: u32,
-        command: &Command,
-        told: &mut Told,
-        entries: &mut Vec<Span>,
-    ) -> Result<Outcome, NoMemory> {
-        let outcome = self.step(alloc, number, command, told)?;
-        self.following.look(alloc, &self.world, number, entries)?;
-        self.close_block(command, &outcome, !entries.is_empty(), told);
-        Ok(outcome)
-    }
-
-    /// What came of a line.
-    fn outcome_of(
-        &mut self,
-        alloc: Global,
-        line: &[u8],
-        told: &mut Told,
-        entries: &mut Vec<Span>,
-    ) -> Result<Outcome, NoMemory> {
-        if self.lines.len() >= MOST_LINES {
-            return Ok(Outcome::Malformed(2));
-        }
-        let number = self.lines.len() as u32 + 1;
-        match parse_line(alloc, line) {
-            Ok(Command::Nothing) => Ok(Outcome::PassedOver),
-            Ok(command) => self.run(alloc, number, &command, told, entries),
-            Err(LineStop::Rule(rule)) => Ok(Outcome::Malformed(rule)),
-            Err(LineStop::Memory) => Err(NoMemory),
-        }
-    }
-
-    /// Runs the next line of the script, and tells what came of it. Where there is no memory, no further line may be run.
-    pub fn take(&mut self, alloc: Global, line: &[u8]) -> Result<(), NoMemory> {
+        words: &[u8],
+    ) -> Result<Story, NoMemory>
+        ensures { IfOk result (λ story. words_of story.lines ≡ words_of self.lines ++ words.now ∷ []) }
+    {
+        let Story { follower, lines } = self;
+        let mut follower = follower;
+        let mut lines = lines;
         let mut told = Told::new(alloc);
-        let mut entries = Vec::new(alloc);
-        let outcome = self.outcome_of(alloc, line, &mut told, &mut entries)?;
-        let words = Vec::from_slice(alloc, line)?;
-        let Told {
-            sent,
-            answered,
-            event,
-        } = told;
-        self.lines.push(Line {
-            words: Items::from_vec(words),
-            outcome,
-            sent: Items::from_vec(sent),
-            entries: Items::from_vec(entries),
-            answered: Items::from_vec(answered),
-            event,
-        })?;
-        Ok(())
+        let answer = follower.run_next(rt, alloc, lines.len(), words, &mut told)?;
+        lines.push(line_of(alloc, words, answer, told)?)?;
+        Ok(Story { follower, lines })
     }
 
     /// Whether the last line ended the run.
-    pub fn is_ended(&self) -> bool {
+    fn is_ended(&self) -> bool
+        ensures { result ≡ ends_run_in (slice_get self.now.lines (length self.now.lines - 1)) }
+    {
         match self.lines.last() {
-            Some(line) => match line.outcome {
-                Outcome::Malformed(_) => true,
-                _ => false,
-            },
+            Some(line) => ends_run(&line.outcome),
             None => false,
         }
     }
 }
 
-/// Follows a script from its first line to its last, or to the first that is malformed.
-pub fn story_of(alloc: Global, script: &[u8]) -> Result<Story, NoMemory> {
+/// Follows a script from its first line to its last, or to the first that is malformed. A live part is run by threads, in whatever
+/// order their turns come.
+#[tactic(auto, using(crate::proofs::Scripts::at_start, crate::proofs::Scripts::past_byte, crate::proofs::Scripts::past_end, crate::proofs::Scripts::stopped_early, crate::proofs::Scripts::read_whole, crate::proofs::Scripts::read_last))]
+pub fn story_of<X: Threads + Wait + Sync>(
+    rt: &X,
+    alloc: Global,
+    script: &[u8],
+) -> Result<Story, NoMemory>
+    ensures tells { IfOk result TellsJournals }
+    ensures lines { IfOk result (λ story. AreLinesOf script.now story.lines) }
+{
     let mut story = Story::make(alloc)?;
-    let mut rest = script;
-    while !rest.is_empty() {
-        let end = rest.iter().position(|byte| *byte == b'\n');
-        let line = match end {
-            Some(end) => &rest[..end],
-            None => rest,
-        };
-        rest = match end {
-            Some(end) => &rest[end + 1..],
-            None => &[],
-        };
-        story.take(alloc, line)?;
-        if story.is_ended() {
-            break;
+    let mut line = Vec::new(alloc);
+    for byte in script {
+        if *byte != b'\n' {
+            line.push(*byte)?;
+            continue;
         }
+        story = story.take(rt, alloc, &line)?;
+        if story.is_ended() {
+            return Ok(story);
+        }
+        line.clear();
     }
-    Ok(story)
+    if line.is_empty() {
+        Ok(story)
+    } else {
+        story.take(rt, alloc, &line)
+    }
 }

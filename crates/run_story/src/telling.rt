@@ -3,13 +3,14 @@
 use crate::arrivals::Arrivals;
 use crate::happening::{Cargo, Coming, Fared, Packet, Traffic};
 use crate::outlook::Outlook;
-use crate::ways::{Links, Way, Ways};
+use crate::ways::{Way, Ways};
 use net_plan::Fate;
 use rep_lists::NoMemory;
 use rep_values::SiteName;
 use std::alloc::Global;
 
 /// One direction of a push's packets, and what was told so far.
+#[derive(Drop)]
 struct Teller<'a> {
     traffic: Traffic,
     from: SiteName,
@@ -95,7 +96,7 @@ pub fn tell_sent(
 pub fn tell_answer(
     alloc: Global,
     ways: &mut Ways,
-    links: &Links,
+    is_up: bool,
     outlook: &mut Outlook,
     low: u64,
     told: &mut Vec<Packet>,
@@ -108,7 +109,7 @@ pub fn tell_answer(
         told,
     };
     let mark = Cargo::Mark(low);
-    if !links.is_up(&push.to, &push.from) {
+    if !is_up {
         return teller.tell(mark, Fared::CutOff);
     }
     let mut way = ways.take(alloc, &push.to, &push.from);

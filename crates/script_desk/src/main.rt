@@ -66,5 +66,5 @@ fn main(rt: HostRuntime) -> ExitCode {
     };
     let mut source = StdSource::make(rt.reader());
     let mut sink = StdSink::make(io::writer(&rt));
-    exit_code(run_desk(alloc, &words, &mut source, &mut sink))
+    exit_code(run_desk(&rt, alloc, &words, &mut source, &mut sink))
 }

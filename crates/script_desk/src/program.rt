@@ -9,36 +9,56 @@ use run_picture::picture;
 use run_story::{Outcome, Story, story_of};
 use script_drive::Status;
 use std::alloc::Global;
+use std::sync::Wait;
+use std::thread::Threads;
 
 /// The title of a picture.
 const TITLE: &[u8] = b"A run of replication";
 
+/// The status of a run whose last line came to this.
+fn status_at(outcome: &Outcome) -> Status {
+    match outcome {
+        Outcome::Malformed(_) => Status::Malformed,
+        Outcome::PassedOver
+        | Outcome::Declared
+        | Outcome::Shown
+        | Outcome::Done
+        | Outcome::Refused(_) => Status::Done,
+    }
+}
+
 /// How a story ended.
 fn status_of(story: &Story) -> Status {
     match story.lines().last() {
-        Some(line) => match line.outcome {
-            Outcome::Malformed(_) => Status::Malformed,
-            _ => Status::Done,
-        },
+        Some(line) => status_at(&line.outcome),
         None => Status::Done,
     }
 }
 
 /// The picture of a script as a page, and how its run ended.
-fn pictured(alloc: Global, script: &[u8]) -> Result<(Items<u8>, Status), NoMemory> {
-    let story = story_of(alloc, script)?;
+fn pictured<X: Threads + Wait + Sync>(
+    rt: &X,
+    alloc: Global,
+    script: &[u8],
+) -> Result<(Items<u8>, Status), NoMemory> {
+    let story = story_of(rt, alloc, script)?;
     let page = picture(alloc, TITLE, &story)?;
     let bytes = page_bytes(alloc, &page)?;
     Ok((bytes, status_of(&story)))
 }
 
 /// Draws a script's run, and writes the page.
-fn draw<S: Source, K: Sink>(alloc: Global, source: &mut S, sink: &mut K) -> Status {
+fn draw<X: Threads + Wait + Sync, S: Source, K: Sink>(
+    rt: &X,
+    alloc: Global,
+    source: &mut S,
+    sink: &mut K,
+) -> Status {
     let script = match read_whole(alloc, source) {
         Ok(script) => script,
         Err(status) => return status,
     };
-    let Ok((page, status)) = pictured(alloc, &script) else {
+    let Ok((page, status)) = pictured(rt, alloc, &script) else {
         return Status::Memory;
     };
     match offer(sink, page.as_slice()) {
@@ -47,9 +67,10 @@ fn draw<S: Source, K: Sink>(alloc: Global, source: &mut S, sink: &mut K) -> Stat
     }
 }
 
-/// What the program does with the words behind its name. For `picture` it reads the script of the source to its end, runs it, and
+/// What the program does with the words behind its name; a live part is run by threads of `rt`. For `picture` it reads the script of the source to its end, runs it, and
 /// writes a page on which its run is drawn. For all other words it answers `Usage`, and reads and writes nothing.
-pub fn run_desk<S: Source, K: Sink>(
+pub fn run_desk<X: Threads + Wait + Sync, S: Source, K: Sink>(
+    rt: &X,
     alloc: Global,
     words: &[&str],
     source: &mut S,
@@ -57,6 +78,6 @@ pub fn run_desk<S: Source, K: Sink>(
 ) -> Status {
     match asked_by(words) {
         None => Status::Usage,
-        Some(Asked::Picture) => draw(alloc, source, sink),
+        Some(Asked::Picture) => draw(rt, alloc, source, sink),
     }
 }
