@@ -1,5 +1,5 @@
 -- Which lines of a run are drawn.
-use Rattle.std.specs.Prelude.{◌≡◌, ◌≢◌, Bool, true, false, ◌||◌, ◌⊎◌, not, cond, List, [], ◌∷◌, Option, Some, None}
+use Rattle.std.specs.Prelude.{◌≡◌, ◌≢◌, Bool, true, false, ◌||◌, ◌⊎◌, not, cond, flat_map, List, [], ◌∷◌, Option, Some, None}
 use Rattle.std.specs.List.{list_all, list_any}
 use Rattle.live_laws.specs.declared.turn.LiveTurn.{LiveTurn}
 use Rattle.site_state.specs.declared.entry.Entry.{Entry}
@@ -12,10 +12,10 @@ use Rattle.run_story.specs.declared.happening.Event.{Event}
 use Rattle.run_story.specs.declared.happening.Event.TheVariants as event
 use Rattle.run_story.specs.declared.happening.Span.{Span}
 use Rattle.run_story.specs.declared.happening.Line.{Line}
-use Rattle.run_story.specs.Telling.{StoryView}
+use Rattle.run_story.specs.Telling.{StoryView, TellsJournals}
 use Rattle.run_picture.specs.declared.folding.Showing.{Showing}
 use Rattle.run_picture.specs.declared.folding.Showing.TheVariants as showing
-use Rattle.run_picture.specs.Marks.{Mark, entries_in, line_marks}
+use Rattle.run_picture.specs.Marks.{Mark, entries_in, line_marks, DrawsJournals}
 
 -- an entry tells of more than that a transaction was made or applied
 abbrev pub is_notable : Entry → Bool
@@ -69,3 +69,7 @@ abbrev pub IsShowing : StoryView → Bool → Line → Showing → Type 0
 IsShowing story folded line showing.Drawn = shown_marks story folded line ≡ line_marks story line
 IsShowing story folded line showing.Folded = shown_marks story folded line ≡ []
 IsShowing story folded line showing.Left = shown_marks story folded line ≡ []
+
+-- where no line is left out, each entry of each journal is drawn once, in order, in the mark of its kind
+abbrev pub WholeStoriesAreDrawn : Type 0
+WholeStoriesAreDrawn = (story : StoryView) (marks : List Mark) → TellsJournals story → marks ≡ flat_map (shown_marks story false) story.lines → DrawsJournals story marks

@@ -230,8 +230,12 @@ impl Rank {
     /// For badges at most so wide on a lane, from a height on.
     fn of(layout: &Layout, lane: usize, width: u32, count: u64, top: u32) -> Rank {
         let step = width.saturating_add(4);
-        let beside = (layout.room() / step.max(1)).clamp(1, 6).min(count.clamp(1, 6) as u32);
-        let left = layout.lane(lane).saturating_sub(step.saturating_mul(beside.max(1) - 1) / 2);
+        let beside = (layout.room() / step.max(1))
+            .clamp(1, 6)
+            .min(count.clamp(1, 6) as u32);
+        let left = layout
+            .lane(lane)
+            .saturating_sub(step.saturating_mul(beside.max(1) - 1) / 2);
         Rank {
             left,
             step,

@@ -123,7 +123,12 @@ fn draw_rows(
     };
     for place in 0..lines.len() {
         show_line(scene, pen, place, &lines[place], folded, &mut progress)?;
-        note_starts(scene.story.lanes(), place.saturating_add(1), progress.y, starts);
+        note_starts(
+            scene.story.lanes(),
+            place.saturating_add(1),
+            progress.y,
+            starts,
+        );
     }
     draw_left_out(scene, pen, &mut progress)?;
     Ok(progress.y.saturating_add(10))

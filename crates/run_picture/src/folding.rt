@@ -14,7 +14,8 @@ pub const MOST_EVENTS: usize = 300;
 fn is_event(line: &Line) -> bool {
     match line.outcome {
         Outcome::Refused(_) | Outcome::Malformed(_) => true,
-        Outcome::PassedOver | Outcome::Declared | Outcome::Shown | Outcome::Done => !line.is_still(),
+        Outcome::PassedOver | Outcome::Declared | Outcome::Shown | Outcome::Done =>
+            !line.is_still(),
     }
 }
 

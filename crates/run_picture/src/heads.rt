@@ -47,13 +47,7 @@ pub fn heads(alloc: Global, layout: &Layout, lanes: &[Lane]) -> Result<Part, NoM
 }
 
 /// Draws a lane.
-fn draw_lane(
-    pen: &mut Pen,
-    x: u32,
-    lane: &Lane,
-    start: u32,
-    bottom: u32,
-) -> Result<(), NoMemory>
+fn draw_lane(pen: &mut Pen, x: u32, lane: &Lane, start: u32, bottom: u32) -> Result<(), NoMemory>
     ensures { OnOk result (pen.new ≡ pen.old) }
 {
     let from = Point { x, y: 0 };

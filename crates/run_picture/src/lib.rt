@@ -7,6 +7,7 @@ mod ending;
 mod folding;
 mod heads;
 mod key;
+mod laws;
 mod layout;
 mod marks;
 mod packets;
@@ -17,4 +18,5 @@ mod standing;
 mod tables;
 mod words;
 
+pub use laws::whole_stories_are_drawn;
 pub use picture::picture;

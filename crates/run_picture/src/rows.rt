@@ -108,14 +108,7 @@ impl Scene<'_> {
     fn draw_span(&self, pen: &mut Pen, span: &Span, free: &mut Free) -> Result<(), NoMemory>
         ensures { OnOk result (pen.new ≡ pen.old ++ span_marks self.now.story.now span.now) }
     {
-        free.lanes = draw_entries(
-            self.alloc,
-            pen,
-            &self.layout,
-            self.story,
-            span,
-            free.lanes,
-        )?;
+        free.lanes = draw_entries(self.alloc, pen, &self.layout, self.story, span, free.lanes)?;
         self.put_errors(pen, span, free)
     }
 
@@ -162,8 +155,7 @@ impl Scene<'_> {
             Link::Down => (Look::Down, "down"),
         };
         let y = free.lanes.saturating_add(14);
-        pen
-            .line(look, Point { x: ends.from, y }, Point { x: ends.to, y })?;
+        pen.line(look, Point { x: ends.from, y }, Point { x: ends.to, y })?;
         let at = Point {
             x: ends.from / 2 + ends.to / 2,
             y: free.lanes.saturating_add(10),
@@ -234,7 +226,12 @@ impl Scene<'_> {
     }
 
     /// Draws packets in their order.
-    fn draw_packets(&self, pen: &mut Pen, packets: &[Packet], free: &mut Free) -> Result<(), NoMemory>
+    fn draw_packets(
+        &self,
+        pen: &mut Pen,
+        packets: &[Packet],
+        free: &mut Free,
+    ) -> Result<(), NoMemory>
         ensures { OnOk result (pen.new ≡ pen.old) }
     {
         let mut open: Option<Bundle> = None;
@@ -264,7 +261,9 @@ impl Scene<'_> {
                 ..
             } => Ok(format!(in self.alloc; "turn: {origin} {position} done")?),
             LiveTurn::Applied {
-                origin, position, ..
+                origin,
+                position,
+                ..
             } => Ok(format!(in self.alloc; "turn: {origin} {position} in error")?),
             LiveTurn::Committed {
                 session,
@@ -278,24 +277,23 @@ impl Scene<'_> {
     fn reply_words(&self, session: u32, block: u32, reply: &Reply) -> Result<String, NoMemory> {
         match reply {
             Reply::Commit(number) => {
-                Ok(format!(in self.alloc; "turn: session {session} block {block}: commit {number}")?)
+                Ok(format!(in self.alloc;
+                    "turn: session {session} block {block}: commit {number}"
+                )?)
             }
             Reply::Nothing => {
-                Ok(format!(in self.alloc; "turn: session {session} block {block}: nothing changed")?)
+                Ok(format!(in self.alloc;
+                    "turn: session {session} block {block}: nothing changed"
+                )?)
             }
-            Reply::Refused { line, refusal } => Ok(
-                format!(in self.alloc; "turn: session {session} block {block}: line {line} refused: {refusal}")?,
-            ),
+            Reply::Refused { line, refusal } => Ok(format!(in self.alloc;
+                "turn: session {session} block {block}: line {line} refused: {refusal}"
+            )?),
         }
     }
 
     /// Tells the turns of a live part beside the lanes, in their order.
-    fn put_turns(
-        &self,
-        pen: &mut Pen,
-        turns: &[LiveTurn],
-        free: &mut Free,
-    ) -> Result<(), NoMemory>
+    fn put_turns(&self, pen: &mut Pen, turns: &[LiveTurn], free: &mut Free) -> Result<(), NoMemory>
         ensures { OnOk result (pen.new ≡ pen.old) }
     {
         for turn in turns {
@@ -351,7 +349,13 @@ impl Scene<'_> {
     }
 
     /// Draws a line of the script below a height. It gives the height below it.
-    pub fn draw_line(&self, pen: &mut Pen, number: usize, line: &Line, top: u32) -> Result<u32, NoMemory>
+    pub fn draw_line(
+        &self,
+        pen: &mut Pen,
+        number: usize,
+        line: &Line,
+        top: u32,
+    ) -> Result<u32, NoMemory>
         ensures { OnOk result (pen.new ≡ pen.old ++ line_marks self.now.story.now line.now) }
     {
         let look = match line.outcome {

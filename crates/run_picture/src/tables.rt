@@ -62,13 +62,7 @@ fn all_show(masters: &[&PageTables], table: u32, key: &Key, column: usize, value
 
 /// How a cell looks: marked exactly where a master shows another value under the row's key, or no row. A row without a key, which
 /// no table has, is marked.
-fn look_of(
-    masters: &[&PageTables],
-    table: u32,
-    key: &[Value],
-    column: usize,
-    value: &Value,
-) -> Look
+fn look_of(masters: &[&PageTables], table: u32, key: &[Value], column: usize, value: &Value) -> Look
     ensures { result ≡ look_of_cell (map (λ master. master.now) masters.now) table key.now column value.now }
 {
     let Some(key) = Key::of(key) else {

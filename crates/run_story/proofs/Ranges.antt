@@ -25,11 +25,13 @@ filter_map-slice_get {X} xs (suc n) k within = go (slice_get xs k) refl
   where
     rest : filter_map (slice_get xs) (range_with_len (k + 1) n) ≡ drop (k + 1) xs
     rest = filter_map-slice_get xs n (k + 1) (omega arith)
+
     go : (o : Option X) → slice_get xs k ≡ o → filter_map (slice_get xs) (k ∷ range_with_len (k + 1) n) ≡ drop k xs
     go None is = rw is (rest ∙ ends)
       where
         past : length xs ≤ k
         past = beyond xs k is
+
         ends : drop (k + 1) xs ≡ drop k xs
         ends = drop_all (k + 1) xs (omega (arith, past)) ∙ sym (drop_all k xs past)
     go (Some x) is = rw is (ap (λ ys. x ∷ ys) rest ∙ sym (drop_from_found xs k x is))

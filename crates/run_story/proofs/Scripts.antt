@@ -30,8 +30,10 @@ past_byte script words front rest bytes b at next other =
 pub past_end : (script : List ℕ) (words : List (List ℕ)) (front rest bytes : List ℕ) (b : ℕ) → IsAtByte script words front rest → rest ≡ b ∷ bytes → b ≡ 10
     → IsAtByte script (words ++ front ∷ []) [] bytes
 past_end script words front rest bytes b at next ends =
-    record { all = append_assoc words (front ∷ []) (lines_after [] bytes)
-        ∙ ap (λ (ls : List (List ℕ)). words ++ ls) (sym (lines_after-end front bytes b ends) ∙ ap (λ (bs : List ℕ). lines_after front bs) (sym next)) ∙ at.all }
+    record {
+      all = append_assoc words (front ∷ []) (lines_after [] bytes)
+          ∙ ap (λ (ls : List (List ℕ)). words ++ ls) (sym (lines_after-end front bytes b ends) ∙ ap (λ (bs : List ℕ). lines_after front bs) (sym next)) ∙ at.all;
+    }
 
 -- a run that ended early
 pub stopped_early : (script : List ℕ) (lines : List Line) (front rest : List ℕ) → IsAtByte script (words_of lines) front rest

@@ -27,11 +27,14 @@ new_span_tells place lane told number traffic kind = go (nat_lt told number) ref
   where
     here : Bool
     here = lane == place && is_kind kind traffic
+
     whole : (b : Bool) (n m : ℕ) → n ≡ m → cond b (range_with_len told n) [] ++ [] ≡ cond b (range_with_len told m) []
     whole b n m same = append-nil (cond b (range_with_len told n) []) ∙ ap (λ k. cond b (range_with_len told k) []) same
+
     none : (b : Bool) (n : ℕ) → n ≡ 0 → [] ≡ cond b (range_with_len told n) []
     none true n is = rw is refl
     none false n is = refl
+
     go : (b : Bool) → nat_lt told number ≡ b
         → told_places place traffic (cond b (record { lane = lane; traffic = kind; first = told; count = number - told } ∷ []) []) ≡ cond here (range_with_len told (max told number - told)) []
     go true is = whole here (number - told) (max told number - told) (omega (arith, ltb-true told number is))
@@ -102,11 +105,13 @@ looks_count v number lanes spans counts = record { each = each }
     longer : (traffic : Traffic) (lane : Lane) → count_in traffic (Some lane) + (count_in traffic (Some (lane_at v number lane)) - count_in traffic (Some lane)) ≡ count_in traffic (Some (lane_at v number lane))
     longer Rows lane = omega arith
     longer Calls lane = omega arith
+
     joined : (traffic : Traffic) (o : Option Lane) → range_with_len 0 (count_in traffic o) ++ new_in v number traffic o ≡ range_with_len 0 (count_in traffic (option_map (lane_at v number) o))
     joined traffic None = refl
     joined traffic (Some lane) =
         range_with_len-append 0 (count_in traffic (Some lane)) (count_in traffic (Some (lane_at v number lane)) - count_in traffic (Some lane))
         ∙ ap (λ n. range_with_len 0 n) (longer traffic lane)
+
     each : (place : ℕ) (traffic : Traffic) → told_places place traffic (spans ++ spans_from v 0 lanes) ≡ range_with_len 0 (count_in traffic (slice_get (map (lane_at v number) lanes) place))
     each place traffic =
         told_places-append place traffic spans (spans_from v 0 lanes)
@@ -132,6 +137,8 @@ same_counts traffic (lane ∷ lanes) more fresh (suc place) = same_counts traffi
 -- lanes that are added count nothing
 pub added_count : (old new : List Lane) (spans : List Span) → AddsLanes old new → Counts old spans → Counts new spans
 added_count old new spans adds counts =
-    record { each = λ place traffic. counts.each place traffic
-        ∙ ap (λ n. range_with_len 0 n) (same_counts traffic old adds.more adds.fresh place)
-        ∙ ap (λ (lanes : List Lane). range_with_len 0 (count_in traffic (slice_get lanes place))) (sym adds.all) }
+    record {
+      each = λ place traffic. counts.each place traffic
+          ∙ ap (λ n. range_with_len 0 n) (same_counts traffic old adds.more adds.fresh place)
+          ∙ ap (λ (lanes : List Lane). range_with_len 0 (count_in traffic (slice_get lanes place))) (sym adds.all);
+    }

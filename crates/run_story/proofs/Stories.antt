@@ -30,6 +30,7 @@ looks_reach v number lanes = record { each = each }
     go : (o : Option Lane) (lane : Lane) → option_map (lane_at v number) o ≡ Some lane → Reaches v lane
     go None lane is = absurd (cc is)
     go (Some old) lane is = let same : lane_at v number old ≡ lane = cc is in subst (λ l. Reaches v l) same (reaches_at v number old)
+
     each : (place : ℕ) (lane : Lane) → slice_get (map (lane_at v number) lanes) place ≡ Some lane → Reaches v lane
     each place lane found = go (slice_get lanes place) lane (sym (slice_get-map (lane_at v number) lanes place) ∙ found)
 
@@ -67,6 +68,7 @@ keeps_by_look old mid new number entries adds told same looked = record { counts
   where
     counts : (spans : List Span) → Counts old.lanes spans → Counts new.lanes (spans ++ entries)
     counts spans c = rw (looked, told) (looks_count mid.world number mid.lanes spans (added_count old.lanes mid.lanes spans adds c))
+
     reach : AllReach old.world old.lanes → AllReach new.world new.lanes
     reach r = rw (same, looked) (looks_reach mid.world number mid.lanes)
 
@@ -75,9 +77,9 @@ keeps_by_look old mid new number entries adds told same looked = record { counts
 -- of a script without a line nothing is told
 pub nothing_is_told : (story : StoryView) → story.lanes ≡ [] → story.lines ≡ [] → IsTold story
 nothing_is_told story lanes lines = record {
-    counts = rw (lanes, lines) (record { each = λ place traffic. refl });
-    reach = rw lanes (record { each = λ place lane found. absurd (cc found) });
-  }
+  counts = rw (lanes, lines) (record { each = λ place traffic. refl });
+  reach = rw lanes (record { each = λ place lane found. absurd (cc found) });
+}
 
 -- a line more is told
 pub told_on : (story new : StoryView) (line : Line) (old behind : Followed) (entries : List Span) → IsTold story → KeepsTold old behind entries → old.world ≡ story.world
@@ -86,9 +88,12 @@ told_on story new line old behind entries is keeps world lanes world' lanes' tol
   where
     spans : spans_of new.lines ≡ spans_of story.lines ++ entries
     spans = ap spans_of more ∙ flat_map-append (λ (l : Line). l.entries) story.lines (line ∷ []) ∙ ap (λ (s : List Span). spans_of story.lines ++ s) (append-nil line.entries ∙ told)
+
     counts : Counts new.lanes (spans_of new.lines)
     counts = rw (sym lanes', spans) (keeps.counts (spans_of story.lines) (subst (λ (l : List Lane). Counts l (spans_of story.lines)) (sym lanes) is.counts))
+
     there : AllReach old.world old.lanes
     there = rw (world, lanes) is.reach
+
     reach : AllReach new.world new.lanes
     reach = rw (sym world', sym lanes') (keeps.reach there)

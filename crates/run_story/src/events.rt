@@ -74,10 +74,24 @@ pub fn tell_going_back(
     let is_up = roads.links.is_up(&outlook.push.to, &outlook.push.from);
     match outlook.push.traffic {
         Traffic::Rows => {
-            tell_answer(alloc, &mut roads.rows, is_up, outlook, low, &mut told.answered)
+            tell_answer(
+                alloc,
+                &mut roads.rows,
+                is_up,
+                outlook,
+                low,
+                &mut told.answered,
+            )
         }
         Traffic::Calls => {
-            tell_answer(alloc, &mut roads.calls, is_up, outlook, low, &mut told.answered)
+            tell_answer(
+                alloc,
+                &mut roads.calls,
+                is_up,
+                outlook,
+                low,
+                &mut told.answered,
+            )
         }
     }
 }

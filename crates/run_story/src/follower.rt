@@ -214,7 +214,16 @@ impl Follower {
             return Ok(refused(number, refusal));
         }
         let world = &mut self.world;
-        run_part(rt, alloc, world, &self.lanes, &mut self.roads, &site, sessions, told)?;
+        run_part(
+            rt,
+            alloc,
+            world,
+            &self.lanes,
+            &mut self.roads,
+            &site,
+            sessions,
+            told,
+        )?;
         Ok(Outcome::Done)
     }
 

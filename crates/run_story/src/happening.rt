@@ -71,7 +71,9 @@ pub struct Span {
 #[derive(Clone, Copy, Debug, PartialEq, Eq)]
 pub enum Event {
     /// A block was closed and had changed nothing, or no call was sent.
-    Nothing { site: SiteName },
+    Nothing {
+        site: SiteName,
+    },
     /// A direction was set up or down.
     Linked {
         from: SiteName,

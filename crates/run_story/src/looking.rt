@@ -28,10 +28,7 @@ pub enum Before {
     Push(Outlook),
     Refresh(Renewal),
     /// A block is to be closed at a site whose journals have so many entries.
-    Block {
-        site: SiteName,
-        written: u64,
-    },
+    Block { site: SiteName, written: u64 },
 }
 
 /// How many entries both journals of a site have.

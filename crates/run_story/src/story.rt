@@ -32,12 +32,7 @@ impl Model for Story {
 }
 
 /// A line with what came of it.
-fn line_of(
-    alloc: Global,
-    words: &[u8],
-    answer: Answer,
-    told: Told,
-) -> Result<Line, NoMemory>
+fn line_of(alloc: Global, words: &[u8], answer: Answer, told: Told) -> Result<Line, NoMemory>
     ensures words { IfOk result (λ line. line.words ≡ words.now) }
     ensures entries { IfOk result (λ line. line.entries ≡ answer.entries.items) }
 {

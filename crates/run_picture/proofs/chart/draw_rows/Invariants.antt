@@ -6,4 +6,4 @@ use Rattle.run_picture.proofs.chart.draw_rows.Given as goal
 
 -- the marks so far and those of the lines to come
 abbrev pub invariant-loop-place : goal.invariant-loop-place
-invariant-loop-place l = l.pen ++ flat_map (shown_marks l.scene.story l.folded) (drop l.place l.scene.story.lines) ≡ l.fn.pen ++ flat_map (shown_marks l.scene.story l.folded) l.scene.story.lines
+invariant-loop-place l = l.pen ++ flat_map (shown_marks l.scene.story.now l.folded) (drop l.place l.scene.story.now.lines) ≡ l.fn.pen ++ flat_map (shown_marks l.scene.story.now l.folded) l.scene.story.now.lines
