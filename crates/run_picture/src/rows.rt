@@ -324,6 +324,8 @@ impl Scene<'_> {
         self.draw_packets(pen, line.sent.as_slice(), free)?;
         self.put_turns(pen, line.turns.as_slice(), free)?;
         self.draw_spans(pen, line.entries.as_slice(), free)?;
+        // The words of what goes back stand above their arrow.
+        free.lanes = free.lanes.saturating_add(6);
         self.draw_packets(pen, line.answered.as_slice(), free)
     }
 
