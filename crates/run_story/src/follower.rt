@@ -9,7 +9,7 @@ use crate::following::{declare, entries_of, lanes_at};
 use crate::happening::{Outcome, Span};
 use crate::lane::Lane;
 use crate::living::run_part;
-use crate::looking::before;
+use crate::looking::seen_before;
 use crate::part::{OpenPart, Part, refused};
 use crate::roads::Roads;
 use rep_lists::NoMemory;
@@ -130,7 +130,7 @@ impl Follower {
         ensures free { OnOk result (self.new.world.lent ≡ None) }
         ensures lanes { OnOk result (AddsLanes self.old.lanes self.new.lanes) }
     {
-        let seen = before(alloc, &self.world, &self.lanes, &self.roads, command)?;
+        let seen = seen_before(alloc, &self.world, &self.lanes, &self.roads, command)?;
         match self.world.step(alloc, number, command) {
             Ok(_) => {
                 tell(alloc, &self.world, &mut self.roads, command, seen, told)?;

@@ -3,7 +3,7 @@
 use crate::following::{calls_length, lane_of, rows_length};
 use crate::happening::Traffic;
 use crate::lane::{Lane, LaneKind};
-use crate::outlook::{Outlook, Push, outlook};
+use crate::outlook::{Outlook, Push, look_ahead};
 use crate::refreshing::keys_of_refresh;
 use crate::roads::Roads;
 use crate::station::Station;
@@ -46,7 +46,7 @@ fn before_push<S: Station>(
 ) -> Result<Before, NoMemory> {
     match (sender, receiver) {
         (Some(sender), Some(receiver)) => {
-            let outlook = outlook(alloc, push, ways, sender, receiver)?;
+            let outlook = look_ahead(alloc, push, ways, sender, receiver)?;
             Ok(Before::Push(outlook))
         }
         _ => Ok(Before::Nothing),
@@ -125,7 +125,7 @@ fn before_end(world: &World, roads: &Roads) -> Before {
 }
 
 /// What is seen before a line is run.
-pub fn before(
+pub fn seen_before(
     alloc: Global,
     world: &World,
     lanes: &[Lane],

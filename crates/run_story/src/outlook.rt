@@ -63,7 +63,7 @@ fn note_sent<S: Station>(
 }
 
 /// Looks at both sites before a push.
-pub fn outlook<S: Station>(
+pub fn look_ahead<S: Station>(
     alloc: Global,
     push: Push,
     ways: &Ways,
