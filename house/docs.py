@@ -1,2 +1,196 @@
 #!/usr/bin/env python3
-"""Pages."""
+"""Pages: the floor plan drawn anew, the words that pages cite, and what was decided."""
+import os
+import re
+
+from common import docs, read, tell, write
+
+HERE = os.path.dirname(os.path.abspath(__file__))
+PAGE = "docs/ARCHITECTURE.md"
+GROUPS = {  # the heads of crates.txt, as the table names them
+    "base": "base",
+    "schemas": "schemas and rows",
+    "calls": "calls",
+    "packets": "packets",
+    "streams": "streams",
+    "laws of transactions": "laws of transactions",
+    "sites": "sites",
+    "laws of sites": "laws of sites",
+    "sites of procedures": "sites of procedures",
+    "threads": "threads",
+    "reports": "reports",
+    "scripts": "scripts",
+    "offices": "offices",
+    "worlds": "worlds",
+    "the world and its lines": "the world",
+    "the program": "the program",
+    "what programs": "of cases",
+}
+PROGRAMS = {"benchmarks", "two_offices", "value_cases", "packet_cases", "drive_cases", "stream_cases", "page_cases", "site_cases", "proc_cases", "run_cases", "crew_cases"}
+
+
+def crates():
+    """[(group, crate, what it stands on)] from crates.txt."""
+    out, group = [], ""
+    for line in read("crates.txt").split("\n"):
+        if line.startswith("# ") and "bottom up" not in line:
+            group = next((g for head, g in sorted(GROUPS.items(), key=lambda it: -len(it[0])) if line[2:].startswith(head)), "")
+        m = re.match(r"(\w+)[^:#]*:([^#]*)", line)
+        if m:
+            out.append((group, m[1], m[2].split()))
+    return out
+
+
+def highest(name, lists):
+    """What a crate stands on, without what comes by another of these."""
+    below = {}
+
+    def all_below(one):
+        if one not in below:
+            below[one] = set()
+            for other in lists.get(one, []):
+                below[one] |= {other} | all_below(other)
+        return below[one]
+
+    own = [d for d in lists[name] if d in lists]
+    return [d for d in own if not any(d in all_below(o) for o in own if o != d)]
+
+
+def floor_plan():
+    text = read(PAGE)
+    m = re.search(r"(?ms)^## The floor plan\n.*?(?=^## )", text)
+    if not m:
+        tell(f"refused  {PAGE} has no floor plan")
+        return
+    gives = dict(re.findall(r"(?m)^\| [^|]*\| `(\w+)` \|[^|]*\| ([^|\n]*) \|$", m[0]))
+    gives.update(tuple(p.strip() for p in line.split(" | ", 1)) for line in read(f"{HERE}/gives.txt").split("\n") if line.strip())
+    rows = crates()
+    lists = {c: deps for _, c, deps in rows}
+    tail = re.search(r"(?m)^Nothing stands on programs.*\Z", m[0], re.S)
+    out = "## The floor plan\n\nCode stands on the left; on the right stand crates of definitions and laws alone. Each stands on crates further down or beside it.\n"
+    out += f"The longest chain of crates has {longest(lists)} (`tools/chain`).\n\n"
+    out += read(f"{HERE}/floor.txt")
+    out += "\n`crates.txt` has each crate's whole list. The table names the highest ones; all others come by these.\n\n"
+    out += "| Group | Crate | Stands on | What it gives |\n|---|---|---|---|\n"
+    before = None
+    for group, crate, _ in rows:
+        if crate in PROGRAMS:
+            continue
+        if crate not in gives:
+            tell(f"refused  the table of {PAGE} doesn't know {crate}")
+        out += f"| {group if group != before else ''} | `{crate}` | {', '.join(highest(crate, lists))} | {gives.get(crate, '')} |\n"
+        before = group
+    out += "\n" + (tail[0] if tail else "")
+    text = text[: m.start()] + out.rstrip("\n") + "\n\n" + text[m.end() :]
+    write(PAGE, text)
+    drawn = set(re.findall(r"\w+", read(f"{HERE}/floor.txt")))
+    for _, crate, _ in rows:
+        if crate not in drawn and crate not in PROGRAMS and crate != "case_reader":
+            tell(f"         the drawing lacks {crate}")
+    tell(f"ok       the floor plan: {len(rows)} crates")
+
+
+def longest(lists):
+    up = {}
+
+    def to(name):
+        if name not in up:
+            up[name] = 1 + max((to(d) for d in lists[name] if d in lists), default=0)
+        return up[name]
+
+    return max(to(name) for name in lists)
+
+
+def italics():
+    """*names* of steps: definitions that were renamed."""
+    new = {}
+    for line in read(f"{HERE}/names.txt").split("\n"):
+        words = line.split()
+        if words[:1] == ["def"]:
+            new.setdefault(words[2].split(".")[-1], set()).add(words[3])
+    count = 0
+    for page in docs():
+        text = read(page)
+        after = re.sub(r"(?<![\w*])\*(\w+)\*(?![\w*])", lambda m: f"*{next(iter(new[m[1]]))}*" if len(new.get(m[1], ())) == 1 else m[0], text)
+        if after != text:
+            write(page, after)
+            count += 1
+    tell(f"ok       names of steps: {count} pages")
+
+
+def paged(old, new, *pages):
+    count = 0
+    for page in pages:
+        if not os.path.isfile(page):
+            continue
+        text = read(page)
+        after = re.sub(old, new, text)
+        if after != text:
+            write(page, after)
+            count += 1
+    tell(f"{'ok      ' if count else 'nothing '} pages: {old[:70]!r}")
+
+
+def lives():
+    """The functions that the lives of a line cite: names that several things had."""
+    for old, new in (
+        (r"`state` > `keep_statement`", "`add_statement` > `keep_statement`"),
+        (r"`some_of`, `separated`", "`one_or_more`, `separated`"),
+        (r"> `settle` \(`site_rounds`\)", "> `apply_until_quiet` (`site_rounds`)"),
+        (r"(?m)^(\d+\. )`settle` > `pass`", r"\1`apply_until_quiet` > `pass`"),
+        (r"`deliver_all` > `take` > `Net::deliver`", "`deliver_all` > `deliver_one` > `Net::deliver`"),
+        (r"`apply_and_tell`, `answer`", "`apply_and_tell`, `return_mark`"),
+        (r"(?m)^(\d+\. )`answer` > ", r"\1`return_mark` > "),
+        (r"`two_copies`, `settle` >", "`two_copies`, `evaluate` >"),
+        (r"`finish_pass`, `settle_pass`", "`finish_pass`, `sort_new_entries`"),
+        (r"`past` \(a copy of what was seen\)", "`past` (a copy of the causal past)"),
+    ):
+        paged(old, new, PAGE)
+
+
+DECISIONS = [
+    ("## How the repository is built and checked", [
+        "**`settle` is for conflicts alone.** A receiver applies until quiet; a journal's newest entries are sorted; an entry clears an error; a row is up to date; what becomes of a transaction is its outcome.",
+        "**Definitions stand below the crates that use them.** The types of local transactions and what a block does stand in `txn_effects`; logs, who sends to whom, and what a position waits for stand below a site; events stand in `site_events`, below all laws of sites. So `site_state` and all definitions of the world stand on definitions alone, and the longest chain of crates is 13 (`tools/chain`).",
+        "**`crates.txt` says what each crate uses, and nothing is passed on**, but what `office` gives of `site_state`: these are answers of its own calls, and its users name no other crate.",
+        "**Convergence is asked at the top alone.** A built world says that its masters begin alike, which needs no law of convergence. `world_run` alone stands on `convergent_worlds`.",
+        "**Crates that are one idea are one, and no more than that.** The world and its lines stay four crates (each has 66 to 169 functions), `subquery_snapshots` stays apart from `refreshes` (their proofs take minutes each), and so do the case programs (each is near 100 functions). `site_rounds` stands below the world, since the lines of calls use it too.",
+        "**The laws of sites that `proc_state` says again** for sites of procedures keep the same names on purpose; so do readings of bytes and of tokens (`packet_code`, `script_words`).",
+    ]),
+]
+
+
+def decisions():
+    page = "docs/DECISIONS.md"
+    text = read(page)
+    for head, lines in DECISIONS:
+        if head not in text:
+            tell(f"refused  {page} has no {head}")
+            continue
+        at = text.index(head)
+        end = text.find("\n## ", at + 1)
+        end = len(text) if end < 0 else end + 1
+        part = text[at:end].rstrip("\n")
+        numbers = [int(n) for n in re.findall(r"(?m)^(\d+)\. ", text)]
+        numbered = bool(re.search(r"(?m)^\d+\. ", part))
+        number = max(numbers, default=0)
+        for line in lines:
+            if line in text:
+                continue
+            number += 1
+            part += f"\n{number}. {line}" if numbered else f"\n- {line}"
+        text = text[:at] + part + "\n" + ("\n" if end < len(text) else "") + text[end:]
+    write(page, text)
+    tell(f"ok       {page}")
+
+
+def main():
+    italics()
+    lives()
+    floor_plan()
+    decisions()
+    paged(r"\[DEFINITIONS\]\(docs/DEFINITIONS\.md\) \|", "[DEFINITIONS](docs/DEFINITIONS.md), [GLOSSARY](docs/GLOSSARY.md) |", "README.md")
+
+
+if __name__ == "__main__":
+    main()

@@ -87,6 +87,54 @@ def world():
     paged(r"\A# environment\n", "# world\n", "crates/world/README.md")
 
 
+def pages():
+    """Pages of crates, and those in docs, by the crates' names before they are merged."""
+    paged(r"`errors`, `unsettled`\)", "`errors`, `uncleared`)", "README.md")
+    paged(r"`errors`, `unsettled` of `WorldHolds`", "`errors`, `uncleared` of `WorldHolds`", "docs/PROOFS.md")
+    paged(r"`once`, `settled`", "`once`, `cleared`", "docs/PROOFS.md", "docs/REVIEW.md")
+    paged(r"its error settled at most once", "its error cleared at most once", "docs/PROOFS.md", "crates/event_laws/README.md", "crates/world_laws/README.md")
+    paged(r"(?m)^- `unsettled`: an error", "- `uncleared`: an error", "docs/PROOFS.md")
+    paged(r"or settle its error", "or clear its error", "docs/REVIEW.md")
+    paged(r"\(`once`\), its error cleared at most once \(`settled`\)", "(`once`), its error cleared at most once (`cleared`)", "crates/event_laws/README.md")
+    paged(r"errors that are settled", "errors that are cleared", "crates/event_laws/README.md")
+    paged(r"whose sites are meshed", "whose sites are linked as declared", "crates/event_laws/README.md")
+    paged(r"(?m)^(  )`settled`, each position", r"\1`cleared`, each position", "crates/world_laws/README.md")
+    paged(r"`unsettled`", "`uncleared`", "crates/world_laws/README.md")
+    paged(r"(?m)^  settled it\.$", "  cleared it.", "crates/world_laws/README.md")
+    paged(r"one that nothing has settled stands", "one that nothing has cleared stands", "docs/DEFINITIONS.md")
+    paged(r"\bsettled there\b", "applied there", "crates/environment_calls/README.md")
+    paged(r"the receiver settles what came", "the receiver applies what came until all is quiet", "crates/environment_calls/README.md")
+    paged(r"that it is settling, and that it can", "that it is applying, and that it can", "crates/environment_push/README.md", "docs/DEFINITIONS.md")
+    paged(r"all is taken in and settled, the mark goes back", "all is taken in and applied until quiet, the mark goes back", "docs/DEFINITIONS.md")
+    paged(r"`IsSettled`", "`IsSorted`", "crates/journal_order/README.md")
+    paged(r"journals of a few entries, settled and not", "journals of a few entries, sorted and not", "crates/journal_order/README.md")
+    paged(r"site/settle\.rt", "site/newest.rt", "crates/journal_order/README.md")
+    paged(r"(?m)^settle_from\(", "sort_from(", "crates/journal_order/README.md")
+    paged(r"are settleable, settling them", "can be sorted, sorting them", "crates/journal_order/README.md")
+    paged(r"How settling goes about it", "How sorting goes about it", "crates/journal_order/README.md")
+    paged(r"The cases of `site_cases` settle an entry that finishes a position; the crews of `store_crews` and `run_cases` settle whole\n  passes",
+          "The cases of `site_cases` sort an entry that finishes a position; the crews of `store_crews` and `run_cases` sort whole\n  passes", "crates/journal_order/README.md")
+    paged(r"\| settled journals \|", "| sorted journals |", "docs/DEFINITIONS.md")
+    paged(r"(?m)^- `Settled` is what becomes", "- `ApplyOutcome` is what becomes", "crates/journal_steps/README.md")
+    paged(r"of a transaction that is\n  settled so\.", "of a transaction that\n  comes out so.", "crates/journal_steps/README.md")
+    paged(r"`settle_pass` sorts", "`sort_new_entries` sorts", "crates/site_core/README.md")
+    paged(r"`environment_push` settles pushes by it", "`environment_push` applies by it what a push brought", "crates/site_rounds/README.md")
+    paged(r"= match settle\(alloc", "= match apply_until_quiet(alloc", "crates/site_rounds/README.md")
+    paged(r"(?m)^- `settle`: ", "- `apply_until_quiet`: ", "crates/site_rounds/README.md")
+    paged(r"\*settled\*", "*up to date*", "crates/snapshot_laws/README.md", "crates/subquery_snapshots/README.md")
+    paged(r"each key that isn't settled", "each key that isn't up to date", "crates/snapshot_laws/README.md", "docs/DEFINITIONS.md")
+    paged(r"\beach settled (key|row)\b", r"each up-to-date \1", "crates/snapshot_laws/README.md", "crates/snapshot_worlds/README.md", "crates/subquery_snapshots/README.md", "crates/environment_lines/README.md", "docs/PROOFS.md")
+    paged(r"\| settled keys are the master's", "| up-to-date keys are the master's", "docs/DEFINITIONS.md")
+    paged(r"A key is settled\n", "A key is up to date\n", "docs/PROOFS.md")
+    paged(r"but for the keys that are settled", "but for the keys that are up to date", "crates/snapshot_worlds/README.md")
+    paged(r"what is settled\b", "what is up to date", "crates/subquery_snapshots/README.md", "docs/DEFINITIONS.md")
+    paged(r"\(clause `settled`\)", "(clause `up_to_date`)", "crates/subquery_snapshots/README.md")
+    paged(r"what isn't settled", "what isn't up to date", "crates/subquery_snapshots/README.md", "docs/DECISIONS.md")
+    paged(r"the keys that aren't settled", "the keys that aren't up to date", "docs/DEFINITIONS.md")
+    paged(r"`Unsettled`", "`Uncleared`", "docs/LIBRARY.md")
+    paged(r"`rep_lists` stands at the bottom\*\* and has `NoMemory`, which `rep_values` passes on, so that", "`rep_lists` stands at the bottom** and has `NoMemory`, so that", "docs/DECISIONS.md")
+
+
 def main():
     if sys.argv[1:] == ["world"]:
         return world()
@@ -105,6 +153,8 @@ def main():
     token("settled", "applied", "environment_push/proofs/Applied.antt", "environment_calls/proofs/Applied.antt")
     token("unsettled", "uncleared", "site_rounds/proofs/ErrorTexts.antt")
     token("settled", "cleared", "site_rounds/proofs/ErrorTexts.antt")
+    token("settled", "cleared", "world_laws/specs/Worlds.antt", "world_laws/proofs/WorldLaws.antt", "world_laws/proofs/Reached.antt", "world_run/proofs/LivePrinted.antt", "world_run/proofs/QueueBounds.antt")
+    token("unsettled", "uncleared", "world_laws/specs/Worlds.antt", "world_laws/proofs/WorldLaws.antt")
     # ---- the newest entries of a journal are sorted
     for old, new in (("settled", "sorted"), ("unsettled", "unsorted"), ("settling", "sorting")):
         token(old, new, "journal_order/**/*")
@@ -133,6 +183,7 @@ def main():
     said(r"The name of a site has the form of one, whatever it is\.", "Whether the name of a site has a byte: its type says the rest.", "packet_code/**")
     said(r"What the site that queued a transaction had finished of another master:", "An entry of a causal past: what the site that queued a transaction had finished of another master,", "rep_calls/**")
     said(r"What a site had seen of another\.", "Causal pasts: what a site had seen of others.", "rep_calls/**")
+    pages()
 
 
 if __name__ == "__main__":
