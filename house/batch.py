@@ -10,10 +10,12 @@ import argparse
 import contextlib
 import importlib.machinery
 import importlib.util
+import inspect
 import io
 import os
 import re
 import sys
+import textwrap
 import time
 
 TOOL = os.environ.get("RT_RENAME") or next(p for p in ("tools/rt-rename", "/work/shared/tools/rt-rename") if os.path.isfile(p))
@@ -53,6 +55,12 @@ class Kept(T.Repo):
 
 
 T.edits_fit = lambda top: None
+
+# a record's last brace, at the left edge, belongs to the definition that moves
+blocks = textwrap.dedent(inspect.getsource(T.Move.blocks))
+assert blocks.count('lines[end].startswith(" ") or') == 1
+exec(blocks.replace('lines[end].startswith(" ") or', 'lines[end].startswith((" ", "}")) or'), T.__dict__)
+T.Move.blocks = T.__dict__.pop("blocks")
 
 
 def relevant(self, text):

@@ -26,15 +26,17 @@ def main():
     moved = bad = 0
     for page in docs():
         text = before = read(page)
-        crate = None
+        crate = (page.split("/")[1], "specs") if page.startswith("crates/") else None
 
         def cell(m):
             nonlocal crate, moved, bad
-            inner = re.fullmatch(r"(?:(\w+)/)?(?:(specs|proofs)/)?(\w+)\.antt", m[1])
+            inner = re.fullmatch(r"(?:(?!specs/|proofs/)(\w+)/)?(?:(specs|proofs)/)?(\w+)\.antt", m[1])
             if not inner:
                 return m[0]
             if inner[1]:
                 crate = (inner[1], inner[2] or "specs")
+            elif inner[2] and crate:
+                crate = (crate[0], inner[2])
             if not crate:
                 return m[0]
             path = f"crates/{crate[0]}/{inner[2] or crate[1]}/{inner[3]}.antt"
