@@ -3,8 +3,8 @@ pub mod Lent
 pub mod Reporting
 pub mod Scripts
 pub mod Completeness
-pub use Rattle.environment_lines.specs.Texts
-pub use Rattle.environment_lines.specs.Doing
+pub use Rattle.world_commands.specs.Texts
+pub use Rattle.world_commands.specs.Doing
 pub mod Ended
 pub mod LiveParts
 pub mod LiveScripts
