@@ -3,8 +3,6 @@ pub mod Lent
 pub mod Reporting
 pub mod Scripts
 pub mod Completeness
-pub use Rattle.world_commands.specs.Texts
-pub use Rattle.world_commands.specs.Doing
 pub mod Ended
 pub mod LiveParts
 pub mod LiveScripts
