@@ -21,14 +21,14 @@ use Rattle.site_state.specs.State.{SiteState, is_among, arrived_at}
 use Rattle.site_state.specs.Journal.{error_at}
 use Rattle.site_state.specs.Contents.{journal_content, tables_of}
 use Rattle.site_state.specs.Streams.{queue_after, count_of}
-use Rattle.event_laws.specs.Core.{Core, site_of, at_site}
+use Rattle.event_laws.specs.Cluster.{Cluster, site_of, at_site}
 use Rattle.event_laws.specs.Events.{Event, is_master_in, run}
 use Rattle.event_laws.specs.Marks.{journal_in}
 use Rattle.event_laws.specs.Orders.{IsInOrder}
 use Rattle.event_laws.specs.Quiet.{are_quiet}
 use Rattle.event_laws.specs.Starts.{IsNewSite}
 use Rattle.event_laws.specs.Fitting.{IsFitStart}
-use Rattle.event_laws.specs.Waiting.{AreMeshed}
+use Rattle.event_laws.specs.Waiting.{SitesLinkAsDeclared}
 use Rattle.event_laws.proofs.Runs.{run-append}
 use Rattle.event_laws.proofs.Sites.{found_all, found_again, found_changed}
 use Rattle.event_laws.proofs.DeclaredSites.{IsSiteOf}
@@ -102,7 +102,7 @@ module _ (schema : Schema) (sites : List SiteState) (agree : MastersAgree schema
 
 -- ---- every run
 
-module _ (lower : Lower) (schema : Schema) (start : Core) (is : IsFitStart schema start) (meshed : AreMeshed schema start.sites) where
+module _ (lower : Lower) (schema : Schema) (start : Cluster) (is : IsFitStart schema start) (meshed : SitesLinkAsDeclared schema start.sites) where
   abbrev sites_after : List Event → List SiteState
   sites_after events = (run events start).sites
 
@@ -231,7 +231,7 @@ module _ (lower : Lower) (schema : Schema) (start : Core) (is : IsFitStart schem
 -- ---- agreement
 
 -- from some events on
-agree_since : (lower : Lower) (schema : Schema) (start : Core) (events more : List Event) (is : IsFitStart schema start) (meshed : AreMeshed schema start.sites) → IsSince schema (run events start).sites (run events start).sites
+agree_since : (lower : Lower) (schema : Schema) (start : Cluster) (events more : List Event) (is : IsFitStart schema start) (meshed : SitesLinkAsDeclared schema start.sites) → IsSince schema (run events start).sites (run events start).sites
     → MastersAgree schema (run events start).sites → are_quiet (run (more ++ events) start).sites ≡ true → NothingWasDroppedSince schema (run events start).sites (run (more ++ events) start).sites
     → MastersAgree schema (run (more ++ events) start).sites
 agree_since lower schema start events more is meshed now agree quiet kept one other x y table found there master other_master convergent =
@@ -268,7 +268,7 @@ agree_since lower schema start events more is meshed now agree quiet kept one ot
 
 pub quiet_masters_agree_again : Lower → QuietMastersAgreeAgain
 quiet_masters_agree_again lower schema start events more is meshed quiet agree =
-    subst (λ (w : Core). are_quiet w.sites ≡ true → NothingWasDroppedSince schema (run events start).sites w.sites → MastersAgree schema w.sites) (run-append more events start)
+    subst (λ (w : Cluster). are_quiet w.sites ≡ true → NothingWasDroppedSince schema (run events start).sites w.sites → MastersAgree schema w.sites) (run-append more events start)
     (agree_since lower schema start events more is meshed now agree)
   where
     now : IsSince schema (run events start).sites (run events start).sites

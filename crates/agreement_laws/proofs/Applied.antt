@@ -129,32 +129,32 @@ off true o none = refl
 off false o none = none
 
 -- a position is finished, and no error stands there
-pub record IsSettled (origin : SiteName) (position : ℕ) (journal : List Entry) : Type 0 where
+pub record FinishedWithoutError (origin : SiteName) (position : ℕ) (journal : List Entry) : Type 0 where
   pub done : finished origin journal position ≡ true
   pub none : error_at origin position journal ≡ None
 
 -- it remains so
-pub settled_more : (x : SiteState) (e : Entry) → MayFollow x e → (origin : SiteName) (position : ℕ) → IsSettled origin position x.journal → IsSettled origin position (e ∷ x.journal)
-settled_more x (Local number txn) follows origin position is = record { done = is.done; none = is.none }
-settled_more x (Done o p onward txn) follows origin position is = record { done = either (is_position origin position o p) (finished origin x.journal position) is.done; none = is.none }
+pub without_error_more : (x : SiteState) (e : Entry) → MayFollow x e → (origin : SiteName) (position : ℕ) → FinishedWithoutError origin position x.journal → FinishedWithoutError origin position (e ∷ x.journal)
+without_error_more x (Local number txn) follows origin position is = record { done = is.done; none = is.none }
+without_error_more x (Done o p onward txn) follows origin position is = record { done = either (is_position origin position o p) (finished origin x.journal position) is.done; none = is.none }
   where
     either : (b c : Bool) → c ≡ true → (b || c) ≡ true
     either true c e = refl
     either false c e = e
-settled_more x (Error o p call error txn) follows origin position is = go (is_position origin position o p) refl
+without_error_more x (Error o p call error txn) follows origin position is = go (is_position origin position o p) refl
   where
-    go : (b : Bool) → is_position origin position o p ≡ b → IsSettled origin position (Error o p call error txn ∷ x.journal)
+    go : (b : Bool) → is_position origin position o p ≡ b → FinishedWithoutError origin position (Error o p call error txn ∷ x.journal)
     go true at =
         let same = is_position-true origin o position p at in
         absurd (true≢false (sym is.done ∙ rw (← same.0, ← same.1) follows.unfinished))
     go false at = record { done = rw at is.done; none = rw at is.none }
-settled_more x (Executed o p onward txn) follows origin position is = record { done = is.done; none = off (is_position origin position o p) (error_at origin position x.journal) is.none }
-settled_more x (Dropped o p) follows origin position is = record { done = is.done; none = off (is_position origin position o p) (error_at origin position x.journal) is.none }
-settled_more x (Refreshed moment) follows origin position is = record { done = is.done; none = is.none }
+without_error_more x (Executed o p onward txn) follows origin position is = record { done = is.done; none = off (is_position origin position o p) (error_at origin position x.journal) is.none }
+without_error_more x (Dropped o p) follows origin position is = record { done = is.done; none = off (is_position origin position o p) (error_at origin position x.journal) is.none }
+without_error_more x (Refreshed moment) follows origin position is = record { done = is.done; none = is.none }
 
 -- what is settled is applied, and so it remains where a master's error isn't dropped
 pub applied_more : (schema : Schema) (e : Entry) (journal : List Entry) → drops_of_master schema e ≡ false → (origin : SiteName) (position : ℕ) → is_master_site schema origin ≡ true
-    → (IsSettled origin position journal → is_applied origin journal position ≡ true) → IsSettled origin position (e ∷ journal) → is_applied origin (e ∷ journal) position ≡ true
+    → (FinishedWithoutError origin position journal → is_applied origin journal position ≡ true) → FinishedWithoutError origin position (e ∷ journal) → is_applied origin (e ∷ journal) position ≡ true
 applied_more schema (Local number txn) journal kept origin position named before is = before (record { done = is.done; none = is.none })
 applied_more schema (Done o p onward txn) journal kept origin position named before is = go (is_position origin position o p) is.done
   where

@@ -3,7 +3,7 @@ use Rattle.std.proofs.Common.{◌≡◌, List, ◌++◌, Some, refl, sym, ap, �
 use Rattle.rep_schema.specs.declared.schema.Schema.{Schema}
 use Rattle.site_state.specs.State.{SiteState}
 use Rattle.site_state.specs.Contents.{journal_content, tables_of}
-use Rattle.event_laws.specs.Core.{Core, site_of}
+use Rattle.event_laws.specs.Cluster.{Cluster, site_of}
 use Rattle.event_laws.specs.Events.{Event, run}
 use Rattle.event_laws.specs.Marks.{journal_in}
 use Rattle.event_laws.proofs.Runs.{run-append}
@@ -23,7 +23,7 @@ groups_are_joined_between since schema start events more is site earlier later f
 }
   where
     there_too : site_of site (run (more ++ events) start).sites ≡ Some later
-    there_too = subst (λ (w : Core). site_of site w.sites ≡ Some later) (sym (run-append more events start)) there
+    there_too = subst (λ (w : Cluster). site_of site w.sites ≡ Some later) (sym (run-append more events start)) there
 
     has : HasAll (site_of site (run events start).sites) later
     has = (run_all more (run events start)).each site later there

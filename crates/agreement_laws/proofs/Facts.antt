@@ -8,7 +8,7 @@ use Rattle.rep_schema.specs.Named.{is_site}
 use Rattle.rep_laws.specs.Commuting.{IsSound}
 use Rattle.packet_code.specs.declared.packet.Packet.{Packet}
 use Rattle.site_state.specs.State.{SiteState, is_master_site}
-use Rattle.event_laws.specs.Core.{site_of}
+use Rattle.event_laws.specs.Cluster.{site_of}
 use Rattle.event_laws.specs.Orders.{IsInOrder}
 use Rattle.event_laws.proofs.Sites.{found_all, found_name}
 use Rattle.event_laws.proofs.DeclaredSites.{IsSiteOf}

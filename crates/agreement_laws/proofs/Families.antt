@@ -16,7 +16,7 @@ use Rattle.deferred_queue.proofs.Sites.{is_same_site-true, is_same_site-refl}
 use Rattle.deferred_queue.proofs.Positions.{found_position}
 use Rattle.site_state.specs.declared.entry.Entry.{Entry}
 use Rattle.site_state.specs.declared.entry.Entry.TheVariants.{Local, Done, Error, Executed, Dropped, Refreshed}
-use Rattle.site_state.specs.State.{SenderState, DestinationState, SiteState, is_master_site, is_among, sender_of, arrived_in, beside, arrived_at, destination_of, opened_in, opened_of}
+use Rattle.site_state.specs.State.{SenderState, DestinationState, SiteState, is_master_site, is_among, sender_of, arrived_in, arrival_beside, arrived_at, destination_of, opened_in, opened_of}
 use Rattle.site_state.specs.Journal.{is_position, finished}
 use Rattle.site_state.specs.Streams.{with_one, queue_of, queued_behind, stream_in}
 use Rattle.site_state.specs.Packets.{count_opened}
@@ -24,7 +24,7 @@ use Rattle.site_state.specs.Steps.{is_open}
 use Rattle.site_state.proofs.Growing.{length-queued_behind, queued_behind-none}
 use Rattle.site_state.proofs.Stepping.{is_position-true}
 use Rattle.site_state.proofs.SchemaSites.{AreApart, are_apart}
-use Rattle.event_laws.specs.Core.{site_of}
+use Rattle.event_laws.specs.Cluster.{site_of}
 use Rattle.event_laws.specs.Orders.{IsInOrder}
 use Rattle.convergence_laws.specs.Collections.{IsReordered, Then, Among}
 use Rattle.convergence_laws.proofs.SameRows.{reordered_behind, reordered_middle}
@@ -231,7 +231,7 @@ pub arrived_among : (origin : SiteName) (position : ℕ) (ss : List SenderState)
 arrived_among origin position [] there = absurd (there refl)
 arrived_among origin position (s ∷ ss) there = go (is_same_site s.origin origin) there (arrived_among origin position ss)
   where
-    go : (b : Bool) → find_at (beside position) (arrived_in (cond b (Some s) (sender_of origin ss))) ≢ None → (arrived_at origin position ss ≢ None → is_among (map (λ (s : SenderState). s.origin) ss) origin ≡ true)
+    go : (b : Bool) → find_at (arrival_beside position) (arrived_in (cond b (Some s) (sender_of origin ss))) ≢ None → (arrived_at origin position ss ≢ None → is_among (map (λ (s : SenderState). s.origin) ss) origin ≡ true)
         → (b || is_among (map (λ (s : SenderState). s.origin) ss) origin) ≡ true
     go true there later = refl
     go false there later = later there

@@ -7,7 +7,7 @@ use Rattle.rep_values.specs.declared.name.SiteName.{SiteName}
 use Rattle.site_state.specs.declared.entry.Entry.{Entry}
 use Rattle.site_state.specs.State.{SiteState}
 use Rattle.site_state.specs.Joining.{site_open}
-use Rattle.event_laws.specs.Core.{Core, site_of}
+use Rattle.event_laws.specs.Cluster.{Cluster, site_of}
 use Rattle.event_laws.specs.Events.{Event, run}
 use Rattle.event_laws.specs.Joins.{copied}
 use Rattle.event_laws.specs.Marks.{journal_in}
@@ -87,6 +87,6 @@ now_all sites = record {
     some_same y x e = cc
 
 -- so it is after every list of events
-pub run_all : (more : List Event) (w : Core) → HaveAll w.sites (run more w).sites
+pub run_all : (more : List Event) (w : Cluster) → HaveAll w.sites (run more w).sites
 run_all [] w = now_all w.sites
 run_all (e ∷ more) w = becomes_all w.sites (run more w).sites (run (e ∷ more) w).sites (happens_becomes e (run more w)) (run_all more w)

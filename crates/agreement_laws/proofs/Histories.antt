@@ -34,7 +34,7 @@ use Rattle.site_state.specs.Packets.{count_opened}
 use Rattle.site_state.specs.Steps.{is_empty, is_open, goes_onward, onward_number}
 use Rattle.site_state.proofs.Growing.{length-queued_behind}
 use Rattle.site_state.proofs.SchemaSites.{own_is_no_sender}
-use Rattle.event_laws.specs.Core.{site_of}
+use Rattle.event_laws.specs.Cluster.{site_of}
 use Rattle.event_laws.proofs.Sites.{found_all, found_name}
 use Rattle.event_laws.proofs.DeclaredSites.{IsSiteOf}
 use Rattle.event_laws.proofs.Meeting.{SiteMeets, MeetsAt}
@@ -51,7 +51,7 @@ use Rattle.agreement_laws.proofs.Reordering.{reordered_as, chosen, chosen-same, 
 use Rattle.agreement_laws.proofs.Turns.{Turn, Same, Own, Did, Left, Renewed, Frame, Cause, Now, Late, IsLeft}
 use Rattle.agreement_laws.proofs.SitesAt.{turn_frame}
 use Rattle.agreement_laws.proofs.OpenMasters.{IsOpenTo, masters_open}
-use Rattle.agreement_laws.proofs.Applied.{is_applied, IsShaped, IsSettled, error_finished, taken_not_applied}
+use Rattle.agreement_laws.proofs.Applied.{is_applied, IsShaped, FinishedWithoutError, error_finished, taken_not_applied}
 use Rattle.agreement_laws.proofs.Told.{TxnIsTold, all_told_later, IsSentBy, cause_sent, queue-did, queue-left, Known, own_told, done_told, done_sound, QueuesTold, turn_queues, onward_told}
 use Rattle.agreement_laws.proofs.Families.{masters_of, StandApart-masters, Among-masters, Are-masters, joined_same, joined_more, queue_in, count_for, count_in, has_number, piece_of, pieces_of, sent_number, finished_sent, arrived_among, open_any}
 use Rattle.agreement_laws.proofs.Facts.{some_there, is_named, Facts, declared_master}
@@ -82,9 +82,9 @@ cause_unapplied x origin position number txn _ shaped (Now is) = taken_not_appli
 cause_unapplied x origin position number txn _ shaped (Late e at is) = shaped.open_not origin position (λ none. absurd (cc (none, at)))
 
 -- what is done wasn't settled
-cause_unsettled : (x : SiteState) (origin : SiteName) (position number : ℕ) (txn : Txn) (e : Entry) → Cause x origin position number txn e → IsSettled origin position x.journal → ⊥
-cause_unsettled x origin position number txn _ (Now at) is = true≢false (sym is.done ∙ at.unfinished)
-cause_unsettled x origin position number txn _ (Late e at same) is = some_there (error_at origin position x.journal) e at is.none
+cause_uncleared : (x : SiteState) (origin : SiteName) (position number : ℕ) (txn : Txn) (e : Entry) → Cause x origin position number txn e → FinishedWithoutError origin position x.journal → ⊥
+cause_uncleared x origin position number txn _ (Now at) is = true≢false (sym is.done ∙ at.unfinished)
+cause_uncleared x origin position number txn _ (Late e at same) is = some_there (error_at origin position x.journal) e at is.none
 
 module _ (schema : Schema) (sound : IsSound schema) (decides : DecisionLaws) (first : ℕ → Rows) (earlier : List SiteState) where
   -- ---- histories
@@ -296,7 +296,7 @@ module _ (schema : Schema) (sound : IsSound schema) (decides : DecisionLaws) (fi
                 go true is = refl
                 go false is =
                     let le : count + position ≤ least origin = grind (arith, nat_tests) in
-                    absurd (cause_unsettled x origin position number txn e cause
+                    absurd (cause_uncleared x origin position number txn e cause
                     (since.settled name origin x o position (record { found = known.found; master = master; there = sent_it.found; named = named; differ = from_another }) from_one le))
 
             off : has_number x.journal origin (least origin) count (count + position) ≡ false

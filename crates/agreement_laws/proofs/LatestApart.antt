@@ -12,11 +12,11 @@ use Rattle.rep_calls.specs.declared.call.Part.{Part}
 use Rattle.local_txn.specs.Convergent.{is_convergent}
 use Rattle.site_state.specs.declared.entry.Entry.{Entry}
 use Rattle.site_state.specs.State.{SiteState}
-use Rattle.event_laws.specs.Core.{Core, site_of}
+use Rattle.event_laws.specs.Cluster.{Cluster, site_of}
 use Rattle.event_laws.specs.Events.{Event, run}
 use Rattle.event_laws.specs.Starts.{IsNewSite}
 use Rattle.event_laws.specs.Fitting.{StartsFit, IsFitStart}
-use Rattle.event_laws.specs.Waiting.{AreMeshed}
+use Rattle.event_laws.specs.Waiting.{SitesLinkAsDeclared}
 use Rattle.event_laws.proofs.Sites.{found_all, found_name}
 use Rattle.convergence_laws.specs.Beginning.{BaseRowsAreFilled}
 use Rattle.convergence_laws.specs.GroupForms.{form_at, value_of, wins}
@@ -38,7 +38,7 @@ use Rattle.agreement_laws.proofs.Ties.{master_named, pair_split}
 use Rattle.agreement_laws.proofs.Rooted.{IsZeroOrOwn, RowsAreZeroOrOwn, IsRooted, becomes_rooted, first_is_known, part_is_own}
 use Rattle.agreement_laws.proofs.Agreeing.{senders_named, facts_after, stamped, tied_numbers, own_tie}
 
-module _ (lower : Lower) (schema : Schema) (start : Core) (is : IsFitStart schema start) (meshed : AreMeshed schema start.sites) (filled : BaseRowsAreFilled schema start.sites) where
+module _ (lower : Lower) (schema : Schema) (start : Cluster) (is : IsFitStart schema start) (meshed : SitesLinkAsDeclared schema start.sites) (filled : BaseRowsAreFilled schema start.sites) where
   abbrev sites_after : List Event → List SiteState
   sites_after events = (run events start).sites
 

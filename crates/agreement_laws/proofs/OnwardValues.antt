@@ -12,7 +12,7 @@ use Rattle.rep_values.specs.declared.name.SiteName.{SiteName}
 use Rattle.rep_schema.specs.declared.schema.Schema.{Schema}
 use Rattle.rep_schema.specs.Tables.{Cells, Rows, columns_of, key_of, rows_of, RowFits, AreTables}
 use Rattle.rep_schema.specs.Groups.{group_columns_of, group_numbers_of, are_same, group_values, differ_in}
-use Rattle.rep_schema.specs.Putting.{is_unchanged, changes_between, made_all}
+use Rattle.rep_schema.specs.Putting.{is_unchanged, changes_between, after_changes}
 use Rattle.rep_schema.proofs.FoundRows.{found_row, key_of-found}
 use Rattle.rep_schema.proofs.ValuesAt.{are_same-Decides}
 use Rattle.schema_rules.specs.declared.forms.Form.TheVariants as form
@@ -24,7 +24,7 @@ use Rattle.conflict_detect.specs.Fits.{CallFits, table_of}
 use Rattle.conflict_detect.specs.ChangeCalls.{part_between, parts_between, call_between, call_of}
 use Rattle.unique_resolve.specs.Numbers.{Numbers, AreCounters}
 use Rattle.txn_effects.specs.Calls.{Effect, RowEffect, row_named, row_effect, call_effect}
-use Rattle.txn_effects.specs.Transactions.{failing_at, behind, calls_effect}
+use Rattle.txn_effects.specs.Transactions.{failing_at, effect_behind, calls_effect}
 use Rattle.txn_effects.specs.Contents.{Content, IsContent, effect_on}
 use Rattle.txn_effects.proofs.Results.{result_then-Ok}
 use Rattle.txn_effects.proofs.TransactionEffects.{IsApplied-call_effect}
@@ -168,17 +168,17 @@ module _ (schema : Schema) (sound : IsSound schema) (decides : DecisionLaws) (ta
       subst (λ (x : Effect). Among v (made_in schema table key group (map (call_of schema) x.changes))) (sym is) among
   calls_changes_among number (call ∷ calls) tables numbers origin effect are counters fit keep gives v among =
       let some = result_then-Ok (failing_at number (call_effect schema tables numbers origin call))
-      (λ (x : Effect). behind x.changes (calls_effect schema origin (number + 1) calls (made_all schema x.changes tables) x.numbers)) effect gives in
+      (λ (x : Effect). effect_behind x.changes (calls_effect schema origin (number + 1) calls (after_changes schema x.changes tables) x.numbers)) effect gives in
       let one : Effect = some.0 in
       let first = failing_at-Ok number (call_effect schema tables numbers origin call) one some.1 in
       let applied = IsApplied-call_effect schema origin sound.shape (HasKeys-sound schema sound.unbroken sound.shape) (KeysStandAlone-sound schema sound.unbroken) call tables numbers one are counters fit.0 first in
-      let rest = behind-Ok one.changes (calls_effect schema origin (number + 1) calls (made_all schema one.changes tables) one.numbers) effect some.2 in
+      let rest = behind-Ok one.changes (calls_effect schema origin (number + 1) calls (after_changes schema one.changes tables) one.numbers) effect some.2 in
       let here : Among v (made_in schema table key group (map (call_of schema) (one.changes ++ rest.0.changes))) = subst (λ (x : Effect). Among v (made_in schema table key group (map (call_of schema) x.changes))) (sym rest.2) among in
       elim (among_either v (made_in schema table key group (map (call_of schema) one.changes)) (made_in schema table key group (map (call_of schema) rest.0.changes))
       (subst (Among v) (ap (made_in schema table key group) (map-append (call_of schema) one.changes rest.0.changes) ∙ made_in-append schema table key group (map (call_of schema) one.changes) (map (call_of schema) rest.0.changes)) here)) [
         | inl now ↦ among_left v (made call) (made_in schema table key group calls) (call_changes_among call tables numbers origin one are fit.0 keep.0 first v now)
         | inr later ↦ among_right v (made call) (made_in schema table key group calls)
-            (calls_changes_among (number + 1) calls (made_all schema one.changes tables) one.numbers origin rest.0 applied.are applied.counters fit.1 keep.1 rest.1 v later)
+            (calls_changes_among (number + 1) calls (after_changes schema one.changes tables) one.numbers origin rest.0 applied.are applied.counters fit.1 keep.1 rest.1 v later)
       ]
 
   -- what goes onward makes nothing new

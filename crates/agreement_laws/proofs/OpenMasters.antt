@@ -14,8 +14,8 @@ use Rattle.packet_code.specs.declared.packet.Packet.{Packet}
 use Rattle.site_state.specs.State.{SenderState, SiteState, is_master_site, is_among, opened_of}
 use Rattle.site_state.specs.Streams.{count_of}
 use Rattle.site_state.proofs.SchemaSites.{AreApart, are_apart, any_found}
-use Rattle.event_laws.specs.Core.{site_of}
-use Rattle.event_laws.specs.Waiting.{IsFirst}
+use Rattle.event_laws.specs.Cluster.{site_of}
+use Rattle.event_laws.specs.Waiting.{IsFirstNumber}
 use Rattle.event_laws.proofs.Sites.{found_all, found_name}
 use Rattle.event_laws.proofs.DeclaredSites.{IsSiteOf}
 use Rattle.event_laws.proofs.Meeting.{SiteMeets, MeetsAt}
@@ -112,13 +112,13 @@ abbrev pub IsOpenTo : SiteName → SiteState → Type 0
 IsOpenTo site x = (count : ℕ) × (opened_of site x ≡ Some count) × (count ≤ count_of x)
 
 first_among : (sites : List SiteState) (site origin : SiteName) (y : SiteState) (ss : List SenderState) → site_of origin sites ≡ Some y → is_among (map (λ (s : SenderState). s.origin) ss) origin ≡ true
-    → AllByRecursion (λ (s : SenderState). IsFirst (site_of s.origin sites) site s.first) ss → IsOpenTo site y
+    → AllByRecursion (λ (s : SenderState). IsFirstNumber (site_of s.origin sites) site s.first) ss → IsOpenTo site y
 first_among sites site origin y [] found among firsts = cc
 first_among sites site origin y (s ∷ ss) found among firsts = go (is_same_site s.origin origin) refl among (λ later. first_among sites site origin y ss found later firsts.1)
   where
     go : (b : Bool) → is_same_site s.origin origin ≡ b → (b || is_among (map (λ (s : SenderState). s.origin) ss) origin) ≡ true → (is_among (map (λ (s : SenderState). s.origin) ss) origin ≡ true → IsOpenTo site y) → IsOpenTo site y
     go true is among later =
-        let first : IsFirst (Some y) site s.first = rw (is_same_site-true s.origin origin is, found) at firsts.0 in
+        let first : IsFirstNumber (Some y) site s.first = rw (is_same_site-true s.origin origin is, found) at firsts.0 in
         (s.first, first.0, first.1)
     go false is among later = later among
 

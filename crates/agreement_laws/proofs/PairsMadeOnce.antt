@@ -11,7 +11,7 @@ use Rattle.site_state.specs.declared.entry.Entry.TheVariants.{Local, Done, Error
 use Rattle.site_state.specs.State.{SiteState}
 use Rattle.site_state.specs.Contents.{tables_of, txn_of}
 use Rattle.site_state.specs.Fits.{EntryFits}
-use Rattle.event_laws.specs.Core.{Core}
+use Rattle.event_laws.specs.Cluster.{Cluster}
 use Rattle.event_laws.specs.Joins.{copied}
 use Rattle.event_laws.specs.Events.{Event, run, happens}
 use Rattle.event_laws.specs.Starts.{IsNewSite}
@@ -71,7 +71,7 @@ module _ (schema : Schema) (sound : IsSound schema) (rising : StampsOfABlockRise
   becomes_once sites _ (Joins site from source absent found may) same fit fit_after once =
       joined_each IsOnce sites source site (λ x h. h) (new_once source.schema (copied sites source site) (copied_is_new sites source site)) once
 
-  pub run_once : (start : Core) → IsFitStart schema start → (events : List Event) → Each IsOnce (run events start).sites
+  pub run_once : (start : Cluster) → IsFitStart schema start → (events : List Event) → Each IsOnce (run events start).sites
   run_once start is [] = λ name x found. new_once schema x (found_all (IsNewSite schema) name start.sites x is.start.sites found)
   run_once start is (e ∷ es) =
       becomes_once (run es start).sites (happens e (run es start)).sites (happens_becomes e (run es start)) (λ name x found. found_all (IsOfSchema schema) name (run es start).sites x (run_schema schema start es is.start) found)

@@ -16,7 +16,7 @@ use Rattle.site_state.specs.State.{SiteState}
 use Rattle.site_state.specs.Steps.{count_where}
 use Rattle.site_state.specs.Streams.{queue_of}
 use Rattle.site_state.proofs.FittingSites.{one_has}
-use Rattle.event_laws.specs.Core.{Core, site_of}
+use Rattle.event_laws.specs.Cluster.{Cluster, site_of}
 use Rattle.event_laws.specs.Events.{Event, run}
 use Rattle.event_laws.specs.Marks.{journal_in}
 use Rattle.event_laws.specs.Orders.{IsInOrder}
@@ -24,7 +24,7 @@ use Rattle.event_laws.specs.Fitting.{IsFitStart}
 use Rattle.event_laws.specs.Starts.{IsNewSite}
 use Rattle.event_laws.proofs.Sites.{found_all, found_again, found_name, found_changed}
 use Rattle.event_laws.proofs.NewSites.{copied_is_new}
-use Rattle.event_laws.proofs.Holding.{HoldsAt}
+use Rattle.event_laws.proofs.RunInvariants.{HoldsAt}
 use Rattle.event_laws.proofs.MarkLaws.{IsOfSchema, run_schema}
 use Rattle.event_laws.proofs.MarkLaws as marks
 use Rattle.event_laws.proofs.OrderLaws.{earlier_comes_first}
@@ -47,7 +47,7 @@ pub record Lower : Type 0 where
   pub blocks : BlocksKeepForms
   pub rising : StampsOfABlockRise
 
-module _ (test : SiteName → Bool) (lower : Lower) (schema : Schema) (start : Core) (is : IsFitStart schema start)
+module _ (test : SiteName → Bool) (lower : Lower) (schema : Schema) (start : Cluster) (is : IsFitStart schema start)
     (senders : (events : List Event) (name : SiteName) (x : SiteState) → site_of name (run events start).sites ≡ Some x → (origin : SiteName) (position number : ℕ) (txn : Txn) (e : Entry) → Cause x origin position number txn e → test origin ≡ true) where
   abbrev sites_after : List Event → List SiteState
   sites_after events = (run events start).sites

@@ -21,7 +21,7 @@ use Rattle.site_state.specs.Streams.{queue_of, count_of}
 use Rattle.site_state.specs.Joining.{site_open}
 use Rattle.site_state.specs.Packets.{count_opened}
 use Rattle.site_state.proofs.Destinations.{opened_in-other}
-use Rattle.event_laws.specs.Core.{site_of, at_site}
+use Rattle.event_laws.specs.Cluster.{site_of, at_site}
 use Rattle.event_laws.specs.Joins.{copied, may_join, with_joined}
 use Rattle.event_laws.specs.Quiet.{are_quiet}
 use Rattle.event_laws.proofs.Sites.{found_name, found_or, site_of-joined, found_changed, found_other}

@@ -9,7 +9,7 @@ use Rattle.std.proofs.lemmas.Bool.{eqb-true}
 use Rattle.rep_lists.specs.Rising.{find_at}
 use Rattle.rep_values.specs.declared.name.SiteName.{SiteName}
 use Rattle.rep_schema.specs.declared.schema.Schema.{Schema}
-use Rattle.rep_calls.specs.declared.past.Past.{Past}
+use Rattle.rep_calls.specs.declared.past.PastEntry.{PastEntry}
 use Rattle.rep_calls.specs.declared.call.Txn.{Txn}
 use Rattle.rep_laws.specs.Commuting.{IsSound}
 use Rattle.deferred_queue.specs.Streams.{is_same_site}
@@ -18,7 +18,7 @@ use Rattle.packet_code.specs.declared.packet.Packet.{Packet}
 use Rattle.error_queue.specs.declared.entry.ErrorEntry.{ErrorEntry}
 use Rattle.site_state.specs.declared.arrival.Arrival.{Arrival}
 use Rattle.site_state.specs.declared.entry.Entry.{Entry}
-use Rattle.site_state.specs.State.{SenderState, SiteState, is_master_site, sender_of, arrived_in, beside, arrived_at, opened_of}
+use Rattle.site_state.specs.State.{SenderState, SiteState, is_master_site, sender_of, arrived_in, arrival_beside, arrived_at, opened_of}
 use Rattle.site_state.specs.Journal.{finished, error_at}
 use Rattle.site_state.specs.Streams.{queue_of, count_of, stream_in, stream_to}
 use Rattle.site_state.specs.Errors.{errors_from, errors_of}
@@ -27,7 +27,7 @@ use Rattle.site_state.specs.Packets.{count_opened}
 use Rattle.site_state.proofs.Growing.{length-queued_behind}
 use Rattle.site_state.proofs.Stepping.{error_found, found_at}
 use Rattle.site_state.proofs.FittingSites.{arrival_has}
-use Rattle.event_laws.specs.Core.{site_of}
+use Rattle.event_laws.specs.Cluster.{site_of}
 use Rattle.event_laws.specs.Quiet.{is_other_master, last_position_to, last_positions, unquiet_at, is_quiet_at, are_quiet}
 use Rattle.event_laws.proofs.Sites.{found_name}
 use Rattle.event_laws.proofs.Meeting.{SiteMeets, MeetsAt}
@@ -35,7 +35,7 @@ use Rattle.convergence_laws.proofs.Moves.{DecisionLaws}
 use Rattle.convergence_laws.proofs.ConvergentRows.{both_hold}
 use Rattle.agreement_laws.proofs.Reordering.{chosen, chosen-same, above}
 use Rattle.agreement_laws.proofs.OpenMasters.{masters_open}
-use Rattle.agreement_laws.proofs.Applied.{is_applied, IsSettled, error_finished}
+use Rattle.agreement_laws.proofs.Applied.{is_applied, FinishedWithoutError, error_finished}
 use Rattle.agreement_laws.proofs.Families.{masters_of, Are-masters, joined_by, joined_same, queue_in, count_for, count_in, has_number, piece_of, pieces_of}
 use Rattle.agreement_laws.proofs.Facts.{Facts, declared_master}
 use Rattle.agreement_laws.proofs.Since.{AreTwo, IsSince, since_now}
@@ -78,14 +78,14 @@ quiet_at all (s ∷ ss) name x quiet found master = go (is_same_site s.here.site
     go false true is found quiet later = later (both_hold (is_quiet_at all s) (list_all (is_quiet_at all) (filter (λ (x : SiteState). x.here.is_master) ss)) quiet).1 found
     go false false is found quiet later = later quiet found
 
-last_none : (site : SiteName) (x : SiteState) (sites : List SiteState) (name : SiteName) (y : SiteState) → AllByRecursion (λ (last : Past). unfinished_of x last ≡ 0) (map (last_position_to site) (filter (is_other_master site) sites))
+last_none : (site : SiteName) (x : SiteState) (sites : List SiteState) (name : SiteName) (y : SiteState) → AllByRecursion (λ (last : PastEntry). unfinished_of x last ≡ 0) (map (last_position_to site) (filter (is_other_master site) sites))
     → site_of name sites ≡ Some y → is_other_master site y ≡ true → unfinished_of x (last_position_to site y) ≡ 0
 last_none site x [] name y all found other = cc
 last_none site x (s ∷ ss) name y all found other = go (is_same_site s.here.site name) (is_other_master site s) refl found all (λ rest found. last_none site x ss name y rest found other)
   where
     go : (b m : Bool) → is_other_master site s ≡ m → cond b (Some s) (site_of name ss) ≡ Some y
-        → AllByRecursion (λ (last : Past). unfinished_of x last ≡ 0) (map (last_position_to site) (cond m (s ∷ filter (is_other_master site) ss) (filter (is_other_master site) ss)))
-        → (AllByRecursion (λ (last : Past). unfinished_of x last ≡ 0) (map (last_position_to site) (filter (is_other_master site) ss)) → site_of name ss ≡ Some y → unfinished_of x (last_position_to site y) ≡ 0)
+        → AllByRecursion (λ (last : PastEntry). unfinished_of x last ≡ 0) (map (last_position_to site) (cond m (s ∷ filter (is_other_master site) ss) (filter (is_other_master site) ss)))
+        → (AllByRecursion (λ (last : PastEntry). unfinished_of x last ≡ 0) (map (last_position_to site) (filter (is_other_master site) ss)) → site_of name ss ≡ Some y → unfinished_of x (last_position_to site y) ≡ 0)
         → unfinished_of x (last_position_to site y) ≡ 0
     go true true is found all later = let same : s ≡ y = cc in subst (λ (u : SiteState). unfinished_of x (last_position_to site u) ≡ 0) same all.0
     go true false is found all later = let same : s ≡ y = cc in absurd (true≢false (sym other ∙ ap (is_other_master site) (sym same) ∙ is))
@@ -123,10 +123,10 @@ error_queued P journal origin position (s ∷ ss) a e all there at =
     parts : AllByRecursion P (errors_from journal s) × AllByRecursion P (flat_map (errors_from journal) ss)
     parts = of_append P (errors_from journal s) (flat_map (errors_from journal) ss) all
 
-    go : (b : Bool) → is_same_site s.origin origin ≡ b → find_at (beside position) (arrived_in (cond b (Some s) (sender_of origin ss))) ≡ Some a → (arrived_at origin position ss ≡ Some a → P e) → P e
+    go : (b : Bool) → is_same_site s.origin origin ≡ b → find_at (arrival_beside position) (arrived_in (cond b (Some s) (sender_of origin ss))) ≡ Some a → (arrived_at origin position ss ≡ Some a → P e) → P e
     go true is there later =
         let here : (f : ErrorEntry) → error_at s.origin a.position journal ≡ Some f → P f =
-        arrival_has (λ (b : Arrival). (f : ErrorEntry) → error_at s.origin b.position journal ≡ Some f → P f) (beside position) s.arrived a (of_found P journal s.origin s.arrived parts.0) there in
+        arrival_has (λ (b : Arrival). (f : ErrorEntry) → error_at s.origin b.position journal ≡ Some f → P f) (arrival_beside position) s.arrived a (of_found P journal s.origin s.arrived parts.0) there in
         here e (rw (is_same_site-true s.origin origin is, found_at position s.arrived a there) at)
     go false is there later = later there
 
@@ -137,7 +137,7 @@ module _ (schema : Schema) (sound : IsSound schema) (decides : DecisionLaws) (si
   nothing_hinders : unquiet_at sites x ≡ 0
   nothing_hinders = eqb-true (unquiet_at sites x) 0 (quiet_at sites sites name x quiet found master)
 
-  each_finished : AllByRecursion (λ (last : Past). unfinished_of x last ≡ 0) (last_positions x.here.site sites)
+  each_finished : AllByRecursion (λ (last : PastEntry). unfinished_of x last ≡ 0) (last_positions x.here.site sites)
   each_finished = of_map (unfinished_of x) (λ n. n ≡ 0) (last_positions x.here.site sites) (sum_none (λ n. n) (map (unfinished_of x) (last_positions x.here.site sites)) (left (sum (map (unfinished_of x) (last_positions x.here.site sites))) (master_errors x) nothing_hinders))
     where
       left : (a b : ℕ) → a + b ≡ 0 → a ≡ 0
@@ -168,7 +168,7 @@ module _ (schema : Schema) (sound : IsSound schema) (decides : DecisionLaws) (si
               true≢false (sym named ∙ sym (ap (is_master_site schema) own) ∙ sym (ap (λ (s : Schema). is_master_site s e.origin) of_schema) ∙ off)
 
   -- all that another master queued is settled
-  pub all_settled : (origin : SiteName) (o : SiteState) (position : ℕ) → AreTwo schema sites name origin x o → 1 ≤ position → count_for name (Some o) + position ≤ count_of o → IsSettled origin position x.journal
+  pub all_settled : (origin : SiteName) (o : SiteState) (position : ℕ) → AreTwo schema sites name origin x o → 1 ≤ position → count_for name (Some o) + position ≤ count_of o → FinishedWithoutError origin position x.journal
   all_settled origin o position two one le = record { done = done; none = none_stands origin position two.named }
     where
       own : x.here.site ≡ name

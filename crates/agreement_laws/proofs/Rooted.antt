@@ -24,7 +24,7 @@ use Rattle.site_state.specs.declared.entry.Entry.TheVariants.{Local, Done, Error
 use Rattle.site_state.specs.State.{SiteState}
 use Rattle.site_state.specs.Contents.{tables_of, txn_of}
 use Rattle.site_state.specs.Steps.{onward_number}
-use Rattle.event_laws.specs.Core.{site_of}
+use Rattle.event_laws.specs.Cluster.{site_of}
 use Rattle.event_laws.specs.Joins.{copied, may_join}
 use Rattle.event_laws.proofs.Sites.{found_name, found_changed}
 use Rattle.event_laws.proofs.NewSites.{copied_is_new}

@@ -17,7 +17,7 @@ use Rattle.schema_rules.specs.declared.forms.Form.TheVariants as form
 use Rattle.rep_calls.specs.declared.call.Call.{Call}
 use Rattle.rep_calls.specs.declared.call.Part.{Part}
 use Rattle.conflict_detect.proofs.RowAfter.{same_from_groups}
-use Rattle.resolve_methods.specs.SequenceLaws.{number_in, sum_methods, greatest_methods, least_methods}
+use Rattle.resolve_methods.specs.SequenceLaws.{one_group_number, sum_methods, greatest_methods, least_methods}
 use Rattle.local_txn.specs.Convergent.{is_convergent}
 use Rattle.rep_laws.specs.Commuting.{IsSound}
 use Rattle.convergence_laws.specs.GroupForms.{form_at, wins}
@@ -113,7 +113,7 @@ module _ (schema : Schema) (sound : IsSound schema) (decides : DecisionLaws) (ta
       (subst (IsJoin schema (columns group) f (values_at (columns group) first) (parts_in table key group calls)) (sym moved) (IsJoin-moved_by schema (columns group) f (values_at (columns group) first) (parts_in table key group calls)))
       (subst (IsJoin schema (columns group) f (values_at (columns group) first) (parts_in table key group recalls)) (sym removed) (IsJoin-moved_by schema (columns group) f (values_at (columns group) first) (parts_in table key group recalls)))
     where
-      by_number : (numbered : (row : Cells) → RowFits (columns_of schema table) row → (n : ℤ) × (values_at (columns group) row ≡ Num n ∷ [])) → number_in (values_at (columns group) a) ≡ number_in (values_at (columns group) b)
+      by_number : (numbered : (row : Cells) → RowFits (columns_of schema table) row → (n : ℤ) × (values_at (columns group) row ≡ Num n ∷ [])) → one_group_number (values_at (columns group) a) ≡ one_group_number (values_at (columns group) b)
           → values_at (columns group) a ≡ values_at (columns group) b
       by_number numbered same = same_numbers (values_at (columns group) a) (values_at (columns group) b) (numbered a a_fits) (numbered b b_fits) same
 
@@ -132,15 +132,15 @@ module _ (schema : Schema) (sound : IsSound schema) (decides : DecisionLaws) (ta
       go form.Sum has moved removed join rejoin =
           let shape = IsShaped-form_at schema sound table group form.Sum has in
           by_number (λ row fits. one_of_group schema table group shape.0 sum_methods shape.1 (values_at (columns group) row) (RowFits-values_at (columns group) (columns_of schema table) row fits))
-          (join ∙ ap (λ s. number_in (values_at (columns group) first) +ℤ s) (sum_of_moves-reordered (parts_same key group)) ∙ sym rejoin)
+          (join ∙ ap (λ s. one_group_number (values_at (columns group) first) +ℤ s) (sum_of_moves-reordered (parts_same key group)) ∙ sym rejoin)
       go (form.Greatest c) has moved removed join rejoin =
           let one_number = IsShaped-form_at schema sound table group (form.Greatest c) has in
           by_number (λ row fits. one_of_group schema table group c (greatest_methods c) one_number (values_at (columns group) row) (RowFits-values_at (columns group) (columns_of schema table) row fits))
-          (int_tie (number_in (values_at (columns group) a)) (number_in (values_at (columns group) b)) (winners (form.Greatest c) join rejoin).tie)
+          (int_tie (one_group_number (values_at (columns group) a)) (one_group_number (values_at (columns group) b)) (winners (form.Greatest c) join rejoin).tie)
       go (form.Least c) has moved removed join rejoin =
           let one_number = IsShaped-form_at schema sound table group (form.Least c) has in
           by_number (λ row fits. one_of_group schema table group c (least_methods c) one_number (values_at (columns group) row) (RowFits-values_at (columns group) (columns_of schema table) row fits))
-          (sym (int_tie (number_in (values_at (columns group) b)) (number_in (values_at (columns group) a)) (winners (form.Least c) join rejoin).tie))
+          (sym (int_tie (one_group_number (values_at (columns group) b)) (one_group_number (values_at (columns group) a)) (winners (form.Least c) join rejoin).tie))
       go (form.Latest stamp site) has moved removed join rejoin =
           moved ∙ latest_of-reordered schema (columns group) stamp site (values_at (columns group) first) (parts_in table key group calls) (parts_in table key group recalls) (parts_same key group) (tell group stamp site key has) ∙ sym removed
 

@@ -21,7 +21,7 @@ use Rattle.site_state.specs.Steps.{onward_number}
 use Rattle.site_state.specs.Joining.{site_open}
 use Rattle.site_state.specs.Packets.{count_opened}
 use Rattle.site_state.proofs.Destinations.{opened_in-other, opened_in-opened}
-use Rattle.event_laws.specs.Core.{site_of, at_site}
+use Rattle.event_laws.specs.Cluster.{site_of, at_site}
 use Rattle.event_laws.specs.Joins.{copied, with_joined, may_join}
 use Rattle.event_laws.specs.Marks.{journal_in}
 use Rattle.event_laws.proofs.NewSites.{copied_is_new, copied_here}
@@ -32,7 +32,7 @@ use Rattle.agreement_laws.specs.Agreement.{drops_of_master, NothingWasDroppedSin
 use Rattle.agreement_laws.proofs.Turns.{Turn, Same, Own, Did, Left, Renewed, Becomes, Stays, Turns, Joins}
 use Rattle.agreement_laws.proofs.SitesAt.{IsThere, is_there, WasThere, was_there, turn_frame, Entered, Nothing, One, turn_enters, WasJoined, Old, New, was_joined, found_opened, found_joined}
 use Rattle.agreement_laws.proofs.Growing.{HaveAll, becomes_all, now_all}
-use Rattle.agreement_laws.proofs.Applied.{is_applied, IsSettled, settled_more, applied_more}
+use Rattle.agreement_laws.proofs.Applied.{is_applied, FinishedWithoutError, without_error_more, applied_more}
 use Rattle.agreement_laws.proofs.Told.{queue-did, queue-left}
 use Rattle.agreement_laws.proofs.OpenMasters.{masters_open}
 use Rattle.agreement_laws.proofs.Families.{count_for, count_in, finished_sent, sent_number}
@@ -75,9 +75,9 @@ module _ (schema : Schema) where
     pub have : HaveAll earlier sites
     pub queued : (name : SiteName) (x : SiteState) → site_of name sites ≡ Some x → x.here.is_master ≡ true → count_in (site_of name earlier) ≤ count_of x
     pub settled : (name origin : SiteName) (x o : SiteState) (position : ℕ) → AreTwo sites name origin x o → 1 ≤ position → count_for name (Some o) + position ≤ count_in (site_of origin earlier)
-        → IsSettled origin position x.journal
+        → FinishedWithoutError origin position x.journal
     pub applied : (name origin : SiteName) (x o : SiteState) (position : ℕ) → AreTwo sites name origin x o → count_in (site_of origin earlier) < count_for name (Some o) + position
-        → IsSettled origin position x.journal → is_applied origin x.journal position ≡ true
+        → FinishedWithoutError origin position x.journal → is_applied origin x.journal position ≡ true
 
   some_none : {X : Type 0} (x : X) → Some x ≡ None → ⊥
   some_none x e = cc
@@ -113,7 +113,7 @@ module _ (schema : Schema) where
   module _ (sound : IsSound schema) (decides : DecisionLaws) where
     -- so it is with the sites as they are, where masters have settled all
     pub since_now : (sites : List SiteState) (sent : List Packet) → Facts schema sound decides sites sent
-        → ((name origin : SiteName) (x o : SiteState) (position : ℕ) → AreTwo sites name origin x o → 1 ≤ position → count_for name (Some o) + position ≤ count_of o → IsSettled origin position x.journal)
+        → ((name origin : SiteName) (x o : SiteState) (position : ℕ) → AreTwo sites name origin x o → 1 ≤ position → count_for name (Some o) + position ≤ count_of o → FinishedWithoutError origin position x.journal)
         → IsSince sites sites
     since_now sites sent facts settled = record {
       have = now_all sites;
@@ -168,12 +168,12 @@ module _ (schema : Schema) where
           up : (a b c : ℕ) → a ≤ b → b ≤ c → a ≤ c
           up a b c le more = omega (arith, le, more)
 
-          go_on : {x : SiteState} {journal : List Entry} → Entered x journal → (origin : SiteName) (position : ℕ) → IsSettled origin position x.journal → IsSettled origin position journal
+          go_on : {x : SiteState} {journal : List Entry} → Entered x journal → (origin : SiteName) (position : ℕ) → FinishedWithoutError origin position x.journal → FinishedWithoutError origin position journal
           go_on Nothing origin position is = is
-          go_on {x} (One e follows) origin position is = settled_more x e follows origin position is
+          go_on {x} (One e follows) origin position is = without_error_more x e follows origin position is
 
           apply_on : (name : SiteName) (y : SiteState) (found : site_of name others ≡ Some y) → y.here.is_master ≡ true → {journal : List Entry} → Entered (was name y found).site journal → y.journal ≡ journal → (origin : SiteName) (position : ℕ)
-              → is_master_site schema origin ≡ true → (IsSettled origin position (was name y found).site.journal → is_applied origin (was name y found).site.journal position ≡ true) → IsSettled origin position journal
+              → is_master_site schema origin ≡ true → (FinishedWithoutError origin position (was name y found).site.journal → is_applied origin (was name y found).site.journal position ≡ true) → FinishedWithoutError origin position journal
               → is_applied origin journal position ≡ true
           apply_on name y found master Nothing same origin position named before is = before is
           apply_on name y found master (One e follows) same origin position named before is =
@@ -223,7 +223,7 @@ module _ (schema : Schema) where
       none_in = ap count_in no_site
 
       settled_on : (name origin : SiteName) (y p : SiteState) (position : ℕ) → WasJoined sites source site name y → WasJoined sites source site origin p → AreTwo joins name origin y p → 1 ≤ position
-          → count_for name (Some p) + position ≤ count_in (site_of origin earlier) → IsSettled origin position y.journal
+          → count_for name (Some p) + position ≤ count_in (site_of origin earlier) → FinishedWithoutError origin position y.journal
       settled_on name origin _ _ position (Old x found) (Old o at) two one le =
           since.settled name origin x o position (record { found = found; master = two.master; there = at; named = two.named; differ = two.differ }) one
           (subst (λ c. count_opened c + position ≤ count_in (site_of origin earlier)) (opened_in-other name site (count_of o) o.destinations (other_name name x found)) le)
@@ -242,7 +242,7 @@ module _ (schema : Schema) where
           nothing c p k one le none = omega (arith, one, le, none)
 
       applied_on : (name origin : SiteName) (y p : SiteState) (position : ℕ) → WasJoined sites source site name y → WasJoined sites source site origin p → AreTwo joins name origin y p
-          → count_in (site_of origin earlier) < count_for name (Some p) + position → IsSettled origin position y.journal → is_applied origin y.journal position ≡ true
+          → count_in (site_of origin earlier) < count_for name (Some p) + position → FinishedWithoutError origin position y.journal → is_applied origin y.journal position ≡ true
       applied_on name origin _ _ position (Old x found) (Old o at) two beyond is =
           since.applied name origin x o position (record { found = found; master = two.master; there = at; named = two.named; differ = two.differ })
           (subst (λ c. count_in (site_of origin earlier) < count_opened c + position) (opened_in-other name site (count_of o) o.destinations (other_name name x found)) beyond) is

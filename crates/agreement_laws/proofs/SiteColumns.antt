@@ -19,7 +19,7 @@ use Rattle.schema_rules.specs.declared.forms.Form.TheVariants as form
 use Rattle.schema_rules.specs.Forms.{is_additive, is_discard, latest_column, extreme_of, own_column, latest_by, latest_form, form_by}
 use Rattle.schema_rules.specs.KeyRules.{is_off_the_key}
 use Rattle.schema_rules.specs.MethodRules.{is_one_number, site_column}
-use Rattle.schema_rules.proofs.SoundRules.{IsSound-unbroken}
+use Rattle.schema_rules.proofs.SoundRules.{KeepsAllRules-unbroken}
 use Rattle.rep_laws.specs.Commuting.{IsSound}
 use Rattle.convergence_laws.specs.GroupForms.{form_at}
 use Rattle.convergence_laws.proofs.FormShapes.{form_at-named, passes}
@@ -102,7 +102,7 @@ module _ (schema : Schema) (sound : IsSound schema) (table group stamp own : ℕ
           go : (entry : Option TableEntry) → slice_get schema.tables table ≡ entry → slice_get (groups_in entry) group ≡ Some g → is_off_the_key (columns_of schema table) g ≡ true
           go None at found = cc
           go (Some entry) at found = rw at (passes (is_off_the_key entry.columns) entry.groups group g
-              (passes (λ (t : TableEntry). list_all (is_off_the_key t.columns) t.groups) schema.tables table entry ((IsSound-unbroken schema).1 sound.unbroken).grouped_apart at) found)
+              (passes (λ (t : TableEntry). list_all (is_off_the_key t.columns) t.groups) schema.tables table entry ((KeepsAllRules-unbroken schema).1 sound.unbroken).grouped_apart at) found)
 
       off_key : not (is_key_at (columns_of schema table) own) ≡ true
       off_key = passes_at (λ place. not (is_key_at (columns_of schema table) place)) named.0.columns own (off named.0 named.1) site.place

@@ -9,7 +9,7 @@ use Rattle.site_state.specs.State.{SiteState}
 use Rattle.site_state.specs.Contents.{tables_of}
 use Rattle.site_state.specs.Making.{master_here}
 use Rattle.site_state.specs.Joining.{site_open, site_copy}
-use Rattle.event_laws.specs.Core.{site_of, at_site}
+use Rattle.event_laws.specs.Cluster.{site_of, at_site}
 use Rattle.event_laws.specs.Joins.{queue_counts, copied, with_joined}
 use Rattle.event_laws.proofs.Sites.{KeepsHere, at_split, found_changed, found_other, found_or, site_of-joined, found_all}
 use Rattle.event_laws.proofs.NewSites.{open_to_each_keeps, copied_here}

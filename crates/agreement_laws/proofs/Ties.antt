@@ -20,7 +20,7 @@ use Rattle.rep_schema.specs.Named.{is_site, site_named}
 use Rattle.rep_schema.specs.Sites.{sends_to, names_of, senders_of, senders_to}
 use Rattle.rep_schema.specs.Tables.{Cells}
 use Rattle.schema_rules.specs.ConvergentRules.{share_a_level}
-use Rattle.schema_rules.proofs.SoundRules.{IsSound-unbroken}
+use Rattle.schema_rules.proofs.SoundRules.{KeepsAllRules-unbroken}
 use Rattle.resolve_methods.specs.Ranks.{site_found, site_level_of}
 use Rattle.rep_laws.specs.Commuting.{IsSound}
 use Rattle.deferred_queue.proofs.Sites.{is_same_site-true}
@@ -137,7 +137,7 @@ all_levelled schema sound table convergent = (levels.0, unlike (share_a_level sc
 
     levels : (list_all (λ (e : SiteEntry). is_some e.level) schema.sites ≡ true) × (not (share_a_level schema.sites) ≡ true)
     levels = both_hold (list_all (λ (e : SiteEntry). is_some e.level) schema.sites) (not (share_a_level schema.sites))
-        (tested (list_any (λ (t : TableEntry). t.convergent) schema.tables) (list_all (λ (e : SiteEntry). is_some e.level) schema.sites && not (share_a_level schema.sites)) some_table ((IsSound-unbroken schema).1 sound.unbroken).levelled)
+        (tested (list_any (λ (t : TableEntry). t.convergent) schema.tables) (list_all (λ (e : SiteEntry). is_some e.level) schema.sites && not (share_a_level schema.sites)) some_table ((KeepsAllRules-unbroken schema).1 sound.unbroken).levelled)
 
 -- two declared sites of one level are one
 pub same_level : (schema : Schema) → IsSound schema → (table : ℕ) → is_convergent schema table ≡ true → (one other : SiteName) → is_named schema one ≡ true → is_named schema other ≡ true

@@ -28,12 +28,12 @@ use Rattle.site_state.specs.Joining.{site_open}
 use Rattle.site_state.specs.Steps.{onward_number}
 use Rattle.site_state.proofs.Growing.{queue_after-rebased}
 use Rattle.site_state.proofs.Stepping.{IsTaken, is_position-true, arrived_has}
-use Rattle.event_laws.specs.Core.{site_of, at_site}
+use Rattle.event_laws.specs.Cluster.{site_of, at_site}
 use Rattle.event_laws.specs.Joins.{with_joined}
 use Rattle.event_laws.specs.Orders.{FollowsIn, IsInOrder}
 use Rattle.event_laws.specs.Fitting.{FitsHere}
 use Rattle.event_laws.proofs.Sites.{found_name, found_changed, found_other}
-use Rattle.event_laws.proofs.Holding.{SentBy, SiteHolds}
+use Rattle.event_laws.proofs.RunInvariants.{SentBy, SiteHolds}
 use Rattle.event_laws.proofs.MarkLaws.{arrived_was_sent}
 use Rattle.convergence_laws.specs.GroupForms.{form_at, TxnKeepsForms}
 use Rattle.convergence_laws.specs.Journals.{IsSoundTxn}

@@ -28,7 +28,7 @@ use Rattle.site_state.specs.Errors.{effect_of_error, executed_by, executed_found
 use Rattle.site_state.specs.Purges.{site_purge, site_purge_log}
 use Rattle.site_state.proofs.Destinations.{opened_in-acknowledged}
 use Rattle.site_state.proofs.Stepping.{IsTaken, MayFollow, arrived_has, error_found}
-use Rattle.event_laws.specs.Core.{Core, site_of, at_site}
+use Rattle.event_laws.specs.Cluster.{Cluster, site_of, at_site}
 use Rattle.event_laws.specs.Joins.{may_join, with_joined, joined_by, joined}
 use Rattle.event_laws.specs.Events.{Event, Commit, SetClock, Send, SendMark, Deliver, Begin, Apply, Execute, Drop, Purge, PurgeLog, Refresh, Join, receiver, delivered, may_apply, applied_where, refreshed, happens}
 use Rattle.event_laws.proofs.Happening.{IsRefreshed, refreshed_is}
@@ -176,7 +176,7 @@ joined_becomes sites site source = go (site_of site sites) refl (site_of source 
     go None is (Some x) found = by x is found (may_join sites x site) refl
 
 -- every event is one of these
-pub happens_becomes : (e : Event) (w : Core) → Becomes w.sites (happens e w).sites
+pub happens_becomes : (e : Event) (w : Cluster) → Becomes w.sites (happens e w).sites
 happens_becomes (Commit site statements) w = Turns site _ (commit_turns statements)
 happens_becomes (SetClock site clock) w = Turns site (site_clock clock) (λ x. plain x _ refl refl refl refl refl refl)
 happens_becomes (Send from to position) w = Stays

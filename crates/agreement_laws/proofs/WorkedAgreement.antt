@@ -28,13 +28,13 @@ use Rattle.site_state.specs.Contents.{tables_of}
 use Rattle.site_state.specs.Steps.{count_where}
 use Rattle.site_state.specs.Making.{master_here, new_site}
 use Rattle.site_state.proofs.WorkedSites.{a, b, n, of_calls}
-use Rattle.event_laws.specs.Core.{Core, site_of}
+use Rattle.event_laws.specs.Cluster.{Cluster, site_of}
 use Rattle.event_laws.specs.Events.{Event, Commit, Send, Deliver, Begin, Apply, run}
 use Rattle.event_laws.specs.Marks.{journal_in}
 use Rattle.event_laws.specs.Quiet.{are_quiet}
 use Rattle.event_laws.proofs.Sites.{found_all}
 use Rattle.convergence_laws.specs.GroupForms.{form_at}
-use Rattle.agreement_laws.specs.Beginning.{BeginAlike}
+use Rattle.agreement_laws.specs.Beginning.{RowsBeginAlike}
 use Rattle.agreement_laws.specs.Pairs.{made_in, own_calls, pair_in, has_pair}
 use Rattle.agreement_laws.specs.Agreement.{drops_of_master, NothingWasDropped, NothingWasDroppedSince}
 
@@ -108,10 +108,10 @@ made_once = refl
 abbrev base : List Rows
 base = ((Words a.0 ∷ values (codes "x") 0 a) ∷ []) ∷ []
 
-abbrev start : Core
+abbrev start : Cluster
 start = record { sites = new_site schema (master_here schema a) [] [] base ∷ new_site schema (master_here schema b) [] [] base ∷ []; sent = []; begun = [] }
 
-begins_alike : BeginAlike schema start
+begins_alike : RowsBeginAlike schema start
 begins_alike one other x y table found there master other_master convergent = base_of one x table found ∙ sym (base_of other y table there)
   where
     base_of : (name : SiteName) (x : SiteState) (table : ℕ) → site_of name start.sites ≡ Some x → rows_of x.base table ≡ rows_of base table
@@ -148,7 +148,7 @@ drop_is_over site x newer found master grown = go newer (sym (found_all (λ (y :
 
 -- ---- masters that begin unlike
 
-abbrev unlike : Core
+abbrev unlike : Cluster
 unlike = record {
   sites = new_site schema (master_here schema a) [] [] base ∷ new_site schema (master_here schema b) [] [] (((Words a.0 ∷ values (codes "y") 0 a) ∷ []) ∷ []) ∷ [];
   sent = [];
@@ -156,7 +156,7 @@ unlike = record {
 }
 
 -- the rows at a site
-abbrev rows_at : SiteName → Core → Option Rows
+abbrev rows_at : SiteName → Cluster → Option Rows
 rows_at site w = option_map (λ (x : SiteState). rows_of (tables_of x) 0) (site_of site w.sites)
 
 first_at_a : rows_at a unlike ≡ Some ((Words a.0 ∷ values (codes "x") 0 a) ∷ [])
@@ -169,7 +169,7 @@ first_at_b = refl
 abbrev change : Event
 change = Commit a (statement.Update (record { 0 = codes "T" }) (literal.Words a.0 ∷ []) (record { column = codes "W"; how = To (literal.Words (codes "z")) } ∷ []) ∷ [])
 
-abbrev after_a_change : Core
+abbrev after_a_change : Cluster
 after_a_change = run (Apply b a 1 ∷ Begin b ∷ Deliver 0 ∷ Send a b 1 ∷ change ∷ []) unlike
 
 -- so that they are quiet and agree, as they never did

@@ -9,13 +9,13 @@ use Rattle.site_state.specs.declared.entry.Entry.{Entry}
 use Rattle.site_state.specs.declared.entry.Entry.TheVariants.{Local, Done, Error, Executed, Dropped, Refreshed}
 use Rattle.site_state.specs.State.{SiteState, is_master_site}
 use Rattle.site_state.specs.Contents.{tables_of}
-use Rattle.event_laws.specs.Core.{Core, site_of}
+use Rattle.event_laws.specs.Cluster.{Cluster, site_of}
 use Rattle.event_laws.specs.Events.{Event, run}
 use Rattle.event_laws.specs.Fitting.{IsFitStart}
 use Rattle.event_laws.specs.Marks.{journal_in}
 use Rattle.event_laws.specs.Quiet.{are_quiet}
-use Rattle.event_laws.specs.Waiting.{AreMeshed}
-use Rattle.agreement_laws.specs.Beginning.{BeginAlike}
+use Rattle.event_laws.specs.Waiting.{SitesLinkAsDeclared}
+use Rattle.agreement_laws.specs.Beginning.{RowsBeginAlike}
 
 -- an entry drops the error of a master's transaction
 abbrev pub drops_of_master : Schema → Entry → Bool
@@ -43,14 +43,14 @@ MastersAgree schema sites = (one other : SiteName) (x y : SiteState) (table : �
 
 -- whatever happened, where all masters are quiet and nothing was dropped, they agree
 abbrev pub QuietMastersAgree : Type 0
-QuietMastersAgree = (schema : Schema) (start : Core) (events : List Event) → IsFitStart schema start → AreMeshed schema start.sites
-    → BeginAlike schema start → are_quiet (run events start).sites ≡ true → NothingWasDropped schema (run events start).sites
+QuietMastersAgree = (schema : Schema) (start : Cluster) (events : List Event) → IsFitStart schema start → SitesLinkAsDeclared schema start.sites
+    → RowsBeginAlike schema start → are_quiet (run events start).sites ≡ true → NothingWasDropped schema (run events start).sites
     → MastersAgree schema (run events start).sites
 
 -- whatever had happened, where all masters were quiet and agreed, they agree again where they are quiet and nothing was
 -- dropped since
 abbrev pub QuietMastersAgreeAgain : Type 0
-QuietMastersAgreeAgain = (schema : Schema) (start : Core) (events more : List Event) → IsFitStart schema start → AreMeshed schema start.sites
+QuietMastersAgreeAgain = (schema : Schema) (start : Cluster) (events more : List Event) → IsFitStart schema start → SitesLinkAsDeclared schema start.sites
     → are_quiet (run events start).sites ≡ true → MastersAgree schema (run events start).sites
     → are_quiet (run more (run events start)).sites ≡ true → NothingWasDroppedSince schema (run events start).sites (run more (run events start)).sites
     → MastersAgree schema (run more (run events start)).sites

@@ -5,7 +5,7 @@ use Rattle.rep_schema.specs.declared.schema.Schema.{Schema}
 use Rattle.site_state.specs.declared.entry.Entry.{Entry}
 use Rattle.site_state.specs.State.{SiteState}
 use Rattle.site_state.specs.Contents.{tables_of}
-use Rattle.event_laws.specs.Core.{Core, site_of}
+use Rattle.event_laws.specs.Cluster.{Cluster, site_of}
 use Rattle.event_laws.specs.Events.{Event, run}
 use Rattle.event_laws.specs.Fitting.{IsFitStart}
 use Rattle.convergence_laws.specs.Laws.{AreJoined}
@@ -19,6 +19,6 @@ pub record IsJoinedSince (schema : Schema) (earlier later : SiteState) : Type 0 
 
 -- so it is with a master after any events, and after any more
 abbrev pub GroupsAreJoinedBetween : Type 0
-GroupsAreJoinedBetween = (schema : Schema) (start : Core) (events more : List Event) → IsFitStart schema start → (site : SiteName) (earlier later : SiteState)
+GroupsAreJoinedBetween = (schema : Schema) (start : Cluster) (events more : List Event) → IsFitStart schema start → (site : SiteName) (earlier later : SiteState)
     → site_of site (run events start).sites ≡ Some earlier → site_of site (run more (run events start)).sites ≡ Some later
     → later.here.is_master ≡ true → IsJoinedSince schema earlier later

@@ -16,7 +16,7 @@ use Rattle.site_state.specs.declared.entry.Entry.TheVariants.{Local, Done, Error
 use Rattle.site_state.specs.State.{SiteState}
 use Rattle.site_state.specs.Steps.{count_where}
 use Rattle.site_state.specs.Streams.{queue_of}
-use Rattle.event_laws.specs.Core.{Core, site_of}
+use Rattle.event_laws.specs.Cluster.{Cluster, site_of}
 use Rattle.event_laws.specs.Events.{Event, run}
 use Rattle.event_laws.specs.Fitting.{IsFitStart}
 use Rattle.convergence_laws.specs.GroupForms.{form_at, value_of}
@@ -74,13 +74,13 @@ AreMadeOnce schema site low high calls = (table group stamp own : ℕ) (key pair
 
 -- after every list of events each site has made each pair at most once, with its own name and a stamp from 1 to its last one
 abbrev pub PairsAreMadeOnce : Type 0
-PairsAreMadeOnce = (schema : Schema) (start : Core) (events : List Event) → IsFitStart schema start
+PairsAreMadeOnce = (schema : Schema) (start : Cluster) (events : List Event) → IsFitStart schema start
     → (site : SiteName) (x : SiteState) → site_of site (run events start).sites ≡ Some x → AreMadeOnce schema x.here.site 0 x.stamps.last (own_calls x.journal)
 
 -- and in all that two masters queued, the changed rows of snapshot sites' transactions among it, one pair of a group of a row
 -- stands for one list of values
 abbrev pub PairsTellValues : Type 0
-PairsTellValues = (schema : Schema) (start : Core) (events : List Event) → IsFitStart schema start
+PairsTellValues = (schema : Schema) (start : Cluster) (events : List Event) → IsFitStart schema start
     → (one other : SiteName) (x y : SiteState) → site_of one (run events start).sites ≡ Some x → site_of other (run events start).sites ≡ Some y
     → x.here.is_master ≡ true → y.here.is_master ≡ true
     → (table group stamp own : ℕ) (key v w : Cells) → is_convergent schema table ≡ true → form_at schema table group ≡ Some (form.Latest stamp own)

@@ -1,12 +1,12 @@
 //! What was seen, in words: `past ORIGIN NUMBER ..`, and no word where it is of no master.
 
 use crate::{CaseStop, Words, push_name};
-use rep_calls::Past;
+use rep_calls::PastEntry;
 use rep_lists::{Items, NoMemory};
 use std::alloc::Global;
 
 /// The masters and their numbers, up to the end of the line.
-fn read_masters(alloc: Global, words: &mut Words) -> Result<Items<Past>, CaseStop> {
+fn read_masters(alloc: Global, words: &mut Words) -> Result<Items<PastEntry>, CaseStop> {
     let mut past = Vec::new(alloc);
     for _ in 0..u64::MAX {
         if words.is_done() {
@@ -14,13 +14,13 @@ fn read_masters(alloc: Global, words: &mut Words) -> Result<Items<Past>, CaseSto
         }
         let origin = words.site()?;
         let number = words.whole()?;
-        past.push(Past { origin, number })?;
+        past.push(PastEntry { origin, number })?;
     }
     Ok(Items::from_vec(past))
 }
 
 /// What was seen, up to the end of the line.
-pub fn read_past(alloc: Global, words: &mut Words) -> Result<Items<Past>, CaseStop> {
+pub fn read_past(alloc: Global, words: &mut Words) -> Result<Items<PastEntry>, CaseStop> {
     if words.is_done() {
         return Ok(Items::new(alloc));
     }
@@ -31,7 +31,7 @@ pub fn read_past(alloc: Global, words: &mut Words) -> Result<Items<Past>, CaseSt
 }
 
 /// A space, and what was seen.
-pub fn push_past(out: &mut String, alloc: Global, past: &[Past]) -> Result<(), NoMemory> {
+pub fn push_past(out: &mut String, alloc: Global, past: &[PastEntry]) -> Result<(), NoMemory> {
     if past.is_empty() {
         return Ok(());
     }

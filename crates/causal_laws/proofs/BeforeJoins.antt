@@ -21,7 +21,7 @@ use Rattle.site_state.specs.Packets.{count_opened}
 use Rattle.site_state.specs.Joining.{site_open}
 use Rattle.site_state.specs.Making.{is_late_master}
 use Rattle.site_state.proofs.Destinations.{opened_in-opened}
-use Rattle.event_laws.specs.Core.{site_of}
+use Rattle.event_laws.specs.Cluster.{site_of}
 use Rattle.event_laws.specs.Joins.{with_joined, may_join, joined}
 use Rattle.event_laws.specs.Events.{Event, Join, run, happens}
 use Rattle.event_laws.specs.Marks.{journal_in}
@@ -42,13 +42,13 @@ use Rattle.agreement_laws.proofs.SitesAt as joined_sites
 use Rattle.agreement_laws.proofs.Since.{AreTwo}
 use Rattle.agreement_laws.proofs.QuietPieces.{all_settled}
 use Rattle.agreement_laws.proofs.Agreeing.{facts_after}
-use Rattle.agreement_laws.proofs.Applied.{IsSettled}
+use Rattle.agreement_laws.proofs.Applied.{FinishedWithoutError}
 use Rattle.excuse_laws.proofs.Joining.{copied_tables}
 use Rattle.excuse_laws.proofs.Moving.{Moves}
 use Rattle.excuse_laws.proofs.Turning.{Turns}
 use Rattle.excuse_laws.proofs.Turning as turning
 use Rattle.excuse_laws.proofs.Running.{keeps}
-use Rattle.excuse_laws.proofs.InsertSigns.{inserts_counted}
+use Rattle.excuse_laws.proofs.InsertWrites.{inserts_counted}
 use Rattle.causal_laws.specs.LostInserts.{was_dropped, stands_or_was_dropped, insert_was_dropped, of_source, dropped_before}
 use Rattle.causal_laws.proofs.JoinEvents.{is_no_join, Kind, Plain, Joining, kind, JoinLeaves, Nothing, OneMore, join_leaves, still_absent, no_source}
 use Rattle.causal_laws.proofs.Outcomes.{ExecuteTheirOwn, executions_are_own, became, dropped_there}
@@ -208,7 +208,7 @@ module _ (g : Setting) where
             two : AreTwo g.schema (After events) from owner source o
             two = record { found = source_found; master = source_on; there = made.there; named = is.declared; differ = λ same. apart (sym same) }
 
-            settled : IsSettled owner q source.journal
+            settled : FinishedWithoutError owner q source.journal
             settled = all_settled g.schema g.fit.sound g.decides (After events) (run events g.start).sent
                 (facts_after (record { decides = g.decides; blocks = g.blocks; rising = g.rises }) g.schema g.start g.fit g.meshed events)
                 (quiet_now may) from source source_found (well g events from source source_found).of_schema source_on owner o q two (omega (arith, less))

@@ -13,7 +13,7 @@ use Rattle.rep_lists.specs.Rising.{find_at, put_at}
 use Rattle.rep_lists.proofs.FoundByKey.{find_put_other}
 use Rattle.rep_values.specs.declared.name.SiteName.{SiteName}
 use Rattle.rep_schema.specs.declared.schema.Schema.{Schema}
-use Rattle.rep_calls.specs.declared.past.Past.{Past}
+use Rattle.rep_calls.specs.declared.past.PastEntry.{PastEntry}
 use Rattle.rep_calls.specs.declared.call.Txn.{Txn}
 use Rattle.deferred_queue.specs.Streams.{is_same_site}
 use Rattle.deferred_queue.proofs.Sites.{is_same_site-true}
@@ -22,25 +22,25 @@ use Rattle.packet_code.specs.declared.packet.Packet.TheVariants.{Carry, Mark}
 use Rattle.site_state.specs.declared.arrival.Arrival.{Arrival}
 use Rattle.site_state.specs.declared.entry.Entry.{Entry}
 use Rattle.site_state.specs.declared.entry.Entry.TheVariants.{Local, Done, Error, Executed, Dropped, Refreshed}
-use Rattle.site_state.specs.State.{SenderState, SiteState, sender_of, at_sender, arrived_in, first_in, beside, arrived_at}
+use Rattle.site_state.specs.State.{SenderState, SiteState, sender_of, at_sender, arrived_in, first_in, arrival_beside, arrived_at}
 use Rattle.site_state.specs.Journal.{is_position, finished, low_water}
-use Rattle.site_state.specs.Ready.{number_in, covered, is_covered, is_due}
+use Rattle.site_state.specs.Ready.{arrival_number, covered, is_covered, is_due}
 use Rattle.site_state.specs.Packets.{with_arrival, arrived_by, taken_unless, is_foreign, site_accept}
 use Rattle.site_state.specs.Purges.{site_purge}
 use Rattle.site_state.specs.Fits.{FinishedHaveArrived}
 use Rattle.site_state.proofs.LowWater.{low_water-below}
 use Rattle.site_state.proofs.Stepping.{MayFollow, IsTaken, with_entry, Steps, arrived_has, is_position-true}
 use Rattle.site_state.proofs.Changing.{accept_later}
-use Rattle.event_laws.specs.Core.{Core, site_of}
+use Rattle.event_laws.specs.Cluster.{Cluster, site_of}
 use Rattle.event_laws.specs.Joins.{copied}
 use Rattle.event_laws.specs.Events.{Event, run, receiver}
 use Rattle.event_laws.specs.Starts.{IsNewSite, IsStart}
-use Rattle.event_laws.specs.Waiting.{IsFirst, AreMeshed}
+use Rattle.event_laws.specs.Waiting.{IsFirstNumber, SitesLinkAsDeclared}
 use Rattle.event_laws.proofs.Sites.{found_all}
 use Rattle.event_laws.proofs.Happening.{IsRefreshed, Becomes, here-IsRefreshed, happens_becomes}
 use Rattle.event_laws.proofs.Happening as happening
 use Rattle.event_laws.proofs.NewSites.{copied_is_new}
-use Rattle.event_laws.proofs.Holding.{SentBy, SiteHolds, HoldsAt}
+use Rattle.event_laws.proofs.RunInvariants.{SentBy, SiteHolds, HoldsAt}
 use Rattle.event_laws.proofs.MarkLaws.{arrived_was_sent}
 use Rattle.event_laws.proofs.Meeting.{SiteMeets, MeetsAt}
 use Rattle.event_laws.proofs.Waiting.{AreMet, run_met, first_of_sender}
@@ -52,7 +52,7 @@ use Rattle.agreement_laws.proofs.SitesAt.{Each, at_each, joined_each}
 -- where a position is finished, all that the sender had seen of other sites before it is finished
 abbrev pub PastIn : SiteName → List SenderState → List Entry → Type 0
 PastIn here senders journal = (origin : SiteName) (p : ℕ) (a : Arrival) → finished origin journal p ≡ true → arrived_at origin p senders ≡ Some a
-    → (seen : Past) → Among seen a.past → seen.origin ≢ here → (q : ℕ) → 0 < q → q + first_in (sender_of seen.origin senders) ≤ seen.number → finished seen.origin journal q ≡ true
+    → (seen : PastEntry) → Among seen a.past → seen.origin ≢ here → (q : ℕ) → 0 < q → q + first_in (sender_of seen.origin senders) ≤ seen.number → finished seen.origin journal q ≡ true
 
 abbrev pub PastIsFinished : SiteState → Type 0
 PastIsFinished x = PastIn x.here.site x.senders x.journal
@@ -70,7 +70,7 @@ all_among {X} p (y ∷ ys) x all among = go (p y) refl all among (all_among p ys
 
 module _ (sites : List SiteState) (site : SiteName) (x : SiteState) (held : SiteHolds sites site x) (meets : SiteMeets sites site x) where
   -- what is covered is finished
-  covered_finished : (seen : Past) → seen.number ≤ covered seen.origin x → (q : ℕ) → 0 < q → q + first_in (sender_of seen.origin x.senders) ≤ seen.number → finished seen.origin x.journal q ≡ true
+  covered_finished : (seen : PastEntry) → seen.number ≤ covered seen.origin x → (q : ℕ) → 0 < q → q + first_in (sender_of seen.origin x.senders) ≤ seen.number → finished seen.origin x.journal q ≡ true
   covered_finished seen within q some up_to = go (low_water seen.origin x.journal) refl (low_water seen.origin x.journal == 0) refl within
     where
       low : ℕ
@@ -81,7 +81,7 @@ module _ (sites : List SiteState) (site : SiteName) (x : SiteState) (held : Site
       at_mark b there None is le = let none : arrived_at seen.origin low x.senders ≡ None = rw is refl in absurd (cc (none, there))
       at_mark b there (Some s) is le = by (site_of seen.origin sites) refl (arrived_was_sent sites site seen.origin x.senders low b held.senders there) (first_of_sender sites site seen.origin x.senders s meets.firsts is)
         where
-          by : (o : Option SiteState) → site_of seen.origin sites ≡ o → SentBy o site b.number b.position b.dep b.txn → IsFirst o site s.first → q ≤ low
+          by : (o : Option SiteState) → site_of seen.origin sites ≡ o → SentBy o site b.number b.position b.dep b.txn → IsFirstNumber o site s.first → q ≤ low
           by None at sent first = absurd sent
           by (Some o) at sent first =
               let same : sent.count ≡ s.first = cc (sent.opened, first.0) in
@@ -89,21 +89,21 @@ module _ (sites : List SiteState) (site : SiteName) (x : SiteState) (held : Site
               let firsts : first_in (sender_of seen.origin x.senders) ≡ s.first = rw is refl in
               omega (arith, sent.number_is, same, place, firsts, le, up_to)
 
-      found : (b : Option Arrival) → arrived_at seen.origin low x.senders ≡ b → seen.number ≤ number_in b → q ≤ low
+      found : (b : Option Arrival) → arrived_at seen.origin low x.senders ≡ b → seen.number ≤ arrival_number b → q ≤ low
       found None there le = absurd (omega (arith, le, up_to, some))
       found (Some b) there le = at_mark b there (sender_of seen.origin x.senders) refl le
 
-      go : (n : ℕ) → low ≡ n → (b : Bool) → (n == 0) ≡ b → seen.number ≤ cond (n == 0) (first_in (sender_of seen.origin x.senders)) (number_in (find_at (beside n) (arrived_in (sender_of seen.origin x.senders)))) → finished seen.origin x.journal q ≡ true
+      go : (n : ℕ) → low ≡ n → (b : Bool) → (n == 0) ≡ b → seen.number ≤ cond (n == 0) (first_in (sender_of seen.origin x.senders)) (arrival_number (find_at (arrival_beside n) (arrived_in (sender_of seen.origin x.senders)))) → finished seen.origin x.journal q ≡ true
       go n same true none le =
           let short : seen.number ≤ first_in (sender_of seen.origin x.senders) = rw none at le in
           absurd (omega (arith, short, up_to, some))
       go n same false above le =
-          let long : seen.number ≤ number_in (find_at (beside n) (arrived_in (sender_of seen.origin x.senders))) = rw above at le in
+          let long : seen.number ≤ arrival_number (find_at (arrival_beside n) (arrived_in (sender_of seen.origin x.senders))) = rw above at le in
           low_water-below seen.origin x.journal q some
-          (found (arrived_at seen.origin low x.senders) refl (subst (λ (m : ℕ). seen.number ≤ number_in (find_at (beside m) (arrived_in (sender_of seen.origin x.senders)))) (sym same) long))
+          (found (arrived_at seen.origin low x.senders) refl (subst (λ (m : ℕ). seen.number ≤ arrival_number (find_at (arrival_beside m) (arrived_in (sender_of seen.origin x.senders)))) (sym same) long))
 
   -- so is all that was seen before what is due
-  pub due_finished : (origin : SiteName) (a : Arrival) → is_due origin x a ≡ true → (seen : Past) → Among seen a.past → seen.origin ≢ x.here.site
+  pub due_finished : (origin : SiteName) (a : Arrival) → is_due origin x a ≡ true → (seen : PastEntry) → Among seen a.past → seen.origin ≢ x.here.site
       → (q : ℕ) → 0 < q → q + first_in (sender_of seen.origin x.senders) ≤ seen.number → finished seen.origin x.journal q ≡ true
   due_finished origin a due seen among apart q some up_to =
       go (is_same_site seen.origin x.here.site) refl (all_among (is_covered x) a.past seen (and_parts (nat_le a.dep (low_water origin x.journal)) (list_all (is_covered x) a.past) due).1 among)
@@ -147,18 +147,18 @@ first_put origin from a (s ∷ ss) = go (is_same_site s.origin from) (is_same_si
     go false true is later = rw is refl
     go false false is later = rw is later
 
-find_put_same : (a : Arrival) (p : ℕ) (xs : List Arrival) → find_at (beside a.position) xs ≡ None → find_at (beside p) xs ≢ None → find_at (beside p) (put_at (beside a.position) a xs) ≡ find_at (beside p) xs
+find_put_same : (a : Arrival) (p : ℕ) (xs : List Arrival) → find_at (arrival_beside a.position) xs ≡ None → find_at (arrival_beside p) xs ≢ None → find_at (arrival_beside p) (put_at (arrival_beside a.position) a xs) ≡ find_at (arrival_beside p) xs
 find_put_same a p xs none there = go (nat_cmp a.position p) refl
   where
     Goal : Type 0
-    Goal = find_at (beside p) (put_at (beside a.position) a xs) ≡ find_at (beside p) xs
+    Goal = find_at (arrival_beside p) (put_at (arrival_beside a.position) a xs) ≡ find_at (arrival_beside p) xs
 
     other : nat_cmp a.position p ≢ Equal → Goal
     other off = find_put_other (λ (a : Arrival). a.position) nat_cmp nat_cmp_total a p xs off
 
     go : (o : Ordering) → nat_cmp a.position p ≡ o → Goal
     go Less is = other (λ e. absurd (cc (e, is)))
-    go Equal is = absurd (there (subst (λ q. find_at (beside q) xs ≡ None) (exact_unsigned a.position p is) none))
+    go Equal is = absurd (there (subst (λ q. find_at (arrival_beside q) xs ≡ None) (exact_unsigned a.position p is) none))
     go Greater is = other (λ e. absurd (cc (e, is)))
 
 -- what had arrived at a position is the same
@@ -167,10 +167,10 @@ arrived_put : (origin from : SiteName) (p : ℕ) (a : Arrival) (ss : List Sender
 arrived_put origin from p a [] none there = refl
 arrived_put origin from p a (s ∷ ss) none there = go (is_same_site s.origin from) refl (is_same_site s.origin origin) refl none there (arrived_put origin from p a ss)
   where
-    go : (b : Bool) → is_same_site s.origin from ≡ b → (c : Bool) → is_same_site s.origin origin ≡ c → find_at (beside a.position) (arrived_in (cond b (Some s) (sender_of from ss))) ≡ None
-        → find_at (beside p) (arrived_in (cond c (Some s) (sender_of origin ss))) ≢ None
+    go : (b : Bool) → is_same_site s.origin from ≡ b → (c : Bool) → is_same_site s.origin origin ≡ c → find_at (arrival_beside a.position) (arrived_in (cond b (Some s) (sender_of from ss))) ≡ None
+        → find_at (arrival_beside p) (arrived_in (cond c (Some s) (sender_of origin ss))) ≢ None
         → (arrived_at from a.position ss ≡ None → arrived_at origin p ss ≢ None → arrived_at origin p (at_sender from (with_arrival a) ss) ≡ arrived_at origin p ss)
-        → find_at (beside p) (arrived_in (sender_of origin (cond b (with_arrival a s ∷ ss) (s ∷ at_sender from (with_arrival a) ss)))) ≡ find_at (beside p) (arrived_in (cond c (Some s) (sender_of origin ss)))
+        → find_at (arrival_beside p) (arrived_in (sender_of origin (cond b (with_arrival a s ∷ ss) (s ∷ at_sender from (with_arrival a) ss)))) ≡ find_at (arrival_beside p) (arrived_in (cond c (Some s) (sender_of origin ss)))
     go true own true is none there later = rw is (find_put_same a p s.arrived none there)
     go true own false is none there later = rw is refl
     go false own true is none there later = rw is refl
@@ -225,7 +225,7 @@ module _ (schema : Schema) where
       nothing_past x none origin p a done = absurd (cc (done, none))
 
 -- after every list of events, at each site
-pub past_is_finished : (schema : Schema) (start : Core) → IsStart schema start → AreMeshed schema start.sites → (events : List Event) → Each PastIsFinished (run events start).sites
+pub past_is_finished : (schema : Schema) (start : Cluster) → IsStart schema start → SitesLinkAsDeclared schema start.sites → (events : List Event) → Each PastIsFinished (run events start).sites
 past_is_finished schema start is meshed [] = λ name x found origin p a done. nothing x (found_all (IsNewSite schema) name start.sites x is.sites found).journal origin p done
   where
     nothing : (x : SiteState) → x.journal ≡ [] → (origin : SiteName) (p : ℕ) → finished origin x.journal p ≡ true → {A : Type 0} → A

@@ -12,7 +12,7 @@ use Rattle.site_state.specs.Errors.{site_execute, site_drop}
 use Rattle.site_state.specs.Purges.{site_purge, site_purge_log}
 use Rattle.site_state.proofs.Stepping.{commit_steps, apply_steps, execute_steps, drop_steps}
 use Rattle.site_state.proofs.Changing.{accept_later}
-use Rattle.event_laws.specs.Core.{Core, site_of, at_site}
+use Rattle.event_laws.specs.Cluster.{Cluster, site_of, at_site}
 use Rattle.event_laws.specs.Joins.{with_joined, may_join, joined_by, joined}
 use Rattle.event_laws.specs.Events.{Event, Commit, SetClock, Send, SendMark, Deliver, Begin, Apply, Execute, Drop, Purge, PurgeLog, Refresh, Join, happens, delivered, receiver, may_apply, applied_where, refreshed}
 use Rattle.event_laws.proofs.Sites.{KeepsHere, at_split}
@@ -67,7 +67,7 @@ none_at : (name site : SiteName) (change : SiteState → SiteState) (sites : Lis
 none_at name site change sites here none = at_split (λ (o : Option SiteState). o ≡ None) site name change sites here (λ same. ap (option_map change) none) none
 
 -- a site that isn't there comes by a join alone
-pub still_absent : (e : Event) (w : Core) (name : SiteName) → is_no_join e ≡ true → site_of name w.sites ≡ None → site_of name (happens e w).sites ≡ None
+pub still_absent : (e : Event) (w : Cluster) (name : SiteName) → is_no_join e ≡ true → site_of name w.sites ≡ None → site_of name (happens e w).sites ≡ None
 still_absent (Commit site statements) w name plain none = none_at name site (site_commit statements) w.sites (λ x. (commit_steps statements x).here) none
 still_absent (SetClock site clock) w name plain none = none_at name site (site_clock clock) w.sites (λ x. refl) none
 still_absent (Send from to position) w name plain none = none

@@ -4,7 +4,7 @@ use Rattle.std.specs.Prelude.{◌⊎◌, ◌||◌, Option, nat_lt}
 use Rattle.std.proofs.lemmas.Bool.{or_left, or_right}
 use Rattle.std.proofs.lemmas.Bool.Decides.{nat_tests}
 use Rattle.rep_values.specs.declared.name.SiteName.{SiteName}
-use Rattle.rep_calls.specs.declared.past.Past.{Past}
+use Rattle.rep_calls.specs.declared.past.PastEntry.{PastEntry}
 use Rattle.rep_calls.specs.declared.call.Txn.{Txn}
 use Rattle.deferred_queue.specs.Streams.{at_position}
 use Rattle.deferred_queue.proofs.Positions.{at_position-within, found_position}
@@ -13,11 +13,11 @@ use Rattle.site_state.specs.Journal.{finished}
 use Rattle.site_state.specs.Streams.{queue_of, stream_in, stream_to, shares}
 use Rattle.site_state.specs.Pasts.{pasts_of}
 use Rattle.site_state.specs.Packets.{count_opened}
-use Rattle.event_laws.specs.Core.{site_of}
+use Rattle.event_laws.specs.Cluster.{site_of}
 use Rattle.event_laws.specs.Events.{Event, run}
 use Rattle.event_laws.specs.Marks.{journal_in}
 use Rattle.event_laws.specs.Orders.{IsInOrder}
-use Rattle.event_laws.specs.Waiting.{IsFirst}
+use Rattle.event_laws.specs.Waiting.{IsFirstNumber}
 use Rattle.event_laws.proofs.Sites.{found_all, found_name}
 use Rattle.event_laws.proofs.DeclaredSites.{IsSiteOf}
 use Rattle.event_laws.proofs.OrderLaws.{earlier_comes_first}
@@ -53,7 +53,7 @@ module _ (g : Setting) where
     pub there : site_of o.here.site (After events) ≡ Some o
     pub sent : at_position position (stream_to site o) ≡ Some txn
     pub earlier : (p : ℕ) (t : Txn) → p < position → at_position p (stream_to site o) ≡ Some t → shares g.schema txn t ≡ true → finished o.here.site x.journal p ≡ true
-    pub seen : (past : List Past) → at_position (count_opened (opened_of site o) + position) (pasts_of o) ≡ Some past → (s : Past) → Among s past → s.origin ≢ x.here.site
+    pub seen : (past : List PastEntry) → at_position (count_opened (opened_of site o) + position) (pasts_of o) ≡ Some past → (s : PastEntry) → Among s past → s.origin ≢ x.here.site
         → (q : ℕ) → 0 < q → q + first_in (sender_of s.origin x.senders) ≤ s.number → finished s.origin x.journal q ≡ true
 
   -- a position of a stream is a number of the queue
@@ -76,7 +76,7 @@ module _ (g : Setting) where
     named = found_name site (After events) x tried.found
 
     -- the insert stands in its owner's queue at a number
-    module _ (past : List Past) (past_at : at_position n (pasts_of o) ≡ Some past) (need : NeedIsMet g (After events) o n past) (h : SiteState) (m : ℕ) (u : Txn) (made : Made g (After events) h m u) where
+    module _ (past : List PastEntry) (past_at : at_position n (pasts_of o) ≡ Some past) (need : NeedIsMet g (After events) o n past) (h : SiteState) (m : ℕ) (u : Txn) (made : Made g (After events) h m u) where
       is : IsOwner g (After events) h
       is = made_owner g events h m u made
 
@@ -122,11 +122,11 @@ module _ (g : Setting) where
               among : is_among (map (λ (s : SenderState). s.origin) x.senders) owner ≡ true
               among = rw of.declared.senders (masters_send g.schema g.meshed.declared.shape x.here.site owner declared is.declared (λ same. apart (sym named ∙ sym same)))
 
-              first : (f : SenderState) × (sender_of owner x.senders ≡ Some f) × IsFirst (site_of owner (After events)) site f.first
+              first : (f : SenderState) × (sender_of owner x.senders ≡ Some f) × IsFirstNumber (site_of owner (After events)) site f.first
               first = first_found (After events) site owner x.senders among (meets_at g.schema (After events) (run events g.start).sent met site x tried.found).firsts
 
-              is_first : IsFirst (Some h) site first.0.first
-              is_first = subst (λ (v : Option SiteState). IsFirst v site first.0.first) made.there first.2
+              is_first : IsFirstNumber (Some h) site first.0.first
+              is_first = subst (λ (v : Option SiteState). IsFirstNumber v site first.0.first) made.there first.2
 
               same : first.0.first ≡ wide.0
               same = cc (is_first.0, wide.1)
@@ -161,7 +161,7 @@ module _ (g : Setting) where
         place : (1 ≤ n) × (n ≤ length (queue_of o))
         place = found_position n (queue_of o) txn in_queue
 
-        go : (past : Option (List Past)) → at_position n (pasts_of o) ≡ past → IsLost
+        go : (past : Option (List PastEntry)) → at_position n (pasts_of o) ≡ past → IsLost
         go None none = absurd (at_position-within n (pasts_of o) place.0 (omega (arith, place.1, as_many g o)) none)
         go (Some past) at =
             let need = needs_are_met g events o.here.site o tried.there o_on n txn past in_queue at needs in

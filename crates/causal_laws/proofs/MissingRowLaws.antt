@@ -20,7 +20,7 @@ use Rattle.site_state.specs.Journal.{error_at}
 use Rattle.site_state.specs.Contents.{content_of}
 use Rattle.site_state.specs.Streams.{stream_to}
 use Rattle.site_state.proofs.Stepping.{IsTaken, with_entry, error_found}
-use Rattle.event_laws.specs.Core.{site_of}
+use Rattle.event_laws.specs.Cluster.{site_of}
 use Rattle.event_laws.specs.Events.{Event, run}
 use Rattle.event_laws.specs.Orders.{IsInOrder}
 use Rattle.event_laws.specs.Starts.{IsNewSite}

@@ -8,7 +8,7 @@ use Rattle.rep_schema.specs.declared.schema.Schema.{Schema}
 use Rattle.rep_schema.specs.declared.check.Check.{Check}
 use Rattle.rep_schema.specs.Tables.{Cells, Rows, columns_of, find_row, rows_of}
 use Rattle.rep_schema.specs.Checks.{failed_check}
-use Rattle.rep_schema.specs.Putting.{changes_between, made_all}
+use Rattle.rep_schema.specs.Putting.{changes_between, after_changes}
 use Rattle.rep_calls.specs.declared.call.Call.{Call}
 use Rattle.rep_calls.specs.declared.call.Call.TheVariants.{Insert, Update, Delete}
 use Rattle.rep_calls.specs.declared.call.Txn.{Txn}
@@ -28,10 +28,10 @@ use Rattle.site_state.specs.declared.entry.Entry.{Entry}
 use Rattle.site_state.specs.State.{SiteState}
 use Rattle.site_state.specs.Contents.{content_of, tables_of}
 use Rattle.site_state.specs.Streams.{stream_to}
-use Rattle.event_laws.specs.Core.{Core, site_of}
+use Rattle.event_laws.specs.Cluster.{Cluster, site_of}
 use Rattle.event_laws.specs.Events.{Event}
 use Rattle.event_laws.specs.Fitting.{IsFitStart}
-use Rattle.event_laws.specs.Waiting.{AreMeshed}
+use Rattle.event_laws.specs.Waiting.{SitesLinkAsDeclared}
 use Rattle.convergence_laws.specs.Faults.{Tells, is_insert}
 use Rattle.convergence_laws.specs.Joins.{inserts_in}
 use Rattle.convergence_laws.specs.Journals.{IsSoundTxn}
@@ -40,7 +40,7 @@ use Rattle.convergence_laws.proofs.Moves.{DecisionLaws}
 use Rattle.convergence_laws.proofs.CallsCome.{calls_come}
 use Rattle.convergence_laws.proofs.Faults.{convergent_calls_fail_so}
 use Rattle.excuse_laws.proofs.Failing.{FailsBehind, fails_behind, call_found}
-use Rattle.excuse_laws.proofs.SignsStep.{IsWell, sent_holds}
+use Rattle.excuse_laws.proofs.WritesStep.{IsWell, sent_holds}
 use Rattle.excuse_laws.proofs.Running.{sites_after, well_after}
 use Rattle.causal_laws.specs.Laws.{KeysAreShared}
 use Rattle.causal_laws.specs.LostInserts.{insert_is_lost, dropped_before, NoRowIsOfALostInsert}
@@ -81,9 +81,9 @@ pub record Beginning : Type 0 where
   pub decides : DecisionLaws
   pub rises : StampsOfABlockRise
   pub blocks : BlocksKeepForms
-  pub start : Core
+  pub start : Cluster
   pub fit : IsFitStart schema start
-  pub meshed : AreMeshed schema start.sites
+  pub meshed : SitesLinkAsDeclared schema start.sites
   pub shared : KeysAreShared schema start.sites
 
 abbrev pub setting : (r : Beginning) (table : ℕ) → is_convergent r.schema table ≡ true → Cells → Setting
@@ -132,9 +132,9 @@ module _ (r : Beginning) where
         → (insert_is_lost r.schema (table_of f.call) (key_named r.schema f.call) x.journal || dropped_before r.schema (table_of f.call) (key_named r.schema f.call) events r.start site) ≡ true
     lost_row no_row convergent = go o.here.is_master refl
       where
-        told : row_named r.schema (made_all r.schema f.effect.changes (tables_of x)) f.call ≡ None
-        told = subst (Tells r.schema f.call (row_named r.schema (made_all r.schema f.effect.changes (tables_of x)) f.call)) no_row
-            (convergent_calls_fail_so r.decides r.schema (made_all r.schema f.effect.changes (tables_of x)) f.effect.numbers o.here.site f.call failure.error r.fit.sound f.are f.fits f.keeps convergent f.fails)
+        told : row_named r.schema (after_changes r.schema f.effect.changes (tables_of x)) f.call ≡ None
+        told = subst (Tells r.schema f.call (row_named r.schema (after_changes r.schema f.effect.changes (tables_of x)) f.call)) no_row
+            (convergent_calls_fail_so r.decides r.schema (after_changes r.schema f.effect.changes (tables_of x)) f.effect.numbers o.here.site f.call failure.error r.fit.sound f.are f.fits f.keeps convergent f.fails)
 
         none : (find_row (columns_of r.schema (table_of f.call)) (key_named r.schema f.call) (rows_of (tables_of x) (table_of f.call)) ≡ None) × (inserts_in r.schema (table_of f.call) (key_named r.schema f.call) f.done ≡ [])
         none =
@@ -150,7 +150,7 @@ module _ (r : Beginning) where
           whole = f.whole;
           on = refl;
           names = refl;
-          plain = is_plain r.schema (made_all r.schema f.effect.changes (tables_of x)) f.effect.numbers o.here.site f.call (f.fails ∙ ap (λ (w : ApplyError). Err w) no_row);
+          plain = is_plain r.schema (after_changes r.schema f.effect.changes (tables_of x)) f.effect.numbers o.here.site f.call (f.fails ∙ ap (λ (w : ApplyError). Err w) no_row);
           none = none.1;
         }
 

@@ -10,7 +10,7 @@ use Rattle.rep_schema.specs.declared.schema.Schema.{Schema}
 use Rattle.rep_schema.specs.declared.change.Change.{Change}
 use Rattle.rep_schema.specs.Tables.{Cells, Rows, columns_of, key_of, find_row, rows_of, AreTables}
 use Rattle.rep_schema.specs.Groups.{are_same}
-use Rattle.rep_schema.specs.Putting.{changes_between, made_all}
+use Rattle.rep_schema.specs.Putting.{changes_between, after_changes}
 use Rattle.rep_schema.proofs.ValuesAt.{are_same-Decides}
 use Rattle.rep_calls.specs.declared.call.Call.{Call}
 use Rattle.rep_calls.specs.declared.call.Call.TheVariants.{Insert, Update, Delete}
@@ -18,7 +18,7 @@ use Rattle.rep_calls.specs.declared.call.Txn.{Txn}
 use Rattle.conflict_detect.specs.Fits.{CallFits, table_of}
 use Rattle.unique_resolve.specs.Numbers.{Numbers, AreCounters}
 use Rattle.txn_effects.specs.Calls.{Effect, RowEffect, key_named, row_named, row_effect, call_effect}
-use Rattle.txn_effects.specs.Transactions.{failing_at, behind, calls_effect}
+use Rattle.txn_effects.specs.Transactions.{failing_at, effect_behind, calls_effect}
 use Rattle.txn_effects.specs.Contents.{Content, IsContent, effect_on}
 use Rattle.txn_effects.proofs.Results.{result_then-Ok}
 use Rattle.txn_effects.proofs.TransactionEffects.{IsApplied-call_effect, IsApplied-txn_effect}
@@ -85,24 +85,24 @@ module _ (schema : Schema) (sound : IsSound schema) (decides : DecisionLaws) (ta
       → table_of call ≡ table → key_named schema call ≡ key → is_insert call ≡ false → inserts_in schema table key done ≡ [] → row_of tables ≡ None → ⊥
   needs_on number [] call rest tables numbers effect are counters fit keep gives on names plain inserts none =
       let some = result_then-Ok (failing_at number (call_effect schema tables numbers origin call))
-      (λ (x : Effect). behind x.changes (calls_effect schema origin (number + 1) rest (made_all schema x.changes tables) x.numbers)) effect gives in
+      (λ (x : Effect). effect_behind x.changes (calls_effect schema origin (number + 1) rest (after_changes schema x.changes tables) x.numbers)) effect gives in
       call_needs call tables numbers some.0 (failing_at-Ok number (call_effect schema tables numbers origin call) some.0 some.1) on names plain none
   needs_on number (d ∷ ds) call rest tables numbers effect are counters fit keep gives on names plain inserts none =
       let some = result_then-Ok (failing_at number (call_effect schema tables numbers origin d))
-      (λ (x : Effect). behind x.changes (calls_effect schema origin (number + 1) (ds ++ call ∷ rest) (made_all schema x.changes tables) x.numbers)) effect gives in
+      (λ (x : Effect). effect_behind x.changes (calls_effect schema origin (number + 1) (ds ++ call ∷ rest) (after_changes schema x.changes tables) x.numbers)) effect gives in
       let one : Effect = some.0 in
       let first = failing_at-Ok number (call_effect schema tables numbers origin d) one some.1 in
       let applied = IsApplied-call_effect schema origin sound.shape (HasKeys-sound schema sound.unbroken sound.shape) (KeysStandAlone-sound schema sound.unbroken) d tables numbers one are counters fit.0 first in
-      let later = behind-Ok one.changes (calls_effect schema origin (number + 1) (ds ++ call ∷ rest) (made_all schema one.changes tables) one.numbers) effect some.2 in
+      let later = behind-Ok one.changes (calls_effect schema origin (number + 1) (ds ++ call ∷ rest) (after_changes schema one.changes tables) one.numbers) effect some.2 in
       let parts = front_none (inserts_for schema table key d) (inserts_in schema table key ds) inserts in
-      needs_on (number + 1) ds call rest (made_all schema one.changes tables) one.numbers later.0 applied.are applied.counters fit.1 keep.1 later.1 on names plain parts.1
+      needs_on (number + 1) ds call rest (after_changes schema one.changes tables) one.numbers later.0 applied.are applied.counters fit.1 keep.1 later.1 on names plain parts.1
       (still_none one first parts.0)
     where
-      still_none : (one : Effect) → call_effect schema tables numbers origin d ≡ Ok one → inserts_for schema table key d ≡ [] → row_of (made_all schema one.changes tables) ≡ None
+      still_none : (one : Effect) → call_effect schema tables numbers origin d ≡ Ok one → inserts_for schema table key d ≡ [] → row_of (after_changes schema one.changes tables) ≡ None
       still_none one first none_inserted =
           let came = calls_come schema sound decides table 0 convergent key number (d ∷ []) tables numbers origin (record { changes = one.changes ++ []; numbers = one.numbers }) are counters (fit.0, tt) (keep.0, tt)
           (rw first refl) in
-          subst (λ (cs : List Change). row_of (made_all schema cs tables) ≡ None) (append-nil one.changes) (came.absent (rw (none, none_inserted) refl))
+          subst (λ (cs : List Change). row_of (after_changes schema cs tables) ≡ None) (append-nil one.changes) (came.absent (rw (none, none_inserted) refl))
 
   -- a transaction that succeeds finds there what it needs
   pub needs_row : (txn : Txn) (content : Content) (effect : Effect) → IsContent schema content → IsSoundTxn schema txn → effect_on schema origin txn content ≡ Ok effect → Needs schema table key txn
@@ -117,7 +117,7 @@ module _ (schema : Schema) (sound : IsSound schema) (decides : DecisionLaws) (ta
       → effect_on schema origin (txn_of schema effect.changes) content ≡ Ok (record { changes = effect.changes; numbers = content.numbers })
   onward_gives txn content effect is txn_sound gives =
       let applied = IsApplied-txn_effect schema origin txn content.tables content.numbers effect (CanApply-IsContent schema sound origin txn txn_sound.fits content is) gives in
-      calls_effect-own schema origin content.numbers 1 effect.changes content.tables (made_all schema effect.changes content.tables) sound.shape is.tables applied.leads applied.differ applied.checked
+      calls_effect-own schema origin content.numbers 1 effect.changes content.tables (after_changes schema effect.changes content.tables) sound.shape is.tables applied.leads applied.differ applied.checked
 
 -- ---- tokens
 

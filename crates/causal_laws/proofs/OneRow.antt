@@ -20,22 +20,22 @@ use Rattle.site_state.specs.declared.entry.Entry.{Entry}
 use Rattle.site_state.specs.State.{SiteState, is_master_site}
 use Rattle.site_state.specs.Contents.{content_of, tables_of, txn_of, journal_content}
 use Rattle.site_state.specs.Streams.{with_one, queue_of}
-use Rattle.event_laws.specs.Core.{Core, site_of}
+use Rattle.event_laws.specs.Cluster.{Cluster, site_of}
 use Rattle.event_laws.specs.Events.{Event}
 use Rattle.event_laws.specs.Starts.{IsNewSite}
 use Rattle.event_laws.specs.Fitting.{IsFitStart}
-use Rattle.event_laws.specs.Waiting.{AreMeshed}
+use Rattle.event_laws.specs.Waiting.{SitesLinkAsDeclared}
 use Rattle.event_laws.proofs.Sites.{found_all, found_name, found_again}
 use Rattle.convergence_laws.specs.Journals.{IsSoundTxn}
 use Rattle.convergence_laws.specs.Laws.{BlocksKeepForms}
 use Rattle.convergence_laws.proofs.Moves.{DecisionLaws}
 use Rattle.convergence_laws.proofs.SitesKeepForms.{position_has}
-use Rattle.excuse_laws.proofs.Signs.{Sign, signs_in, signs_of, signs_queued}
-use Rattle.excuse_laws.proofs.Signing.{Comes, IsSettled, SettledBy, IsSigned}
-use Rattle.excuse_laws.proofs.InsertSigns.{insert_sign}
+use Rattle.excuse_laws.proofs.OneTimeWrites.{OneTimeWrite, writes_in, signs_of, signs_queued}
+use Rattle.excuse_laws.proofs.WritingOnce.{Comes, IsDecided, DecidedBy, IsSigned}
+use Rattle.excuse_laws.proofs.InsertWrites.{insert_sign}
 use Rattle.excuse_laws.proofs.Moving.{Moves, Commits, Applies}
 use Rattle.excuse_laws.proofs.Turning.{Turns}
-use Rattle.excuse_laws.proofs.SignsStep.{IsWell, step_of, sent_holds}
+use Rattle.excuse_laws.proofs.WritesStep.{IsWell, step_of, sent_holds}
 use Rattle.excuse_laws.proofs.Running.{sites_after, well_after, signed_after, queued_after, turns}
 use Rattle.causal_laws.specs.Laws.{KeysAreShared}
 use Rattle.causal_laws.proofs.QueueNumbers.{sign_stands, still_stands}
@@ -108,9 +108,9 @@ pub record Setting : Type 0 where
   pub decides : DecisionLaws
   pub rises : StampsOfABlockRise
   pub blocks : BlocksKeepForms
-  pub start : Core
+  pub start : Cluster
   pub fit : IsFitStart schema start
-  pub meshed : AreMeshed schema start.sites
+  pub meshed : SitesLinkAsDeclared schema start.sites
   pub shared : KeysAreShared schema start.sites
   pub table : ℕ
   pub convergent : is_convergent schema table ≡ true
@@ -120,7 +120,7 @@ module _ (g : Setting) where
   abbrev pub Sites : List Event → List SiteState
   Sites events = sites_after g.schema g.decides g.rises g.blocks g.start g.fit g.meshed events
 
-  abbrev pub sign : Sign g.schema
+  abbrev pub sign : OneTimeWrite g.schema
   sign = insert_sign g.schema g.fit.sound g.decides g.blocks g.table g.convergent g.key
 
   abbrev pub row_of : List Rows → Option Cells
@@ -146,13 +146,13 @@ module _ (g : Setting) where
   has_first site other y z found z_found on there none =
       there (ap row_of (new_base site y found) ∙ g.shared site other y z g.table g.key found z_found on g.convergent (ap row_of (sym (new_base other z z_found)) ∙ none))
 
-  begins : (site : SiteName) (y : SiteState) → site_of site g.start.sites ≡ Some y → y.here.is_master ≡ true → sign.Present y.base → IsSettled g.schema sign g.start.sites
+  begins : (site : SiteName) (y : SiteState) → site_of site g.start.sites ≡ Some y → y.here.is_master ≡ true → sign.Present y.base → IsDecided g.schema sign g.start.sites
   begins site y found on there = go (site_of sign.owner g.start.sites) refl
     where
       has : (other : SiteName) (z : SiteState) → site_of other g.start.sites ≡ Some z → z.here.is_master ≡ true → sign.Present (tables_of z)
       has other z z_found z_on = has_first site other y z found z_found z_on (λ none. there (ap row_of (sym (new_base site y found)) ∙ none))
 
-      go : (owner : Option SiteState) → site_of sign.owner g.start.sites ≡ owner → SettledBy g.schema sign g.start.sites owner
+      go : (owner : Option SiteState) → site_of sign.owner g.start.sites ≡ owner → DecidedBy g.schema sign g.start.sites owner
       go None absent = has
       go (Some z) at = has sign.owner z at
 
@@ -199,7 +199,7 @@ module _ (g : Setting) where
       declared : is_master_site g.schema sign.owner ≡ true
       declared = position_has OfAMaster stands.0 (queue_of o) stands.1 (all_of_masters events site o found) stands.2 stands.3
 
-      comes : Comes g.schema sign (Sites events) o × IsSettled g.schema sign (Sites events)
+      comes : Comes g.schema sign (Sites events) o × IsDecided g.schema sign (Sites events)
       comes = (signed events).comes site o found some
 
       named : o.here.site ≡ sign.owner
@@ -217,7 +217,7 @@ module _ (g : Setting) where
       on = (well events site o found).master ∙ ap (is_master_site g.schema) named ∙ declared
 
       already : o.here.is_master ≡ true → Has o
-      already = subst (SettledBy g.schema sign (Sites events)) there comes.1
+      already = subst (DecidedBy g.schema sign (Sites events)) there comes.1
 
   -- ---- what becomes of it
 
@@ -228,7 +228,7 @@ module _ (g : Setting) where
 
   -- a site that has it makes nothing more of it
   pub makes_no_more : (events : List Event) (site : SiteName) (x : SiteState) (statements : List Statement) (block : BlockEffect) → site_of site (Sites events) ≡ Some x → Has x
-      → local_effect g.schema x.here x.stamps statements (tables_of x) ≡ Ok block → 1 ≤ signs_in sign.count (map (call_of g.schema) block.changes) → ⊥
+      → local_effect g.schema x.here x.stamps statements (tables_of x) ≡ Ok block → 1 ≤ writes_in sign.count (map (call_of g.schema) block.changes) → ⊥
   makes_no_more events site x statements block found has makes some =
       (sign.makes x.here x.stamps statements (tables_of x) block (well events site x found).content.tables makes).fresh some (λ on. has)
 

@@ -16,7 +16,7 @@ use Rattle.site_state.specs.State.{SiteState}
 use Rattle.site_state.specs.Journal.{is_position, finished, error_at}
 use Rattle.site_state.specs.Streams.{stream_to}
 use Rattle.site_state.proofs.Stepping.{is_position-true}
-use Rattle.event_laws.specs.Core.{Core, site_of}
+use Rattle.event_laws.specs.Cluster.{Cluster, site_of}
 use Rattle.event_laws.specs.Events.{Event, run}
 use Rattle.event_laws.specs.Orders.{IsInOrder}
 use Rattle.event_laws.specs.Starts.{IsNewSite, IsStart}
@@ -70,7 +70,7 @@ becomes_own sites _ (Joins site from source absent found may) all =
     joined_each (λ x. ExecuteTheirOwn x.journal) sites source site (λ x own. own) (rw (copied_is_new sites source site).journal tt) all
 
 -- after every list of events, at each site
-pub executions_are_own : (schema : Schema) (start : Core) → IsStart schema start → (events : List Event) → Each (λ x. ExecuteTheirOwn x.journal) (run events start).sites
+pub executions_are_own : (schema : Schema) (start : Cluster) → IsStart schema start → (events : List Event) → Each (λ x. ExecuteTheirOwn x.journal) (run events start).sites
 executions_are_own schema start is [] = λ name x found. rw (found_all (IsNewSite schema) name start.sites x is.sites found).journal tt
 executions_are_own schema start is (e ∷ es) = becomes_own _ _ (happens_becomes e (run es start)) (executions_are_own schema start is es)
 

@@ -8,7 +8,7 @@ use Rattle.std.proofs.lemmas.Bool.Decides.{nat_tests}
 use Rattle.rep_lists.specs.Rising.{find_at}
 use Rattle.rep_values.specs.declared.name.SiteName.{SiteName}
 use Rattle.rep_schema.specs.declared.schema.Schema.{Schema}
-use Rattle.rep_calls.specs.declared.past.Past.{Past}
+use Rattle.rep_calls.specs.declared.past.PastEntry.{PastEntry}
 use Rattle.rep_calls.specs.declared.call.Txn.{Txn}
 use Rattle.txn_effects.specs.Contents.{effect_on}
 use Rattle.local_txn.specs.declared.local.Here.{Here}
@@ -18,7 +18,7 @@ use Rattle.deferred_queue.proofs.Sites.{is_same_site-true, is_same_site-refl}
 use Rattle.deferred_queue.proofs.Positions.{found_position}
 use Rattle.packet_code.specs.declared.packet.Packet.{Packet}
 use Rattle.site_state.specs.declared.arrival.Arrival.{Arrival}
-use Rattle.site_state.specs.State.{SenderState, SiteState, is_master_site, is_among, sender_of, arrived_in, beside, arrived_at, opened_of}
+use Rattle.site_state.specs.State.{SenderState, SiteState, is_master_site, is_among, sender_of, arrived_in, arrival_beside, arrived_at, opened_of}
 use Rattle.site_state.specs.Journal.{finished}
 use Rattle.site_state.specs.Contents.{content_of, tables_of, txn_of}
 use Rattle.site_state.specs.Streams.{with_one, queue_of, stream_in, stream_to}
@@ -27,16 +27,16 @@ use Rattle.site_state.specs.Joining.{site_open}
 use Rattle.site_state.proofs.Stepping.{IsSent, arrived_has}
 use Rattle.site_state.proofs.Pasts.{length-pasts_after}
 use Rattle.site_state.proofs.Queueing.{Adds}
-use Rattle.event_laws.specs.Core.{site_of}
+use Rattle.event_laws.specs.Cluster.{site_of}
 use Rattle.event_laws.specs.Joins.{copied, with_joined}
 use Rattle.event_laws.specs.Events.{Event, run}
 use Rattle.event_laws.specs.Starts.{IsNewSite}
-use Rattle.event_laws.specs.Waiting.{IsFirst}
+use Rattle.event_laws.specs.Waiting.{IsFirstNumber}
 use Rattle.event_laws.proofs.Sites.{found_all, found_name, all_at_place}
 use Rattle.event_laws.proofs.Happening.{Becomes, happens_becomes}
 use Rattle.event_laws.proofs.Happening as happening
 use Rattle.event_laws.proofs.DeclaredSites.{IsSiteOf}
-use Rattle.event_laws.proofs.Holding.{SentBy}
+use Rattle.event_laws.proofs.RunInvariants.{SentBy}
 use Rattle.event_laws.proofs.MarkLaws.{arrived_was_sent}
 use Rattle.event_laws.proofs.Meeting.{PacketPast, SiteMeets, AddsIn, AllAdd, all_add_same, at_adds, steps_meet, accept_meets, purge_meets, refreshed_meets}
 use Rattle.event_laws.proofs.Waiting.{AreMet, run_met}
@@ -44,13 +44,13 @@ use Rattle.convergence_laws.specs.Journals.{IsSoundTxn}
 use Rattle.agreement_laws.proofs.OpenMasters.{masters_send}
 use Rattle.agreement_laws.proofs.SitesAt.{WasJoined, was_joined}
 use Rattle.agreement_laws.proofs.SitesAt as joining
-use Rattle.excuse_laws.proofs.Signs.{position_few, stream_few}
-use Rattle.excuse_laws.proofs.Signing.{SettledBy, HasPassed}
+use Rattle.excuse_laws.proofs.OneTimeWrites.{position_few, stream_few}
+use Rattle.excuse_laws.proofs.WritingOnce.{DecidedBy, HasPassed}
 use Rattle.excuse_laws.proofs.Moving.{Moves, Happened, Stayed, Erred, Committed, Applied, Commits, Applies}
 use Rattle.excuse_laws.proofs.Turning.{Turns}
 use Rattle.excuse_laws.proofs.Joining.{copied_queue}
 use Rattle.excuse_laws.proofs.Turning as turning
-use Rattle.excuse_laws.proofs.SignsStep.{IsWell}
+use Rattle.excuse_laws.proofs.WritesStep.{IsWell}
 use Rattle.causal_laws.proofs.NeededRows.{Needs, needs_row, onward_gives}
 use Rattle.causal_laws.proofs.FinishedPasts.{held_at, meets_at}
 use Rattle.causal_laws.proofs.SeenNumbers.{Seen, past_has, finished_within, sender_named, first_found}
@@ -143,11 +143,11 @@ module _ (g : Setting) where
       among : is_among (map (λ (s : SenderState). s.origin) s.senders) owner ≡ true
       among = rw of.declared.senders (masters_send g.schema g.meshed.declared.shape s.here.site owner declared is_owner.declared (λ same. apart (sym same)))
 
-      first : (f : SenderState) × (sender_of owner s.senders ≡ Some f) × IsFirst (site_of owner sites) site f.first
+      first : (f : SenderState) × (sender_of owner s.senders ≡ Some f) × IsFirstNumber (site_of owner sites) site f.first
       first = first_found sites site owner s.senders among site_meets.firsts
 
-      is_first : IsFirst (Some o) site first.0.first
-      is_first = subst (λ (u : Option SiteState). IsFirst u site first.0.first) made.there first.2
+      is_first : IsFirstNumber (Some o) site first.0.first
+      is_first = subst (λ (u : Option SiteState). IsFirstNumber u site first.0.first) made.there first.2
 
       place : 1 ≤ m
       place = (found_position m (queue_of o) u made.at).0
@@ -176,7 +176,7 @@ module _ (g : Setting) where
               subst (λ (v : Option SiteState). SentBy v site a.number a.position a.dep a.txn) made.there (arrived_was_sent sites site owner s.senders q a (held_at g.schema sites (run events g.start).sent met site s found).senders there) in
               let same : was_sent.count ≡ first.0.first = cc (was_sent.opened, is_first.0) in
               let at : a.position ≡ q = arrived_has owner q s a there in
-              let here : find_at (beside q) first.0.arrived ≡ Some a = subst (λ (v : Option SenderState). find_at (beside q) (arrived_in v) ≡ Some a) first.1 there in
+              let here : find_at (arrival_beside q) first.0.arrived ≡ Some a = subst (λ (v : Option SenderState). find_at (arrival_beside q) (arrived_in v) ≡ Some a) first.1 there in
               let origin : first.0.origin ≡ owner = sender_named owner s.senders first.0 first.1 in
               let within = finished_within first.0.origin s.journal q first.0.arrived a here (rw origin done) in
               omega (arith, was_sent.number_is, same, at, within, less)
@@ -272,15 +272,15 @@ module _ (g : Setting) where
   -- ---- what stands in queues
 
   -- where the row's insert is queued, it stands before a transaction in the queue, or was seen before it
-  abbrev pub IsBefore : List SiteState → SiteState → ℕ → List Past → Type 0
+  abbrev pub IsBefore : List SiteState → SiteState → ℕ → List PastEntry → Type 0
   IsBefore sites s n past = (o : SiteState) (m : ℕ) (u : Txn) → Made sites o m u → ((s.here.site ≡ owner) × (m < n)) ⊎ Seen owner past m
 
-  pub record NeedIsMet (sites : List SiteState) (s : SiteState) (n : ℕ) (past : List Past) : Type 0 where
+  pub record NeedIsMet (sites : List SiteState) (s : SiteState) (n : ℕ) (past : List PastEntry) : Type 0 where
     pub has : HasIt s
     pub before : IsBefore sites s n past
 
   abbrev pub NeedsAreMet : List SiteState → Type 0
-  NeedsAreMet sites = (site : SiteName) (s : SiteState) → site_of site sites ≡ Some s → s.here.is_master ≡ true → (n : ℕ) (txn : Txn) (past : List Past)
+  NeedsAreMet sites = (site : SiteName) (s : SiteState) → site_of site sites ≡ Some s → s.here.is_master ≡ true → (n : ℕ) (txn : Txn) (past : List PastEntry)
       → at_position n (queue_of s) ≡ Some txn → at_position n (pasts_of s) ≡ Some past → Needs g.schema g.table g.key txn → NeedIsMet sites s n past
 
   pub as_many : (x : SiteState) → length (pasts_of x) ≡ length (queue_of x)
@@ -298,7 +298,7 @@ module _ (g : Setting) where
         by own same (New place new) =
             let is_owner = made_owner (e ∷ events) o m u made in
             let there : site_of owner (After events) ≡ Some x = ap (λ (n : SiteName). site_of n (After events)) own ∙ x_found in
-            let already : x.here.is_master ≡ true → HasIt x = subst (SettledBy g.schema (sign g) (After events)) there ((signed g events).settled site s found master has) in
+            let already : x.here.is_master ≡ true → HasIt x = subst (DecidedBy g.schema (sign g) (After events)) there ((signed g events).settled site s found master has) in
             let on : x.here.is_master ≡ true = ap (λ (h : Here). h.is_master) (sym moves.here) ∙ ap (λ (v : SiteState). v.here.is_master) (sym same) ∙ is_owner.master in
             absurd (new_makes_none e events x y x_found y_found moves u new made.makes_it (already on))
 
@@ -309,7 +309,7 @@ module _ (g : Setting) where
     x_on : y.here.is_master ≡ true → x.here.is_master ≡ true
     x_on on = ap (λ (h : Here). h.is_master) (sym moves.here) ∙ on
 
-    changed_met : NeedsAreMet (After events) → y.here.is_master ≡ true → (n : ℕ) (txn : Txn) (past : List Past) → at_position n (queue_of y) ≡ Some txn → at_position n (pasts_of y) ≡ Some past → Needs g.schema g.table g.key txn
+    changed_met : NeedsAreMet (After events) → y.here.is_master ≡ true → (n : ℕ) (txn : Txn) (past : List PastEntry) → at_position n (queue_of y) ≡ Some txn → at_position n (pasts_of y) ≡ Some past → Needs g.schema g.table g.key txn
         → NeedIsMet (After (e ∷ events)) y n past
     changed_met before on n txn past at past_at needs = go (placed e events x y x_found y_found moves n txn at)
       where
@@ -348,11 +348,11 @@ module _ (g : Setting) where
                 let within = (found_position m (queue_of x) u (subst (λ (v : SiteState). at_position m (queue_of v) ≡ Some u) one made.at)).1 in
                 inl (named ∙ own, omega (arith, place, within))
             by o m u made false is =
-                inr (subst (λ (p : List Past). Seen owner p m) (sym same)
+                inr (subst (λ (p : List PastEntry). Seen owner p m) (sym same)
                 (has_seen events x.here.site x o m u x_found (x_on on) has made (λ own. true≢false (sym (is_same_site-refl owner) ∙ ap (λ (k : SiteName). is_same_site k owner) (sym own) ∙ is))))
 
         pasts : Stands grows.more (past_of x) (pasts_of x) n past
-        pasts = stands grows.more (past_of x) (pasts_of x) n past (subst (λ (ps : List (List Past)). at_position n ps ≡ Some past) grows.pasts past_at)
+        pasts = stands grows.more (past_of x) (pasts_of x) n past (subst (λ (ps : List (List PastEntry)). at_position n ps ≡ Some past) grows.pasts past_at)
 
         go : Placed e events x y x_found y_found moves n txn → NeedIsMet (After (e ∷ events)) y n past
         go (Before at) = older at pasts

@@ -32,7 +32,7 @@ use Rattle.site_state.specs.Purges.{site_purge, site_purge_log}
 use Rattle.site_state.specs.Making.{is_late_master}
 use Rattle.site_state.proofs.Stepping.{commit_steps, apply_steps, execute_steps, drop_steps}
 use Rattle.site_state.proofs.Changing.{accept_later}
-use Rattle.event_laws.specs.Core.{Core, site_of, at_site}
+use Rattle.event_laws.specs.Cluster.{Cluster, site_of, at_site}
 use Rattle.event_laws.specs.Joins.{joined}
 use Rattle.event_laws.specs.Events.{Event, Commit, SetClock, Send, SendMark, Deliver, Begin, Apply, Execute, Drop, Purge, PurgeLog, Refresh, Join, run, happens, delivered, receiver, may_apply, applied_where, master_of, found_site, refreshed}
 use Rattle.event_laws.specs.Starts.{IsNewSite}
@@ -127,7 +127,7 @@ module _ (sites : List SiteState) (x : SiteState) where
   still : (y : SiteState) (site : SiteName) → site_of site sites ≡ Some x → site_of site sites ≡ Some y → Becomes sites x y
   still y site found after = let same : x ≡ y = cc (found, after) in Same (ap tables_of (sym same))
 
-happens_so : (e : Event) (w : Core) (site : SiteName) (x y : SiteState) → site_of site w.sites ≡ Some x → site_of site (happens e w).sites ≡ Some y → IsSilent x → Becomes w.sites x y
+happens_so : (e : Event) (w : Cluster) (site : SiteName) (x y : SiteState) → site_of site w.sites ≡ Some x → site_of site (happens e w).sites ≡ Some y → IsSilent x → Becomes w.sites x y
 happens_so (Commit name statements) w site x y found after silent = at_becomes w.sites x site name (site_commit statements) (λ x. (commit_steps statements x).here) found (commit_becomes w.sites x statements) y after
 happens_so (SetClock name clock) w site x y found after silent = at_becomes w.sites x site name (site_clock clock) (λ x. refl) found (Same refl) y after
 happens_so (Send from to position) w site x y found after silent = still w.sites x y site found after

@@ -13,13 +13,13 @@ use Rattle.site_state.specs.State.{SiteState, opened_of}
 use Rattle.site_state.specs.Contents.{tables_of, txn_of}
 use Rattle.site_state.specs.Streams.{queue_of, stream_to}
 use Rattle.site_state.specs.Joining.{site_open}
-use Rattle.event_laws.specs.Core.{site_of}
+use Rattle.event_laws.specs.Cluster.{site_of}
 use Rattle.event_laws.specs.Joins.{with_joined}
 use Rattle.event_laws.specs.Events.{Event}
 use Rattle.event_laws.proofs.DeclaredSites.{joins_from_master}
 use Rattle.agreement_laws.proofs.SitesAt.{WasJoined, was_joined, found_opened}
 use Rattle.agreement_laws.proofs.SitesAt as joining
-use Rattle.excuse_laws.proofs.Signs.{position_few, stream_few}
+use Rattle.excuse_laws.proofs.OneTimeWrites.{position_few, stream_few}
 use Rattle.excuse_laws.proofs.Joining.{copied_tables}
 use Rattle.excuse_laws.proofs.Moving.{Moves, Happened, Stayed, Erred, Committed, Applied}
 use Rattle.excuse_laws.proofs.Turning.{Turns}

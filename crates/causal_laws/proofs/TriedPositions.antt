@@ -5,7 +5,7 @@ use Rattle.std.specs.List.{list_all}
 use Rattle.std.proofs.lemmas.Bool.{and_parts, or_right}
 use Rattle.std.proofs.lemmas.Bool.Decides.{nat_tests}
 use Rattle.rep_values.specs.declared.name.SiteName.{SiteName}
-use Rattle.rep_calls.specs.declared.past.Past.{Past}
+use Rattle.rep_calls.specs.declared.past.PastEntry.{PastEntry}
 use Rattle.rep_calls.specs.declared.call.Txn.{Txn}
 use Rattle.deferred_queue.specs.Streams.{at_position}
 use Rattle.deferred_queue.proofs.Positions.{found_position}
@@ -22,10 +22,10 @@ use Rattle.site_state.specs.Packets.{count_opened}
 use Rattle.site_state.proofs.LowWater.{low_water-below}
 use Rattle.site_state.proofs.Growing.{dep_at-covers}
 use Rattle.site_state.proofs.Stepping.{MayFollow, IsTaken, IsSent, arrived_has, is_position-true}
-use Rattle.event_laws.specs.Core.{Core, site_of}
+use Rattle.event_laws.specs.Cluster.{Cluster, site_of}
 use Rattle.event_laws.specs.Events.{Event, run}
 use Rattle.event_laws.specs.Orders.{FollowsIn, IsInOrder}
-use Rattle.event_laws.proofs.Holding.{SentBy, SiteHolds}
+use Rattle.event_laws.proofs.RunInvariants.{SentBy, SiteHolds}
 use Rattle.event_laws.proofs.MarkLaws.{arrived_was_sent}
 use Rattle.event_laws.proofs.Meeting.{PastIs, SiteMeets}
 use Rattle.event_laws.proofs.Waiting.{AreMet, run_met, arrival_holds}
@@ -47,7 +47,7 @@ entered_follows : (x : SiteState) (e : Entry) (journal : List Entry) → Entered
 entered_follows x e _ Nothing same = absurd (longer e x.journal same)
 entered_follows x e _ (One f follows) same = let one : f ≡ e = cc in subst (MayFollow x) one follows
 
-module _ (e : Event) (w : Core) (name : SiteName) (x y : SiteState) (x_found : site_of name w.sites ≡ Some x) (entry : Entry) (is : y.journal ≡ entry ∷ x.journal) where
+module _ (e : Event) (w : Cluster) (name : SiteName) (x y : SiteState) (x_found : site_of name w.sites ≡ Some x) (entry : Entry) (is : y.journal ≡ entry ∷ x.journal) where
   becomes_follows : (ys : List SiteState) → Becomes w.sites ys → site_of name ys ≡ Some y → MayFollow x entry
   becomes_follows _ Stays found = let same : x ≡ y = cc (x_found, found) in absurd (longer entry x.journal (ap (λ (v : SiteState). v.journal) same ∙ is))
   becomes_follows _ (Turns at change turns) found =
@@ -131,7 +131,7 @@ module _ (g : Setting) (events : List Event) (site : SiteName) (x o : SiteState)
     place = arrived_has o.here.site position x a arrived
 
     -- what its sender had seen before it is the past that came with it
-    past_is : (past : List Past) → at_position (count_opened (opened_of site o) + position) (pasts_of o) ≡ Some past → past ≡ a.past
+    past_is : (past : List PastEntry) → at_position (count_opened (opened_of site o) + position) (pasts_of o) ≡ Some past → past ≡ a.past
     past_is past at =
         let has : at_position a.number (pasts_of o) ≡ Some a.past =
         subst (λ (v : Option SiteState). PastIs v a.number a.past) there (arrival_holds (λ n b. PastIs (site_of n sites) b.number b.past) o.here.site position x.senders a meets.pasts arrived) in
@@ -180,7 +180,7 @@ module _ (g : Setting) (events : List Event) (site : SiteName) (x o : SiteState)
       done : finished o.here.site x.journal position ≡ true
       done = error_finished o.here.site position x.journal (λ none. absurd (cc (none, stands)))
 
-      seen : (past : List Past) → at_position (count_opened (opened_of site o) + position) (pasts_of o) ≡ Some past → (s : Past) → Among s past → s.origin ≢ x.here.site
+      seen : (past : List PastEntry) → at_position (count_opened (opened_of site o) + position) (pasts_of o) ≡ Some past → (s : PastEntry) → Among s past → s.origin ≢ x.here.site
           → (q : ℕ) → 0 < q → q + first_in (sender_of s.origin x.senders) ≤ s.number → (a : Option Arrival) → arrived_at o.here.site position x.senders ≡ a → finished s.origin x.journal q ≡ true
       seen past at s among apart q some up_to None none = absurd (meets.arrived o.here.site position done none)
       seen past at s among apart q some up_to (Some a) arrived =

@@ -21,7 +21,7 @@ use Rattle.site_state.specs.declared.entry.Entry.TheVariants as entry
 use Rattle.site_state.specs.Steps.{count_where}
 use Rattle.site_state.specs.Errors.{execute_refusal}
 use Rattle.site_state.proofs.WorkedSites.{a, b, c, d, n, named, number_column}
-use Rattle.event_laws.specs.Core.{Core}
+use Rattle.event_laws.specs.Cluster.{Cluster}
 use Rattle.event_laws.specs.Events.{Event, Commit, Execute, Drop, Join, run}
 use Rattle.event_laws.specs.Quiet.{are_quiet}
 use Rattle.event_laws.proofs.WorkedRuns.{masters, pushed, shown, journal_at, rows_at}
@@ -60,11 +60,11 @@ row id q = Words a.0 ∷ n id ∷ n q ∷ []
 abbrev key : Cells
 key = Words a.0 ∷ n 1 ∷ []
 
-abbrev start : Core
+abbrev start : Cluster
 start = masters schema (row 0 999999999999999 ∷ []) (a ∷ b ∷ c ∷ [])
 
 -- events with the oldest first
-abbrev after : List Event → Core
+abbrev after : List Event → Cluster
 after events = run (reverse events) start
 
 abbrev inserted : Statement

@@ -15,7 +15,7 @@ use Rattle.site_state.specs.declared.entry.Entry.{Entry}
 use Rattle.site_state.specs.declared.entry.Entry.TheVariants.{Local, Done, Error, Executed, Dropped, Refreshed}
 use Rattle.site_state.specs.Journal.{is_position, error_at}
 use Rattle.site_state.specs.Steps.{is_empty}
-use Rattle.event_laws.specs.Core.{Core, site_of}
+use Rattle.event_laws.specs.Cluster.{Cluster, site_of}
 use Rattle.event_laws.specs.Events.{Event, Join, run}
 use Rattle.event_laws.specs.Marks.{journal_in}
 use Rattle.convergence_laws.specs.Joins.{inserts_in}
@@ -72,7 +72,7 @@ of_source site e test = false
 
 -- a row's insert was dropped before a master joined: at the site from which it was copied; or, where that one had joined
 -- itself, before that one joined, and so on back
-abbrev pub dropped_before : Schema → ℕ → Cells → List Event → Core → SiteName → Bool
+abbrev pub dropped_before : Schema → ℕ → Cells → List Event → Cluster → SiteName → Bool
 dropped_before schema table key [] start site = false
 dropped_before schema table key (e ∷ es) start site = cond (is_some (site_of site (run es start).sites)) (dropped_before schema table key es start site)
     (of_source site e (λ source. insert_was_dropped schema table key (journal_in (site_of source (run es start).sites)) || dropped_before schema table key es start source))

@@ -5,7 +5,7 @@ use Rattle.rep_schema.specs.declared.schema.Schema.{Schema}
 use Rattle.rep_schema.specs.declared.change.Change.{Change}
 use Rattle.rep_schema.specs.Shape.{HasShape}
 use Rattle.rep_schema.specs.Tables.{Rows, AreTables}
-use Rattle.rep_schema.specs.Changes.{made, ChangeFits, LeadsTo}
+use Rattle.rep_schema.specs.Changes.{after_change, ChangeFits, LeadsTo}
 use Rattle.rep_schema.proofs.TakingBack.{AreTables-made}
 use Rattle.rep_schema.proofs.Leading.{ChangeFits-from_IsChange}
 use Rattle.conflict_detect.specs.ChangeCalls.{call_of}
@@ -19,7 +19,7 @@ module _ (schema : Schema) where
   ChangeFits-led [] earlier later are lead differ = tt
   ChangeFits-led (change ∷ changes) earlier later are lead differ = (
     ChangeFits-from_IsChange schema change earlier are lead.0 differ.0,
-    ChangeFits-led changes (made schema change earlier) later (AreTables-made schema change earlier are lead.0) lead.1 differ.1,
+    ChangeFits-led changes (after_change schema change earlier) later (AreTables-made schema change earlier are lead.0) lead.1 differ.1,
   )
 
   -- and so do their calls

@@ -14,7 +14,7 @@ use Rattle.rep_schema.proofs.ValuesAt.{are_same-Decides}
 use Rattle.schema_rules.specs.declared.forms.Form.{Form}
 use Rattle.schema_rules.specs.declared.forms.Form.TheVariants as form
 use Rattle.rep_calls.specs.declared.call.Part.{Part}
-use Rattle.resolve_methods.specs.SequenceLaws.{number_in, move_of, sum_of_moves}
+use Rattle.resolve_methods.specs.SequenceLaws.{one_group_number, move_of, sum_of_moves}
 use Rattle.convergence_laws.specs.GroupForms.{wins}
 use Rattle.convergence_laws.specs.Joins.{is_winner, candidates_of}
 use Rattle.convergence_laws.specs.Collections.{IsReordered, Skip, Swap, Then, Among, TellApart, JoinsAreOne}
@@ -113,7 +113,7 @@ module _ (schema : Schema) (columns : List ℕ) (f : Form) where
   candidates_reordered first same = Skip first (reordered_map (λ (p : Part). p.new) same)
 
 pub joins_are_one : JoinsAreOne
-joins_are_one schema columns form.Sum first now other parts reordered same tell one two = one ∙ ap (λ s. number_in first +ℤ s) (sum_of_moves-reordered same) ∙ sym two
+joins_are_one schema columns form.Sum first now other parts reordered same tell one two = one ∙ ap (λ s. one_group_number first +ℤ s) (sum_of_moves-reordered same) ∙ sym two
 joins_are_one schema columns (form.Greatest c) first now other parts reordered same tell one two = one_winner schema columns (form.Greatest c) now other (candidates_of first parts) (candidates_of first reordered) (candidates_reordered schema columns (form.Greatest c) first same) tell one two
 joins_are_one schema columns (form.Least c) first now other parts reordered same tell one two = one_winner schema columns (form.Least c) now other (candidates_of first parts) (candidates_of first reordered) (candidates_reordered schema columns (form.Least c) first same) tell one two
 joins_are_one schema columns (form.Latest c d) first now other parts reordered same tell one two = one_winner schema columns (form.Latest c d) now other (candidates_of first parts) (candidates_of first reordered) (candidates_reordered schema columns (form.Latest c d) first same) tell one two

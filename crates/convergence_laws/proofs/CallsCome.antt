@@ -11,9 +11,9 @@ use Rattle.rep_schema.specs.declared.schema.Schema.{Schema}
 use Rattle.rep_schema.specs.declared.change.Change.{Change}
 use Rattle.rep_schema.specs.Tables.{Cells, Rows, columns_of, key_of, find_row, rows_of, RowFits, AreTables}
 use Rattle.rep_schema.specs.Groups.{are_same}
-use Rattle.rep_schema.specs.Putting.{changes_between, made_all}
+use Rattle.rep_schema.specs.Putting.{changes_between, after_changes}
 use Rattle.rep_schema.proofs.FoundRows.{found_row}
-use Rattle.rep_schema.proofs.Making.{made_all-append}
+use Rattle.rep_schema.proofs.Making.{after_changes-append}
 use Rattle.rep_schema.proofs.ValuesAt.{are_same-Decides}
 use Rattle.rep_calls.specs.declared.call.Part.{Part}
 use Rattle.rep_calls.specs.declared.call.Call.{Call}
@@ -22,7 +22,7 @@ use Rattle.rep_calls.specs.declared.call.Txn.{Txn}
 use Rattle.conflict_detect.specs.Fits.{CallFits, TxnFits, table_of}
 use Rattle.unique_resolve.specs.Numbers.{Numbers, AreCounters}
 use Rattle.txn_effects.specs.Calls.{Effect, RowEffect, key_named, row_named, row_effect, call_effect}
-use Rattle.txn_effects.specs.Transactions.{Failure, failing_at, behind, calls_effect}
+use Rattle.txn_effects.specs.Transactions.{Failure, failing_at, effect_behind, calls_effect}
 use Rattle.txn_effects.specs.Contents.{Content, IsContent, effect_on, content_after}
 use Rattle.txn_effects.proofs.Results.{result_then-Ok}
 use Rattle.txn_effects.proofs.TransactionEffects.{IsApplied-call_effect}
@@ -57,7 +57,7 @@ pub failing_at-Ok : {A : Type 0} (number : ℕ) (result : Result A ApplyError) (
 failing_at-Ok number (Ok b) a gives = cc
 failing_at-Ok number (Err error) a gives = cc
 
-pub behind-Ok : (changes : List Change) (result : Result Effect Failure) (effect : Effect) → behind changes result ≡ Ok effect
+pub behind-Ok : (changes : List Change) (result : Result Effect Failure) (effect : Effect) → effect_behind changes result ≡ Ok effect
     → (later : Effect) × (result ≡ Ok later) × (record { changes = changes ++ later.changes; numbers = later.numbers } ≡ effect)
 behind-Ok changes (Ok later) effect gives = (later, refl, cc)
 behind-Ok changes (Err failure) effect gives = cc
@@ -109,7 +109,7 @@ module _ (schema : Schema) (sound : IsSound schema) (decides : DecisionLaws) (ta
     -- what a call does elsewhere
     module _ (call : Call) (effect : RowEffect) (fits : CallFits schema call) (gives : row_effect schema tables numbers origin call (row_named schema tables call) ≡ Ok effect) where
       abbrev later : List Rows
-      later = made_all schema (changes_between (table_of call) (row_named schema tables call) effect.after) tables
+      later = after_changes schema (changes_between (table_of call) (row_named schema tables call) effect.after) tables
 
       own_key : IfSome effect.after (λ after. key_of (columns_of schema (table_of call)) after ≡ key_named schema call)
       own_key = key_of-row_effect schema tables numbers origin sound.shape counters (KeysStandAlone-sound schema sound.unbroken) are call (row_named schema tables call) effect fits refl gives
@@ -123,7 +123,7 @@ module _ (schema : Schema) (sound : IsSound schema) (decides : DecisionLaws) (ta
           (find_row-changed schema tables are (table_of call) fits.table (key_named schema call) (row_named schema tables call) effect.after refl own_key))
 
     call_comes : (call : Call) (effect : RowEffect) → CallFits schema call → KeepsForms schema call → (gives : row_effect schema tables numbers origin call (row_named schema tables call) ≡ Ok effect)
-        → Comes (row_in tables key) (row_in (made_all schema (changes_between (table_of call) (row_named schema tables call) effect.after) tables) key) (inserts_for schema table key call) (parts_for table key group call)
+        → Comes (row_in tables key) (row_in (after_changes schema (changes_between (table_of call) (row_named schema tables call) effect.after) tables) key) (inserts_for schema table key call) (parts_for table key group call)
     call_comes (Insert t row) effect fits keeps gives = elim (place_cases table key t (key_of (columns_of schema t) row)) [
       | inl same ↦ rw (becomes (Insert t row) effect fits gives same.0 same.1, is_row-same table key t (key_of (columns_of schema t) row) same.0 same.1)
           (insert_here row effect (sym (same.1 ∙ ap (λ u. key_of (columns_of schema u) row) (sym same.0)))
@@ -142,34 +142,34 @@ module _ (schema : Schema) (sound : IsSound schema) (decides : DecisionLaws) (ta
 
   -- the row after a call that succeeds
   call_effect_comes : (key : Cells) (call : Call) (tables : List Rows) (numbers : Numbers) (origin : SiteName) (one : Effect) → AreTables schema tables → AreCounters schema numbers → CallFits schema call → KeepsForms schema call
-      → call_effect schema tables numbers origin call ≡ Ok one → Comes (row_in tables key) (row_in (made_all schema one.changes tables) key) (inserts_for schema table key call) (parts_for table key group call)
+      → call_effect schema tables numbers origin call ≡ Ok one → Comes (row_in tables key) (row_in (after_changes schema one.changes tables) key) (inserts_for schema table key call) (parts_for table key group call)
   call_effect_comes key call tables numbers origin one are counters fits keeps gives =
       let some = result_then-Ok (row_effect schema tables numbers origin call (row_named schema tables call))
       (λ (x : RowEffect). Ok (record { changes = changes_between (table_of call) (row_named schema tables call) x.after; numbers = x.numbers })) one gives in
       let is : record { changes = changes_between (table_of call) (row_named schema tables call) some.0.after; numbers = some.0.numbers } ≡ one = cc (some.2) in
-      subst (λ (x : Effect). Comes (row_in tables key) (row_in (made_all schema x.changes tables) key) (inserts_for schema table key call) (parts_for table key group call)) is
+      subst (λ (x : Effect). Comes (row_in tables key) (row_in (after_changes schema x.changes tables) key) (inserts_for schema table key call) (parts_for table key group call)) is
       (call_comes tables numbers origin are counters key call some.0 fits keeps some.1)
 
   -- after those of a list
   pub calls_come : (key : Cells) (number : ℕ) (calls : List Call) (tables : List Rows) (numbers : Numbers) (origin : SiteName) (effect : Effect) → AreTables schema tables → AreCounters schema numbers
       → AllByRecursion (CallFits schema) calls → AllByRecursion (KeepsForms schema) calls → calls_effect schema origin number calls tables numbers ≡ Ok effect
-      → Comes (row_in tables key) (row_in (made_all schema effect.changes tables) key) (inserts_in schema table key calls) (parts_in table key group calls)
+      → Comes (row_in tables key) (row_in (after_changes schema effect.changes tables) key) (inserts_in schema table key calls) (parts_in table key group calls)
   calls_come key number [] tables numbers origin effect are counters fit keep gives =
       let is : record { changes = []; numbers = numbers } ≡ effect = cc in
-      subst (λ (x : Effect). Comes (row_in tables key) (row_in (made_all schema x.changes tables) key) [] []) is (came_not schema sound decides table group convergent (row_in tables key))
+      subst (λ (x : Effect). Comes (row_in tables key) (row_in (after_changes schema x.changes tables) key) [] []) is (came_not schema sound decides table group convergent (row_in tables key))
   calls_come key number (call ∷ calls) tables numbers origin effect are counters fit keep gives =
       let some = result_then-Ok (failing_at number (call_effect schema tables numbers origin call))
-      (λ (x : Effect). behind x.changes (calls_effect schema origin (number + 1) calls (made_all schema x.changes tables) x.numbers)) effect gives in
+      (λ (x : Effect). effect_behind x.changes (calls_effect schema origin (number + 1) calls (after_changes schema x.changes tables) x.numbers)) effect gives in
       let one : Effect = some.0 in
       let first = failing_at-Ok number (call_effect schema tables numbers origin call) one some.1 in
       let applied = IsApplied-call_effect schema origin sound.shape (HasKeys-sound schema sound.unbroken sound.shape) (KeysStandAlone-sound schema sound.unbroken) call tables numbers one are counters fit.0 first in
-      let rest = behind-Ok one.changes (calls_effect schema origin (number + 1) calls (made_all schema one.changes tables) one.numbers) effect some.2 in
-      subst (λ (x : Effect). Comes (row_in tables key) (row_in (made_all schema x.changes tables) key) (inserts_in schema table key (call ∷ calls)) (parts_in table key group (call ∷ calls))) rest.2
-      (rw (made_all-append schema one.changes rest.0.changes tables)
-      (came_on schema sound decides table group convergent (row_in tables key) (row_in (made_all schema one.changes tables) key) (row_in (made_all schema rest.0.changes (made_all schema one.changes tables)) key)
+      let rest = behind-Ok one.changes (calls_effect schema origin (number + 1) calls (after_changes schema one.changes tables) one.numbers) effect some.2 in
+      subst (λ (x : Effect). Comes (row_in tables key) (row_in (after_changes schema x.changes tables) key) (inserts_in schema table key (call ∷ calls)) (parts_in table key group (call ∷ calls))) rest.2
+      (rw (after_changes-append schema one.changes rest.0.changes tables)
+      (came_on schema sound decides table group convergent (row_in tables key) (row_in (after_changes schema one.changes tables) key) (row_in (after_changes schema rest.0.changes (after_changes schema one.changes tables)) key)
       (inserts_for schema table key call) (inserts_in schema table key calls) (parts_for table key group call) (parts_in table key group calls)
       (call_effect_comes key call tables numbers origin one are counters fit.0 keep.0 first)
-      (calls_come key (number + 1) calls (made_all schema one.changes tables) one.numbers origin rest.0 applied.are applied.counters fit.1 keep.1 rest.1)))
+      (calls_come key (number + 1) calls (after_changes schema one.changes tables) one.numbers origin rest.0 applied.are applied.counters fit.1 keep.1 rest.1)))
 
   -- after a transaction that succeeds
   pub txn_comes : (key : Cells) (txn : Txn) (content : Content) (origin : SiteName) (effect : Effect) → IsContent schema content → TxnFits schema txn → TxnKeepsForms schema txn → effect_on schema origin txn content ≡ Ok effect

@@ -15,7 +15,7 @@ use Rattle.schema_rules.specs.declared.forms.Form.{Form}
 use Rattle.schema_rules.specs.declared.forms.Form.TheVariants as form
 use Rattle.schema_rules.specs.Forms.{form_of}
 use Rattle.schema_rules.specs.ConvergentRules.{has_groups_alone, have_forms}
-use Rattle.schema_rules.proofs.SoundRules.{IsSound-unbroken}
+use Rattle.schema_rules.proofs.SoundRules.{KeepsAllRules-unbroken}
 use Rattle.rep_calls.specs.declared.call.Part.{Part}
 use Rattle.conflict_detect.specs.ChangeCalls.{part_between, parts_between}
 use Rattle.local_txn.specs.Convergent.{convergent_in, is_convergent}
@@ -55,14 +55,14 @@ module _ (schema : Schema) (sound : IsSound schema) (table : ℕ) (convergent : 
       go (Some entry) at is = elim (cases_eq group shadow_group) [
         | inl same ↦
             let outer = both_hold ((length entry.constraints == 0) && (length (shadow_from entry.groups 0 entry.columns) == 0)) (length entry.key_methods == 0)
-            (tested entry.convergent (has_groups_alone entry) is (passes (λ (t : TableEntry). not t.convergent || has_groups_alone t) schema.tables table entry ((IsSound-unbroken schema).1 sound.unbroken).groups_alone at)) in
+            (tested entry.convergent (has_groups_alone entry) is (passes (λ (t : TableEntry). not t.convergent || has_groups_alone t) schema.tables table entry ((KeepsAllRules-unbroken schema).1 sound.unbroken).groups_alone at)) in
             let none = no_length (shadow_from entry.groups 0 entry.columns) (both_hold (length entry.constraints == 0) (length (shadow_from entry.groups 0 entry.columns) == 0) outer.0).1 in
             inr (ap (group_columns_of schema table) same ∙ group_columns_of-shadow schema table ∙ (rw at none))
         | inr other ↦ named (slice_get (groups_of schema table) group) refl other
       ]
         where
           forms : have_forms entry ≡ true
-          forms = tested entry.convergent (have_forms entry) is (passes (λ (t : TableEntry). not t.convergent || have_forms t) schema.tables table entry ((IsSound-unbroken schema).1 sound.unbroken).formed at)
+          forms = tested entry.convergent (have_forms entry) is (passes (λ (t : TableEntry). not t.convergent || have_forms t) schema.tables table entry ((KeepsAllRules-unbroken schema).1 sound.unbroken).formed at)
 
           some_form : (o : Option Form) → is_some o ≡ true → (f : Form) × (o ≡ Some f)
           some_form None e = cc

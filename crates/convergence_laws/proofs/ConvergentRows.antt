@@ -16,7 +16,7 @@ use Rattle.unique_resolve.specs.declared.settled.Settled.TheVariants.{Fits}
 use Rattle.unique_resolve.specs.Numbers.{Numbers}
 use Rattle.unique_resolve.specs.Settling.{key_taken, key_methods_in, settlement_of}
 use Rattle.schema_rules.specs.ConvergentRules.{has_groups_alone}
-use Rattle.schema_rules.proofs.SoundRules.{IsSound-unbroken}
+use Rattle.schema_rules.proofs.SoundRules.{KeepsAllRules-unbroken}
 use Rattle.txn_effects.specs.Parts.{settled_parts}
 use Rattle.txn_effects.specs.Calls.{RowEffect, effect_by, settled_effect, row_effect}
 use Rattle.txn_effects.proofs.Results.{result_then-Ok}
@@ -50,7 +50,7 @@ StandsAlone-convergent schema sound table convergent = go (slice_get schema.tabl
     go : (entry : Option TableEntry) → slice_get schema.tables table ≡ entry → convergent_in entry ≡ true → StandsAlone schema table
     go None at is = cc
     go (Some entry) at is =
-        let rule = passes (λ (t : TableEntry). not t.convergent || has_groups_alone t) schema.tables table entry ((IsSound-unbroken schema).1 sound.unbroken).groups_alone at in
+        let rule = passes (λ (t : TableEntry). not t.convergent || has_groups_alone t) schema.tables table entry ((KeepsAllRules-unbroken schema).1 sound.unbroken).groups_alone at in
         let alone = tested entry.convergent (has_groups_alone entry) is rule in
         let outer = both_hold ((length entry.constraints == 0) && (length (shadow_from entry.groups 0 entry.columns) == 0)) (length entry.key_methods == 0) alone in
         let inner = both_hold (length entry.constraints == 0) (length (shadow_from entry.groups 0 entry.columns) == 0) outer.0 in

@@ -8,7 +8,7 @@ use Rattle.rep_values.specs.declared.name.SiteName.{SiteName}
 use Rattle.rep_schema.specs.declared.schema.Schema.{Schema}
 use Rattle.rep_schema.specs.Tables.{AreTables}
 use Rattle.rep_schema.specs.Sites.{senders_of}
-use Rattle.rep_calls.specs.declared.past.Past.{Past}
+use Rattle.rep_calls.specs.declared.past.PastEntry.{PastEntry}
 use Rattle.packet_code.specs.declared.packet.Packet.{Packet}
 use Rattle.rep_laws.specs.Commuting.{IsSound}
 use Rattle.site_state.specs.State.{SenderState, SiteState}
@@ -26,7 +26,7 @@ use Rattle.site_state.specs.Fits.{SendersHave}
 use Rattle.site_state.proofs.Growing.{queue_after-rebased}
 use Rattle.site_state.proofs.Stepping.{commit_steps, apply_steps, execute_steps, drop_steps}
 use Rattle.site_state.proofs.Changing.{accept_later}
-use Rattle.event_laws.specs.Core.{Core, site_of, at_site}
+use Rattle.event_laws.specs.Cluster.{Cluster, site_of, at_site}
 use Rattle.event_laws.specs.Joins.{queue_counts, copied, may_join, with_joined, joined_by, joined}
 use Rattle.event_laws.specs.Rules.{rows_ruled}
 use Rattle.event_laws.specs.Events.{Event, Commit, SetClock, Send, SendMark, Deliver, Begin, Apply, Execute, Drop, Purge, PurgeLog, Refresh, Join, with_packet, packet_from, mark_from, receiver, delivered, may_apply, applied_where, refreshed, happens, run}
@@ -89,7 +89,7 @@ module _ (schema : Schema) where
     };
   }
 
-  none_arrived : (firsts : List Past) (names : List SiteName) → SendersHave (TxnKeepsForms schema) (map (sender_from firsts) names)
+  none_arrived : (firsts : List PastEntry) (names : List SiteName) → SendersHave (TxnKeepsForms schema) (map (sender_from firsts) names)
   none_arrived firsts [] = tt
   none_arrived firsts (n ∷ ns) = (tt, none_arrived firsts ns)
 
@@ -142,11 +142,11 @@ module _ (schema : Schema) where
   -- ---- every event
 
   -- the sites and what was sent
-  pub record Holds (w : Core) : Type 0 where
+  pub record Holds (w : Cluster) : Type 0 where
     pub sites : AllKeep w.sites
     pub sent : AllByRecursion (PacketKeeps schema) w.sent
 
-  module _ (decides : DecisionLaws) (blocks : BlocksKeepForms) (sound : IsSound schema) (w : Core) (fit : (site : SiteName) (x : SiteState) → site_of site w.sites ≡ Some x → FitsHere x) (h : Holds w) where
+  module _ (decides : DecisionLaws) (blocks : BlocksKeepForms) (sound : IsSound schema) (w : Cluster) (fit : (site : SiteName) (x : SiteState) → site_of site w.sites ≡ Some x → FitsHere x) (h : Holds w) where
     sound_at : (x : SiteState) → KeepsIn schema x → IsSound x.schema
     sound_at x k = subst IsSound (sym k.same) sound
 
@@ -215,10 +215,10 @@ module _ (schema : Schema) where
     };
   }
 
-  start_holds : (w : Core) → IsFitStart schema w → Holds w
+  start_holds : (w : Cluster) → IsFitStart schema w → Holds w
   start_holds w is = record { sites = λ site x found. new_keeps x (found_all (IsNewSite schema) site w.sites x is.start.sites found) (found_all (StartsFit schema) site w.sites x is.sites found); sent = rw is.start.sent tt }
 
-  pub run_holds : DecisionLaws → BlocksKeepForms → (events : List Event) (start : Core) → IsFitStart schema start → Holds (run events start)
+  pub run_holds : DecisionLaws → BlocksKeepForms → (events : List Event) (start : Cluster) → IsFitStart schema start → Holds (run events start)
   run_holds decides blocks [] start is = start_holds start is
   run_holds decides blocks (e ∷ es) start is =
       happens_holds decides blocks is.sound (run es start) (λ site x found. every_site_fits schema start es is site x found) (run_holds decides blocks es start is) e

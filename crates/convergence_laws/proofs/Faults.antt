@@ -20,7 +20,7 @@ use Rattle.rep_schema.proofs.FoundRows.{found_row}
 use Rattle.schema_rules.specs.declared.forms.Form.{Form}
 use Rattle.schema_rules.specs.declared.forms.Form.TheVariants as form
 use Rattle.schema_rules.specs.CheckRules.{is_unchecked}
-use Rattle.schema_rules.proofs.SoundRules.{IsSound-unbroken}
+use Rattle.schema_rules.proofs.SoundRules.{KeepsAllRules-unbroken}
 use Rattle.rep_calls.specs.declared.call.Call.{Call}
 use Rattle.rep_calls.specs.declared.call.Call.TheVariants.{Insert, Update, Delete}
 use Rattle.rep_calls.specs.declared.call.Part.{Part}
@@ -29,7 +29,7 @@ use Rattle.conflict_detect.specs.Differing.{is_matched}
 use Rattle.resolve_methods.specs.declared.decision.Decision.{Decision}
 use Rattle.resolve_methods.specs.declared.decision.Decision.TheVariants.{TakeNew, TakeNumber, Keep, Undecided, Range}
 use Rattle.resolve_methods.specs.Decide.{decision_of}
-use Rattle.resolve_methods.specs.SequenceLaws.{number_in, group_number, move_of}
+use Rattle.resolve_methods.specs.SequenceLaws.{one_group_number, group_number, move_of}
 use Rattle.unique_resolve.specs.declared.settled.Settled.TheVariants.{Fits}
 use Rattle.unique_resolve.specs.Numbers.{Numbers}
 use Rattle.unique_resolve.specs.Settling.{key_taken, settlement_of}
@@ -63,7 +63,7 @@ unchecked schema sound table convergent row = go (slice_get schema.tables table)
     go : (entry : Option TableEntry) → slice_get schema.tables table ≡ entry → convergent_in entry ≡ true → failed_check schema table row ≡ None
     go None at is = cc
     go (Some entry) at is =
-        let none = no_length entry.checks (tested entry.convergent (is_unchecked entry) is (passes (λ (t : TableEntry). not t.convergent || is_unchecked t) schema.tables table entry ((IsSound-unbroken schema).1 sound.unbroken).unchecked at)) in
+        let none = no_length entry.checks (tested entry.convergent (is_unchecked entry) is (passes (λ (t : TableEntry). not t.convergent || is_unchecked t) schema.tables table entry ((KeepsAllRules-unbroken schema).1 sound.unbroken).unchecked at)) in
         rw (at, none) refl
 
 -- what is among parts whose groups are above one is of another group
@@ -97,14 +97,14 @@ module _ (schema : Schema) (sound : IsSound schema) (decides : DecisionLaws) (ta
         go true at is = cc
         go false at is = inl (cc, has, at)
     decided (form.Greatest c) has gives =
-        go (int_lt (group_number schema table part.group row) (number_in part.new))
+        go (int_lt (group_number schema table part.group row) (one_group_number part.new))
         (rw (decides.greatest schema table c part row (IsShaped-form_at schema sound table part.group (form.Greatest c) has) (HasGroupValues-PartFits schema table part part_fits) fits) at gives)
       where
         go : (b : Bool) → left_by (cond b TakeNew Keep) ≡ Err e → PartTells part row e
         go true is = cc
         go false is = cc
     decided (form.Least c) has gives =
-        go (int_lt (number_in part.new) (group_number schema table part.group row))
+        go (int_lt (one_group_number part.new) (group_number schema table part.group row))
         (rw (decides.least schema table c part row (IsShaped-form_at schema sound table part.group (form.Least c) has) (HasGroupValues-PartFits schema table part part_fits) fits) at gives)
       where
         go : (b : Bool) → left_by (cond b TakeNew Keep) ≡ Err e → PartTells part row e
@@ -133,7 +133,7 @@ module _ (schema : Schema) (sound : IsSound schema) (decides : DecisionLaws) (ta
   told_before : (first part : Part) (row after : Cells) (e : ApplyError) → PartFits schema table first → first.group ≢ part.group → settled_part schema table first row ≡ Ok after → PartTells part after e
       → PartTells part row e
   told_before first part row after e fits differ settles (inl range) =
-      inl (range.0, range.1, subst (λ (values : Cells). is_in_range (number_in values +ℤ move_of part) ≡ false) (part_apart schema sound decides table part.group convergent form.Sum range.1 first row after fits differ settles) range.2)
+      inl (range.0, range.1, subst (λ (values : Cells). is_in_range (one_group_number values +ℤ move_of part) ≡ false) (part_apart schema sound decides table part.group convergent form.Sum range.1 first row after fits differ settles) range.2)
   told_before first part row after e fits differ settles (inr tie) = inr tie
 
   -- so do the parts of an update, whose groups rise

@@ -21,7 +21,7 @@ use Rattle.schema_rules.specs.declared.forms.Form.{Form}
 use Rattle.schema_rules.specs.declared.forms.Form.TheVariants as form
 use Rattle.schema_rules.specs.Forms.{is_additive, is_discard, latest_column, extreme_of, own_column, latest_by, latest_form, form_by}
 use Rattle.schema_rules.specs.MethodRules.{names_own_columns, is_one_number, site_column}
-use Rattle.schema_rules.proofs.SoundRules.{IsSound-unbroken}
+use Rattle.schema_rules.proofs.SoundRules.{KeepsAllRules-unbroken}
 use Rattle.resolve_methods.specs.Decide.{methods_in, methods_of}
 use Rattle.resolve_methods.specs.SequenceLaws.{sum_methods, greatest_methods, least_methods, newest_methods, IsOfOneNumber}
 use Rattle.rep_laws.specs.Commuting.{IsSound}
@@ -238,7 +238,7 @@ module _ (schema : Schema) (sound : IsSound schema) (table group : ℕ) where
       go : (entry : Option TableEntry) → slice_get schema.tables table ≡ entry → slice_get (groups_in entry) group ≡ Some g → names_own_columns g ≡ true
       go None at found = cc
       go (Some entry) at found = passes names_own_columns entry.groups group g
-          (passes (λ (t : TableEntry). list_all names_own_columns t.groups) schema.tables table entry ((IsSound-unbroken schema).1 sound.unbroken).own_columns at) found
+          (passes (λ (t : TableEntry). list_all names_own_columns t.groups) schema.tables table entry ((KeepsAllRules-unbroken schema).1 sound.unbroken).own_columns at) found
 
   -- it is a named group
   pub form_at-named : (f : Form) → form_at schema table group ≡ Some f → (g : Group) × (slice_get (groups_of schema table) group ≡ Some g) × (group ≢ shadow_group)

@@ -38,7 +38,7 @@ use Rattle.resolve_methods.specs.declared.decision.Decision.{Decision}
 use Rattle.resolve_methods.specs.declared.decision.Decision.TheVariants.{TakeNew, TakeNumber, Keep, Undecided, Range}
 use Rattle.resolve_methods.specs.Decide.{greater_stays, by_order, or_next, decision_of}
 use Rattle.resolve_methods.specs.Ranks.{number_of, site_level_of}
-use Rattle.resolve_methods.specs.SequenceLaws.{number_or_zero, number_in, move_of, sum_methods, greatest_methods, least_methods, IsOfOneNumber, GoesByRank, Rank, rank_in, new_rank, IsLowerLevel, IsLowerRank, MoveIsAdded, GreatestStays, LeastStays, GreaterRankStays}
+use Rattle.resolve_methods.specs.SequenceLaws.{number_or_zero, one_group_number, move_of, sum_methods, greatest_methods, least_methods, IsOfOneNumber, GoesByRank, Rank, rank_in, new_rank, IsLowerLevel, IsLowerRank, MoveIsAdded, GreatestStays, LeastStays, GreaterRankStays}
 use Rattle.txn_effects.specs.Parts.{values_by, settled_values, settled_part}
 use Rattle.txn_effects.proofs.Results.{result_then-Ok}
 use Rattle.txn_effects.proofs.PartEffects.{HasGroupValues-PartFits}
@@ -65,8 +65,8 @@ flip_total {K} {R} o = record {
 
 pub wins_total : (schema : Schema) (columns : List ℕ) (f : Form) → IsTotalOrder (wins schema columns f)
 wins_total schema columns form.Sum = point_total
-wins_total schema columns (form.Greatest column) = on_total number_in int_cmp_total
-wins_total schema columns (form.Least column) = flip_total (on_total number_in int_cmp_total)
+wins_total schema columns (form.Greatest column) = on_total one_group_number int_cmp_total
+wins_total schema columns (form.Least column) = flip_total (on_total one_group_number int_cmp_total)
 wins_total schema columns (form.Latest stamp site) = on_total (rank_among schema columns stamp site) key_cmp_total
 
 -- the new values where they win, else the current ones
@@ -75,7 +75,7 @@ greater schema columns f new now = cond (is_gt (wins schema columns f new now)) 
 
 -- what a part makes of its group's values
 abbrev pub move : Schema → List ℕ → Form → Part → Cells → Cells
-move schema columns form.Sum part now = Num (number_in now +ℤ move_of part) ∷ []
+move schema columns form.Sum part now = Num (one_group_number now +ℤ move_of part) ∷ []
 move schema columns (form.Greatest column) part now = greater schema columns (form.Greatest column) part.new now
 move schema columns (form.Least column) part now = greater schema columns (form.Least column) part.new now
 move schema columns (form.Latest stamp site) part now = greater schema columns (form.Latest stamp site) part.new now
@@ -190,8 +190,8 @@ module _ (schema : Schema) (table group column : ℕ) (sequence : List Method) (
       one_number (slice_get (columns_of schema table) column) values one.numbers (subst (λ ps. RowFits (values_at ps (columns_of schema table)) values) one.columns fits)
 
 -- a tie of numbers is one number
-pub same_numbers : (new now : Cells) → (n : ℤ) × (new ≡ Num n ∷ []) → (m : ℤ) × (now ≡ Num m ∷ []) → number_in new ≡ number_in now → new ≡ now
-same_numbers new now n m same = n.1 ∙ ap (λ z. Num z ∷ []) (sym (ap number_in n.1) ∙ same ∙ ap number_in m.1) ∙ sym m.1
+pub same_numbers : (new now : Cells) → (n : ℤ) × (new ≡ Num n ∷ []) → (m : ℤ) × (now ≡ Num m ∷ []) → one_group_number new ≡ one_group_number now → new ≡ now
+same_numbers new now n m same = n.1 ∙ ap (λ z. Num z ∷ []) (sym (ap one_group_number n.1) ∙ same ∙ ap one_group_number m.1) ∙ sym m.1
 
 pub int_tie : (a b : ℤ) → int_cmp a b ≡ Equal → a ≡ b
 int_tie a b e = go (int_lt a b) (int_lt b a) refl refl e
@@ -252,12 +252,12 @@ module _ (schema : Schema) (sound : IsSound schema) (decides : DecisionLaws) (ta
   ruled_greatest : (column : ℕ) → IsOfOneNumber schema table part.group column (greatest_methods column) → Ruled schema columns (form.Greatest column) part.new now (decision_of schema table part row)
   ruled_greatest column one =
       rw (decides.greatest schema table column part row one (HasGroupValues-PartFits schema table part part_fits) fits)
-      (ruled_by (form.Greatest column) (int_lt (number_in now) (number_in part.new)) (int_gt (number_in part.new) (number_in now)) Takes)
+      (ruled_by (form.Greatest column) (int_lt (one_group_number now) (one_group_number part.new)) (int_gt (one_group_number part.new) (one_group_number now)) Takes)
 
   ruled_least : (column : ℕ) → IsOfOneNumber schema table part.group column (least_methods column) → Ruled schema columns (form.Least column) part.new now (decision_of schema table part row)
   ruled_least column one =
       rw (decides.least schema table column part row one (HasGroupValues-PartFits schema table part part_fits) fits)
-      (ruled_by (form.Least column) (int_lt (number_in part.new) (number_in now)) (int_gt (number_in now) (number_in part.new)) Takes)
+      (ruled_by (form.Least column) (int_lt (one_group_number part.new) (one_group_number now)) (int_gt (one_group_number now) (one_group_number part.new)) Takes)
 
   module _ (f : Form) (has : form_at schema table part.group ≡ Some f) where
     own_values : (values : Cells) → length values ≡ length columns → group_values schema table part.group (with_group_values schema table part.group values row) ≡ values
@@ -370,11 +370,11 @@ module _ (schema : Schema) (sound : IsSound schema) (decides : DecisionLaws) (ta
       let one = shape.1 in
       let new = one_of_group schema table part.group shape.0 sum_methods one part.new part_fits.new in
       let adds = decides.adds schema table shape.0 part row one (HasGroupValues-PartFits schema table part part_fits) fits in
-      either form.Sum has after gives (sum part.new) (rw one.columns refl) (λ same. new.1 ∙ ap (λ n. Num n ∷ []) (moved new.0 (number_in now) (number_in part.old) (number_in part.new) (ap number_in new.1) (ap number_in same)))
-      (λ values is. taken (number_in now +ℤ move_of part) (is_in_range (number_in now +ℤ move_of part)) values (rw (adds) at is))
+      either form.Sum has after gives (sum part.new) (rw one.columns refl) (λ same. new.1 ∙ ap (λ n. Num n ∷ []) (moved new.0 (one_group_number now) (one_group_number part.old) (one_group_number part.new) (ap one_group_number new.1) (ap one_group_number same)))
+      (λ values is. taken (one_group_number now +ℤ move_of part) (is_in_range (one_group_number now +ℤ move_of part)) values (rw (adds) at is))
     where
       sum : Cells → Cells
-      sum new = Num (number_in now +ℤ move_of part) ∷ []
+      sum new = Num (one_group_number now +ℤ move_of part) ∷ []
 
       moved : (n a o m : ℤ) → m ≡ n → a ≡ o → n ≡ a +ℤ (m -ℤ o)
       moved n a o m p q = omega (arith, ints)
@@ -385,15 +385,15 @@ module _ (schema : Schema) (sound : IsSound schema) (decides : DecisionLaws) (ta
   settled_moves (form.Greatest column) has allows after gives =
       let one = IsShaped-form_at schema sound table part.group (form.Greatest column) has in
       settled_greater (form.Greatest column) has after gives (ruled_greatest column one)
-      (λ same. no_loss schema columns (form.Greatest column) part.new now (subst (λ old. is_gt (int_cmp (number_in old) (number_in part.new)) ≡ false) (sym same) allows)
+      (λ same. no_loss schema columns (form.Greatest column) part.new now (subst (λ old. is_gt (int_cmp (one_group_number old) (one_group_number part.new)) ≡ false) (sym same) allows)
       (λ tie. same_numbers part.new now (one_of_group schema table part.group column (greatest_methods column) one part.new part_fits.new) (one_of_group schema table part.group column (greatest_methods column) one now now_fits)
-      (int_tie (number_in part.new) (number_in now) tie)))
+      (int_tie (one_group_number part.new) (one_group_number now) tie)))
   settled_moves (form.Least column) has allows after gives =
       let one = IsShaped-form_at schema sound table part.group (form.Least column) has in
       settled_greater (form.Least column) has after gives (ruled_least column one)
-      (λ same. no_loss schema columns (form.Least column) part.new now (subst (λ old. is_gt (int_cmp (number_in part.new) (number_in old)) ≡ false) (sym same) allows)
+      (λ same. no_loss schema columns (form.Least column) part.new now (subst (λ old. is_gt (int_cmp (one_group_number part.new) (one_group_number old)) ≡ false) (sym same) allows)
       (λ tie. same_numbers part.new now (one_of_group schema table part.group column (least_methods column) one part.new part_fits.new) (one_of_group schema table part.group column (least_methods column) one now now_fits)
-      (sym (int_tie (number_in now) (number_in part.new) tie))))
+      (sym (int_tie (one_group_number now) (one_group_number part.new) tie))))
   settled_moves (form.Latest stamp site) has allows after gives =
       settled_greater (form.Latest stamp site) has after gives (ruled_latest stamp site has (IsShaped-form_at schema sound table part.group (form.Latest stamp site) has))
       (λ same. rw (subst (λ old. wins schema columns (form.Latest stamp site) part.new old ≡ Greater) (sym same) allows) refl)

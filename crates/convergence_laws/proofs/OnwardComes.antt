@@ -3,7 +3,7 @@ use Rattle.std.proofs.Common.{◌≡◌, ℕ, map, true, Ok}
 use Rattle.rep_values.specs.declared.name.SiteName.{SiteName}
 use Rattle.rep_schema.specs.declared.schema.Schema.{Schema}
 use Rattle.rep_schema.specs.Tables.{Cells}
-use Rattle.rep_schema.specs.Putting.{made_all}
+use Rattle.rep_schema.specs.Putting.{after_changes}
 use Rattle.rep_calls.specs.declared.call.Txn.{Txn}
 use Rattle.conflict_detect.specs.ChangeCalls.{call_of}
 use Rattle.txn_effects.specs.Calls.{Effect}
@@ -31,7 +31,7 @@ onward_comes schema sound decides table group convergent key txn content origin 
     let applied = IsApplied-txn_effect schema origin txn content.tables content.numbers effect (CanApply-IsContent schema sound origin txn txn_sound.fits content is) gives in
     let fits = TxnFits-led schema (record { shape = sound.shape; keys = HasKeys-sound schema sound.unbroken sound.shape; apart = KeysStandAlone-sound schema sound.unbroken }) content.tables effect is.tables applied in
     let keeps = row_changes_keep_forms decides schema origin txn content effect sound is txn_sound gives in
-    let own = calls_effect-own schema origin content.numbers 1 effect.changes content.tables (made_all schema effect.changes content.tables) sound.shape is.tables applied.leads applied.differ applied.checked in
+    let own = calls_effect-own schema origin content.numbers 1 effect.changes content.tables (after_changes schema effect.changes content.tables) sound.shape is.tables applied.leads applied.differ applied.checked in
     rw gives
     (calls_come schema sound decides table group convergent key 1 (map (call_of schema) effect.changes) content.tables content.numbers origin (record { changes = effect.changes; numbers = content.numbers }) is.tables is.counters
     fits.calls keeps own)

@@ -3,7 +3,7 @@ use Rattle.std.proofs.Common.{List, [], ◌∷◌, sym, subst}
 use Rattle.rep_values.specs.declared.name.SiteName.{SiteName}
 use Rattle.rep_schema.specs.declared.schema.Schema.{Schema}
 use Rattle.rep_schema.specs.Tables.{Rows, AreTables}
-use Rattle.rep_schema.specs.Putting.{made_all}
+use Rattle.rep_schema.specs.Putting.{after_changes}
 use Rattle.rep_calls.specs.declared.call.Txn.{Txn}
 use Rattle.txn_effects.specs.Contents.{Content, IsContent}
 use Rattle.txn_effects.proofs.TransactionEffects.{IsApplied-txn_effect}
@@ -29,7 +29,7 @@ module _ (schema : Schema) (sound : IsSound schema) (here : Here) (base : List R
       let content : Content = journal_content schema here.site base es in
       let applied = IsApplied-txn_effect schema origin txn content.tables content.numbers done.effect (CanApply-IsContent schema sound origin txn done.sound.fits content is) done.gives in
       rw done.gives
-      (calls_effect-own schema from numbers 1 done.effect.changes content.tables (made_all schema done.effect.changes content.tables) sound.shape is.tables applied.leads applied.differ applied.checked)
+      (calls_effect-own schema from numbers 1 done.effect.changes content.tables (after_changes schema done.effect.changes content.tables) sound.shape is.tables applied.leads applied.differ applied.checked)
 
   journal_sends : (journal : List Entry) → AreTables schema base → AreMade schema here.site base journal → SendTheirEffects schema here base journal
   journal_sends [] are made = tt

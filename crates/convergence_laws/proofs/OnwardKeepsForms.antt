@@ -7,7 +7,7 @@ use Rattle.rep_values.specs.declared.name.SiteName.{SiteName}
 use Rattle.rep_schema.specs.declared.schema.Schema.{Schema}
 use Rattle.rep_schema.specs.declared.change.Change.{Change}
 use Rattle.rep_schema.specs.Tables.{Cells, Rows, columns_of, rows_of, RowFits, AreTables}
-use Rattle.rep_schema.specs.Putting.{is_unchanged, changes_between, made_all}
+use Rattle.rep_schema.specs.Putting.{is_unchanged, changes_between, after_changes}
 use Rattle.rep_schema.proofs.FoundRows.{found_row}
 use Rattle.rep_calls.specs.declared.call.Call.{Call}
 use Rattle.rep_calls.specs.declared.call.Call.TheVariants.{Insert, Update, Delete}
@@ -15,7 +15,7 @@ use Rattle.conflict_detect.specs.Fits.{CallFits, table_of}
 use Rattle.conflict_detect.specs.ChangeCalls.{call_between, call_of}
 use Rattle.unique_resolve.specs.Numbers.{Numbers, AreCounters}
 use Rattle.txn_effects.specs.Calls.{Effect, RowEffect, row_named, row_effect, call_effect}
-use Rattle.txn_effects.specs.Transactions.{failing_at, behind, calls_effect}
+use Rattle.txn_effects.specs.Transactions.{failing_at, effect_behind, calls_effect}
 use Rattle.txn_effects.proofs.Results.{result_then-Ok}
 use Rattle.txn_effects.proofs.TransactionEffects.{IsApplied-call_effect}
 use Rattle.local_txn.specs.Convergent.{is_convergent}
@@ -94,15 +94,15 @@ module _ (schema : Schema) (sound : IsSound schema) (decides : DecisionLaws) whe
       subst (λ (x : Effect). CallsKeep schema x.changes) is tt
   calls_changes_keep number (call ∷ calls) tables numbers origin effect are counters fit keep gives =
       let some = result_then-Ok (failing_at number (call_effect schema tables numbers origin call))
-      (λ (x : Effect). behind x.changes (calls_effect schema origin (number + 1) calls (made_all schema x.changes tables) x.numbers)) effect gives in
+      (λ (x : Effect). effect_behind x.changes (calls_effect schema origin (number + 1) calls (after_changes schema x.changes tables) x.numbers)) effect gives in
       let one : Effect = some.0 in
       let first = failing_at-Ok number (call_effect schema tables numbers origin call) one some.1 in
       let applied = IsApplied-call_effect schema origin sound.shape (HasKeys-sound schema sound.unbroken sound.shape) (KeysStandAlone-sound schema sound.unbroken) call tables numbers one are counters fit.0 first in
-      let rest = behind-Ok one.changes (calls_effect schema origin (number + 1) calls (made_all schema one.changes tables) one.numbers) effect some.2 in
+      let rest = behind-Ok one.changes (calls_effect schema origin (number + 1) calls (after_changes schema one.changes tables) one.numbers) effect some.2 in
       subst (λ (x : Effect). CallsKeep schema x.changes) rest.2
       (calls_keep-append schema one.changes rest.0.changes
       (call_changes_keep call tables numbers origin one are fit.0 keep.0 first)
-      (calls_changes_keep (number + 1) calls (made_all schema one.changes tables) one.numbers origin rest.0 applied.are applied.counters fit.1 keep.1 rest.1))
+      (calls_changes_keep (number + 1) calls (after_changes schema one.changes tables) one.numbers origin rest.0 applied.are applied.counters fit.1 keep.1 rest.1))
 
 pub row_changes_keep_forms : DecisionLaws → RowChangesKeepForms
 row_changes_keep_forms decides schema origin txn content effect sound is txn_sound gives =

@@ -20,7 +20,7 @@ use Rattle.rep_schema.specs.Tables.{Cells, Rows, columns_of, key_of, rows_of, Ro
 use Rattle.rep_schema.specs.Groups.{groups_of}
 use Rattle.rep_schema.specs.Kinds.{is_number, is_stamp, is_site_kind, has_kind}
 use Rattle.rep_schema.specs.Named.{is_table, table_place}
-use Rattle.rep_schema.specs.Putting.{is_unchanged, changes_between, made_all}
+use Rattle.rep_schema.specs.Putting.{is_unchanged, changes_between, after_changes}
 use Rattle.rep_schema.proofs.FoundRows.{found_row}
 use Rattle.schema_rules.specs.declared.forms.Form.{Form}
 use Rattle.schema_rules.specs.declared.forms.Form.TheVariants as form
@@ -32,14 +32,14 @@ use Rattle.conflict_detect.specs.ChangeCalls.{call_of}
 use Rattle.local_txn.specs.declared.local.Here.{Here}
 use Rattle.local_txn.specs.declared.local.Stamps.{Stamps}
 use Rattle.local_txn.specs.declared.local.LocalStop.{LocalStop}
-use Rattle.local_txn.specs.Held.{table_name, held_table}
+use Rattle.local_txn.specs.Held.{statement_table, held_table}
 use Rattle.local_txn.specs.Literals.{literals_fit, key_literals_fit, values_of}
 use Rattle.local_txn.specs.Sets.{names_columns, sets_fit, sets_filled, row_with}
 use Rattle.local_txn.specs.Filled.{Filling, filling_value, filled_from, written_columns, is_modified, bound_from, next_stamp}
 use Rattle.local_txn.specs.Convergent.{is_convergent, barred, breaks, broken_group, rule_step}
-use Rattle.local_txn.specs.Statements.{Standing, row_at, insert_made, update_made, update_outcome, outcome_in, outcome_changes, row_steps, there, new_row_steps, changed_row_steps, steps_in, statement_refusal, statement_changes, changes_at, standing_at, standing_after}
+use Rattle.local_txn.specs.Statements.{BlockState, row_at, insert_made, update_made, update_outcome, outcome_in, outcome_changes, row_steps, there, new_row_steps, changed_row_steps, steps_in, statement_refusal, statement_changes, changes_at, block_state_at, block_state_after}
 use Rattle.local_txn.specs.Running.{CanRun}
-use Rattle.local_txn.specs.Locals.{BlockEffect, unless_refused, behind, statements_effect, beginning, local_effect, most_statements, stop_at}
+use Rattle.local_txn.specs.Locals.{BlockEffect, unless_refused, block_effect_behind, statements_effect, block_beginning, local_effect, most_statements, stop_at}
 use Rattle.local_txn.specs.Laws.{StampsOfABlockRise}
 use Rattle.local_txn.proofs.StatementEffects.{IsAllowed, IsAllowed-statement, place-held, refusal-held, changes-held}
 use Rattle.local_txn.proofs.BlockSteps.{place_within, IsApplied-one}
@@ -124,7 +124,7 @@ module _ (schema : Schema) (sound : IsSound schema) (here : Here) where
 
   -- ---- one statement on its table
 
-  module _ (standing : Standing) (table : ℕ) (able : CanRun schema standing.tables table) where
+  module _ (standing : BlockState) (table : ℕ) (able : CanRun schema standing.tables table) where
     proper_update : (name : TableName) (key : List Literal) (sets : List Set) → first_refusal (steps_in schema here standing table (Update name key sets)) ≡ None → (found : Cells)
         → row_at schema standing.tables table (values_of key) ≡ Some found → is_convergent schema table ≡ true
         → IsProperUpdate schema table found (update_made schema here standing.stamps table sets found).row
@@ -179,35 +179,35 @@ module _ (schema : Schema) (sound : IsSound schema) (here : Here) where
   each_append [] others first rest = rest
   each_append (c ∷ cs) others first rest = (first.0, each_append cs others first.1 rest)
 
-  proper_one : (standing : Standing) (statement : Statement) → AreTables schema standing.tables → statement_refusal schema here standing statement ≡ None → AllProper (statement_changes schema here standing statement)
+  proper_one : (standing : BlockState) (statement : Statement) → AreTables schema standing.tables → statement_refusal schema here standing statement ≡ None → AllProper (statement_changes schema here standing statement)
   proper_one standing statement are none = go (held_table schema here statement) refl
     where
       go : (place : Option ℕ) → held_table schema here statement ≡ place → AllProper (statement_changes schema here standing statement)
       go None nowhere = let refuses = rw nowhere at none in cc
       go (Some table) held =
-          let below : table < length schema.tables = place_within (is_table (table_name statement)) schema.tables table (place-held here (table_place schema (table_name statement)) table held) in
+          let below : table < length schema.tables = place_within (is_table (statement_table statement)) schema.tables table (place-held here (table_place schema (statement_table statement)) table held) in
           let able : CanRun schema standing.tables table = record { shape = sound.shape; keyed = HasKeys-sound schema sound.unbroken sound.shape table below; are = are; of_table = below } in
           rw (changes-held schema here standing statement table held) (statement_proper standing table able statement (sym (refusal-held schema here standing statement table held) ∙ none))
 
-  tables-standing_after : (standing : Standing) (statement : Statement) → (standing_after schema here standing statement).tables ≡ made_all schema (statement_changes schema here standing statement) standing.tables
-  tables-standing_after standing statement = go (table_place schema (table_name statement))
+  tables-standing_after : (standing : BlockState) (statement : Statement) → (block_state_after schema here standing statement).tables ≡ after_changes schema (statement_changes schema here standing statement) standing.tables
+  tables-standing_after standing statement = go (table_place schema (statement_table statement))
     where
-      go : (place : Option ℕ) → (standing_at schema here standing place statement).tables ≡ made_all schema (changes_at schema here standing place statement) standing.tables
+      go : (place : Option ℕ) → (block_state_at schema here standing place statement).tables ≡ after_changes schema (changes_at schema here standing place statement) standing.tables
       go None = refl
       go (Some table) = refl
 
-  statements_proper : (statements : List Statement) (number : ℕ) (standing : Standing) (block : BlockEffect) → AreTables schema standing.tables → statements_effect schema here number statements standing ≡ Ok block → AllProper block.changes
+  statements_proper : (statements : List Statement) (number : ℕ) (standing : BlockState) (block : BlockEffect) → AreTables schema standing.tables → statements_effect schema here number statements standing ≡ Ok block → AllProper block.changes
   statements_proper [] number standing block are gives =
       let none : record { changes = []; stamps = standing.stamps } ≡ block = cc in
       subst (λ (b : BlockEffect). AllProper b.changes) none tt
   statements_proper (s ∷ ss) number standing block are gives =
-      go (statement_refusal schema here standing s) refl (statements_effect schema here (number + 1) ss (standing_after schema here standing s)) refl gives
-      (λ later are_later gives_later. statements_proper ss (number + 1) (standing_after schema here standing s) later are_later gives_later)
+      go (statement_refusal schema here standing s) refl (statements_effect schema here (number + 1) ss (block_state_after schema here standing s)) refl gives
+      (λ later are_later gives_later. statements_proper ss (number + 1) (block_state_after schema here standing s) later are_later gives_later)
     where
       go : (refusal : Option Refusal) → statement_refusal schema here standing s ≡ refusal
-          → (rest : Result BlockEffect LocalStop) → statements_effect schema here (number + 1) ss (standing_after schema here standing s) ≡ rest
-          → unless_refused refusal number (behind (statement_changes schema here standing s) rest) ≡ Ok block
-          → ((later : BlockEffect) → AreTables schema (standing_after schema here standing s).tables → statements_effect schema here (number + 1) ss (standing_after schema here standing s) ≡ Ok later → AllProper later.changes)
+          → (rest : Result BlockEffect LocalStop) → statements_effect schema here (number + 1) ss (block_state_after schema here standing s) ≡ rest
+          → unless_refused refusal number (block_effect_behind (statement_changes schema here standing s) rest) ≡ Ok block
+          → ((later : BlockEffect) → AreTables schema (block_state_after schema here standing s).tables → statements_effect schema here (number + 1) ss (block_state_after schema here standing s) ≡ Ok later → AllProper later.changes)
           → AllProper block.changes
       go (Some why) refuses rest is e more = cc
       go None none (Err stop) is e more = cc
@@ -220,8 +220,8 @@ module _ (schema : Schema) (sound : IsSound schema) (here : Here) where
   block_proper : (stamps : Stamps) (statements : List Statement) (tables : List Rows) (block : BlockEffect) → AreTables schema tables → local_effect schema here stamps statements tables ≡ Ok block → AllProper block.changes
   block_proper stamps statements tables block are gives = go (nat_le (length statements) most_statements) gives
     where
-      go : (b : Bool) → cond b (statements_effect schema here 1 statements (beginning stamps tables)) (stop_at (most_statements + 1) (refusal.LimitReached limit.Statements)) ≡ Ok block → AllProper block.changes
-      go true e = statements_proper statements 1 (beginning stamps tables) block are e
+      go : (b : Bool) → cond b (statements_effect schema here 1 statements (block_beginning stamps tables)) (stop_at (most_statements + 1) (refusal.LimitReached limit.Statements)) ≡ Ok block → AllProper block.changes
+      go true e = statements_proper statements 1 (block_beginning stamps tables) block are e
       go false e = cc
 
   both_keep : (changes : List Change) → AllProper changes → AllByRecursion (FillsSome schema here.site) changes → AllByRecursion (KeepsForms schema) (map (call_of schema) changes)

@@ -25,7 +25,7 @@ use Rattle.conflict_detect.specs.ChangeCalls.{part_between, call_between, call_o
 use Rattle.resolve_methods.specs.Ranks.{site_level_of}
 use Rattle.local_txn.specs.Convergent.{is_convergent}
 use Rattle.local_txn.specs.Filled.{filling_value, is_modified, above_value, bound_by, bound_from}
-use Rattle.local_txn.specs.Laws.{gives_stamp, Carries, StampsRise}
+use Rattle.local_txn.specs.Laws.{gives_stamp, CarriesStamp, StampsRise}
 use Rattle.rep_laws.specs.Commuting.{IsSound}
 use Rattle.convergence_laws.specs.GroupForms.{form_at, value_of, level_alone, wins, Allows, KeepsForms}
 use Rattle.convergence_laws.proofs.GroupColumns.{value_of-values_at}
@@ -58,7 +58,7 @@ IsProper schema change = is_convergent schema change.table ≡ true → IsProper
 
 -- a change fills in some stamp of the site's
 abbrev pub FillsSome : Schema → SiteName → Change → Type 0
-FillsSome schema site change = (stamp : ℕ) × Carries schema (record { stamp = stamp; site = site }) change
+FillsSome schema site change = (stamp : ℕ) × CarriesStamp schema (record { stamp = stamp; site = site }) change
 
 -- so does each change of a block whose stamps rise
 pub each_fills : (schema : Schema) (site : SiteName) (low high : ℕ) (changes : List Change) → StampsRise schema site low high changes → AllByRecursion (FillsSome schema site) changes
@@ -139,7 +139,7 @@ stamp_column columns k stamp = go (slice_get columns k) refl stamp
 -- ---- one change
 
 module _ (schema : Schema) (sound : IsSound schema) (site : SiteName) (table : ℕ) (before after : Cells) (proper : IsProperUpdate schema table before after)
-    (stamp : ℕ) (carries : Carries schema (record { stamp = stamp; site = site }) (record { table = table; before = Some before; after = Some after })) where
+    (stamp : ℕ) (carries : CarriesStamp schema (record { stamp = stamp; site = site }) (record { table = table; before = Some before; after = Some after })) where
   allowed : (group : ℕ) (f : Form) → form_at schema table group ≡ Some f → differ_in schema table before after group ≡ true → Allows schema (group_columns_of schema table group) f (part_between schema table before after group)
   allowed group form.Sum has differ = tt
   allowed group (form.Greatest c) has differ =
@@ -180,7 +180,7 @@ pub own_change_keeps : (schema : Schema) → IsSound schema → (site : SiteName
 own_change_keeps schema sound site change proper fills = go (is_convergent schema change.table) refl
   where
     by : is_convergent schema change.table ≡ true → (before after : Option Cells) → IsProperIn schema change.table before after
-        → (stamp : ℕ) × Carries schema (record { stamp = stamp; site = site }) (record { table = change.table; before = before; after = after }) → KeepsForms schema (call_between schema change.table before after)
+        → (stamp : ℕ) × CarriesStamp schema (record { stamp = stamp; site = site }) (record { table = change.table; before = before; after = after }) → KeepsForms schema (call_between schema change.table before after)
     by convergent None None proper fills = λ e. tt
     by convergent None (Some after) proper fills = tt
     by convergent (Some before) None proper fills = absurd proper

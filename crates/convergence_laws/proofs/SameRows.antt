@@ -12,7 +12,7 @@ use Rattle.schema_rules.specs.declared.forms.Form.{Form}
 use Rattle.schema_rules.specs.declared.forms.Form.TheVariants as form
 use Rattle.rep_calls.specs.declared.call.Call.{Call}
 use Rattle.conflict_detect.proofs.RowAfter.{same_from_groups}
-use Rattle.resolve_methods.specs.SequenceLaws.{number_in, sum_methods, greatest_methods, least_methods}
+use Rattle.resolve_methods.specs.SequenceLaws.{one_group_number, sum_methods, greatest_methods, least_methods}
 use Rattle.local_txn.specs.Convergent.{is_convergent}
 use Rattle.rep_laws.specs.Commuting.{IsSound}
 use Rattle.site_state.specs.declared.entry.Entry.{Entry}
@@ -137,7 +137,7 @@ module _ (schema : Schema) (sound : IsSound schema) (decides : DecisionLaws) (on
       same_numbers (values_at (columns group) a) (values_at (columns group) b)
       (one_of_group schema table group shape.0 sum_methods shape.1 (values_at (columns group) a) (RowFits-values_at (columns group) (columns_of schema table) a a_fits))
       (one_of_group schema table group shape.0 sum_methods shape.1 (values_at (columns group) b) (RowFits-values_at (columns group) (columns_of schema table) b b_fits))
-      (join ∙ ap (λ s. number_in (values_at (columns group) first) +ℤ s) (sum_of_moves-reordered (parts_same key group)) ∙ sym rejoin)
+      (join ∙ ap (λ s. one_group_number (values_at (columns group) first) +ℤ s) (sum_of_moves-reordered (parts_same key group)) ∙ sym rejoin)
   values_same key group (form.Greatest c) has first a b begins a_fits b_fits join rejoin =
       let one_number = IsShaped-form_at schema sound table group (form.Greatest c) has in
       let two = two_winners schema (columns group) (form.Greatest c) (values_at (columns group) a) (values_at (columns group) b) (candidates_of (values_at (columns group) first) (applied_parts table key group journal))
@@ -145,7 +145,7 @@ module _ (schema : Schema) (sound : IsSound schema) (decides : DecisionLaws) (on
       same_numbers (values_at (columns group) a) (values_at (columns group) b)
       (one_of_group schema table group c (greatest_methods c) one_number (values_at (columns group) a) (RowFits-values_at (columns group) (columns_of schema table) a a_fits))
       (one_of_group schema table group c (greatest_methods c) one_number (values_at (columns group) b) (RowFits-values_at (columns group) (columns_of schema table) b b_fits))
-      (int_tie (number_in (values_at (columns group) a)) (number_in (values_at (columns group) b)) two.tie)
+      (int_tie (one_group_number (values_at (columns group) a)) (one_group_number (values_at (columns group) b)) two.tie)
   values_same key group (form.Least c) has first a b begins a_fits b_fits join rejoin =
       let one_number = IsShaped-form_at schema sound table group (form.Least c) has in
       let two = two_winners schema (columns group) (form.Least c) (values_at (columns group) a) (values_at (columns group) b) (candidates_of (values_at (columns group) first) (applied_parts table key group journal))
@@ -153,7 +153,7 @@ module _ (schema : Schema) (sound : IsSound schema) (decides : DecisionLaws) (on
       same_numbers (values_at (columns group) a) (values_at (columns group) b)
       (one_of_group schema table group c (least_methods c) one_number (values_at (columns group) a) (RowFits-values_at (columns group) (columns_of schema table) a a_fits))
       (one_of_group schema table group c (least_methods c) one_number (values_at (columns group) b) (RowFits-values_at (columns group) (columns_of schema table) b b_fits))
-      (sym (int_tie (number_in (values_at (columns group) b)) (number_in (values_at (columns group) a)) two.tie))
+      (sym (int_tie (one_group_number (values_at (columns group) b)) (one_group_number (values_at (columns group) a)) two.tie))
   values_same key group (form.Latest stamp site) has first a b begins a_fits b_fits join rejoin =
       let two = two_winners schema (columns group) (form.Latest stamp site) (values_at (columns group) a) (values_at (columns group) b) (candidates_of (values_at (columns group) first) (applied_parts table key group journal))
       (candidates_of (values_at (columns group) first) (applied_parts table key group reordered)) (candidates_reordered schema (columns group) (form.Latest stamp site) (values_at (columns group) first) (parts_same key group)) join rejoin in

@@ -31,8 +31,8 @@ use Rattle.site_state.specs.declared.answers.Why.{Why}
 use Rattle.site_state.specs.Passes.{effect_here, finished_by, applied_unless, site_apply}
 use Rattle.site_state.specs.Errors.{effect_of_error, executed_by, executed_found, site_execute, dropped_found, site_drop}
 use Rattle.site_state.specs.Journal.{error_at}
-use Rattle.site_state.specs.Packets.{is_foreign, arrived_by, taken_unless, site_accept, number_at, carry_of, packet_found, site_packet}
-use Rattle.site_state.specs.Fits.{EntryHas, SendersHave, IsKeyed}
+use Rattle.site_state.specs.Packets.{is_foreign, arrived_by, taken_unless, site_accept, stream_number, carry_of, packet_found, site_packet}
+use Rattle.site_state.specs.Fits.{EntryHas, SendersHave, SchemaIsKeyed}
 use Rattle.site_state.proofs.FittingBlocks.{TxnFits-led, block_applied}
 use Rattle.site_state.proofs.FittingSites.{arrived_has, error_has, one_has, senders_put}
 use Rattle.event_laws.specs.Fitting.{FitsHere}
@@ -55,7 +55,7 @@ abbrev pub PacketKeeps : Schema → Packet → Type 0
 PacketKeeps schema (Carry from to number position dep past txn) = TxnKeepsForms schema txn
 PacketKeeps schema (Mark from to mark) = Unit {0}
 
-keyed_by : (schema : Schema) → IsSound schema → IsKeyed schema
+keyed_by : (schema : Schema) → IsSound schema → SchemaIsKeyed schema
 keyed_by schema sound = record { shape = sound.shape; keys = HasKeys-sound schema sound.unbroken sound.shape; apart = KeysStandAlone-sound schema sound.unbroken }
 
 -- ---- what is sent
@@ -86,7 +86,7 @@ packet_keeps to position x packet h = go (at_position position (stream_to to x))
 
     go : (found : Option Txn) → at_position position (stream_to to x) ≡ found → packet_found to position x found ≡ Some packet → PacketKeeps x.schema packet
     go None found is = cc
-    go (Some txn) found is = by txn (position_has (TxnKeepsForms x.schema) position (stream_to to x) txn (stream_has (TxnKeepsForms x.schema) _ (queue_of x) h.queued) found) (nat_le (number_at to position x) x.purged) is
+    go (Some txn) found is = by txn (position_has (TxnKeepsForms x.schema) position (stream_to to x) txn (stream_has (TxnKeepsForms x.schema) _ (queue_of x) h.queued) found) (nat_le (stream_number to position x) x.purged) is
 
 -- ---- what a site does
 

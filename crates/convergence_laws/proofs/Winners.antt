@@ -15,7 +15,7 @@ use Rattle.rep_schema.proofs.ValuesAt.{are_same-Decides}
 use Rattle.schema_rules.specs.declared.forms.Form.{Form}
 use Rattle.schema_rules.specs.declared.forms.Form.TheVariants as form
 use Rattle.rep_calls.specs.declared.call.Part.{Part}
-use Rattle.resolve_methods.specs.SequenceLaws.{number_in, move_of, sum_of_moves}
+use Rattle.resolve_methods.specs.SequenceLaws.{one_group_number, move_of, sum_of_moves}
 use Rattle.convergence_laws.specs.GroupForms.{wins}
 use Rattle.convergence_laws.specs.Joins.{is_winner, candidates_of, IsJoin}
 use Rattle.convergence_laws.proofs.Moves.{wins_total, greater, move}
@@ -33,9 +33,9 @@ moved_by-append schema columns f values (part ∷ parts) later = moved_by-append
 same_self : (values : Cells) → are_same values values ≡ true
 same_self values = (are_same-Decides values values).1 refl
 
-adds_up : (schema : Schema) (columns : List ℕ) (values : Cells) (parts : List Part) → number_in (moved_by schema columns form.Sum values parts) ≡ number_in values +ℤ sum_of_moves parts
+adds_up : (schema : Schema) (columns : List ℕ) (values : Cells) (parts : List Part) → one_group_number (moved_by schema columns form.Sum values parts) ≡ one_group_number values +ℤ sum_of_moves parts
 adds_up schema columns values [] = omega (arith, ints)
-adds_up schema columns values (part ∷ parts) = by _ (number_in values) (move_of part) (sum_of_moves parts) (adds_up schema columns (move schema columns form.Sum part values) parts)
+adds_up schema columns values (part ∷ parts) = by _ (one_group_number values) (move_of part) (sum_of_moves parts) (adds_up schema columns (move schema columns form.Sum part values) parts)
   where
     by : (r v m s : ℤ) → r ≡ (v +ℤ m) +ℤ s → r ≡ v +ℤ (m +ℤ s)
     by r v m s e = omega (arith, ints)

@@ -9,7 +9,7 @@ use Rattle.rep_schema.specs.Sites.{first_master}
 use Rattle.schema_rules.specs.declared.forms.Form.TheVariants as form
 use Rattle.local_txn.specs.Convergent.{is_convergent}
 use Rattle.site_state.specs.State.{SiteState}
-use Rattle.event_laws.specs.Core.{site_of}
+use Rattle.event_laws.specs.Cluster.{site_of}
 use Rattle.convergence_laws.specs.GroupForms.{form_at}
 
 -- a row has stamp 0 and the first master's name where a site fills in a stamp and its name

@@ -6,7 +6,7 @@ use Rattle.rep_schema.specs.Tables.{Cells}
 use Rattle.schema_rules.specs.declared.forms.Form.{Form}
 use Rattle.schema_rules.specs.declared.forms.Form.TheVariants as form
 use Rattle.rep_calls.specs.declared.call.Part.{Part}
-use Rattle.resolve_methods.specs.SequenceLaws.{number_in}
+use Rattle.resolve_methods.specs.SequenceLaws.{one_group_number}
 use Rattle.convergence_laws.specs.GroupForms.{wins}
 use Rattle.convergence_laws.specs.Joins.{candidates_of, IsJoin}
 
@@ -28,7 +28,7 @@ TellApart schema columns f candidates = (one other : Cells) → Among one candid
 
 -- the same number of a sum; else the same values
 abbrev pub AreOneJoin : Form → Cells → Cells → Type 0
-AreOneJoin form.Sum now other = number_in now ≡ number_in other
+AreOneJoin form.Sum now other = one_group_number now ≡ one_group_number other
 AreOneJoin (form.Greatest column) now other = now ≡ other
 AreOneJoin (form.Least column) now other = now ≡ other
 AreOneJoin (form.Latest stamp site) now other = now ≡ other

@@ -20,7 +20,7 @@ use Rattle.rep_calls.specs.declared.call.Call.TheVariants.{Insert, Update, Delet
 use Rattle.rep_calls.specs.declared.call.Txn.{Txn}
 use Rattle.std.specs.List.{AllByRecursion}
 use Rattle.resolve_methods.specs.Ranks.{number_of, site_level_of}
-use Rattle.resolve_methods.specs.SequenceLaws.{number_or_zero, number_in}
+use Rattle.resolve_methods.specs.SequenceLaws.{number_or_zero, one_group_number}
 use Rattle.local_txn.specs.Convergent.{is_convergent}
 
 abbrev pub form_in : List Column → Option Group → Option Form
@@ -48,8 +48,8 @@ rank_among schema columns stamp site values = Num (number_or_zero (number_of (va
 -- how one list of values of a group with these columns stands beside another by the group's form: the greater wins
 abbrev pub wins : Schema → List ℕ → Form → Cells → Cells → Ordering
 wins schema columns form.Sum one other = Equal
-wins schema columns (form.Greatest column) one other = int_cmp (number_in one) (number_in other)
-wins schema columns (form.Least column) one other = int_cmp (number_in other) (number_in one)
+wins schema columns (form.Greatest column) one other = int_cmp (one_group_number one) (one_group_number other)
+wins schema columns (form.Least column) one other = int_cmp (one_group_number other) (one_group_number one)
 wins schema columns (form.Latest stamp site) one other = key_cmp (rank_among schema columns stamp site one) (rank_among schema columns stamp site other)
 
 -- a change of a group's values that its form allows: any amount; no lesser number; no greater one; a greater rank

@@ -10,7 +10,7 @@ use Rattle.schema_rules.specs.declared.forms.Form.TheVariants as form
 use Rattle.rep_calls.specs.declared.call.Part.{Part}
 use Rattle.rep_calls.specs.declared.call.Call.{Call}
 use Rattle.rep_calls.specs.declared.call.Call.TheVariants.{Insert, Update, Delete}
-use Rattle.resolve_methods.specs.SequenceLaws.{number_in, sum_of_moves}
+use Rattle.resolve_methods.specs.SequenceLaws.{one_group_number, sum_of_moves}
 use Rattle.site_state.specs.declared.entry.Entry.{Entry}
 use Rattle.site_state.specs.declared.entry.Entry.TheVariants.{Local, Done, Error, Executed, Dropped, Refreshed}
 use Rattle.convergence_laws.specs.GroupForms.{wins}
@@ -78,7 +78,7 @@ candidates_of first parts = first ∷ map (λ part. part.new) parts
 
 -- the first number and all that the parts move; the greatest; the least; the values with the greatest stamp and level
 abbrev pub IsJoin : Schema → List ℕ → Form → Cells → List Part → Cells → Type 0
-IsJoin schema columns form.Sum first parts now = number_in now ≡ number_in first +ℤ sum_of_moves parts
+IsJoin schema columns form.Sum first parts now = one_group_number now ≡ one_group_number first +ℤ sum_of_moves parts
 IsJoin schema columns (form.Greatest column) first parts now = is_winner schema columns (form.Greatest column) (candidates_of first parts) now ≡ true
 IsJoin schema columns (form.Least column) first parts now = is_winner schema columns (form.Least column) (candidates_of first parts) now ≡ true
 IsJoin schema columns (form.Latest stamp site) first parts now = is_winner schema columns (form.Latest stamp site) (candidates_of first parts) now ≡ true

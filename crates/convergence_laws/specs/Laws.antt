@@ -16,7 +16,7 @@ use Rattle.local_txn.specs.Locals.{BlockEffect, local_effect}
 use Rattle.rep_calls.specs.declared.statement.Statement.{Statement}
 use Rattle.site_state.specs.declared.entry.Entry.{Entry}
 use Rattle.site_state.specs.State.{SiteState}
-use Rattle.event_laws.specs.Core.{Core, site_of}
+use Rattle.event_laws.specs.Cluster.{Cluster, site_of}
 use Rattle.event_laws.specs.Events.{Event, run}
 use Rattle.event_laws.specs.Fitting.{IsFitStart}
 use Rattle.site_state.specs.Contents.{journal_content, tables_of, txn_of}
@@ -57,12 +57,12 @@ BlocksKeepForms = (schema : Schema) (here : Here) (stamps : Stamps) (statements 
 -- after every list of events each group of each row of a convergent table at a master is the join of its first values and of
 -- the parts applied there
 abbrev pub GroupsAreJoined : Type 0
-GroupsAreJoined = (schema : Schema) (start : Core) (events : List Event) → IsFitStart schema start
+GroupsAreJoined = (schema : Schema) (start : Cluster) (events : List Event) → IsFitStart schema start
     → (site : SiteName) (x : SiteState) → site_of site (run events start).sites ≡ Some x → x.here.is_master ≡ true
     → AreJoined schema x.base x.journal (tables_of x)
 
 -- and so it is at a master from any moment of its journal on
 abbrev pub GroupsAreJoinedSince : Type 0
-GroupsAreJoinedSince = (schema : Schema) (start : Core) (events : List Event) → IsFitStart schema start
+GroupsAreJoinedSince = (schema : Schema) (start : Cluster) (events : List Event) → IsFitStart schema start
     → (site : SiteName) (x : SiteState) → site_of site (run events start).sites ≡ Some x → x.here.is_master ≡ true
     → AreJoinedSince schema x.here.site x.base x.journal

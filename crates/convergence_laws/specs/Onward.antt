@@ -14,7 +14,7 @@ use Rattle.site_state.specs.declared.entry.Entry.TheVariants.{Local, Done, Error
 use Rattle.site_state.specs.State.{SiteState}
 use Rattle.site_state.specs.Contents.{journal_content, changes_by}
 use Rattle.site_state.specs.Streams.{onward_txn}
-use Rattle.event_laws.specs.Core.{Core, site_of}
+use Rattle.event_laws.specs.Cluster.{Cluster, site_of}
 use Rattle.event_laws.specs.Events.{Event, run}
 use Rattle.event_laws.specs.Fitting.{IsFitStart}
 
@@ -43,6 +43,6 @@ SendTheirEffects schema here base (e ∷ es) = SendsItsEffect schema here base e
 
 -- after every list of events so it is at each master
 abbrev pub OnwardHasItsEffect : Type 0
-OnwardHasItsEffect = (schema : Schema) (start : Core) (events : List Event) → IsFitStart schema start
+OnwardHasItsEffect = (schema : Schema) (start : Cluster) (events : List Event) → IsFitStart schema start
     → (site : SiteName) (x : SiteState) → site_of site (run events start).sites ≡ Some x → x.here.is_master ≡ true
     → SendTheirEffects schema x.here x.base x.journal

@@ -2,7 +2,7 @@
 use Rattle.std.proofs.Common.{◌≡◌, List, true, false, refl, sym, ap, ◌∙◌, subst}
 use Rattle.rep_schema.specs.declared.schema.Schema.{Schema}
 use Rattle.site_state.specs.State.{SiteState}
-use Rattle.event_laws.specs.Core.{Core, site_of}
+use Rattle.event_laws.specs.Cluster.{Cluster, site_of}
 use Rattle.event_laws.specs.Events.{Event, run}
 use Rattle.event_laws.specs.Quiet.{are_quiet}
 use Rattle.agreement_laws.specs.Agreement.{NothingWasDroppedSince, MastersAgree, QuietMastersAgreeAgain}
@@ -41,7 +41,7 @@ module _ (w : WorldState) (a : GoesOnAlike w) where
 
   since : QuietMastersAgreeAgain → MastersAgreeSince w a.start a.leads.events
   since law newer older parts = agree_then law (run older a.start).sites w.sites older newer refl
-      (same ∙ ap (λ (es : List Event). (run es a.start).sites) parts ∙ ap (λ (v : Core). v.sites) (run-append newer older a.start))
+      (same ∙ ap (λ (es : List Event). (run es a.start).sites) parts ∙ ap (λ (v : Cluster). v.sites) (run-append newer older a.start))
 
   was_lost : MissingRowsAreOfLostInserts → EachMissingRowWasLost w a.start a.leads.events
   was_lost law site x found master =

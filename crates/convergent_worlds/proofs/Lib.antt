@@ -3,7 +3,7 @@ mod FilledRows
 mod MadeMasters
 pub mod Beginning
 mod SetupEnds
-mod Holding
+mod ConvergenceHolds
 mod Histories
 pub mod Scripts
 pub mod Worlds

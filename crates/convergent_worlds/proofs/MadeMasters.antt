@@ -12,13 +12,13 @@ use Rattle.rep_schema.specs.Shape.{is_master, is_early_master, HasShape}
 use Rattle.rep_schema.specs.Tables.{Rows}
 use Rattle.rep_schema.specs.Named.{is_site, site_named}
 use Rattle.rep_schema.specs.Sites.{first_master}
-use Rattle.schema_rules.proofs.SoundRules.{IsSound-unbroken}
+use Rattle.schema_rules.proofs.SoundRules.{KeepsAllRules-unbroken}
 use Rattle.rep_laws.specs.Commuting.{IsSound}
 use Rattle.deferred_queue.specs.Streams.{is_same_site}
 use Rattle.site_state.specs.State.{SiteState}
 use Rattle.site_state.specs.Making.{is_late_master}
 use Rattle.site_state.proofs.SchemaSites.{AreApart, are_apart, found_any, any_found, place_found}
-use Rattle.event_laws.specs.Core.{site_of}
+use Rattle.event_laws.specs.Cluster.{site_of}
 use Rattle.event_laws.proofs.Sites.{found_all}
 use Rattle.snapshot_laws.proofs.Moves.{all_weaker}
 use Rattle.world_state.specs.declared.declared_snapshot.DeclaredSnapshot.{DeclaredSnapshot}
@@ -100,7 +100,7 @@ parts_of_early false late is = absurd (cc is)
 -- a sound schema has one
 pub first_of : (schema : Schema) → IsSound schema → FirstMaster schema
 first_of schema sound =
-    let any : Any (λ (u : SiteEntry). is_early_master u ≡ true) schema.sites = Any-from_list_any is_early_master schema.sites ((IsSound-unbroken schema).1 sound.unbroken).mastered in
+    let any : Any (λ (u : SiteEntry). is_early_master u ≡ true) schema.sites = Any-from_list_any is_early_master schema.sites ((KeepsAllRules-unbroken schema).1 sound.unbroken).mastered in
     let found : site_named schema any.1.name ≡ Some any.1 = place_found schema.sites any.0 any.1 apart any.2 any.3 in
     let parts = parts_of_early (is_master any.1) any.1.late any.4 in
     record { entry = any.1; found = found; master = parts.0; early = early any.1 found parts.1 }

@@ -1,7 +1,7 @@
 -- The world of every script is one of which the laws of convergence hold.
 use Rattle.std.proofs.Common.{◌≡◌, ℕ, suc, List, [], ◌∷◌, ◌++◌, refl, sym, ◌∙◌, subst}
 use Rattle.std.specs.List.{AllByRecursion}
-use Rattle.event_laws.specs.Core.{Core}
+use Rattle.event_laws.specs.Cluster.{Cluster}
 use Rattle.event_laws.specs.Events.{run}
 use Rattle.convergence_laws.specs.Laws.{GroupsAreJoined, GroupsAreJoinedSince}
 use Rattle.agreement_laws.specs.Agreement.{QuietMastersAgree, QuietMastersAgreeAgain}
@@ -17,25 +17,25 @@ use Rattle.world_laws.specs.Simulation.{Simulates, Leads}
 use Rattle.world_laws.specs.Scripts.{script_world}
 use Rattle.world_laws.proofs.SiteSteps.{run-append}
 use Rattle.world_laws.proofs.Pieces.{none_lead, steps_are_events}
-use Rattle.world_laws.proofs.Starting.{made_simulates, made_meshed}
+use Rattle.world_laws.proofs.Starting.{made_simulates, made_linked}
 use Rattle.world_laws.proofs.FittingWorlds.{made_fit_start}
 use Rattle.snapshot_worlds.specs.WellDeclared.{DeclaresWell}
 use Rattle.snapshot_worlds.specs.Starts.{start_of}
 use Rattle.snapshot_worlds.specs.Worlds.{InWorlds, InScripts}
 use Rattle.snapshot_worlds.specs.Reached.{GoesOn, IsOfSnapshots, Declares, Goes}
-use Rattle.snapshot_worlds.proofs.Staying.{step_schema}
+use Rattle.snapshot_worlds.proofs.DeclaredStays.{step_schema}
 use Rattle.snapshot_worlds.proofs.Scripts.{goes_on, made_goes_on, step_of_snapshots, first_of_snapshots}
 use Rattle.convergent_worlds.specs.Convergence.{ConvergenceHolds}
 use Rattle.convergent_worlds.specs.Reached.{GoesOnAlike, IsOfConvergence, Declaring, Going}
 use Rattle.convergent_worlds.proofs.Beginning.{made_worlds_begin_alike}
 use Rattle.convergent_worlds.proofs.SetupEnds.{ends_setup, declares_well}
-use Rattle.convergent_worlds.proofs.Holding.{agree_of, excused_of, lost_of, joined_of, since_of, greatest_of}
+use Rattle.convergent_worlds.proofs.ConvergenceHolds.{agree_of, excused_of, lost_of, joined_of, since_of, greatest_of}
 use Rattle.convergent_worlds.proofs.Histories.{again_of, history_of}
 
 -- ---- behind Setup
 
 -- where events lead on and the schema stays, a world goes on alike
-pub goes_on_alike : (old new : WorldState) → new.schema ≡ old.schema → ((v : Core) → Simulates old v → Leads new v) → GoesOnAlike old → GoesOnAlike new
+pub goes_on_alike : (old new : WorldState) → new.schema ≡ old.schema → ((v : Cluster) → Simulates old v → Leads new v) → GoesOnAlike old → GoesOnAlike new
 goes_on_alike old new same leads a = let b = leads (run a.leads.events a.start) a.leads.simulates in record {
   goes = goes_on old new same leads a.goes;
   schema = a.schema;
@@ -62,7 +62,7 @@ made_goes_on_alike w well = record {
   of_schema = refl;
   start = start_of (world_made w);
   fit = made_fit_start w well.sound;
-  meshed = made_meshed w well.sound.sound.shape;
+  meshed = made_linked w well.sound.sound.shape;
   alike = made_worlds_begin_alike w well;
   leads = none_lead (world_made w) (start_of (world_made w)) (made_simulates w);
 }

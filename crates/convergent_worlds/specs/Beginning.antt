@@ -1,20 +1,20 @@
 -- Where the sites of a world begin.
 use Rattle.rep_schema.specs.declared.schema.Schema.{Schema}
-use Rattle.event_laws.specs.Core.{Core}
+use Rattle.event_laws.specs.Cluster.{Cluster}
 use Rattle.event_laws.specs.Fitting.{IsFitStart}
-use Rattle.event_laws.specs.Waiting.{AreMeshed}
-use Rattle.agreement_laws.specs.Beginning.{BeginAlike}
+use Rattle.event_laws.specs.Waiting.{SitesLinkAsDeclared}
+use Rattle.agreement_laws.specs.Beginning.{RowsBeginAlike}
 use Rattle.excuse_laws.specs.Excuses as excuses
 use Rattle.causal_laws.specs.Laws.{KeysAreShared}
 
 -- masters begin alike, as the law of agreement asks it, as the law of errors does, and as the law of missing rows does
-pub record MastersBeginAlike (schema : Schema) (start : Core) : Type 0 where
-  pub rows : BeginAlike schema start
-  pub keys : excuses.BeginAlike schema start.sites
+pub record MastersBeginAlike (schema : Schema) (start : Cluster) : Type 0 where
+  pub rows : RowsBeginAlike schema start
+  pub keys : excuses.KeysBeginAlike schema start.sites
   pub shared : KeysAreShared schema start.sites
 
 -- new sites of a sound schema, as it declares them, with masters alike
-pub record SitesBegin (schema : Schema) (start : Core) : Type 0 where
+pub record SitesBegin (schema : Schema) (start : Cluster) : Type 0 where
   pub fit : IsFitStart schema start
-  pub meshed : AreMeshed schema start.sites
+  pub meshed : SitesLinkAsDeclared schema start.sites
   pub alike : MastersBeginAlike schema start

@@ -5,7 +5,7 @@ use Rattle.rep_values.specs.declared.name.SiteName.{SiteName}
 use Rattle.site_state.specs.State.{SiteState}
 use Rattle.site_state.specs.Contents.{tables_of}
 use Rattle.site_state.specs.Making.{is_late_master}
-use Rattle.event_laws.specs.Core.{site_of}
+use Rattle.event_laws.specs.Cluster.{site_of}
 use Rattle.event_laws.specs.Quiet.{are_quiet}
 use Rattle.convergence_laws.specs.Laws.{AreJoined, AreJoinedSince}
 use Rattle.convergence_laws.specs.Agreement.{LatestTellApart}

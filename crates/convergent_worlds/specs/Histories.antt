@@ -4,7 +4,7 @@ use Rattle.rep_values.specs.declared.name.SiteName.{SiteName}
 use Rattle.rep_schema.specs.declared.schema.Schema.{Schema}
 use Rattle.rep_schema.specs.Tables.{Cells}
 use Rattle.site_state.specs.State.{SiteState}
-use Rattle.event_laws.specs.Core.{Core, site_of}
+use Rattle.event_laws.specs.Cluster.{Cluster, site_of}
 use Rattle.event_laws.specs.Events.{Event, run}
 use Rattle.event_laws.specs.Quiet.{are_quiet}
 use Rattle.agreement_laws.specs.Agreement.{NothingWasDroppedSince, MastersAgree}
@@ -27,7 +27,7 @@ MastersAgreeAgain w = is_setup w.phase ≡ false → (number : ℕ) (lines : Lis
 
 -- where all masters were quiet and agreed after some of the events, they agree, where they are quiet and no error of a master's
 -- transaction was dropped since
-abbrev pub MastersAgreeSince : WorldState → Core → List Event → Type 0
+abbrev pub MastersAgreeSince : WorldState → Cluster → List Event → Type 0
 MastersAgreeSince w start events = (newer older : List Event) → events ≡ newer ++ older
     → are_quiet (run older start).sites ≡ true → MastersAgree w.schema (run older start).sites
     → are_quiet w.sites ≡ true → NothingWasDroppedSince w.schema (run older start).sites w.sites
@@ -42,7 +42,7 @@ MissesLostRows schema before x = ErrorsAreSo (NoRowIsOfALostInsert schema before
 
 -- so it is at each master, a joined one too: before is before the master joined, at the site from which it was copied, or before
 -- that one joined, and so on back
-abbrev pub EachMissingRowWasLost : WorldState → Core → List Event → Type 0
+abbrev pub EachMissingRowWasLost : WorldState → Cluster → List Event → Type 0
 EachMissingRowWasLost w start events = (site : SiteName) (x : SiteState) → site_of site w.sites ≡ Some x → x.here.is_master ≡ true
     → MissesLostRows w.schema (λ table key. dropped_before w.schema table key events start site) x
 
@@ -50,7 +50,7 @@ EachMissingRowWasLost w start events = (site : SiteName) (x : SiteState) → sit
 
 -- what happened in a world: events lead to its sites from a start with masters alike
 pub record HasHistory (w : WorldState) : Type 0 where
-  pub start : Core
+  pub start : Cluster
   pub events : List Event
   pub begins : SitesBegin w.schema start
   pub leads : w.sites ≡ (run events start).sites

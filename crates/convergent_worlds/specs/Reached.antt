@@ -1,9 +1,9 @@
 -- What the type of a world keeps so that the laws of convergence hold of it.
 use Rattle.std.specs.Prelude.{◌≡◌}
 use Rattle.rep_schema.specs.declared.schema.Schema.{Schema}
-use Rattle.event_laws.specs.Core.{Core}
+use Rattle.event_laws.specs.Cluster.{Cluster}
 use Rattle.event_laws.specs.Fitting.{IsFitStart}
-use Rattle.event_laws.specs.Waiting.{AreMeshed}
+use Rattle.event_laws.specs.Waiting.{SitesLinkAsDeclared}
 use Rattle.world_state.specs.World.{WorldState}
 use Rattle.world_state.specs.Making.{world_made}
 use Rattle.world_laws.specs.Simulation.{Leads}
@@ -22,9 +22,9 @@ pub record GoesOnAlike (w : WorldState) : Type 0 where
   pub goes : GoesOn w
   pub schema : Schema
   pub of_schema : schema ≡ w.schema
-  pub start : Core
+  pub start : Cluster
   pub fit : IsFitStart schema start
-  pub meshed : AreMeshed schema start.sites
+  pub meshed : SitesLinkAsDeclared schema start.sites
   pub alike : MastersBeginAlike schema start
   pub leads : Leads w start
 

@@ -3,21 +3,21 @@ use Rattle.std.proofs.Common.{◌≡◌, ℕ, ◌+◌, ◌-◌, ◌<◌, ◌≤�
 use Rattle.std.specs.Option.{option_map}
 use Rattle.std.specs.List.{AllByRecursion, cons_option}
 use Rattle.rep_values.specs.declared.name.SiteName.{SiteName}
-use Rattle.deferred_queue.specs.declared.cargo.Cargo.{Cargo}
+use Rattle.deferred_queue.specs.declared.queued_txn.QueuedTxn.{QueuedTxn}
 use Rattle.deferred_queue.specs.declared.destination.Destination.{Destination}
 use Rattle.deferred_queue.specs.declared.entries.Entry.{Entry}
 use Rattle.deferred_queue.specs.Streams.{Mark, is_same_site, destination_to, acked_by, in_order}
-use Rattle.deferred_queue.specs.Kept.{Kept, Held, kept_of, entry_of, sent_to, destinations_of, queued, marks_of, entries_to, with_entry, extended, held_extended, FallsFrom, AreAlike, IsStream, AreStreams}
+use Rattle.deferred_queue.specs.QueueState.{Kept, QueueState, kept_of, entry_of, sent_to, destinations_of, queued, stream_marks, entries_to, with_entry, extended, held_extended, FallsFrom, AreAlike, IsStream, AreStreams}
 use Rattle.deferred_queue.proofs.Sites.{is_same_site-true, is_same_site-refl, eq_true, eq_false_above}
 use Rattle.deferred_queue.proofs.Numbers.{entry_of-above, FallsFrom-higher}
 
 -- the room apart, a stream is extended
-pub kept_of-held_extended : (to : List Destination) (number : ℕ) (hs : List Held) → kept_of (map (held_extended to number) hs) ≡ map (extended to number) (kept_of hs)
+pub kept_of-held_extended : (to : List Destination) (number : ℕ) (hs : List QueueState) → kept_of (map (held_extended to number) hs) ≡ map (extended to number) (kept_of hs)
 kept_of-held_extended to number [] = refl
 kept_of-held_extended to number (h ∷ hs) = ap (λ ks. extended to number h.kept ∷ ks) (kept_of-held_extended to number hs)
 
 -- the marks stay
-pub marks_of-extended : (to : List Destination) (number : ℕ) (ks : List Kept) → marks_of (map (extended to number) ks) ≡ marks_of ks
+pub marks_of-extended : (to : List Destination) (number : ℕ) (ks : List Kept) → stream_marks (map (extended to number) ks) ≡ stream_marks ks
 marks_of-extended to number [] = refl
 marks_of-extended to number (k ∷ ks) = ap (λ (ms : List Mark). record { site = k.site; acked = k.acked } ∷ ms) (marks_of-extended to number ks)
 
@@ -33,13 +33,13 @@ destinations_of-extended to earlier number (k ∷ ks) less =
     rw (entry_of-with_entry (destination_to k.site to) earlier number k.entries less, destinations_of-extended to earlier number ks less) refl
 
 -- so they are queued as they were
-pub queued-extended : (to : List Destination) (number : ℕ) (ks : List Kept) (cargoes : List (Option Cargo)) → length cargoes < number → queued (map (extended to number) ks) cargoes ≡ queued ks cargoes
+pub queued-extended : (to : List Destination) (number : ℕ) (ks : List Kept) (cargoes : List (Option QueuedTxn)) → length cargoes < number → queued (map (extended to number) ks) cargoes ≡ queued ks cargoes
 queued-extended to number ks [] less = refl
 queued-extended to number ks (cargo ∷ older) less =
     rw (destinations_of-extended to (length older + 1) number ks (omega (arith, less)), queued-extended to number ks older (omega (arith, less))) refl
 
 -- the new one has its own, in the order of the streams
-pub destinations_of-new : (to : List Destination) (count number : ℕ) (ks : List Kept) → AllByRecursion (IsStream count) ks → count < number → destinations_of number (map (extended to number) ks) ≡ in_order (marks_of ks) to
+pub destinations_of-new : (to : List Destination) (count number : ℕ) (ks : List Kept) → AllByRecursion (IsStream count) ks → count < number → destinations_of number (map (extended to number) ks) ≡ in_order (stream_marks ks) to
 destinations_of-new to count number [] each less = refl
 destinations_of-new to count number (k ∷ ks) each less =
     rw (sent (destination_to k.site to)) (ap (cons_option (option_map (λ (d : Destination). record { site = k.site; dep = d.dep }) (destination_to k.site to))) (destinations_of-new to count number ks each.1 less))
@@ -49,13 +49,13 @@ destinations_of-new to count number (k ∷ ks) each less =
     sent (Some d) = rw (eq_true number number refl) refl
 
 -- so it is queued before the others, and they are as they were
-pub queued-pushed : (to : List Destination) (count number : ℕ) (ks : List Kept) (cargo : Cargo) (cargoes : List (Option Cargo)) → length cargoes ≡ count → number ≡ count + 1 → AllByRecursion (IsStream count) ks
-    → queued (map (extended to number) ks) (Some cargo ∷ cargoes) ≡ record { cargo = Some cargo; to = in_order (marks_of ks) to } ∷ queued ks cargoes
+pub queued-pushed : (to : List Destination) (count number : ℕ) (ks : List Kept) (cargo : QueuedTxn) (cargoes : List (Option QueuedTxn)) → length cargoes ≡ count → number ≡ count + 1 → AllByRecursion (IsStream count) ks
+    → queued (map (extended to number) ks) (Some cargo ∷ cargoes) ≡ record { cargo = Some cargo; to = in_order (stream_marks ks) to } ∷ queued ks cargoes
 queued-pushed to count number ks cargo cargoes long is each =
     rw (long, ← is, destinations_of-new to count number ks each (omega (arith, is)), queued-extended to number ks cargoes (omega (arith, is, long))) refl
 
 -- a number above the count is above the numbers in each stream
-pub each_falls : (count number : ℕ) (hs : List Held) → number ≡ count + 1 → AllByRecursion (IsStream count) (kept_of hs) → AllByRecursion (λ (h : Held). FallsFrom (number - 1) h.kept.entries) hs
+pub each_falls : (count number : ℕ) (hs : List QueueState) → number ≡ count + 1 → AllByRecursion (IsStream count) (kept_of hs) → AllByRecursion (λ (h : QueueState). FallsFrom (number - 1) h.kept.entries) hs
 each_falls count number [] is each = tt
 each_falls count number (h ∷ hs) is each = (FallsFrom-higher count (number - 1) h.kept.entries (omega (arith, is)) each.0.falling, each_falls count number hs is each.1)
 
@@ -71,7 +71,7 @@ found_destination P site (x ∷ xs) d all found = go (is_same_site x.site site) 
 -- what is read by a stream's site is what this stream has
 pub record IsOwn (all : List Kept) (k : Kept) : Type 0 where
   pub entries : entries_to k.site all ≡ k.entries
-  pub acked : acked_by k.site (marks_of all) ≡ k.acked
+  pub acked : acked_by k.site (stream_marks all) ≡ k.acked
 
 -- so it is with each stream, where those to one site are the same
 pub each_own : (ks : List Kept) → AreAlike ks → AllByRecursion (IsOwn ks) ks

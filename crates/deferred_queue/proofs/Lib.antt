@@ -3,12 +3,12 @@ pub mod Sites
 pub mod Positions
 pub mod Numbers
 mod Places
-pub mod KeptStreams
+pub mod QueueStreams
 mod Found
 mod Room
 mod Extending
 mod Raising
-pub mod KeptCargoes
+pub mod QueuedTxns
 mod Sweeping
 mod Purging
 mod StreamLaws

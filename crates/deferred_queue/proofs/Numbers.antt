@@ -17,7 +17,7 @@ use Rattle.rep_lists.specs.Rising.{IsRising, IsThere, IsGap}
 use Rattle.rep_lists.proofs.Each.{each_push}
 use Rattle.deferred_queue.specs.declared.entries.Entry.{Entry}
 use Rattle.deferred_queue.specs.Streams.{at_position}
-use Rattle.deferred_queue.specs.Kept.{FallsFrom, Falls, entry_of, position_of}
+use Rattle.deferred_queue.specs.QueueState.{FallsFrom, Falls, entry_of, position_of}
 use Rattle.deferred_queue.proofs.Sites.{eq_true, eq_false, eq_false_above}
 use Rattle.deferred_queue.proofs.Positions.{at_position-0, at_position-reverse, found_position}
 

@@ -1,7 +1,7 @@
 -- Where a number stands in the entries of a stream.
 use Rattle.std.proofs.Common.{◌≡◌, ℕ, ◌+◌, ◌==◌, Bool, true, false, cond, List, [], ◌∷◌, length, Some, None, refl}
 use Rattle.deferred_queue.specs.declared.entries.Entry.{Entry}
-use Rattle.deferred_queue.specs.Kept.{entry_of, position_of, place_in}
+use Rattle.deferred_queue.specs.QueueState.{entry_of, position_of, place_in}
 
 -- a number without a position has no place
 pub place_in-none : (number : ℕ) (entries : List (Entry ℕ)) → position_of number entries ≡ None → place_in number entries ≡ None

@@ -1,5 +1,5 @@
 -- The definitions of this crate.
 pub mod Streams
-pub mod Kept
+pub mod QueueState
 pub mod Spans
 pub mod Laws

@@ -3,14 +3,14 @@ use Rattle.std.specs.Prelude.{◌≡◌, ◌≢◌, ℕ, ◌+◌, ◌≤◌, ◌
 use Rattle.std.specs.List.{cons_option, list_all}
 use Rattle.rep_values.specs.declared.name.SiteName.{SiteName}
 use Rattle.rep_values.specs.Name.{same_bytes}
-use Rattle.deferred_queue.specs.declared.cargo.Cargo.{Cargo}
+use Rattle.deferred_queue.specs.declared.queued_txn.QueuedTxn.{QueuedTxn}
 use Rattle.deferred_queue.specs.declared.destination.Destination.{Destination}
 use Rattle.deferred_queue.specs.declared.destination.Place.{Place}
 
 -- a transaction and what the site had seen before it, None of both once it was purged, and its destinations, in the order in
 -- which the queue has them
 pub record Deferred : Type 0 where
-  pub cargo : Option Cargo
+  pub cargo : Option QueuedTxn
   pub to : List Destination
 
 -- how far a destination has acknowledged its stream
@@ -38,17 +38,17 @@ destination_to site (d ∷ ds) = cond (is_same_site d.site site) (Some d) (desti
 pub record InStream : Type 0 where
   pub number : ℕ
   pub dep : ℕ
-  pub cargo : Option Cargo
+  pub cargo : Option QueuedTxn
 
-abbrev pub with_one : Option Destination → ℕ → Option Cargo → List InStream → List InStream
+abbrev pub with_one : Option Destination → ℕ → Option QueuedTxn → List InStream → List InStream
 with_one None number cargo stream = stream
 with_one (Some d) number cargo stream = record { number = number; dep = d.dep; cargo = cargo } ∷ stream
 
 -- the stream to a destination, the newest first: the transactions that have it among theirs; a transaction's number is
 -- its place in the queue, from 1
-abbrev pub stream_to : SiteName → List Deferred → List InStream
-stream_to site [] = []
-stream_to site (deferred ∷ older) = with_one (destination_to site deferred.to) (length older + 1) deferred.cargo (stream_to site older)
+abbrev pub queue_stream_to : SiteName → List Deferred → List InStream
+queue_stream_to site [] = []
+queue_stream_to site (deferred ∷ older) = with_one (destination_to site deferred.to) (length older + 1) deferred.cargo (queue_stream_to site older)
 
 -- what stands at a position, the oldest at 1, of a list with the newest first
 abbrev pub at_position : {X : Type 0} → ℕ → List X → Option X
@@ -58,16 +58,16 @@ at_position position (x ∷ xs) = cond (position == length xs + 1) (Some x) (at_
 -- what was found in a stream, where it isn't purged
 abbrev pub unpurged : Option InStream → Option InStream
 unpurged None = None
-unpurged (Some a) = option_map (λ (cargo : Cargo). a) a.cargo
+unpurged (Some a) = option_map (λ (cargo : QueuedTxn). a) a.cargo
 
 -- where the transaction with a number stands in a stream
-abbrev pub place_of : ℕ → List InStream → Option Place
-place_of number [] = None
-place_of number (a ∷ older) = cond (a.number == number) (Some (record { position = length older + 1; dep = a.dep })) (place_of number older)
+abbrev pub stream_place : ℕ → List InStream → Option Place
+stream_place number [] = None
+stream_place number (a ∷ older) = cond (a.number == number) (Some (record { position = length older + 1; dep = a.dep })) (stream_place number older)
 
 -- the last position of the stream to a site, 0 where there is none
 abbrev pub last_position : SiteName → List Deferred → ℕ
-last_position site deferred = length (stream_to site deferred)
+last_position site deferred = length (queue_stream_to site deferred)
 
 -- how far a site has acknowledged its stream, 0 for a site that is no destination
 abbrev pub acked_by : SiteName → List Mark → ℕ
@@ -92,9 +92,9 @@ pub record CanBeSent (queue : Deferrals) (d : Destination) : Type 0 where
   pub earlier : d.dep ≤ last_position d.site queue.deferred
 
 -- no two of these destinations are the same site
-abbrev pub AreApart : List Destination → Type 0
-AreApart [] = Unit {0}
-AreApart (d ∷ ds) = (destination_to d.site ds ≡ None) × AreApart ds
+abbrev pub DestinationsApart : List Destination → Type 0
+DestinationsApart [] = Unit {0}
+DestinationsApart (d ∷ ds) = (destination_to d.site ds ≡ None) × DestinationsApart ds
 
 -- each of these destinations has acknowledged the position that a transaction has in its stream: the one behind those of
 -- the older transactions
@@ -109,9 +109,9 @@ purged marks (deferred ∷ older) = record { cargo = cond (is_acknowledged marks
 -- a transaction and what the site had seen before it, at its number
 pub record Numbered : Type 0 where
   pub number : ℕ
-  pub cargo : Cargo
+  pub cargo : QueuedTxn
 
 -- the transactions that aren't purged with their numbers, the newest first
 abbrev pub numbered : List Deferred → List Numbered
 numbered [] = []
-numbered (deferred ∷ older) = cons_option (option_map (λ (cargo : Cargo). record { number = length older + 1; cargo = cargo }) deferred.cargo) (numbered older)
+numbered (deferred ∷ older) = cons_option (option_map (λ (cargo : QueuedTxn). record { number = length older + 1; cargo = cargo }) deferred.cargo) (numbered older)

@@ -1,10 +1,10 @@
 //! What is told of a queued transaction.
 ghost use Rattle.std.specs.Prelude.{◌≡◌, ◌↔◌, IsTrue};
 ghost use Rattle.std.specs.Option.{option_map};
-ghost use Rattle.deferred_queue.specs.Streams.{destination_to, AreApart};
+ghost use Rattle.deferred_queue.specs.Streams.{destination_to, DestinationsApart};
 
 use packet_code::Body;
-use rep_calls::{Past, Txn};
+use rep_calls::{PastEntry, Txn};
 use rep_values::SiteName;
 
 /// A destination of a transaction, and the earlier position of its stream that the transaction depends on, 0 for none.
@@ -20,7 +20,7 @@ pub struct Destination {
 pub struct Sent<'a> {
     pub number: u64,
     pub dep: u64,
-    pub past: &'a [Past],
+    pub past: &'a [PastEntry],
     pub txn: &'a Txn,
     pub body: &'a Body,
 }
@@ -36,7 +36,7 @@ pub struct Place {
 #[derive(Clone, Copy)]
 pub struct Queued<'a> {
     pub number: u64,
-    pub past: &'a [Past],
+    pub past: &'a [PastEntry],
     pub txn: &'a Txn,
 }
 
@@ -54,7 +54,7 @@ pub(crate) fn dep_of(to: &[Destination], site: &SiteName) -> Option<u64>
 
 /// Whether no two of these destinations are the same site.
 pub fn are_apart(to: &[Destination]) -> bool
-    ensures { IsTrue result ↔ AreApart to.now }
+    ensures { IsTrue result ↔ DestinationsApart to.now }
 {
     for place in 0..to.len() {
         if dep_of(&to[place + 1..], &to[place].site).is_some() {

@@ -1,7 +1,7 @@
 //! What is kept under the numbers of transactions.
 ghost use Rattle.std.specs.Prelude.{◌≡◌, ◌+◌, ◌<◌, length, reverse, option_map, IfSome};
 ghost use Rattle.std.specs.Ordering.{nat_cmp};
-ghost use Rattle.deferred_queue.specs.Kept.{Falls, position_of};
+ghost use Rattle.deferred_queue.specs.QueueState.{Falls, position_of};
 
 use std::cmp::Ordering;
 

@@ -2,7 +2,7 @@
 //! have acknowledged them.
 #![tactic(auto)]
 
-mod cargo;
+mod queued_txn;
 mod destination;
 mod entries;
 mod laws;

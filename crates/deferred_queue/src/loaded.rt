@@ -2,20 +2,20 @@
 ghost use Rattle.std.specs.Prelude.{◌≡◌};
 ghost use Rattle.packet_code.specs.Bodies.{IsBody};
 
-use crate::cargo::Cargo;
+use crate::queued_txn::QueuedTxn;
 use packet_code::Body;
-use rep_calls::{Past, Txn};
+use rep_calls::{PastEntry, Txn};
 use std::marker::Model;
 
 /// A cargo, and the bytes of what a packet carries of it behind its head.
 #[derive(Drop)]
 pub(crate) struct Loaded {
-    cargo: Cargo,
+    cargo: QueuedTxn,
     body: Body,
 }
 
 impl Model for Loaded {
-    ghost use Rattle.deferred_queue.specs.declared.cargo.Cargo.{Cargo as CargoValue};
+    ghost use Rattle.deferred_queue.specs.declared.queued_txn.QueuedTxn.{QueuedTxn as CargoValue};
     ghost use Rattle.packet_code.specs.Bodies.{IsBody};
 
     ghost Value = { CargoValue };
@@ -26,7 +26,7 @@ impl Model for Loaded {
 }
 
 impl Loaded {
-    pub(crate) fn of(cargo: Cargo, body: Body) -> Loaded
+    pub(crate) fn of(cargo: QueuedTxn, body: Body) -> Loaded
         requires { IsBody cargo.past cargo.txn body }
         ensures { result ≡ cargo }
     {
@@ -39,7 +39,7 @@ impl Loaded {
         &self.cargo.txn
     }
 
-    pub(crate) fn past(&self) -> &[Past]
+    pub(crate) fn past(&self) -> &[PastEntry]
         ensures { result.now ≡ self.now.past }
     {
         self.cargo.past.as_slice()

@@ -2,12 +2,12 @@
 ghost use Rattle.std.specs.Prelude.{◌≡◌, ◌↔◌, ◌+◌, ◌-◌, ◌≤◌, ◌<◌, [], ◌∷◌, false, length, map, reverse, vec_len, vec_capacity, IfOk, IfSome, OnOk, IsTrue, Some, option_copied, slice_get};
 ghost use Rattle.std.specs.Option.{option_map};
 ghost use Rattle.std.specs.List.{AllByRecursion, filter};
-ghost use Rattle.deferred_queue.specs.Streams.{CanBeSent, AreApart, in_order, at_position, stream_to, place_of, unpurged, purged, numbered, last_position, acked_by, raised_mark};
+ghost use Rattle.deferred_queue.specs.Streams.{CanBeSent, DestinationsApart, in_order, at_position, queue_stream_to, stream_place, unpurged, purged, numbered, last_position, acked_by, raised_mark};
 ghost use Rattle.packet_code.specs.Bodies.{IsBody};
-ghost use Rattle.deferred_queue.specs.Kept.{Falls, entry_of, kept_of, is_waiting};
+ghost use Rattle.deferred_queue.specs.QueueState.{Falls, entry_of, kept_of, is_unpassed};
 ghost use Rattle.deferred_queue.specs.Spans.{Covers};
 
-use crate::cargo::Cargo;
+use crate::queued_txn::QueuedTxn;
 use crate::entries::{Entry, place_with};
 use crate::loaded::Loaded;
 use crate::span::{Span, goes, passed_since};
@@ -18,7 +18,7 @@ use crate::streams::{
 };
 use crate::{Destination, Place, Queued, Sent};
 use packet_code::Body;
-use rep_calls::{Past, Txn};
+use rep_calls::{PastEntry, Txn};
 use rep_lists::{Items, NoMemory};
 use rep_values::SiteName;
 use std::alloc::Global;
@@ -37,13 +37,13 @@ pub struct Queue {
 impl Model for Queue {
     ghost use Rattle.std.specs.Prelude.{◌-◌, ◌^◌, min, reverse, vec_len, vec_capacity};
     ghost use Rattle.deferred_queue.specs.Streams.{Deferrals};
-    ghost use Rattle.deferred_queue.specs.Kept.{IsQueue, kept_of, rooms_of, marks_of, least, queued, cargoes_to};
+    ghost use Rattle.deferred_queue.specs.QueueState.{IsQueue, kept_of, rooms_of, stream_marks, least, queued, queued_txns_to};
 
     ghost Value = { Deferrals };
 
     ghost view = { λ q. record {
-      deferred = queued (kept_of q.streams.items) (cargoes_to q.count (reverse q.cargoes.items));
-      marks = marks_of (kept_of q.streams.items);
+      deferred = queued (kept_of q.streams.items) (queued_txns_to q.count (reverse q.cargoes.items));
+      marks = stream_marks (kept_of q.streams.items);
       spare = least (min (vec_capacity q.cargoes - vec_len q.cargoes) (2 ^ 64 - 1 - q.count)) (rooms_of q.streams.items);
     } };
 
@@ -67,8 +67,8 @@ fn entry_at(cargoes: &[Entry<Loaded>], place: u64) -> Option<&Entry<Loaded>>
 
 /// Lets go of the transactions that each stream has passed, whose numbers lie in a span.
 fn let_go(cargoes: &mut Vec<Entry<Loaded>>, streams: &[Stream], span: Span)
-    requires { AllByRecursion (λ (e : Entry Cargo). is_waiting (kept_of streams.now) e.number ≡ false → Covers span e.number) (reverse cargoes.old.items) }
-    ensures items { reverse cargoes.new.items ≡ filter (λ (e : Entry Cargo). is_waiting (kept_of streams.now) e.number) (reverse cargoes.old.items) }
+    requires { AllByRecursion (λ (e : Entry QueuedTxn). is_unpassed (kept_of streams.now) e.number ≡ false → Covers span e.number) (reverse cargoes.old.items) }
+    ensures items { reverse cargoes.new.items ≡ filter (λ (e : Entry QueuedTxn). is_unpassed (kept_of streams.now) e.number) (reverse cargoes.old.items) }
     ensures bound { vec_len cargoes.new ≤ vec_len cargoes.old }
     ensures capacity { vec_capacity cargoes.new ≡ vec_capacity cargoes.old }
 {
@@ -118,11 +118,11 @@ impl Queue {
 
     /// Queues a transaction, with what the site had seen before it, for its destinations, and answers its number: the
     /// count of transactions, purged ones included. It takes no memory.
-    pub fn push_back(&mut self, txn: Txn, past: Items<Past>, body: Body, to: &[Destination]) -> u64
+    pub fn push_back(&mut self, txn: Txn, past: Items<PastEntry>, body: Body, to: &[Destination]) -> u64
         requires body { IsBody past txn body }
         requires room { 1 ≤ self.old.spare }
         requires destinations { AllByRecursion (CanBeSent self.old) to.now }
-        requires apart { AreApart to.now }
+        requires apart { DestinationsApart to.now }
         ensures number { result ≡ length self.old.deferred + 1 }
         ensures deferred { self.new.deferred ≡ record {
           cargo = Some (record { txn = txn; past = past });
@@ -132,7 +132,7 @@ impl Queue {
         ensures spare { self.old.spare ≤ self.new.spare + 1 }
     {
         let number = self.count + 1;
-        let value = Loaded::of(Cargo { txn, past }, body);
+        let value = Loaded::of(QueuedTxn { txn, past }, body);
         self.cargoes.push_reserved(Entry { number, value });
         extend_each(&mut self.streams, to, number);
         self.count = number;
@@ -146,7 +146,7 @@ impl Queue {
           dep = sent.dep;
           cargo = Some (record { txn = sent.txn.now; past = sent.past.now });
         }) result
-            ≡ unpurged (at_position position (stream_to to.now self.now.deferred)) }
+            ≡ unpurged (at_position position (queue_stream_to to.now self.now.deferred)) }
         ensures earlier { IfSome result (λ sent. sent.dep < position) }
         ensures body { IfSome result (λ sent. IsBody sent.past.now sent.txn.now sent.body.now) }
     {
@@ -163,7 +163,7 @@ impl Queue {
 
     /// Where a transaction stands in the stream to a site, purged or not; None exactly where it doesn't go to it.
     pub fn place_of(&self, to: &SiteName, number: u64) -> Option<Place>
-        ensures { result ≡ place_of number (stream_to to.now self.now.deferred) }
+        ensures { result ≡ stream_place number (queue_stream_to to.now self.now.deferred) }
     {
         place_to(&self.streams, to, number)
     }

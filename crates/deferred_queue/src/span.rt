@@ -1,7 +1,7 @@
 //! The numbers that a purge looks at: those of which each stream has passed some since the last purge.
 ghost use Rattle.std.specs.Prelude.{◌≡◌, ◌↔◌, ℕ, ◌≤◌, ◌<◌, ◌&&◌, Bool, true, false, IsTrue, Some};
 ghost use Rattle.std.specs.List.{list_all};
-ghost use Rattle.deferred_queue.specs.Kept.{kept_of, swept_of, swept_as, position_of, has_passed, is_waiting};
+ghost use Rattle.deferred_queue.specs.QueueState.{kept_of, swept_of, swept_as, position_of, has_passed, is_unpassed};
 ghost use Rattle.deferred_queue.specs.Spans.{Covers, is_covered};
 
 use crate::stream::Stream;
@@ -59,7 +59,7 @@ pub(crate) fn goes(streams: &[Stream], span: Span, number: u64) -> bool
 
 /// The span with a number, where each stream has passed that.
 fn with_passed(streams: &[Stream], span: Span, number: u64) -> Span
-    ensures covers { is_waiting (kept_of streams.now) number ≡ false → Covers result number }
+    ensures covers { is_unpassed (kept_of streams.now) number ≡ false → Covers result number }
     ensures wider { (other : ℕ) → Covers span other → Covers result other }
 {
     if span.covers(number) || !have_passed(streams, number) {
@@ -70,7 +70,7 @@ fn with_passed(streams: &[Stream], span: Span, number: u64) -> Span
 
 /// The span with the number at a position of a stream, where each stream has passed that.
 fn with_position(streams: &[Stream], stream: &Stream, span: Span, position: u64) -> Span
-    ensures covers { (number : ℕ) → position_of number stream.now.kept.entries ≡ Some position → is_waiting (kept_of streams.now) number ≡ false → Covers result number }
+    ensures covers { (number : ℕ) → position_of number stream.now.kept.entries ≡ Some position → is_unpassed (kept_of streams.now) number ≡ false → Covers result number }
     ensures wider { (other : ℕ) → Covers span other → Covers result other }
 {
     match stream.entry(position) {
@@ -81,7 +81,7 @@ fn with_position(streams: &[Stream], stream: &Stream, span: Span, position: u64)
 
 /// The span with those of the numbers that a stream has passed since the last purge.
 fn with_acknowledged(streams: &[Stream], stream: &Stream, before: Span) -> Span
-    ensures covers { (number : ℕ) → has_passed number (swept_as stream.now) ≡ false → has_passed number stream.now.kept ≡ true → is_waiting (kept_of streams.now) number ≡ false → Covers result number }
+    ensures covers { (number : ℕ) → has_passed number (swept_as stream.now) ≡ false → has_passed number stream.now.kept ≡ true → is_unpassed (kept_of streams.now) number ≡ false → Covers result number }
     ensures wider { (other : ℕ) → Covers before other → Covers result other }
 {
     let mut span = before;
@@ -93,7 +93,7 @@ fn with_acknowledged(streams: &[Stream], stream: &Stream, before: Span) -> Span
 
 /// The span with those of the numbers that any stream has passed since the last purge.
 fn with_each_acknowledged(streams: &[Stream], before: Span) -> Span
-    ensures covers { (number : ℕ) → is_waiting (swept_of streams.now) number ≡ true → is_waiting (kept_of streams.now) number ≡ false → Covers result number }
+    ensures covers { (number : ℕ) → is_unpassed (swept_of streams.now) number ≡ true → is_unpassed (kept_of streams.now) number ≡ false → Covers result number }
     ensures wider { (other : ℕ) → Covers before other → Covers result other }
 {
     let mut span = before;
@@ -105,7 +105,7 @@ fn with_each_acknowledged(streams: &[Stream], before: Span) -> Span
 
 /// The span with those of the numbers that were queued since the last purge.
 fn with_queued(streams: &[Stream], before: Span, last: u64, count: u64) -> Span
-    ensures covers { (number : ℕ) → last < number → number ≤ count → is_waiting (kept_of streams.now) number ≡ false → Covers result number }
+    ensures covers { (number : ℕ) → last < number → number ≤ count → is_unpassed (kept_of streams.now) number ≡ false → Covers result number }
     ensures wider { (other : ℕ) → Covers before other → Covers result other }
 {
     let mut span = before;
@@ -117,7 +117,7 @@ fn with_queued(streams: &[Stream], before: Span, last: u64, count: u64) -> Span
 
 /// A span of the numbers up to a count that can be let go, where the last purge left none up to its last number.
 pub(crate) fn passed_since(streams: &[Stream], last: u64, count: u64) -> Span
-    ensures { (number : ℕ) → number ≤ count → (number ≤ last → is_waiting (swept_of streams.now) number ≡ true) → is_waiting (kept_of streams.now) number ≡ false → Covers result number }
+    ensures { (number : ℕ) → number ≤ count → (number ≤ last → is_unpassed (swept_of streams.now) number ≡ true) → is_unpassed (kept_of streams.now) number ≡ false → Covers result number }
 {
     let acknowledged = with_each_acknowledged(streams, Span::none());
     with_queued(streams, acknowledged, last, count)

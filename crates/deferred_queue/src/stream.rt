@@ -1,7 +1,7 @@
 //! The stream to one destination.
 ghost use Rattle.std.specs.Prelude.{◌≡◌, ℕ, ◌+◌, ◌-◌, ◌≤◌, length, option_copied, slice_get, OnOk};
 ghost use Rattle.deferred_queue.specs.Streams.{at_position};
-ghost use Rattle.deferred_queue.specs.Kept.{FallsFrom, new_held, held_extended, held_raised, held_swept, is_stream_to, place_in, has_passed};
+ghost use Rattle.deferred_queue.specs.QueueState.{FallsFrom, new_held, held_extended, held_raised, held_swept, is_stream_to, place_in, has_passed};
 
 use crate::destination::dep_of;
 use crate::entries::{Entry, place_with};
@@ -23,9 +23,9 @@ pub(crate) struct Stream {
 
 impl Model for Stream {
     ghost use Rattle.std.specs.Prelude.{◌-◌, reverse, vec_len, vec_capacity};
-    ghost use Rattle.deferred_queue.specs.Kept.{Falls, Held};
+    ghost use Rattle.deferred_queue.specs.QueueState.{Falls, QueueState};
 
-    ghost Value = { Held };
+    ghost Value = { QueueState };
 
     ghost view = { λ s. record {
       kept = record { site = s.site; acked = s.acked; entries = reverse s.entries.items };

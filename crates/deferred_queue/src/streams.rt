@@ -2,7 +2,7 @@
 ghost use Rattle.std.specs.Prelude.{◌≡◌, ◌↔◌, ℕ, ◌-◌, ◌≤◌, length, map, IfOk, OnOk, option_copied, IsTrue};
 ghost use Rattle.std.specs.List.{AllByRecursion, find, list_all};
 ghost use Rattle.deferred_queue.specs.Streams.{at_position, acked_by};
-ghost use Rattle.deferred_queue.specs.Kept.{FallsFrom, new_held, is_stream_to, kept_of, swept_of, rooms_of, marks_of, least, entries_to, place_in, has_passed, held_extended, held_raised, held_swept, CanGo};
+ghost use Rattle.deferred_queue.specs.QueueState.{FallsFrom, new_held, is_stream_to, kept_of, swept_of, rooms_of, stream_marks, least, entries_to, place_in, has_passed, held_extended, held_raised, held_swept, CanGo};
 
 use crate::entries::Entry;
 use crate::stream::Stream;
@@ -77,7 +77,7 @@ pub(crate) fn last_to(streams: &[Stream], site: &SiteName) -> u64
 
 /// How far a site has acknowledged its stream.
 pub(crate) fn acked_to(streams: &[Stream], site: &SiteName) -> u64
-    ensures { result ≡ acked_by site.now (marks_of (kept_of streams.now)) }
+    ensures { result ≡ acked_by site.now (stream_marks (kept_of streams.now)) }
 {
     match stream_to(streams, site) {
         Some(stream) => stream.acked(),

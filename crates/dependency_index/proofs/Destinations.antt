@@ -5,7 +5,7 @@ use Rattle.std.specs.List.{list_any}
 use Rattle.rep_values.specs.declared.name.SiteName.{SiteName}
 use Rattle.rep_values.specs.Name.{same_bytes}
 use Rattle.dependency_index.specs.Dependencies.{NotedStream, noted_to, IsIndexed}
-use Rattle.dependency_index.proofs.KeptStreams.{sites_of}
+use Rattle.dependency_index.proofs.FoundStreams.{sites_of}
 use Rattle.dependency_index.proofs.FirstStreams.{is_to, same_bytes-Decides}
 
 indexed_at : (site : SiteName) (ss : List NotedStream) (k : ℕ) → k < length (sites_of ss) → get_or (sites_of ss) k site ≡ site → noted_to site ss ≡ None → ⊥

@@ -3,7 +3,7 @@ pub mod TouchedColumns
 pub mod NotedTokens
 mod LastPositions
 mod LodgedStreams
-pub mod KeptStreams
+pub mod FoundStreams
 pub mod FirstStreams
 pub mod Destinations
 mod NotedColumns

@@ -14,7 +14,7 @@ use Rattle.dependency_index.specs.Tokens.{is_same_token}
 use Rattle.dependency_index.specs.SameTokens.{is_same_token-equal}
 use Rattle.dependency_index.specs.Dependencies.{NotedStream, last_noted}
 use Rattle.dependency_index.specs.Noting.{IsUnnoted, AreKept}
-use Rattle.dependency_index.specs.Columns.{Column, Lodged, new_lodged, columns_of, last_of, entries_of, noted_as, noted_streams, rooms, with_room, promised, IsIndex, Notes}
+use Rattle.dependency_index.specs.Columns.{Column, Lodged, new_lodged, columns_of, last_of, entries_of, noted_as, noted_streams, rooms, with_room, promised, IsTokenIndex, Notes}
 use Rattle.dependency_index.proofs.FirstStreams.{is_to}
 
 -- a token that none of these is has no last position
@@ -110,7 +110,7 @@ pub record IsPlaced (ts : List Token) (ls : List Lodged) (l : Lodged) : Type 0 w
   pub within : length l.column.last ≤ length ts
   pub capacity : length ts + rooms (columns_of ls) ≤ l.capacity
 
-pub placed : (ts : List Token) (free : ℕ) (ls : List Lodged) (i : ℕ) (l : Lodged) → IsIndex ts free ls → i < length ls → l ≡ get_or ls i l → IsPlaced ts ls l
+pub placed : (ts : List Token) (free : ℕ) (ls : List Lodged) (i : ℕ) (l : Lodged) → IsTokenIndex ts free ls → i < length ls → l ≡ get_or ls i l → IsPlaced ts ls l
 placed ts free ls i l index within is = record {
   within = rw is (each ls i l within index.within);
   capacity = rw is (each_at (λ (x : Lodged). length ts + rooms (columns_of ls) ≤ x.capacity) ls i l within index.capacity);
@@ -122,9 +122,9 @@ placed ts free ls i l index within is = record {
     each (x ∷ xs) (suc i) d within all = each xs i d (omega (arith, within)) all.1
 
 -- an index stays one where tokens are noted of a stream that had room for them
-pub IsIndex-noted : (ts later : List Token) (free less position : ℕ) (ls : List Lodged) (i : ℕ) (l now : Lodged) (list : List Token) → IsIndex ts free ls → i < length ls → l ≡ get_or ls i l
+pub IsIndex-noted : (ts later : List Token) (free less position : ℕ) (ls : List Lodged) (i : ℕ) (l now : Lodged) (list : List Token) → IsTokenIndex ts free ls → i < length ls → l ≡ get_or ls i l
     → Notes list position ts later l.column.last now.column.last → now.column.room + length list ≡ l.column.room → now.capacity ≡ l.capacity → free ≤ less + length list → IsDistinct is_same_token later
-    → IsIndex later less (set ls i now)
+    → IsTokenIndex later less (set ls i now)
 IsIndex-noted ts later free less position ls i l now list index within is notes room capacity spare distinct = record {
   distinct = distinct;
   room = omega (arith, index.room, fewer, room, spare);
@@ -167,8 +167,8 @@ capacity-promised bound size [] each = tt
 capacity-promised bound size (l ∷ ls) each = (each.0, capacity-promised bound size ls each.1)
 
 -- an index stays one where memory is taken and room promised
-pub IsIndex-promised : (ts : List Token) (free more size : ℕ) (ls ms : List Lodged) → IsIndex ts free ls → columns_of ms ≡ columns_of ls → rooms (map (with_room size) (columns_of ls)) ≤ more
-    → AllByRecursion (λ (l : Lodged). length ts + rooms (map (with_room size) (columns_of ls)) ≤ l.capacity) ms → IsIndex ts more (map (promised size) ms)
+pub IsIndex-promised : (ts : List Token) (free more size : ℕ) (ls ms : List Lodged) → IsTokenIndex ts free ls → columns_of ms ≡ columns_of ls → rooms (map (with_room size) (columns_of ls)) ≤ more
+    → AllByRecursion (λ (l : Lodged). length ts + rooms (map (with_room size) (columns_of ls)) ≤ l.capacity) ms → IsTokenIndex ts more (map (promised size) ms)
 IsIndex-promised ts free more size ls ms index same room capacity = record {
   distinct = index.distinct;
   room = rw columns room;
@@ -180,8 +180,8 @@ IsIndex-promised ts free more size ls ms index same room capacity = record {
     columns = columns_of-promised size ms ∙ ap (map (with_room size)) same
 
 -- and where memory is taken alone
-pub IsIndex-reserved : (ts : List Token) (free more : ℕ) (ls ms : List Lodged) → IsIndex ts free ls → free ≤ more → columns_of ms ≡ columns_of ls
-    → ((least : ℕ) → AllByRecursion (λ (l : Lodged). least ≤ l.capacity) ls → AllByRecursion (λ (l : Lodged). least ≤ l.capacity) ms) → IsIndex ts more ms
+pub IsIndex-reserved : (ts : List Token) (free more : ℕ) (ls ms : List Lodged) → IsTokenIndex ts free ls → free ≤ more → columns_of ms ≡ columns_of ls
+    → ((least : ℕ) → AllByRecursion (λ (l : Lodged). least ≤ l.capacity) ls → AllByRecursion (λ (l : Lodged). least ≤ l.capacity) ms) → IsTokenIndex ts more ms
 IsIndex-reserved ts free more ls ms index le same capacity = record {
   distinct = index.distinct;
   room = rw same (omega (arith, index.room, le));
@@ -194,7 +194,7 @@ rooms-new : (sites : List SiteName) → rooms (columns_of (map new_lodged sites)
 rooms-new [] = refl
 rooms-new (site ∷ sites) = let rest = rooms-new sites in omega (arith, rest)
 
-pub IsIndex-new : (free : ℕ) (sites : List SiteName) → IsIndex [] free (map new_lodged sites)
+pub IsIndex-new : (free : ℕ) (sites : List SiteName) → IsTokenIndex [] free (map new_lodged sites)
 unfolding IsDistinct
 IsIndex-new free sites = record { distinct = none; room = rw (rooms-new sites) (omega arith); within = within sites; capacity = rw (rooms-new sites) (capacity sites) }
   where

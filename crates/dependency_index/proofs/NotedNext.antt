@@ -9,9 +9,9 @@ use Rattle.dependency_index.specs.declared.token.Token.{Token}
 use Rattle.dependency_index.specs.Tokens.{is_same_token, has_token}
 use Rattle.dependency_index.specs.Dependencies.{NotedStream, noted_to, last_noted, noted_count, room_for, dependency_number, last_where, IsNoted}
 use Rattle.dependency_index.specs.Noting.{greatest_noted}
-use Rattle.dependency_index.specs.Columns.{Column, Lodged, columns_of, last_of, noted_as, noted_streams, rooms, IsIndex, Notes}
+use Rattle.dependency_index.specs.Columns.{Column, Lodged, columns_of, last_of, noted_as, noted_streams, rooms, IsTokenIndex, Notes}
 use Rattle.dependency_index.proofs.NotedTokens.{last_where-bound, greatest_noted-is}
-use Rattle.dependency_index.proofs.KeptStreams.{sites_of}
+use Rattle.dependency_index.proofs.FoundStreams.{sites_of}
 use Rattle.dependency_index.proofs.FirstStreams.{is_to, noted_to-place, noted_to-set, noted_to-set_other, sites-set, IsNoted-next}
 use Rattle.dependency_index.proofs.NotedColumns.{last_noted-is, position-noted, noted_at, noted_streams-noted, rooms-at, IsPlaced, placed}
 
@@ -35,7 +35,7 @@ pub record CanNote (ts : List Token) (free : ℕ) (l : Lodged) (size : ℕ) : Ty
   pub within : length l.column.last ≤ length ts
   pub places : length ts + size ≤ l.capacity
 
-pub can_note : (to : SiteName) (ts : List Token) (free size : ℕ) (ls : List Lodged) (place : ℕ) (l : Lodged) → IsIndex ts free ls → IsFirst to ls place l → size ≤ room_for (noted_streams ts (columns_of ls)) to → CanNote ts free l size
+pub can_note : (to : SiteName) (ts : List Token) (free size : ℕ) (ls : List Lodged) (place : ℕ) (l : Lodged) → IsTokenIndex ts free ls → IsFirst to ls place l → size ≤ room_for (noted_streams ts (columns_of ls)) to → CanNote ts free l size
 can_note to ts free size ls place l index first asked = record {
   room = here;
   spare = omega (arith, here, all, index.room);

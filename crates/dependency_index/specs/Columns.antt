@@ -72,7 +72,7 @@ promised size l = record { column = with_room size l.column; capacity = l.capaci
 
 -- the tokens differ, there is room where it was promised, no stream has a place behind the tokens, and each takes no memory
 -- for the places of so many more
-pub record IsIndex (tokens : List Token) (free : ℕ) (ls : List Lodged) : Type 0 where
+pub record IsTokenIndex (tokens : List Token) (free : ℕ) (ls : List Lodged) : Type 0 where
   pub distinct : IsDistinct is_same_token tokens
   pub room : rooms (columns_of ls) ≤ free
   pub within : AllByRecursion (λ (c : Column). length c.last ≤ length tokens) (columns_of ls)

@@ -20,7 +20,7 @@ pub record IsSame (old new : NotedTo) : Type 0 where
   pub last : (token : Token) → last_noted new token ≡ last_noted old token
 
 -- the same is noted, and there is no less room
-pub record IsKept (old new : NotedStream) : Type 0 where
+pub record StaysNoted (old new : NotedStream) : Type 0 where
   pub kept : IsSame old.kept new.kept
   pub room : old.room ≤ new.room
 
@@ -29,4 +29,4 @@ abbrev pub AreKept : List NotedStream → List NotedStream → Type 0
 AreKept [] [] = Unit {0}
 AreKept [] (s ∷ ss) = ⊥
 AreKept (s ∷ ss) [] = ⊥
-AreKept (s ∷ ss) (t ∷ ts) = IsKept s t × AreKept ss ts
+AreKept (s ∷ ss) (t ∷ ts) = StaysNoted s t × AreKept ss ts

@@ -23,13 +23,13 @@ pub struct Index {
 impl Model for Index {
     ghost use Rattle.indexmap.specs.IndexSet.{spare};
     ghost use Rattle.dependency_index.specs.Dependencies.{NotedIndex};
-    ghost use Rattle.dependency_index.specs.Columns.{columns_of, noted_streams, IsIndex};
+    ghost use Rattle.dependency_index.specs.Columns.{columns_of, noted_streams, IsTokenIndex};
 
     ghost Value = { NotedIndex };
 
     ghost view = { λ i. record { streams = noted_streams i.tokens.keys (columns_of i.streams.items) } };
 
-    ghost invariant = { λ i. IsIndex i.tokens.keys (spare i.tokens) i.streams.items };
+    ghost invariant = { λ i. IsTokenIndex i.tokens.keys (spare i.tokens) i.streams.items };
 }
 
 impl Index {

@@ -5,7 +5,7 @@ use Rattle.rep_values.specs.declared.name.SiteName.{SiteName}
 use Rattle.rep_schema.specs.declared.schema.Schema.{Schema}
 use Rattle.rep_schema.specs.declared.schema.TableEntry.{TableEntry}
 use Rattle.rep_schema.specs.Shape.{HasShape}
-use Rattle.event_laws.specs.Core.{Core}
+use Rattle.event_laws.specs.Cluster.{Cluster}
 use Rattle.proc_state.specs.declared.procedure.Procedure.{Procedure}
 use Rattle.proc_state.specs.Calls.{AreProcedures}
 use Rattle.proc_state.specs.State.{ProcState}
@@ -18,7 +18,7 @@ use Rattle.world_laws.specs.Simulation.{Simulates, Leads}
 use Rattle.procedure_worlds.specs.Built.{IsProcTable, tables_alone, AreProcsDeclared, AreMade}
 use Rattle.procedure_worlds.proofs.SiteStreams.{KeepsStreams, keeps_same, keeps_then, apply_keeps}
 use Rattle.procedure_worlds.proofs.Made.{Happens, none_happens, one_happens, then_happens, site_works, release_made, send_made, take_made, lose_made, mark_made}
-use Rattle.environment.specs.Following.{Travel, Release, Take, Lose, PushStep, There, Send, Settle, SendMark, Back, IsBuilt}
+use Rattle.environment.specs.Following.{Travel, Release, Take, Lose, PushStep, There, Send, MakePasses, SendMark, Back, IsBuilt}
 use Rattle.environment.specs.Calling.{calls_travel, calls_applied, proc_parts, calls_step, calls_steps}
 use Rattle.environment.specs.Doing.{PushesCallsInPart}
 use Rattle.environment.proofs.Following.{of_script_leads, of_convergence_leads}
@@ -61,7 +61,7 @@ module _ (schema : Schema) where
   step_made : (from to : SiteName) (step : PushStep) (p : Procs) → AreMade schema p → AreMade schema (calls_step from to step p)
   step_made from to (There travel) p made = travel_made from to travel p made
   step_made from to (Send position) p made = send_made schema from to position p made
-  step_made from to (Settle parts) p made = site_works schema p to (proc_parts parts) (λ x found. parts_happen (proc_schema schema p.tables) p.procedures parts x) (λ sites x. parts_keep sites parts x) made
+  step_made from to (MakePasses parts) p made = site_works schema p to (proc_parts parts) (λ x found. parts_happen (proc_schema schema p.tables) p.procedures parts x) (λ sites x. parts_keep sites parts x) made
   step_made from to SendMark p made = mark_made schema to from p made
   step_made from to (Back travel) p made = travel_made to from travel p made
 
@@ -80,7 +80,7 @@ declared_same p q tables procedures declared = record {
 }
 
 -- where what there is of procedures changes alone, no events happen
-none_happen : (w : WorldState) (p : Procs) (v : Core) → Simulates w v → Leads (record w { procs = p }) v
+none_happen : (w : WorldState) (p : Procs) (v : Cluster) → Simulates w v → Leads (record w { procs = p }) v
 none_happen w p v s = record { events = []; simulates = record { behind = s.behind; sites = s.sites; net = s.net } }
 
 -- behind Setup

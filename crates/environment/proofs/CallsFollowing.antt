@@ -11,8 +11,8 @@ use Rattle.proc_state.proofs.Names.{accept_names, apply_names}
 use Rattle.world_state.specs.World.{WorldState, first_world}
 use Rattle.world_state.specs.Procs.{Procs, proc_of, at_proc}
 use Rattle.world_state.specs.Pushes.{sent_on}
-use Rattle.world_state.specs.CallPushes.{calls_from, calls_taken_one, calls_take, calls_mark_from}
-use Rattle.environment.specs.Following.{Travel, Release, Take, Lose, PushStep, There, Send, Settle, SendMark, Back, fates_between, LeavesAllElse}
+use Rattle.world_state.specs.CallPushes.{calls_from, calls_taken_one, calls_deliver_one, calls_mark_from}
+use Rattle.environment.specs.Following.{Travel, Release, Take, Lose, PushStep, There, Send, MakePasses, SendMark, Back, fates_between, LeavesAllElse}
 use Rattle.environment.specs.Calling.{calls_travel, calls_applied, proc_parts, calls_step, calls_steps, LeavesOtherDirections, LeavesOtherCalls, CallsPushInPart}
 use Rattle.environment.proofs.Directions.{KeepsLink, released_keeps_link, delivered_keeps_link}
 use Rattle.environment.proofs.ProcSites.{KeepsMe, proc_of-other}
@@ -104,7 +104,7 @@ taken_elsewhere : (to name : SiteName) (packet : Option Packet) (sites : List Pr
 taken_elsewhere to name None sites off = refl
 taken_elsewhere to name (Some packet) sites off = proc_of-other to name (proc_accept packet) sites (accept_keeps packet) (λ is. off (sym is))
 
-take_leaves : (from to : SiteName) (p : Procs) → LeavesOtherCalls from to p (calls_take from to p)
+take_leaves : (from to : SiteName) (p : Procs) → LeavesOtherCalls from to p (calls_deliver_one from to p)
 take_leaves from to p = record {
   sites = λ name one other. taken_elsewhere to name (first_between from to p.net) p.sites other;
   net = net_changed 0 from to delivered delivered_keeps_link p.net;
@@ -123,7 +123,7 @@ step_leaves from to (There travel) p = travel_leaves from to travel p
 step_leaves from to (Send position) p =
     let packet : Option Packet = calls_from to position (proc_of from p.sites) in
     links_leave from to (sent_on packet from to p.net) p (net_sent packet from to p.net)
-step_leaves from to (Settle parts) p = site_leaves from to (proc_parts parts) (parts_keep parts) p
+step_leaves from to (MakePasses parts) p = site_leaves from to (proc_parts parts) (parts_keep parts) p
 step_leaves from to SendMark p =
     let packet : Option Packet = calls_mark_from from (proc_of to p.sites) in
     calls_turned to from p _ (links_leave to from (sent_on packet to from p.net) p (net_sent packet to from p.net))

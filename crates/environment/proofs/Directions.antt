@@ -8,12 +8,12 @@ use Rattle.packet_code.specs.declared.packet.Packet.{Packet}
 use Rattle.net_plan.specs.declared.fate.Fate.{Fate}
 use Rattle.net_plan.specs.declared.fate.Fate.TheVariants.{Pass, Lose, Twice, Late}
 use Rattle.net_plan.specs.Directions.{Direction, HasDirection, is_between, direction_of, at_direction, is_up, next_fate, with_packet, with_sent, released, delivered}
-use Rattle.event_laws.specs.Core.{site_of}
+use Rattle.event_laws.specs.Cluster.{site_of}
 use Rattle.event_laws.specs.Events.{packet_from, mark_from}
 use Rattle.world_state.specs.World.{WorldState}
 use Rattle.world_state.specs.Procs.{Procs, proc_of}
-use Rattle.world_state.specs.CallPushes.{calls_release, calls_from, calls_send, calls_send_each, calls_positions, calls_send_above, calls_deliver, calls_settle, calls_mark_from, calls_send_mark, calls_answer, calls_pushed_in, calls_push}
-use Rattle.world_state.specs.Pushes.{world_release, sent_on, world_send, world_send_each, positions_above, world_send_above, emptied, world_deliver, world_settle, world_send_mark, world_bring_mark, world_answer, pushed_in, world_push}
+use Rattle.world_state.specs.CallPushes.{calls_release, calls_from, calls_send, calls_send_each, calls_positions, calls_send_above, calls_deliver, calls_until_quiet, calls_mark_from, calls_send_mark, calls_return_mark, calls_pushed_in, calls_push}
+use Rattle.world_state.specs.Pushes.{world_release, sent_on, world_send, world_send_each, positions_above, world_send_above, emptied, world_deliver, world_until_quiet, world_send_mark, world_deliver_mark, world_return_mark, pushed_in, world_push}
 
 -- a change leaves it open between which sites a direction is
 abbrev pub KeepsEnds : (Direction → Direction) → Type 0
@@ -82,10 +82,10 @@ stay-pushed_in from to count w a b =
     ∙ stay-send_each from to (positions_above from to count released_world) released_world a b
     ∙ stay-release from to w a b
 
-stay-answer : (from to : SiteName) (w : WorldState) → Stay w.net (world_answer from to w).net
+stay-answer : (from to : SiteName) (w : WorldState) → Stay w.net (world_return_mark from to w).net
 stay-answer from to w a b = go (is_up from to w.net)
   where
-    go : (t : Bool) → is_some (direction_of a b (cond t (world_bring_mark from to w) w).net) ≡ is_some (direction_of a b w.net)
+    go : (t : Bool) → is_some (direction_of a b (cond t (world_deliver_mark from to w) w).net) ≡ is_some (direction_of a b w.net)
     go true = stay-deliver from to (world_send_mark from to (world_release from to w)) a b
         ∙ stay-sent_on (mark_from to (site_of from (world_release from to w).sites)) from to (world_release from to w).net a b
         ∙ stay-release from to w a b
@@ -93,7 +93,7 @@ stay-answer from to w a b = go (is_up from to w.net)
 
 -- a push leaves each direction there
 pub stay-push : (from to : SiteName) (count : Option ℕ) (w : WorldState) → Stay w.net (world_push from to count w).net
-stay-push from to count w a b = stay-answer to from (world_settle from to (pushed_in from to count w)) a b ∙ stay-pushed_in from to count w a b
+stay-push from to count w a b = stay-answer to from (world_until_quiet from to (pushed_in from to count w)) a b ∙ stay-pushed_in from to count w a b
 
 -- ---- calls
 
@@ -115,7 +115,7 @@ stay-calls_pushed_in from to p a b =
     ∙ stay-calls_send_each from to (calls_positions from to released_calls) released_calls a b
     ∙ stay-calls_release from to p a b
 
-stay-calls_answer : (up : Bool) (from to : SiteName) (p : Procs) → Stay p.net (calls_answer up from to p).net
+stay-calls_answer : (up : Bool) (from to : SiteName) (p : Procs) → Stay p.net (calls_return_mark up from to p).net
 stay-calls_answer true from to p a b =
     stay-calls_deliver from to (calls_send_mark from to (calls_release from to p)) a b
     ∙ stay-sent_on (calls_mark_from to (proc_of from (calls_release from to p).sites)) from to (calls_release from to p).net a b
@@ -124,7 +124,7 @@ stay-calls_answer false from to p a b = refl
 
 -- a push of calls leaves each direction there
 pub stay-push_calls : (up : Bool) (from to : SiteName) (p : Procs) → Stay p.net (calls_push up from to p).net
-stay-push_calls up from to p a b = stay-calls_answer up to from (calls_settle from to (calls_pushed_in from to p)) a b ∙ stay-calls_pushed_in from to p a b
+stay-push_calls up from to p a b = stay-calls_answer up to from (calls_until_quiet from to (calls_pushed_in from to p)) a b ∙ stay-calls_pushed_in from to p a b
 
 -- ---- one direction of several
 

@@ -11,26 +11,26 @@ use Rattle.net_plan.specs.Directions.{Direction, HasDirection, direction_of, at_
 use Rattle.site_state.specs.State.{SiteState, is_among}
 use Rattle.site_state.specs.Packets.{site_accept}
 use Rattle.site_state.proofs.Changing.{accept_later}
-use Rattle.event_laws.specs.Core.{Core, site_of}
+use Rattle.event_laws.specs.Cluster.{Cluster, site_of}
 use Rattle.event_laws.specs.Events.{packet_from, mark_from, run}
 use Rattle.event_laws.proofs.Sites.{KeepsHere}
 use Rattle.world_state.specs.World.{WorldState, with_site}
 use Rattle.world_state.specs.Procs.{Procs}
 use Rattle.world_state.specs.Phases.{is_setup}
-use Rattle.world_state.specs.Pushes.{sent_on, taken_one, world_take}
+use Rattle.world_state.specs.Pushes.{sent_on, taken_one, world_deliver_one}
 use Rattle.world_laws.specs.Simulation.{Simulates, Leads, AreEvents}
 use Rattle.world_laws.specs.Reached.{IsOfScript, InSetup, Behind}
 use Rattle.world_laws.proofs.Finding.{of_other}
 use Rattle.world_laws.proofs.SiteSteps.{run-append}
 use Rattle.world_laws.proofs.Pieces.{none_lead, then_lead, site_leads, release_leads, send_leads, send_mark_leads}
-use Rattle.world_laws.proofs.Calling.{take_leads, lose_leads}
+use Rattle.world_laws.proofs.Calling.{deliver_one_leads, lose_leads}
 use Rattle.site_rounds.specs.Parts.{parts_done}
 use Rattle.site_rounds.proofs.Parts.{parts_do}
 use Rattle.convergent_worlds.specs.Reached.{IsOfConvergence, Declaring, Going}
 use Rattle.convergent_worlds.proofs.Scripts.{goes_on_alike}
-use Rattle.procedure_worlds.proofs.Kept.{same_procs}
+use Rattle.procedure_worlds.proofs.ProceduresStay.{same_procs}
 use Rattle.environment.specs.Procedures.{LinksForCalls}
-use Rattle.environment.specs.Following.{Travel, Release, Take, Lose, travel_done, PushStep, There, Send, Settle, SendMark, Back, step_done, steps_done, up_between, fates_in, fates_between, LeavesAllElse, PushesInPart, IsBuilt}
+use Rattle.environment.specs.Following.{Travel, Release, Take, Lose, travel_done, PushStep, There, Send, MakePasses, SendMark, Back, step_done, steps_done, up_between, fates_in, fates_between, LeavesAllElse, PushesInPart, IsBuilt}
 use Rattle.environment.proofs.Apart.{apart_behind}
 use Rattle.environment.proofs.Directions.{direction_of-at, KeepsLink, released_keeps_link, delivered_keeps_link, sent_keeps_link}
 
@@ -128,7 +128,7 @@ taken_elsewhere to name None sites off = refl
 taken_elsewhere to name (Some packet) sites off = of_other to name (site_accept packet) sites (λ x. (accept_later packet x).here) (λ is. off (sym is))
 
 -- a packet is taken in
-take_leaves : (from to : SiteName) (w : WorldState) → LeavesAllElse from to w (world_take from to w)
+take_leaves : (from to : SiteName) (w : WorldState) → LeavesAllElse from to w (world_deliver_one from to w)
 take_leaves from to w =
     let gone = direction_leaves 0 from to delivered delivered_keeps_link w in
     record {
@@ -157,7 +157,7 @@ travel_leaves from to Lose w = direction_leaves 0 from to delivered delivered_ke
 step_leaves : (from to : SiteName) (step : PushStep) (w : WorldState) → LeavesAllElse from to w (step_done from to step w)
 step_leaves from to (There travel) w = travel_leaves from to travel w
 step_leaves from to (Send position) w = sent_leaves (packet_from to position (site_of from w.sites)) from to w
-step_leaves from to (Settle parts) w = receiver_leaves from to (parts_done parts) (parts_do to parts).keeps w
+step_leaves from to (MakePasses parts) w = receiver_leaves from to (parts_done parts) (parts_do to parts).keeps w
 step_leaves from to SendMark w = leaves_turned to from w _ (sent_leaves (mark_from from (site_of to w.sites)) to from w)
 step_leaves from to (Back travel) w = leaves_turned to from w _ (travel_leaves to from travel w)
 
@@ -201,13 +201,13 @@ in_part_linked from to a b w y part has = go (direction_of a b w.net) (direction
 
 travel_leads : (from to : SiteName) (travel : Travel) → AreEvents (travel_done from to travel)
 travel_leads from to Release w v s = release_leads from to w v s
-travel_leads from to Take w v s = take_leads from to w v s
+travel_leads from to Take w v s = deliver_one_leads from to w v s
 travel_leads from to Lose w v s = lose_leads from to w v s
 
 step_leads : (from to : SiteName) (step : PushStep) → AreEvents (step_done from to step)
 step_leads from to (There travel) w v s = travel_leads from to travel w v s
 step_leads from to (Send position) w v s = send_leads from to position w v s
-step_leads from to (Settle parts) w v s = site_leads to (parts_done parts) (parts_do to parts) w v s
+step_leads from to (MakePasses parts) w v s = site_leads to (parts_done parts) (parts_do to parts) w v s
 step_leads from to SendMark w v s = send_mark_leads to from w v s
 step_leads from to (Back travel) w v s = travel_leads to from travel w v s
 
@@ -216,16 +216,16 @@ steps_lead from to [] w v s = none_lead w v s
 steps_lead from to (step ∷ steps) w v s = then_lead (step_done from to step) (steps_done from to steps) (step_leads from to step) (steps_lead from to steps) w v s
 
 -- events lead to what a push leaves
-in_part_leads : (from to : SiteName) (w y : WorldState) → PushesInPart from to w y → (v : Core) → Simulates w v → Leads y v
+in_part_leads : (from to : SiteName) (w y : WorldState) → PushesInPart from to w y → (v : Cluster) → Simulates w v → Leads y v
 in_part_leads from to w y part v s = subst (λ (z : WorldState). Leads z v) (sym part.made) (steps_lead from to part.steps w v s)
 
 -- ---- worlds of scripts
 
 -- events that lead on from where others led
-leads_then : (y z : WorldState) (v : Core) (a : Leads y v) → Leads z (run a.events v) → Leads z v
+leads_then : (y z : WorldState) (v : Cluster) (a : Leads y v) → Leads z (run a.events v) → Leads z v
 leads_then y z v a b = record { events = b.events ++ a.events; simulates = subst (Simulates z) (sym (run-append b.events a.events v)) b.simulates }
 
-pub of_script_leads : (w y : WorldState) → is_setup w.phase ≡ false → IsOfScript w → ((v : Core) → Simulates w v → Leads y v) → IsOfScript y
+pub of_script_leads : (w y : WorldState) → is_setup w.phase ≡ false → IsOfScript w → ((v : Cluster) → Simulates w v → Leads y v) → IsOfScript y
 of_script_leads w y behind (InSetup in_setup) leads = absurd (cc (behind, in_setup.setup))
 of_script_leads w y behind (Behind r) leads = Behind (record {
   schema = r.schema;
@@ -235,7 +235,7 @@ of_script_leads w y behind (Behind r) leads = Behind (record {
   leads = leads_then w y r.start r.leads (leads (run r.leads.events r.start) r.leads.simulates);
 })
 
-pub of_convergence_leads : (w y : WorldState) → is_setup w.phase ≡ false → IsOfConvergence w → y.schema ≡ w.schema → ((v : Core) → Simulates w v → Leads y v) → IsOfConvergence y
+pub of_convergence_leads : (w y : WorldState) → is_setup w.phase ≡ false → IsOfConvergence w → y.schema ≡ w.schema → ((v : Cluster) → Simulates w v → Leads y v) → IsOfConvergence y
 of_convergence_leads w y behind (Declaring so_far) same leads = absurd (cc (behind, so_far.setup.setup))
 of_convergence_leads w y behind (Going a) same leads = Going (goes_on_alike w y same leads a)
 

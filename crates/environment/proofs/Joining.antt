@@ -15,7 +15,7 @@ use Rattle.rep_schema.specs.Named.{is_site}
 use Rattle.rep_schema.specs.Sites.{names_of}
 use Rattle.site_state.specs.State.{SiteState, is_master_site, is_among}
 use Rattle.site_state.specs.Making.{is_late_master}
-use Rattle.event_laws.specs.Core.{site_of}
+use Rattle.event_laws.specs.Cluster.{site_of}
 use Rattle.event_laws.specs.Quiet.{are_quiet}
 use Rattle.event_laws.specs.Joins.{may_join, with_joined, joined}
 use Rattle.event_laws.specs.Events.{is_master_in}
@@ -30,7 +30,7 @@ use Rattle.world_state.specs.Refusals.{quiet_step, further_steps, world_refusal}
 use Rattle.world_laws.proofs.UnrefusedLines.{IsNamedIn, are_quiet-None, joined-made}
 use Rattle.convergent_worlds.specs.Worlds.{GoesOn}
 use Rattle.environment.specs.Following.{IsBuilt}
-use Rattle.environment.specs.Known.{known_steps}
+use Rattle.environment.specs.Precheck.{precheck_steps}
 use Rattle.environment.proofs.Masters.{behind_goes, sites_of_schema, site_of_schema}
 
 -- ---- the steps of its refusal
@@ -43,7 +43,7 @@ behind_of phase.Suspended b none = refl
 
 -- where the names are right, what hinders quiet counts
 pub names_pass : (w : WorldState) (site source : SiteName) → is_late_master w.schema site ≡ true → is_there w site ≡ false → is_master_in (site_of source w.sites) ≡ true
-    → quiet_step w.sites w.schema.sites ≡ first_refusal (known_steps (command.Join site source) w)
+    → quiet_step w.sites w.schema.sites ≡ first_refusal (precheck_steps (command.Join site source) w)
 names_pass w site source late absent there = go (is_late_master w.schema site) (is_there w site) (is_master_in (site_of source w.sites)) late absent there
   where
     step : Option Refusal

@@ -15,7 +15,7 @@ pub mod Masters
 mod Quiet
 pub mod TwoMasters
 pub mod Joining
-pub mod Keeping
-pub mod KnownRefusals
+pub mod BuiltWorlds
+pub mod Prechecks
 pub use Rattle.convergent_worlds.proofs.Scripts
 pub use Rattle.convergent_worlds.proofs.Worlds

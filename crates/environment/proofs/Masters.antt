@@ -17,7 +17,7 @@ use Rattle.deferred_queue.proofs.Sites.{is_same_site-true, is_same_site-refl}
 use Rattle.net_plan.specs.Directions.{HasDirection}
 use Rattle.site_state.specs.State.{DestinationState, SiteState, is_among}
 use Rattle.site_state.proofs.SchemaSites.{AreApart, are_apart, find_holds, place_found, own_is_no_sender}
-use Rattle.event_laws.specs.Core.{site_of}
+use Rattle.event_laws.specs.Cluster.{site_of}
 use Rattle.event_laws.specs.Events.{master_of, found_site, run}
 use Rattle.event_laws.proofs.Sites.{found_name, found_all}
 use Rattle.event_laws.proofs.Happening.{run_keeps}

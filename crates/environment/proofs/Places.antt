@@ -7,7 +7,7 @@ use Rattle.std.proofs.lemmas.Option.{slice_get_cases, slice_get_past}
 use Rattle.rep_values.specs.declared.name.SiteName.{SiteName}
 use Rattle.deferred_queue.specs.Streams.{is_same_site}
 use Rattle.site_state.specs.State.{SiteState}
-use Rattle.world_laws.specs.Places.{place_of}
+use Rattle.world_laws.specs.Places.{site_place}
 use Rattle.world_laws.proofs.Calling.{site_of-place}
 use Rattle.environment.specs.Finding.{IsAt, FindsSite}
 
@@ -16,7 +16,7 @@ pub finds_site : (name : SiteName) (sites : List SiteState) (result : Option ℕ
 finds_site name sites result is = subst (FindsSite name sites) (sym is) (go (nat_lt place (length sites)) refl)
   where
     place : ℕ
-    place = place_of name sites
+    place = site_place name sites
 
     there : place < length sites → IsAt name sites place
     there within = by (slice_get_cases sites place).1

@@ -9,7 +9,7 @@ use Rattle.deferred_queue.specs.Streams.{Mark, is_same_site, last_position, acke
 use Rattle.deferred_queue.proofs.Sites.{is_same_site-refl}
 use Rattle.site_state.specs.State.{DestinationState, SiteState}
 use Rattle.site_state.specs.Streams.{stream_to}
-use Rattle.site_state.specs.Deferrals.{deferred_of, marks_of, StandApart}
+use Rattle.site_state.specs.Deferrals.{deferred_of, deferred_marks, StandApart}
 use Rattle.site_making.proofs.Sending.{last_is}
 use Rattle.event_laws.specs.Events.{has_acked_all, is_all_acked}
 use Rattle.world_state.specs.Refusals.{waiting_for, waiting_count}
@@ -53,19 +53,19 @@ module _ (x : SiteState) (to : SiteName) where
     last_long : last_position to (deferred_of x) ≡ long
     last_long = last_is to x (one_apart x.destinations is)
 
-    all_acked : is_all_acked x ≡ (acked_by to (marks_of x) == last_position to (deferred_of x))
-    all_acked = one_acked x.destinations is ∙ ap (λ (n : ℕ). acked_by to (marks_of x) == n) (sym last_long)
+    all_acked : is_all_acked x ≡ (acked_by to (deferred_marks x) == last_position to (deferred_of x))
+    all_acked = one_acked x.destinations is ∙ ap (λ (n : ℕ). acked_by to (deferred_marks x) == n) (sym last_long)
 
-    waiting : waiting_count x ≡ last_position to (deferred_of x) - acked_by to (marks_of x)
-    waiting = one_waits x.destinations is ∙ ap (λ (n : ℕ). n - acked_by to (marks_of x)) (sym last_long)
+    waiting : waiting_count x ≡ last_position to (deferred_of x) - acked_by to (deferred_marks x)
+    waiting = one_waits x.destinations is ∙ ap (λ (n : ℕ). n - acked_by to (deferred_marks x)) (sym last_long)
 
     -- why a refresh is refused for it
     pub queue_step_is : refused (not (is_all_acked x)) (refusal.QueueNotEmpty (waiting_count x))
-        ≡ refused (not (acked_by to (marks_of x) == last_position to (deferred_of x))) (refusal.QueueNotEmpty (last_position to (deferred_of x) - acked_by to (marks_of x)))
+        ≡ refused (not (acked_by to (deferred_marks x) == last_position to (deferred_of x))) (refusal.QueueNotEmpty (last_position to (deferred_of x) - acked_by to (deferred_marks x)))
     queue_step_is = ap (λ (b : Bool). refused (not b) (refusal.QueueNotEmpty (waiting_count x))) all_acked
-        ∙ ap (λ (n : ℕ). refused (not (acked_by to (marks_of x) == last_position to (deferred_of x))) (refusal.QueueNotEmpty n)) waiting
+        ∙ ap (λ (n : ℕ). refused (not (acked_by to (deferred_marks x) == last_position to (deferred_of x))) (refusal.QueueNotEmpty n)) waiting
 
-    module _ (acked last : ℕ) (acked_is : acked ≡ acked_by to (marks_of x)) (last_is_so : last ≡ last_position to (deferred_of x)) where
+    module _ (acked last : ℕ) (acked_is : acked ≡ acked_by to (deferred_marks x)) (last_is_so : last ≡ last_position to (deferred_of x)) where
       step_by : refused (not (is_all_acked x)) (refusal.QueueNotEmpty (waiting_count x)) ≡ refused (not (acked == last)) (refusal.QueueNotEmpty (last - acked))
       step_by = queue_step_is ∙ ap (λ (n : ℕ). refused (not (n == last_position to (deferred_of x))) (refusal.QueueNotEmpty (last_position to (deferred_of x) - n))) (sym acked_is)
           ∙ ap (λ (n : ℕ). refused (not (acked == n)) (refusal.QueueNotEmpty (n - acked))) (sym last_is_so)

@@ -10,10 +10,10 @@ use Rattle.rep_values.specs.declared.refusal.Refusal.{Refusal}
 use Rattle.rep_values.specs.declared.refusal.Refusal.TheVariants as refusal
 use Rattle.rep_values.specs.RefusalSteps.{refused, or_then}
 use Rattle.rep_schema.specs.declared.schema.SiteEntry.{SiteEntry}
-use Rattle.rep_calls.specs.declared.past.Past.{Past}
+use Rattle.rep_calls.specs.declared.past.PastEntry.{PastEntry}
 use Rattle.site_state.specs.State.{SiteState}
 use Rattle.site_state.specs.Joining.{unfinished_of, master_errors}
-use Rattle.event_laws.specs.Core.{site_of}
+use Rattle.event_laws.specs.Cluster.{site_of}
 use Rattle.event_laws.specs.Quiet.{is_other_master, last_position_to, last_positions, unquiet_at}
 use Rattle.world_state.specs.Refusals.{unquiet_told, unquiet_step, quiet_step}
 use Rattle.environment.specs.Joining.{unfinished_from}
@@ -34,7 +34,7 @@ module _ (x : SiteState) where
       go false later = let alone : 0 + sum_by (unfinished_from x) ys ≡ sum_by (unfinished_from x) ys = omega arith in later ∙ sym alone
 
   -- so it is with one of them
-  pub counts_from : (other : SiteState) (name : SiteName) (last : Past) (count : ℕ) → name ≡ x.here.site → last ≡ last_position_to name other → is_other_master name other ≡ true → count ≡ unfinished_of x last
+  pub counts_from : (other : SiteState) (name : SiteName) (last : PastEntry) (count : ℕ) → name ≡ x.here.site → last ≡ last_position_to name other → is_other_master name other ≡ true → count ≡ unfinished_of x last
       → count ≡ unfinished_from x other
   counts_from other name last count named last_is master counted =
       counted ∙ ap (unfinished_of x) (last_is ∙ ap (λ (n : SiteName). last_position_to n other) named)

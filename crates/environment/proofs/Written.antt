@@ -5,9 +5,9 @@ use Rattle.std.proofs.lemmas.List.{set-get_or}
 use Rattle.std.proofs.lemmas.Option.{slice_get_read}
 use Rattle.rep_values.specs.declared.name.SiteName.{SiteName}
 use Rattle.site_state.specs.State.{SiteState}
-use Rattle.event_laws.specs.Core.{site_of, at_site}
+use Rattle.event_laws.specs.Cluster.{site_of, at_site}
 use Rattle.world_state.specs.World.{WorldState, with_site}
-use Rattle.world_laws.specs.Places.{place_of}
+use Rattle.world_laws.specs.Places.{site_place}
 use Rattle.world_laws.proofs.Calling.{site_of-place, slice_set-place}
 use Rattle.environment.specs.Finding.{IsAt}
 
@@ -16,10 +16,10 @@ module _ (name : SiteName) (xs seen : List SiteState) (place : ℕ) (x : SiteSta
   there : slice_get xs place ≡ Some x
   there = slice_get_read xs (length seen) place x (ap length seen_is) at.within stands
 
-  place_is : place ≡ place_of name xs
-  place_is = at.is ∙ ap (place_of name) seen_is
+  place_is : place ≡ site_place name xs
+  place_is = at.is ∙ ap (site_place name) seen_is
 
-  there_named : slice_get xs (place_of name xs) ≡ Some x
+  there_named : slice_get xs (site_place name xs) ≡ Some x
   there_named = subst (λ (k : ℕ). slice_get xs k ≡ Some x) place_is there
 
   -- it is the one of the name
@@ -28,7 +28,7 @@ module _ (name : SiteName) (xs seen : List SiteState) (place : ℕ) (x : SiteSta
 
   -- what was written there is a change of it
   pub at_site-written : (change : SiteState → SiteState) (y : SiteState) → y ≡ change x → set xs place y ≡ at_site name change xs
-  at_site-written change y changed = ap (λ (k : ℕ). set xs k y) place_is ∙ ap (set xs (place_of name xs)) changed ∙ slice_set-place name change xs x there_named
+  at_site-written change y changed = ap (λ (k : ℕ). set xs k y) place_is ∙ ap (set xs (site_place name xs)) changed ∙ slice_set-place name change xs x there_named
 
 -- the world of which the sites were read
 module _ (name : SiteName) (w old : WorldState) (seen : List SiteState) (place : ℕ) (x : SiteState) (old_is : w ≡ old) (seen_is : seen ≡ w.sites) (at : IsAt name seen place)

@@ -5,8 +5,8 @@ use Rattle.net_plan.specs.Directions.{Direction, direction_of, at_direction, del
 use Rattle.proc_state.specs.State.{ProcState}
 use Rattle.proc_state.specs.Passes.{proc_apply}
 use Rattle.world_state.specs.Procs.{Procs, proc_of, at_proc}
-use Rattle.world_state.specs.CallPushes.{calls_release, calls_send, calls_take, calls_send_mark}
-use Rattle.environment.specs.Following.{Travel, Release, Take, Lose, PushStep, There, Send, Settle, SendMark, Back, up_between, fates_between}
+use Rattle.world_state.specs.CallPushes.{calls_release, calls_send, calls_deliver_one, calls_send_mark}
+use Rattle.environment.specs.Following.{Travel, Release, Take, Lose, PushStep, There, Send, MakePasses, SendMark, Back, up_between, fates_between}
 
 -- ---- its steps
 
@@ -17,7 +17,7 @@ calls_lose from to p = record p { net = at_direction from to delivered p.net }
 -- what becomes of calls on their way from one site to another
 abbrev pub calls_travel : SiteName → SiteName → Travel → Procs → Procs
 calls_travel from to Release p = calls_release from to p
-calls_travel from to Take p = calls_take from to p
+calls_travel from to Take p = calls_deliver_one from to p
 calls_travel from to Lose p = calls_lose from to p
 
 -- these positions of a sender are applied, one after the other
@@ -34,7 +34,7 @@ proc_parts (part ∷ parts) x = proc_parts parts (calls_applied part.0 part.1 x)
 abbrev pub calls_step : SiteName → SiteName → PushStep → Procs → Procs
 calls_step from to (There travel) p = calls_travel from to travel p
 calls_step from to (Send position) p = calls_send from to position p
-calls_step from to (Settle parts) p = record p { sites = at_proc to (proc_parts parts) p.sites }
+calls_step from to (MakePasses parts) p = record p { sites = at_proc to (proc_parts parts) p.sites }
 calls_step from to SendMark p = calls_send_mark to from p
 calls_step from to (Back travel) p = calls_travel to from travel p
 

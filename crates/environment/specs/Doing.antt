@@ -15,7 +15,7 @@ use Rattle.world_state.specs.Refusals.{world_refusal}
 use Rattle.world_state.specs.Steps.{world_done, world_refused, step_refused}
 use Rattle.environment.specs.Following.{PushesInPart}
 use Rattle.environment.specs.Calling.{CallsPushInPart}
-use Rattle.environment.specs.Known.{is_tried, known_refusal}
+use Rattle.environment.specs.Precheck.{refuses_late, precheck_refusal}
 use Rattle.environment.specs.Texts.{world_text}
 
 -- a line pushes calls
@@ -68,10 +68,10 @@ pub record IsDone (number : ℕ) (command : Command) (old new : WorldState) (byt
 
 -- there was no memory for a line: a push may be done in part, and every other line leaves the world; which of the lines it is
 -- that meets no refusal is known but of those that have to be tried
-pub record IsShort (number : ℕ) (command : Command) (old new : WorldState) (r : Refused) : Type 0 where
+pub record IsOutOfMemory (number : ℕ) (command : Command) (old new : WorldState) (r : Refused) : Type 0 where
   pub memory : r.refusal ≡ refusal.Memory
   pub line : r.line ≡ number
-  pub passes : is_tried command ≡ false → world_refusal command old ≡ None
+  pub passes : refuses_late command ≡ false → world_refusal command old ≡ None
   pub kept : is_push command ≡ false → new ≡ old
   pub pushed : (from to : SiteName) (count : Option ℕ) → command ≡ Push from to count → PushesInPart from to old new
   pub called : (from to : SiteName) → command ≡ Procedures (proc_line.Push from to) → PushesCallsInPart from to old new
@@ -84,8 +84,8 @@ pub record IsRefused (number : ℕ) (command : Command) (old new : WorldState) (
 -- a line was done, or refused, or there was no memory for it
 abbrev pub Does : ℕ → Command → WorldState → WorldState → Result Sheet Refused → Type 0
 Does number command old new (Ok sheet) = IsDone number command old new sheet.bytes
-Does number command old new (Err r) = IsShort number command old new r ⊎ IsRefused number command old new r
+Does number command old new (Err r) = IsOutOfMemory number command old new r ⊎ IsRefused number command old new r
 
 -- a refusal that is known before the line is tried is answered, whatever memory there is
-abbrev pub AnswersKnown : ℕ → Command → WorldState → Result Sheet Refused → Type 0
-AnswersKnown number command old result = (why : Refusal) → known_refusal command old ≡ Some why → result ≡ Err (record { line = number; refusal = why })
+abbrev pub AnswersPrecheck : ℕ → Command → WorldState → Result Sheet Refused → Type 0
+AnswersPrecheck number command old result = (why : Refusal) → precheck_refusal command old ≡ Some why → result ≡ Err (record { line = number; refusal = why })

@@ -4,16 +4,16 @@ use Rattle.std.specs.List.{position_or_len}
 use Rattle.rep_values.specs.declared.name.SiteName.{SiteName}
 use Rattle.site_state.specs.State.{SiteState}
 use Rattle.deferred_queue.specs.Streams.{is_same_site}
-use Rattle.event_laws.specs.Core.{site_of}
+use Rattle.event_laws.specs.Cluster.{site_of}
 use Rattle.proc_state.specs.State.{ProcState}
 use Rattle.world_state.specs.Procs.{proc_of}
-use Rattle.world_laws.specs.Places.{place_of}
+use Rattle.world_laws.specs.Places.{site_place}
 
 -- the site of a name is there, and this is its place
 pub record IsAt (name : SiteName) (sites : List SiteState) (place : ℕ) : Type 0 where
   pub site : SiteState
   pub found : site_of name sites ≡ Some site
-  pub is : place ≡ place_of name sites
+  pub is : place ≡ site_place name sites
   pub within : place < length sites
   pub there : slice_get sites place ≡ Some site
 

@@ -4,12 +4,12 @@ use Rattle.rep_values.specs.declared.name.SiteName.{SiteName}
 use Rattle.rep_schema.specs.Shape.{HasShape}
 use Rattle.net_plan.specs.declared.fate.Fate.{Fate}
 use Rattle.net_plan.specs.Directions.{Direction, HasDirection, direction_of, at_direction, delivered}
-use Rattle.event_laws.specs.Core.{site_of}
+use Rattle.event_laws.specs.Cluster.{site_of}
 use Rattle.site_rounds.specs.Parts.{parts_done}
-use Rattle.join_laws.specs.Names.{AreApart}
+use Rattle.join_laws.specs.Names.{SitesApart}
 use Rattle.world_state.specs.World.{WorldState, with_site, gets_from}
 use Rattle.world_state.specs.Phases.{is_setup}
-use Rattle.world_state.specs.Pushes.{world_release, world_send, world_take, world_send_mark}
+use Rattle.world_state.specs.Pushes.{world_release, world_send, world_deliver_one, world_send_mark}
 use Rattle.world_laws.specs.Reached.{IsOfScript}
 use Rattle.convergent_worlds.specs.Reached.{IsOfConvergence}
 use Rattle.procedure_worlds.specs.Built.{AreProcsBuilt}
@@ -30,7 +30,7 @@ world_lose from to w = record w { net = at_direction from to delivered w.net }
 
 abbrev pub travel_done : SiteName → SiteName → Travel → WorldState → WorldState
 travel_done from to Release w = world_release from to w
-travel_done from to Take w = world_take from to w
+travel_done from to Take w = world_deliver_one from to w
 travel_done from to Lose w = world_lose from to w
 
 -- the steps of a push: packets travel to the receiver, that of a position is sent, the receiver makes passes, in each of which
@@ -38,7 +38,7 @@ travel_done from to Lose w = world_lose from to w
 pub data PushStep : Type 0 where
   There : (travel : Travel) → PushStep
   Send : (position : ℕ) → PushStep
-  Settle : (parts : List (SiteName × List ℕ)) → PushStep
+  MakePasses : (parts : List (SiteName × List ℕ)) → PushStep
   SendMark : PushStep
   Back : (travel : Travel) → PushStep
 
@@ -46,7 +46,7 @@ pub data PushStep : Type 0 where
 abbrev pub step_done : SiteName → SiteName → PushStep → WorldState → WorldState
 step_done from to (There travel) w = travel_done from to travel w
 step_done from to (Send position) w = world_send from to position w
-step_done from to (Settle parts) w = with_site to (parts_done parts) w
+step_done from to (MakePasses parts) w = with_site to (parts_done parts) w
 step_done from to SendMark w = world_send_mark to from w
 step_done from to (Back travel) w = travel_done to from travel w
 
@@ -99,7 +99,7 @@ pub record IsBuilt (w : WorldState) : Type 0 where
   pub of_script : IsOfScript w
   pub of_convergence : IsOfConvergence w
   pub shape : HasShape w.schema
-  pub apart : AreApart w.sites
+  pub apart : SitesApart w.sites
   pub linked : is_setup w.phase ≡ false → (site origin : SiteName) → gets_from w site origin ≡ true
       → HasDirection w.net site origin × HasDirection w.net origin site
   pub procs : AreProcsBuilt w

@@ -4,10 +4,10 @@ pub mod Joining
 pub mod Procedures
 pub mod Following
 pub mod Calling
-pub mod Known
+pub mod Precheck
 pub mod Texts
 pub mod Doing
-pub mod Keeping
+pub mod BuiltWorlds
 pub use Rattle.convergent_worlds.specs.Worlds
 pub use Rattle.convergent_worlds.specs.Reached
 pub use Rattle.convergent_worlds.specs.Convergence

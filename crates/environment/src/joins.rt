@@ -1,18 +1,18 @@
 //! Why a join of a late master is refused.
 ghost use Rattle.std.specs.Prelude.{◌≡◌, ◌&&◌, nat_lt, Some};
 ghost use Rattle.rep_values.specs.RefusalSteps.{refused, first_refusal};
-ghost use Rattle.event_laws.specs.Core.{site_of};
+ghost use Rattle.event_laws.specs.Cluster.{site_of};
 ghost use Rattle.event_laws.specs.Events.{is_master_in};
 ghost use Rattle.event_laws.specs.Quiet.{is_other_master, last_position_to};
 ghost use Rattle.world_state.specs.Refusals.{unquiet_told, unquiet_step, quiet_step};
 ghost use Rattle.environment.specs.Joining.{unfinished_from};
-ghost use Rattle.environment.specs.Known.{known_steps};
+ghost use Rattle.environment.specs.Precheck.{precheck_steps};
 
-use crate::Environment;
-use crate::environment::place_of;
+use crate::WorldParts;
+use crate::parts::place_of;
 use master_join::{master_errors, unfinished_of};
 use page_tables::PageTables;
-use rep_calls::Past;
+use rep_calls::PastEntry;
 use rep_schema::{RowStore, SiteEntry};
 use rep_values::{Refusal, SiteName};
 use schema_sites::is_late_master;
@@ -27,10 +27,10 @@ fn is_other_master(name: &SiteName, other: &Site<PageTables>) -> bool
 }
 
 // The last position of a site for that of a name.
-fn last_position_to(name: &SiteName, other: &Site<PageTables>) -> Past
+fn last_position_to(name: &SiteName, other: &Site<PageTables>) -> PastEntry
     ensures { result ≡ last_position_to name.now other.now }
 {
-    Past {
+    PastEntry {
         origin: *other.name(),
         number: other.last_sent(name),
     }
@@ -102,7 +102,7 @@ fn quiet_step(sites: &[Site<PageTables>], entries: &[SiteEntry]) -> Option<Refus
     None
 }
 
-impl Environment {
+impl WorldParts {
     // Whether a site is there, and a master.
     fn has_master(&self, site: &SiteName) -> bool
         ensures { result ≡ is_master_in (site_of site.now self.now.sites) }
@@ -115,7 +115,7 @@ impl Environment {
 
     // A join of a late master that isn't there, as a copy of a master that is.
     pub(crate) fn join_refusal(&self, site: &SiteName, source: &SiteName) -> Option<Refusal>
-        ensures { result ≡ first_refusal (known_steps (Command.Join site.now source.now) self.now) }
+        ensures { result ≡ first_refusal (precheck_steps (Command.Join site.now source.now) self.now) }
     {
         let schema = self.store.schema();
         if !is_late_master(schema, site) {

@@ -1,5 +1,5 @@
 //! A law of environments. The function is empty: its contract is the law.
-ghost use Rattle.environment.specs.Keeping.{LinesKeepBuilt};
+ghost use Rattle.environment.specs.BuiltWorlds.{LinesKeepBuilt};
 
 /// Whatever comes of a line of a form that is built, done, refused, or left for want of memory: the world stays one of a
 /// script of such forms. So the laws over events hold of it, its schema has its shape, and behind Setup there is a direction

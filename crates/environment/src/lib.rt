@@ -2,7 +2,7 @@
 //! the same of procedures; and why a line of the script is refused there.
 #![tactic(auto)]
 
-mod environment;
+mod parts;
 mod joins;
 mod laws;
 mod names;
@@ -16,7 +16,7 @@ mod snapshots;
 mod testing;
 
 pub use convergent_worlds::convergence_holds;
-pub use environment::{Environment, place_of};
+pub use parts::{WorldParts, place_of};
 pub use laws::lines_keep_worlds_of_scripts;
 pub use procs::{Procs, find_procedure, proc_place_of, procedure_place};
 pub use refreshes::young_step;

@@ -3,13 +3,13 @@ ghost use Rattle.std.specs.Prelude.{◌≡◌};
 ghost use Rattle.world_state.specs.World.{is_there, gets_from};
 ghost use Rattle.world_state.specs.Refusals.{has_sender, has_link};
 
-use crate::Environment;
-use crate::environment::place_of;
+use crate::WorldParts;
+use crate::parts::place_of;
 use rep_schema::RowStore;
 use rep_values::SiteName;
 use schema_sites::gets_from;
 
-impl Environment {
+impl WorldParts {
     /// Whether a site is there.
     pub fn is_there(&self, site: &SiteName) -> bool
         ensures { result ≡ is_there self.now site.now }

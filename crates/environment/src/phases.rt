@@ -8,7 +8,7 @@ ghost use Rattle.schema_rules.specs.KeyRules.{is_well_keyed};
 ghost use Rattle.schema_rules.specs.Rules.{broken_rule};
 ghost use Rattle.world_state.specs.Phases.{is_setup, is_running, is_suspended, has_block, has_rows, setup_step, declare_step, block_step, call_block_step, behind_setup_step, lower, broken_by, lowest_broken, resume_step, proc_phase_step, phase_step};
 
-use crate::Environment;
+use crate::WorldParts;
 use rep_declare::{Declare, table_shaped};
 use rep_schema::{Column, RowStore, Schema, TableEntry, key_count};
 use rep_values::{Refusal, TableName};
@@ -84,7 +84,7 @@ fn lower(rule: Option<u8>, other: Option<u8>) -> Option<u8>
     }
 }
 
-impl Environment {
+impl WorldParts {
     fn is_setup(&self) -> bool
         ensures { result ≡ is_setup self.now.phase }
     {

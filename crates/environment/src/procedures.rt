@@ -9,9 +9,9 @@ ghost use Rattle.world_state.specs.Procs.{proc_of};
 ghost use Rattle.world_state.specs.CallBlocks.{names_twice, are_others, can_send_to};
 ghost use Rattle.world_state.specs.ProcRefusals.{table_step, declaring_step, proc_table_steps, takes_amount, action_steps, procedure_steps, are_two_masters};
 ghost use Rattle.environment.specs.Following.{IsBuilt};
-ghost use Rattle.environment.specs.Known.{known_proc_steps};
+ghost use Rattle.environment.specs.Precheck.{precheck_proc_steps};
 
-use crate::Environment;
+use crate::WorldParts;
 use crate::procs::{Procs, find_procedure, proc_place_of};
 use crate::testing::{tests_in, tests_refusal};
 use proc_calls::ProcSite;
@@ -176,7 +176,7 @@ impl Procs {
     }
 }
 
-impl Environment {
+impl WorldParts {
     // A table that is declared, whoever writes it.
     fn table_step(&self, name: &TableName, columns: &[Column]) -> Option<Refusal>
         ensures { result ≡ table_step name.now columns.now self.now }
@@ -237,7 +237,7 @@ impl Environment {
     fn push_calls_refusal(&self, from: &SiteName, to: &SiteName) -> Option<Refusal>
         requires built { IsBuilt self.now }
         requires behind { is_setup self.now.phase ≡ false }
-        ensures { result ≡ first_refusal (known_proc_steps (ProcLine.Push from.now to.now) self.now) }
+        ensures { result ≡ first_refusal (precheck_proc_steps (ProcLine.Push from.now to.now) self.now) }
     {
         if !self.procs.are_two_masters(from, to) {
             return Some(Refusal::UnknownName);
@@ -252,7 +252,7 @@ impl Environment {
     pub(crate) fn proc_refusal(&self, line: &ProcLine) -> Option<Refusal>
         requires built { IsBuilt self.now }
         requires behind { phase_step (Command.Procedures line.now) self.now ≡ None }
-        ensures { result ≡ first_refusal (known_proc_steps line.now self.now) }
+        ensures { result ≡ first_refusal (precheck_proc_steps line.now self.now) }
     {
         match line {
             ProcLine::Table { table, columns } => self.proc_table_refusal(

@@ -9,10 +9,10 @@ ghost use Rattle.event_laws.specs.Events.{is_all_acked};
 ghost use Rattle.world_state.specs.Phases.{is_setup};
 ghost use Rattle.world_state.specs.Refusals.{waiting_count, young_parents_step, young_step, log_step, refresh_steps};
 ghost use Rattle.environment.specs.Following.{IsBuilt};
-ghost use Rattle.environment.specs.Known.{known_steps};
+ghost use Rattle.environment.specs.Precheck.{precheck_steps};
 
-use crate::Environment;
-use crate::environment::place_of;
+use crate::WorldParts;
+use crate::parts::place_of;
 use crate::snapshots::master_of;
 use page_tables::PageTables;
 use rep_schema::RowStore;
@@ -100,7 +100,7 @@ fn queue_step(site: &Site<PageTables>, to: &SiteName) -> Option<Refusal>
     }
 }
 
-impl Environment {
+impl WorldParts {
     // A refresh of a site from its master: both directions are up, all is acknowledged, and the logs reach back.
     fn refresh_step(
         &self,
@@ -127,7 +127,7 @@ impl Environment {
     pub(crate) fn refresh_refusal(&self, site: &SiteName, how: Refresh) -> Option<Refusal>
         requires built { IsBuilt self.now }
         requires behind { is_setup self.now.phase ≡ false }
-        ensures { result ≡ first_refusal (known_steps (Command.Refresh site.now how) self.now) }
+        ensures { result ≡ first_refusal (precheck_steps (Command.Refresh site.now how) self.now) }
     {
         let Some(here) = place_of(&self.sites, site) else {
             return Some(Refusal::UnknownName);
@@ -144,7 +144,7 @@ impl Environment {
     // A purge of the log of a master's table that has one.
     pub(crate) fn purge_log_refusal(&self, master: &SiteName, table: &TableName) -> Option<Refusal>
         requires { HasShape self.now.schema }
-        ensures { result ≡ first_refusal (known_steps (Command.PurgeLog master.now table.now) self.now) }
+        ensures { result ≡ first_refusal (precheck_steps (Command.PurgeLog master.now table.now) self.now) }
     {
         let Some(place) = place_of(&self.sites, master) else {
             return Some(Refusal::UnknownName);

@@ -1,14 +1,14 @@
 //! Why a line is refused, as far as that is known before it is tried.
 ghost use Rattle.std.specs.Prelude.{◌≡◌, false, not, None};
 ghost use Rattle.rep_values.specs.RefusalSteps.{refused, first_refusal, unknown};
-ghost use Rattle.event_laws.specs.Core.{site_of};
+ghost use Rattle.event_laws.specs.Cluster.{site_of};
 ghost use Rattle.world_state.specs.Phases.{is_setup, phase_step};
 ghost use Rattle.world_state.specs.Refusals.{has_link, shown_step};
 ghost use Rattle.world_state.specs.Steps.{world_refused};
 ghost use Rattle.environment.specs.Following.{IsBuilt};
-ghost use Rattle.environment.specs.Known.{known_steps, known_refusal};
+ghost use Rattle.environment.specs.Precheck.{precheck_steps, precheck_refusal};
 
-use crate::Environment;
+use crate::WorldParts;
 use crate::testing::tests_in;
 use rep_declare::{Declare, refusal_of};
 use rep_schema::RowStore;
@@ -18,7 +18,7 @@ use script_parse::{Command, ProcLine, Shown};
 /// The most that a number may be.
 const MOST_NUMBER: u64 = 1_000_000_000_000_000;
 
-impl Environment {
+impl WorldParts {
     fn unknown_site(&self, site: &SiteName) -> Option<Refusal>
         ensures { result ≡ unknown (site_of site.now self.now.sites) }
     {
@@ -31,7 +31,7 @@ impl Environment {
 
     // A declaration: what it meets because procedures have tables too, and then what it meets by itself.
     fn declare_refusal(&self, declaration: &Declare) -> Option<Refusal>
-        ensures { result ≡ first_refusal (known_steps (Command.Declare declaration.now) self.now) }
+        ensures { result ≡ first_refusal (precheck_steps (Command.Declare declaration.now) self.now) }
     {
         if let Some(refusal) = self.declaring_step(declaration) {
             return Some(refusal);
@@ -57,7 +57,7 @@ impl Environment {
     fn push_refusal(&self, from: &SiteName, to: &SiteName) -> Option<Refusal>
         requires built { IsBuilt self.now }
         requires behind { is_setup self.now.phase ≡ false }
-        ensures { result ≡ first_refusal (known_steps (Command.Push from.now to.now None) self.now) }
+        ensures { result ≡ first_refusal (precheck_steps (Command.Push from.now to.now None) self.now) }
     {
         if !self.has_sender(to, from) {
             return Some(Refusal::UnknownName);
@@ -79,7 +79,7 @@ impl Environment {
     }
 
     fn clock_refusal(&self, site: &SiteName, time: u64) -> Option<Refusal>
-        ensures { result ≡ first_refusal (known_steps (Command.Clock site.now time) self.now) }
+        ensures { result ≡ first_refusal (precheck_steps (Command.Clock site.now time) self.now) }
     {
         if !self.is_there(site) {
             return Some(Refusal::UnknownName);
@@ -92,7 +92,7 @@ impl Environment {
 
     // The site of an error and the sender that it came from.
     fn error_refusal(&self, site: &SiteName, origin: &SiteName) -> Option<Refusal>
-        ensures { result ≡ first_refusal (known_steps (Command.Execute site.now origin.now 0) self.now) }
+        ensures { result ≡ first_refusal (precheck_steps (Command.Execute site.now origin.now 0) self.now) }
     {
         if self.has_sender(site, origin) {
             None
@@ -105,7 +105,7 @@ impl Environment {
     fn further_step(&self, command: &Command) -> Option<Refusal>
         requires built { IsBuilt self.now }
         requires behind { phase_step command.now self.now ≡ None }
-        ensures { result ≡ first_refusal (known_steps command.now self.now) }
+        ensures { result ≡ first_refusal (precheck_steps command.now self.now) }
     {
         match command {
             Command::Declare(declaration) => self.declare_refusal(declaration),
@@ -142,7 +142,7 @@ impl Environment {
     /// execution and a drop of an error meet as they run. It takes no memory.
     pub fn refusal(&self, command: &Command) -> Option<Refusal>
         requires { IsBuilt self.now }
-        ensures { result ≡ known_refusal command.now self.now }
+        ensures { result ≡ precheck_refusal command.now self.now }
     {
         if let Some(refusal) = self.phase_step(command) {
             return Some(refusal);

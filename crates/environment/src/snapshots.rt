@@ -11,7 +11,7 @@ ghost use Rattle.event_laws.specs.Events.{master_of};
 ghost use Rattle.world_state.specs.Declaring.{has_snapshot};
 ghost use Rattle.world_state.specs.Refusals.{are_alike, hold_keys, parent_steps, named_snapshot_steps};
 
-use crate::Environment;
+use crate::WorldParts;
 use crate::testing::tests_refusal;
 use rep_schema::{Column, Kind, RowStore, Schema, columns_of};
 use rep_values::{Name, Refusal, SiteName, TableName};
@@ -102,7 +102,7 @@ fn parent_refusal(
     tests_refusal(hold_keys(own, names, parents), parents, tests)
 }
 
-impl Environment {
+impl WorldParts {
     // A snapshot of a table at a snapshot site.
     pub(crate) fn snapshot_refusal(
         &self,

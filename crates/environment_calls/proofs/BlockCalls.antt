@@ -15,11 +15,11 @@ use Rattle.proc_calls.specs.Stops.{StopsAs}
 use Rattle.world_state.specs.declared.call_block.CallStop.{CallStop}
 use Rattle.world_state.specs.CallBlocks.{calls_of, masters_named, words_sent, queue_number, words_number, words_stop, failed_stop, calls_stop}
 use Rattle.environment_calls.specs.declared.sending.SendStop.{SendStop}
-use Rattle.environment_calls.specs.Sending.{stop_of, StopsSend}
+use Rattle.environment_calls.specs.Sending.{call_stop_of, StopsSend}
 use Rattle.environment_calls.proofs.CallWalk.{can_be_made}
 
 -- calls stop at the one that fails
-pub stops_so : (calls : List ProcCall) (x : ProcState) (stop : ProcStop) → StopsAs (calls_here calls x) stop → StopsSend (failed_stop (proc_call_answer calls x)) (stop_of stop)
+pub stops_so : (calls : List ProcCall) (x : ProcState) (stop : ProcStop) → StopsAs (calls_here calls x) stop → StopsSend (failed_stop (proc_call_answer calls x)) (call_stop_of stop)
 stops_so calls x (Failed call error) is = rw is refl
 stops_so calls x Memory is = tt
 

@@ -4,7 +4,7 @@ pub mod SentCalls
 pub mod Repeats
 pub mod Delivering
 pub mod Passing
-pub mod Settled
+pub mod Applied
 pub mod LiteralWalk
 pub mod CallWalk
 pub mod DeclaredTables

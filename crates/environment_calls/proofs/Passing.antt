@@ -12,9 +12,9 @@ use Rattle.proc_state.specs.State.{ProcState, as_site}
 use Rattle.proc_state.specs.Passes.{proc_apply, apply_each, proc_pass}
 use Rattle.proc_state.proofs.Ordering.{apply_journals, pass_senders}
 use Rattle.world_state.specs.Rounds.{sender_names}
-use Rattle.world_state.specs.CallPushes.{proc_passes, proc_settle}
+use Rattle.world_state.specs.CallPushes.{proc_passes, proc_until_quiet}
 use Rattle.environment.specs.Calling.{calls_applied, proc_parts}
-use Rattle.environment_calls.specs.Settling.{PartlyPassed}
+use Rattle.environment_calls.specs.Applying.{PartlyPassed}
 
 -- ---- parts of passes
 
@@ -50,23 +50,23 @@ proc_pass-senders origin x = pass_senders origin (arrivals origin (as_site x)) x
 -- ---- one sender after the other
 
 -- the pass for the sender that pushed is made, and those for the senders before a place
-pub record Settling (origin : SiteName) (x : ProcState) (place : ℕ) (y : ProcState) : Type 0 where
-  pub left : proc_passes (drop place (sender_names x.senders)) y ≡ proc_settle origin x
+pub record PassesSoFar (origin : SiteName) (x : ProcState) (place : ℕ) (y : ProcState) : Type 0 where
+  pub left : proc_passes (drop place (sender_names x.senders)) y ≡ proc_until_quiet origin x
   pub senders : y.senders ≡ x.senders
   pub partly : PartlyPassed x y
 
 module _ (origin : SiteName) (x : ProcState) where
-  pub settling_first : (y : ProcState) → y ≡ proc_pass origin x → Settling origin x 0 y
-  settling_first y is = record {
+  pub passes_so_far_first : (y : ProcState) → y ≡ proc_pass origin x → PassesSoFar origin x 0 y
+  passes_so_far_first y is = record {
     left = ap (λ (v : ProcState). proc_passes (sender_names x.senders) v) is;
     senders = ap (λ (v : ProcState). v.senders) is ∙ proc_pass-senders origin x;
     partly = partly_pass origin x y is;
   }
 
   -- the next one has its turn
-  pub settling_more : (place : ℕ) (y z : ProcState) (next : SiteName) → drop place (sender_names y.senders) ≡ next ∷ drop (place + 1) (sender_names y.senders) → z ≡ proc_pass next y
-      → Settling origin x place y → Settling origin x (place + 1) z
-  settling_more place y z next there is so_far = record {
+  pub passes_so_far_more : (place : ℕ) (y z : ProcState) (next : SiteName) → drop place (sender_names y.senders) ≡ next ∷ drop (place + 1) (sender_names y.senders) → z ≡ proc_pass next y
+      → PassesSoFar origin x place y → PassesSoFar origin x (place + 1) z
+  passes_so_far_more place y z next there is so_far = record {
     left = ap (λ (v : ProcState). proc_passes (drop (place + 1) (sender_names x.senders)) v) is ∙ ap (λ (names : List SiteName). proc_passes names y) (sym turn) ∙ so_far.left;
     senders = ap (λ (v : ProcState). v.senders) is ∙ proc_pass-senders next y ∙ so_far.senders;
     partly = partly_then x y z so_far.partly (partly_pass next y z is);
@@ -76,8 +76,8 @@ module _ (origin : SiteName) (x : ProcState) where
       turn = subst (λ (ss : List SenderState). drop place (sender_names ss) ≡ next ∷ drop (place + 1) (sender_names ss)) so_far.senders there
 
   -- each had it
-  pub settling_end : (place : ℕ) (y : ProcState) → length x.senders ≤ place → Settling origin x place y → y ≡ proc_settle origin x
-  settling_end place y past so_far =
+  pub passes_so_far_end : (place : ℕ) (y : ProcState) → length x.senders ≤ place → PassesSoFar origin x place y → y ≡ proc_until_quiet origin x
+  passes_so_far_end place y past so_far =
       ap (λ (names : List SiteName). proc_passes names y) (sym (drop_all place (sender_names x.senders) (omega (arith, past, length-map x.senders (λ (s : SenderState). s.origin))))) ∙ so_far.left
 
 -- ---- journals
@@ -107,5 +107,5 @@ passes_grow (origin ∷ origins) x =
     grows_then x (proc_pass origin x) (proc_passes origins (proc_pass origin x)) (each_grows origin (arrivals origin (as_site x)) x) (passes_grow origins (proc_pass origin x))
 
 -- once a site has settled what came its journal has more in front
-pub settle_calls_grows : (origin : SiteName) (x : ProcState) → JournalGrows x (proc_settle origin x)
-settle_calls_grows origin x = passes_grow (origin ∷ sender_names x.senders) x
+pub passes_so_far_grow : (origin : SiteName) (x : ProcState) → JournalGrows x (proc_until_quiet origin x)
+passes_so_far_grow origin x = passes_grow (origin ∷ sender_names x.senders) x

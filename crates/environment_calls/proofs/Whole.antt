@@ -14,10 +14,10 @@ use Rattle.world_state.specs.Procs.{Procs, proc_of}
 use Rattle.world_state.specs.ProcRefusals.{are_two_masters}
 use Rattle.world_state.specs.CallPushes.{calls_positions, calls_pushed_in}
 use Rattle.environment.specs.Following.{IsBuilt}
-use Rattle.environment.specs.Known.{known_refusal}
+use Rattle.environment.specs.Precheck.{precheck_refusal}
 use Rattle.environment.specs.Texts.{calls_pushed_text}
 use Rattle.environment.proofs.TwoMasters.{AreLinked, two_masters_linked}
-use Rattle.environment_calls.specs.Settling.{told_calls_text}
+use Rattle.environment_calls.specs.Applying.{told_calls_text}
 
 first_false : (b c : Bool) → (b || c) ≡ false → b ≡ false
 first_false true c is = absurd (cc is)
@@ -30,12 +30,12 @@ masters_linked from to w built behind two =
 
 module _ (from to : SiteName) (w : WorldState) where
   -- of fates for calls
-  pub fates_linked : (fates : List Fate) → IsBuilt w → known_refusal (command.Procedures (proc_line.Fates from to fates)) w ≡ None → AreLinked w from to
+  pub fates_linked : (fates : List Fate) → IsBuilt w → precheck_refusal (command.Procedures (proc_line.Fates from to fates)) w ≡ None → AreLinked w from to
   fates_linked fates built passes =
       let steps = or_then-None (behind_setup_step w) _ passes in
       masters_linked from to w built steps.0 (refused_not-None (are_two_masters from to w.procs) refusal.UnknownName (or_then-None (refused (not (are_two_masters from to w.procs)) refusal.UnknownName) None steps.1).0)
 
-  module _ (passes : known_refusal (command.Procedures (proc_line.Push from to)) w ≡ None) where
+  module _ (passes : precheck_refusal (command.Procedures (proc_line.Push from to)) w ≡ None) where
     -- of a push of calls
     pub push_linked : IsBuilt w → AreLinked w from to
     push_linked built =

@@ -2,4 +2,4 @@
 pub mod Sending
 pub mod Repeats
 pub mod Travelling
-pub mod Settling
+pub mod Applying

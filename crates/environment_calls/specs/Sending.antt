@@ -17,9 +17,9 @@ use Rattle.environment_calls.specs.declared.sending.SendEnd.{SendEnd}
 use Rattle.environment_calls.specs.declared.sending.SendEnd.TheVariants as ending
 
 -- a call that fails takes a number out of its range
-abbrev pub stop_of : ProcStop → SendStop
-stop_of (of_proc.Failed call error) = stop.At (record { call = call; refusal = refusal.ValueRange })
-stop_of of_proc.Memory = stop.Memory
+abbrev pub call_stop_of : ProcStop → SendStop
+call_stop_of (of_proc.Failed call error) = stop.At (record { call = call; refusal = refusal.ValueRange })
+call_stop_of of_proc.Memory = stop.Memory
 
 -- a call is refused that stops the calls; want of memory needs no cause
 abbrev pub StopsSend : Option CallStop → SendStop → Type 0

@@ -1,10 +1,10 @@
 //! Blocks of calls.
 ghost use Rattle.std.specs.Prelude.{◌≡◌, None, OnOk, OnErr};
 ghost use Rattle.world_state.specs.CallBlocks.{calls_opened, called_more, with_call};
-ghost use Rattle.environment.specs.Known.{known_refusal};
+ghost use Rattle.environment.specs.Precheck.{precheck_refusal};
 ghost use Rattle.environment.specs.Doing.{Does};
 
-use environment::{Environment, Procs, drop_last, no_memory};
+use environment::{WorldParts, Procs, drop_last, no_memory};
 use rep_lists::{Copies, Items, NoMemory};
 use rep_values::SiteName;
 use report_text::Lines;
@@ -28,12 +28,12 @@ fn open(procs: &mut Procs, alloc: Global, site: &SiteName)
 
 /// `calls`
 pub(crate) fn open_calls(
-    environment: &mut Environment,
+    environment: &mut WorldParts,
     alloc: Global,
     line: u32,
     site: &SiteName,
 ) -> Result<Lines, Refused>
-    requires { known_refusal (Command.Procedures (ProcLine.Calls site.now)) environment.old ≡ None }
+    requires { precheck_refusal (Command.Procedures (ProcLine.Calls site.now)) environment.old ≡ None }
     ensures { Does line (Command.Procedures (ProcLine.Calls site.now)) environment.old environment.new result }
 {
     open(&mut environment.procs, alloc, site);
@@ -76,12 +76,12 @@ fn put_call(procs: &mut Procs, alloc: Global, line: u32, call: &CallWords) -> Re
 
 /// `call`. One behind the first that is too many isn't kept.
 pub(crate) fn add_call(
-    environment: &mut Environment,
+    environment: &mut WorldParts,
     alloc: Global,
     line: u32,
     call: &CallWords,
 ) -> Result<Lines, Refused>
-    requires { known_refusal (Command.Procedures (ProcLine.Call call.now)) environment.old ≡ None }
+    requires { precheck_refusal (Command.Procedures (ProcLine.Call call.now)) environment.old ≡ None }
     ensures { Does line (Command.Procedures (ProcLine.Call call.now)) environment.old environment.new result }
 {
     let Ok(()) = put_call(&mut environment.procs, alloc, line, call) else {

@@ -4,10 +4,10 @@ ghost use Rattle.rep_schema.specs.Tables.{columns_in};
 ghost use Rattle.world_state.specs.ProcDeclaring.{proc_table_named, with_proc_table, query_of, action_of, with_procedure};
 ghost use Rattle.procedure_worlds.specs.Built.{AreProcsDeclared};
 ghost use Rattle.environment.specs.Following.{IsBuilt};
-ghost use Rattle.environment.specs.Known.{known_refusal};
+ghost use Rattle.environment.specs.Precheck.{precheck_refusal};
 ghost use Rattle.environment.specs.Doing.{Does};
 
-use environment::{Environment, Procs, column_number, no_memory, tests_in, tests_of};
+use environment::{WorldParts, Procs, column_number, no_memory, tests_in, tests_of};
 use proc_state::{Action, Procedure};
 use rep_lists::{Copies, Items, NoMemory};
 use rep_schema::{Column, TableEntry};
@@ -36,13 +36,13 @@ fn put_table(
 
 /// `proctable`
 pub(crate) fn add_proc_table(
-    environment: &mut Environment,
+    environment: &mut WorldParts,
     alloc: Global,
     line: u32,
     name: &TableName,
     columns: &Items<Column>,
 ) -> Result<Lines, Refused>
-    requires { known_refusal (Command.Procedures (ProcLine.Table name.now columns.now)) environment.old ≡ None }
+    requires { precheck_refusal (Command.Procedures (ProcLine.Table name.now columns.now)) environment.old ≡ None }
     ensures { Does line (Command.Procedures (ProcLine.Table name.now columns.now)) environment.old environment.new result }
 {
     let Ok(()) = put_table(&mut environment.procs, alloc, name, columns) else {
@@ -118,7 +118,7 @@ fn put_procedure(
 
 /// `procedure`
 pub(crate) fn add_procedure(
-    environment: &mut Environment,
+    environment: &mut WorldParts,
     alloc: Global,
     line: u32,
     name: &Name,
@@ -126,7 +126,7 @@ pub(crate) fn add_procedure(
     action: &ActionWords,
 ) -> Result<Lines, Refused>
     requires built { IsBuilt environment.old }
-    requires passes { known_refusal (Command.Procedures (ProcLine.Procedure name.now table.now action.now)) environment.old ≡ None }
+    requires passes { precheck_refusal (Command.Procedures (ProcLine.Procedure name.now table.now action.now)) environment.old ≡ None }
     ensures { Does line (Command.Procedures (ProcLine.Procedure name.now table.now action.now)) environment.old environment.new result }
 {
     let Ok(()) = put_procedure(&mut environment.procs, alloc, name, table, action) else {

@@ -3,7 +3,7 @@ ghost use Rattle.std.specs.Prelude.{◌≡◌, is_some, IfOk, OnOk, OnErr};
 ghost use Rattle.net_plan.specs.Directions.{HasDirection, first_between};
 ghost use Rattle.proc_state.specs.Packets.{proc_accept};
 ghost use Rattle.world_state.specs.Procs.{at_proc};
-ghost use Rattle.world_state.specs.CallPushes.{calls_take, calls_deliver};
+ghost use Rattle.world_state.specs.CallPushes.{calls_deliver_one, calls_deliver};
 ghost use Rattle.environment_calls.specs.Repeats.{is_repeated};
 ghost use Rattle.environment_calls.specs.Travelling.{CallsTravel};
 
@@ -55,9 +55,9 @@ fn accept_at(
 
 /// A site takes in the first packet on the way to it, and whether there is one is answered. Where there is no memory, the
 /// packet may be gone, like one that is lost.
-fn take(procs: &mut Procs, alloc: Global, from: &SiteName, to: &SiteName) -> Result<bool, NoMemory>
+fn deliver_one(procs: &mut Procs, alloc: Global, from: &SiteName, to: &SiteName) -> Result<bool, NoMemory>
     requires { HasDirection procs.old.net from.now to.now }
-    ensures ok { OnOk result (procs.new ≡ calls_take from.now to.now procs.old) }
+    ensures ok { OnOk result (procs.new ≡ calls_deliver_one from.now to.now procs.old) }
     ensures some { IfOk result (λ some. some ≡ is_some (first_between from.now to.now procs.old.net)) }
     ensures travels { CallsTravel from.now to.now procs.old procs.new }
 {
@@ -80,7 +80,7 @@ pub(crate) fn deliver_all(
     ensures travels { CallsTravel from.now to.now procs.old procs.new }
 {
     'packets: loop {
-        if !take(procs, alloc, from, to)? {
+        if !deliver_one(procs, alloc, from, to)? {
             return Ok(());
         }
     }

@@ -3,11 +3,11 @@ ghost use Rattle.std.specs.Prelude.{◌≡◌, ◌⊎◌, None, Some, IfErr, OnO
 ghost use Rattle.rep_values.specs.declared.refusal.Refusal.TheVariants as refusal;
 ghost use Rattle.proc_state.specs.Errors.{proc_execute};
 ghost use Rattle.world_state.specs.Procs.{proc_of, at_proc};
-ghost use Rattle.environment.specs.Known.{known_refusal};
+ghost use Rattle.environment.specs.Precheck.{precheck_refusal};
 ghost use Rattle.environment.specs.Doing.{Does};
 ghost use Rattle.environment_calls.specs.Sending.{execute_stop};
 
-use environment::{Environment, Procs, no_memory, proc_place_of, room_for_line};
+use environment::{WorldParts, Procs, no_memory, proc_place_of, room_for_line};
 use rep_values::{Refusal, SiteName};
 use report_text::{Lines, execute_calls_line};
 use script_parse::{Command, ProcLine};
@@ -35,14 +35,14 @@ fn execute_at(
 
 /// `execute-calls`
 pub(crate) fn execute_calls(
-    environment: &mut Environment,
+    environment: &mut WorldParts,
     alloc: Global,
     line: u32,
     site: &SiteName,
     origin: &SiteName,
     position: u64,
 ) -> Result<Lines, Refused>
-    requires { known_refusal (Command.Procedures (ProcLine.Execute site.now origin.now position)) environment.old ≡ None }
+    requires { precheck_refusal (Command.Procedures (ProcLine.Execute site.now origin.now position)) environment.old ≡ None }
     ensures { Does line (Command.Procedures (ProcLine.Execute site.now origin.now position)) environment.old environment.new result }
 {
     let Ok(mut lines) = room_for_line(alloc) else {

@@ -2,10 +2,10 @@
 ghost use Rattle.std.specs.Prelude.{◌≡◌, None, OnOk, OnErr};
 ghost use Rattle.net_plan.specs.Directions.{HasDirection, at_direction, with_fates};
 ghost use Rattle.environment.specs.Following.{IsBuilt};
-ghost use Rattle.environment.specs.Known.{known_refusal};
+ghost use Rattle.environment.specs.Precheck.{precheck_refusal};
 ghost use Rattle.environment.specs.Doing.{Does};
 
-use environment::{Environment, Procs, no_memory};
+use environment::{WorldParts, Procs, no_memory};
 use net_plan::Fate;
 use rep_lists::{Items, NoMemory};
 use rep_values::SiteName;
@@ -31,7 +31,7 @@ fn put_fates(
 
 /// `fate-calls`
 pub(crate) fn add_call_fates(
-    environment: &mut Environment,
+    environment: &mut WorldParts,
     alloc: Global,
     line: u32,
     from: &SiteName,
@@ -39,7 +39,7 @@ pub(crate) fn add_call_fates(
     fates: &Items<Fate>,
 ) -> Result<Lines, Refused>
     requires built { IsBuilt environment.old }
-    requires passes { known_refusal (Command.Procedures (ProcLine.Fates from.now to.now fates.now)) environment.old ≡ None }
+    requires passes { precheck_refusal (Command.Procedures (ProcLine.Fates from.now to.now fates.now)) environment.old ≡ None }
     ensures { Does line (Command.Procedures (ProcLine.Fates from.now to.now fates.now)) environment.old environment.new result }
 {
     let Ok(()) = put_fates(&mut environment.procs, from, to, fates.as_slice()) else {

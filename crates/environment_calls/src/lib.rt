@@ -2,7 +2,7 @@
 //! sent, pushed to another master and settled there, and errors of calls are executed again.
 #![tactic(auto)]
 
-mod answer;
+mod marks;
 mod blocks;
 mod declaring;
 mod deliver;
@@ -13,7 +13,7 @@ mod literals;
 mod outbound;
 mod pushing;
 mod sending;
-mod settle;
+mod applying;
 mod words;
 
 pub use environment::proc_place_of;

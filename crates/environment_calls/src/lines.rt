@@ -2,7 +2,7 @@
 ghost use Rattle.std.specs.Prelude.{◌≡◌, None};
 ghost use Rattle.script_parse.specs.declared.command.Command.TheVariants as Command;
 ghost use Rattle.environment.specs.Following.{IsBuilt};
-ghost use Rattle.environment.specs.Known.{known_refusal};
+ghost use Rattle.environment.specs.Precheck.{precheck_refusal};
 ghost use Rattle.environment.specs.Doing.{Does};
 
 use crate::blocks::{add_call, open_calls};
@@ -11,7 +11,7 @@ use crate::errors::execute_calls;
 use crate::fates::add_call_fates;
 use crate::pushing::push_calls;
 use crate::sending::send;
-use environment::Environment;
+use environment::WorldParts;
 use report_text::Lines;
 use script_parse::ProcLine;
 use std::alloc::Global;
@@ -20,13 +20,13 @@ use world_state::Refused;
 /// Does a line about procedures that meets no refusal known before. What it prints is answered, or why it is refused; for want of
 /// memory a push of calls may be done in part, and every other line leaves all as it was.
 pub fn run_proc_line(
-    environment: &mut Environment,
+    environment: &mut WorldParts,
     alloc: Global,
     line: u32,
     asked: &ProcLine,
 ) -> Result<Lines, Refused>
     requires built { IsBuilt environment.old }
-    requires passes { known_refusal (Command.Procedures asked.now) environment.old ≡ None }
+    requires passes { precheck_refusal (Command.Procedures asked.now) environment.old ≡ None }
     ensures { Does line (Command.Procedures asked.now) environment.old environment.new result }
 {
     match asked {

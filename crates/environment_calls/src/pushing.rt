@@ -6,15 +6,15 @@ ghost use Rattle.world_state.specs.Procs.{proc_of};
 ghost use Rattle.world_state.specs.CallPushes.{calls_positions, calls_pushed_in, calls_push};
 ghost use Rattle.environment.specs.Following.{IsBuilt};
 ghost use Rattle.environment.specs.Calling.{CallsPushInPart};
-ghost use Rattle.environment.specs.Known.{known_refusal};
+ghost use Rattle.environment.specs.Precheck.{precheck_refusal};
 ghost use Rattle.environment.specs.Texts.{calls_pushed_text};
 ghost use Rattle.environment.specs.Doing.{Does};
 
-use crate::answer::answer_calls;
+use crate::marks::return_mark;
 use crate::deliver::deliver_all;
 use crate::outbound::{release, send_above};
-use crate::settle::{Pushed, settle_and_tell};
-use environment::{Environment, Procs, no_memory, room_for_line};
+use crate::applying::{Pushed, apply_and_tell};
+use environment::{WorldParts, Procs, no_memory, room_for_line};
 use rep_lists::NoMemory;
 use rep_values::SiteName;
 use report_text::Lines;
@@ -23,7 +23,7 @@ use std::alloc::Global;
 use world_state::Refused;
 
 /// What is held is released, what isn't acknowledged is sent, and all is taken in. It answers how many positions were sent.
-fn bring_calls(
+fn send_and_deliver(
     procs: &mut Procs,
     alloc: Global,
     from: &SiteName,
@@ -57,14 +57,14 @@ fn push_in_room(
     ensures text { OnOk result (lines.new.bytes ≡ lines.old.bytes ++ calls_pushed_text from.now to.now procs.old) }
     ensures part { CallsPushInPart from.now to.now procs.old procs.new }
 {
-    let sent = bring_calls(procs, alloc, from, to)?;
+    let sent = send_and_deliver(procs, alloc, from, to)?;
     let pushed = Pushed {
         from: *from,
         to: *to,
         sent,
     };
-    settle_and_tell(procs, alloc, lines, pushed)?;
-    answer_calls(procs, alloc, is_up, to, from)?;
+    apply_and_tell(procs, alloc, lines, pushed)?;
+    return_mark(procs, alloc, is_up, to, from)?;
     Ok(())
 }
 
@@ -93,14 +93,14 @@ fn push_linked(
 /// takes all in, settles it and tells what came of it. Its mark goes back where the link back is up. Where there is no memory,
 /// some of this may be done, a packet on the way may be lost, and nothing else.
 pub(crate) fn push_calls(
-    environment: &mut Environment,
+    environment: &mut WorldParts,
     alloc: Global,
     line: u32,
     from: &SiteName,
     to: &SiteName,
 ) -> Result<Lines, Refused>
     requires built { IsBuilt environment.old }
-    requires passes { known_refusal (Command.Procedures (ProcLine.Push from.now to.now)) environment.old ≡ None }
+    requires passes { precheck_refusal (Command.Procedures (ProcLine.Push from.now to.now)) environment.old ≡ None }
     ensures { Does line (Command.Procedures (ProcLine.Push from.now to.now)) environment.old environment.new result }
 {
     let is_up = environment.net.is_up(to, from);

@@ -6,13 +6,13 @@ ghost use Rattle.proc_state.specs.Events.{AreCalls};
 ghost use Rattle.world_state.specs.Blocks.{line_in};
 ghost use Rattle.world_state.specs.Procs.{proc_of, at_proc};
 ghost use Rattle.world_state.specs.CallBlocks.{masters_named, words_sent, words_number, calls_sent, sent_number, failed_stop, calls_stop, stop_at_proc, send_stop};
-ghost use Rattle.environment.specs.Known.{known_refusal};
+ghost use Rattle.environment.specs.Precheck.{precheck_refusal};
 ghost use Rattle.environment.specs.Texts.{calls_sent_text, call_block_text};
 ghost use Rattle.environment.specs.Doing.{Does};
-ghost use Rattle.environment_calls.specs.Sending.{stop_of, StopsSend, EndsSend};
+ghost use Rattle.environment_calls.specs.Sending.{call_stop_of, StopsSend, EndsSend};
 
 use crate::words::{calls_of, words_stop};
-use environment::{Environment, Procs, no_memory, proc_place_of, room_for_line};
+use environment::{WorldParts, Procs, no_memory, proc_place_of, room_for_line};
 use proc_calls::{ProcSite, ProcStop};
 use proc_state::ProcCall;
 use rep_lists::{Items, NoMemory};
@@ -60,7 +60,7 @@ struct Sent {
 
 /// A call that fails takes a number out of its range.
 fn stop_of(stop: ProcStop) -> SendStop
-    ensures { result ≡ stop_of stop }
+    ensures { result ≡ call_stop_of stop }
 {
     match stop {
         ProcStop::Failed { call, .. } => SendStop::At(CallStop {
@@ -212,12 +212,12 @@ fn put_sent(lines: &mut Lines, sent: Sent)
 
 /// `send`. Where a call is refused, the block is closed too.
 pub(crate) fn send(
-    environment: &mut Environment,
+    environment: &mut WorldParts,
     alloc: Global,
     line: u32,
     to: &Items<SiteName>,
 ) -> Result<Lines, Refused>
-    requires passes { known_refusal (Command.Procedures (ProcLine.Send to.now)) environment.old ≡ None }
+    requires passes { precheck_refusal (Command.Procedures (ProcLine.Send to.now)) environment.old ≡ None }
     ensures { Does line (Command.Procedures (ProcLine.Send to.now)) environment.old environment.new result }
 {
     let Ok(mut lines) = room_for_line(alloc) else {

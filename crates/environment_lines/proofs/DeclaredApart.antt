@@ -7,7 +7,7 @@ use Rattle.rep_values.specs.declared.name.SiteName.{SiteName}
 use Rattle.deferred_queue.specs.Streams.{is_same_site}
 use Rattle.deferred_queue.proofs.Sites.{is_same_site-true, eq_true}
 use Rattle.snapshot_query.specs.declared.snapshot.Snapshot.{Snapshot}
-use Rattle.site_state.specs.Fits.{AreApart}
+use Rattle.site_state.specs.Fits.{SnapshotsApart}
 use Rattle.world_state.specs.declared.declared_snapshot.DeclaredSnapshot.{DeclaredSnapshot}
 use Rattle.world_state.specs.World.{WorldState}
 use Rattle.world_state.specs.Phases.{is_setup}
@@ -43,11 +43,11 @@ none_of (d ∷ ds) site table none = go (is_same_site d.site site) refl (none_of
     go false is later = later
 
 -- no table has two of them
-apart_at : (ds : List DeclaredSnapshot) (site : SiteName) → AreDeclaredOnce ds → AreApart (snapshots_at ds site)
+apart_at : (ds : List DeclaredSnapshot) (site : SiteName) → AreDeclaredOnce ds → SnapshotsApart (snapshots_at ds site)
 apart_at [] site once = tt
 apart_at (d ∷ ds) site once = go (is_same_site d.site site) refl (apart_at ds site once.1)
   where
-    go : (b : Bool) → is_same_site d.site site ≡ b → AreApart (snapshots_at ds site) → AreApart (map as_made (cond b (d ∷ filter (is_at site) ds) (filter (is_at site) ds)))
+    go : (b : Bool) → is_same_site d.site site ≡ b → SnapshotsApart (snapshots_at ds site) → SnapshotsApart (map as_made (cond b (d ∷ filter (is_at site) ds) (filter (is_at site) ds)))
     go true is later = (none_of ds site d.table (subst (λ (n : SiteName). has_snapshot ds n d.table ≡ false) (is_same_site-true d.site site is) once.0), later)
     go false is later = later
 
@@ -55,5 +55,5 @@ pub declared_so_far : (w : WorldState) → IsOfConvergence w → is_setup w.phas
 declared_so_far w (Declaring so_far) setup = so_far
 declared_so_far w (Going a) setup = absurd (cc (setup, a.leads.simulates.behind))
 
-pub declared_apart : (w : WorldState) → IsOfConvergence w → is_setup w.phase ≡ true → (site : SiteName) → AreApart (snapshots_at w.snapshots site)
+pub declared_apart : (w : WorldState) → IsOfConvergence w → is_setup w.phase ≡ true → (site : SiteName) → SnapshotsApart (snapshots_at w.snapshots site)
 declared_apart w is setup site = apart_at w.snapshots site (declared_so_far w is setup).once

@@ -6,7 +6,7 @@ use Rattle.rep_schema.specs.Tables.{Rows, IsTable}
 use Rattle.snapshot_query.specs.declared.snapshot.Snapshot.{Snapshot}
 use Rattle.site_state.specs.declared.rows.TableRows.{TableRows}
 use Rattle.event_laws.specs.Rules.{table_ruled, rows_ruled}
-use Rattle.site_state.specs.Fits.{AreApart}
+use Rattle.site_state.specs.Fits.{SnapshotsApart}
 use Rattle.site_refresh.specs.Refreshing.{AreGivenOnce, AreGivenFor}
 
 any_first : {X : Type 0} (P : X → Type 0) (x : X) (xs : List X) → P x → Any P (x ∷ xs)
@@ -48,10 +48,10 @@ module _ (schema : Schema) (tables : List Rows) where
   others_given s [] apart = tt
   others_given s (u ∷ ss) apart = (apart.0, others_given s ss apart.1)
 
-  given_once : (ss : List Snapshot) → AreApart ss → AreGivenOnce (map shown_of ss)
+  given_once : (ss : List Snapshot) → SnapshotsApart ss → AreGivenOnce (map shown_of ss)
   given_once [] apart = tt
   given_once (s ∷ ss) apart = (others_given s ss apart.0, given_once ss apart.1)
 
   -- so a refresh may go by them, where no table has two snapshots and what is shown is a table
-  pub shown_are_given : (ss : List Snapshot) → AreApart ss → AllByRecursion (λ (t : TableRows). IsTable schema t.table t.rows) (rows_ruled schema tables ss) → AreGivenFor schema ss (rows_ruled schema tables ss)
+  pub shown_are_given : (ss : List Snapshot) → SnapshotsApart ss → AllByRecursion (λ (t : TableRows). IsTable schema t.table t.rows) (rows_ruled schema tables ss) → AreGivenFor schema ss (rows_ruled schema tables ss)
   shown_are_given ss apart picked = record { each = each_given ss; others = no_others ss; once = given_once ss apart; tables = picked }

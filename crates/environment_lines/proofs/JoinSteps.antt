@@ -7,18 +7,18 @@ use Rattle.script_parse.specs.declared.command.Command.TheVariants as command
 use Rattle.site_state.specs.State.{SiteState, is_master_site}
 use Rattle.site_state.specs.Contents.{tables_of}
 use Rattle.site_state.specs.Joining.{site_open}
-use Rattle.event_laws.specs.Core.{site_of}
+use Rattle.event_laws.specs.Cluster.{site_of}
 use Rattle.event_laws.specs.Joins.{copied, joined}
 use Rattle.world_state.specs.World.{WorldState}
-use Rattle.world_state.specs.Answers.{number_at, row_count, join_count}
+use Rattle.world_state.specs.Answers.{number_there, row_count, join_count}
 use Rattle.environment.specs.Finding.{IsAt}
 use Rattle.environment.specs.Following.{IsBuilt}
-use Rattle.environment.specs.Known.{known_refusal}
+use Rattle.environment.specs.Precheck.{precheck_refusal}
 use Rattle.environment.proofs.Written.{site_of-world}
 use Rattle.environment.proofs.Joining.{CanJoin, can_join}
 use Rattle.environment_lines.specs.Joining.{world_join}
 
-module _ (w : WorldState) (built : IsBuilt w) (site source : SiteName) (passes : known_refusal (command.Join site source) w ≡ None) (seen : WorldState) (xs : List SiteState)
+module _ (w : WorldState) (built : IsBuilt w) (site source : SiteName) (passes : precheck_refusal (command.Join site source) w ≡ None) (seen : WorldState) (xs : List SiteState)
     (world_is : seen ≡ w) (xs_are : xs ≡ seen.sites) where
   can : CanJoin w site source
   can = can_join w site source built passes
@@ -53,4 +53,4 @@ module _ (w : WorldState) (built : IsBuilt w) (site source : SiteName) (passes :
 
     -- and its rows are those that are taken over
     pub rows_taken_over : (rows : ℕ) (tables : List Rows) → rows ≡ row_count tables → tables ≡ tables_of x → rows ≡ join_count source w
-    rows_taken_over rows tables counted are = counted ∙ ap row_count are ∙ sym (ap (number_at (λ (y : SiteState). row_count (tables_of y))) found)
+    rows_taken_over rows tables counted are = counted ∙ ap row_count are ∙ sym (ap (number_there (λ (y : SiteState). row_count (tables_of y))) found)

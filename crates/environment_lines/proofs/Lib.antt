@@ -15,7 +15,7 @@ mod QueueCounts
 mod OpenedSites
 mod JoinSteps
 pub mod TakenOver
-pub use Rattle.environment.proofs.Keeping
-pub use Rattle.environment.proofs.KnownRefusals
+pub use Rattle.environment.proofs.BuiltWorlds
+pub use Rattle.environment.proofs.Prechecks
 pub use Rattle.environment.proofs.Scripts
 pub use Rattle.environment.proofs.Worlds

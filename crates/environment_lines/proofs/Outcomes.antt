@@ -14,7 +14,7 @@ use Rattle.script_parse.specs.declared.command.Command.{Command}
 use Rattle.script_parse.specs.declared.command.Command.TheVariants as command
 use Rattle.site_state.specs.State.{SiteState}
 use Rattle.site_state.specs.Errors.{execute_refusal, drop_refusal}
-use Rattle.event_laws.specs.Core.{site_of}
+use Rattle.event_laws.specs.Cluster.{site_of}
 use Rattle.world_state.specs.declared.block.Block.{Block}
 use Rattle.world_state.specs.declared.refused.Refused.{Refused}
 use Rattle.world_state.specs.World.{WorldState}
@@ -23,8 +23,8 @@ use Rattle.world_state.specs.CallBlocks.{sent_to}
 use Rattle.world_state.specs.Blocks.{is_commit, closed, stop_at_site, refusal_in, commit_stop, commit_refusal, commit_line, line_in}
 use Rattle.world_state.specs.Refusals.{world_refusal}
 use Rattle.world_state.specs.Steps.{told_by}
-use Rattle.environment.specs.Known.{is_tried, known_refusal}
-use Rattle.environment.specs.Doing.{PushesCallsInPart, IsShort, IsRefused}
+use Rattle.environment.specs.Precheck.{refuses_late, precheck_refusal}
+use Rattle.environment.specs.Doing.{PushesCallsInPart, IsOutOfMemory, IsRefused}
 use Rattle.environment.proofs.Following.{in_part_none}
 use Rattle.environment.proofs.CallsFollowing.{calls_part_none}
 
@@ -38,8 +38,8 @@ no_calls_pushed from to old new same = record {
 }
 
 -- there was no memory, and nothing changed
-pub is_short : (number : ℕ) (command : Command) (old new : WorldState) (r : Refused) → r ≡ record { line = number; refusal = refusal.Memory } → (is_tried command ≡ false → world_refusal command old ≡ None)
-    → new ≡ old → IsShort number command old new r
+pub is_short : (number : ℕ) (command : Command) (old new : WorldState) (r : Refused) → r ≡ record { line = number; refusal = refusal.Memory } → (refuses_late command ≡ false → world_refusal command old ≡ None)
+    → new ≡ old → IsOutOfMemory number command old new r
 is_short number command old new r is passes same = record {
   memory = ap (λ (r : Refused). r.refusal) is;
   line = ap (λ (r : Refused). r.line) is;
@@ -61,11 +61,11 @@ or_then-tried : (phase step : Option Refusal) → phase ≡ None → or_then pha
 or_then-tried phase step none = rw none (last_step step)
 
 -- a row
-pub row_tried : (w : WorldState) (table : TableName) (values : List Literal) → known_refusal (command.Row table values) w ≡ None → world_refusal (command.Row table values) w ≡ base_refusal w.schema w.base table values
+pub row_tried : (w : WorldState) (table : TableName) (values : List Literal) → precheck_refusal (command.Row table values) w ≡ None → world_refusal (command.Row table values) w ≡ base_refusal w.schema w.base table values
 row_tried w table values passes = or_then-tried (setup_step w) (base_refusal w.schema w.base table values) (or_then-None (setup_step w) None passes).0
 
 -- a commit
-pub commit_tried : (w : WorldState) → known_refusal command.Commit w ≡ None → world_refusal command.Commit w ≡ commit_refusal w
+pub commit_tried : (w : WorldState) → precheck_refusal command.Commit w ≡ None → world_refusal command.Commit w ≡ commit_refusal w
 commit_tried w passes = or_then-tried (block_step w) (commit_refusal w) (or_then-None (block_step w) None passes).0
 
 -- the last step of a line on a site and its sender
@@ -78,12 +78,12 @@ tried_of_sender phase sender step (Some y) x there passes =
     rw (both.0, (or_then-None sender None both.1).0) (last_step (step y) ∙ ap step same)
 
 -- an execution
-pub execute_tried : (w : WorldState) (site origin : SiteName) (position : ℕ) (x : SiteState) → site_of site w.sites ≡ Some x → known_refusal (command.Execute site origin position) w ≡ None
+pub execute_tried : (w : WorldState) (site origin : SiteName) (position : ℕ) (x : SiteState) → site_of site w.sites ≡ Some x → precheck_refusal (command.Execute site origin position) w ≡ None
     → world_refusal (command.Execute site origin position) w ≡ execute_refusal origin position x
 execute_tried w site origin position x there passes = tried_of_sender _ _ (execute_refusal origin position) (site_of site w.sites) x there passes
 
 -- a drop of an error
-pub drop_tried : (w : WorldState) (site origin : SiteName) (position : ℕ) (x : SiteState) → site_of site w.sites ≡ Some x → known_refusal (command.DropError site origin position) w ≡ None
+pub drop_tried : (w : WorldState) (site origin : SiteName) (position : ℕ) (x : SiteState) → site_of site w.sites ≡ Some x → precheck_refusal (command.DropError site origin position) w ≡ None
     → world_refusal (command.DropError site origin position) w ≡ drop_refusal origin position x
 drop_tried w site origin position x there passes = tried_of_sender _ _ (drop_refusal origin position) (site_of site w.sites) x there passes
 
@@ -98,7 +98,7 @@ is_refused number command old new why other unsent refused same = record {
 -- ---- commits
 
 -- what a refused commit tells, and that it closes its block
-pub commit_is_refused : (number : ℕ) (old new : WorldState) (block : Block) (stop : LocalStop) → old.block ≡ Some block → known_refusal command.Commit old ≡ None
+pub commit_is_refused : (number : ℕ) (old new : WorldState) (block : Block) (stop : LocalStop) → old.block ≡ Some block → precheck_refusal command.Commit old ≡ None
     → stop_at_site block.statements (site_of block.site old.sites) ≡ Some stop → new ≡ closed old
     → IsRefused number command.Commit old new (record { line = line_in number (slice_get block.lines (stop.statement - 1)); refusal = stop.refusal })
 commit_is_refused number old new block stop is_open passes stops same = record {

@@ -10,7 +10,7 @@ use Rattle.rep_schema.specs.declared.schema.Schema.{Schema}
 use Rattle.script_parse.specs.declared.command.Refresh.{Refresh}
 use Rattle.script_parse.specs.declared.command.Command.TheVariants as command
 use Rattle.site_state.specs.State.{SiteState}
-use Rattle.event_laws.specs.Core.{site_of, at_site}
+use Rattle.event_laws.specs.Cluster.{site_of, at_site}
 use Rattle.event_laws.specs.Events.{is_all_acked, master_of, found_site, refreshed}
 use Rattle.event_laws.proofs.Sites.{found_name}
 use Rattle.world_state.specs.declared.phase.Phase.{Phase}
@@ -22,15 +22,15 @@ use Rattle.world_state.specs.Answers.{refresh_answer}
 use Rattle.world_state.specs.Steps.{world_refresh}
 use Rattle.world_laws.proofs.Calling.{slice_set-place}
 use Rattle.world_laws.proofs.UnrefusedLines.{refreshed-made}
-use Rattle.world_laws.specs.Places.{place_of}
+use Rattle.world_laws.specs.Places.{site_place}
 use Rattle.environment.specs.Worlds.{CanRefreshFrom, SnapshotsHold}
 use Rattle.environment.proofs.Worlds.{snapshots_hold_of}
 use Rattle.environment.proofs.Scripts.{of_snapshots}
 use Rattle.environment.specs.Following.{IsBuilt}
 use Rattle.environment.specs.Finding.{IsAt}
-use Rattle.environment.specs.Known.{known_refusal}
+use Rattle.environment.specs.Precheck.{precheck_refusal}
 use Rattle.environment.proofs.Masters.{served_by}
-use Rattle.environment_lines.specs.Refreshing.{CanRefreshAt, refreshed_by, refreshed_at, told_at}
+use Rattle.environment_lines.specs.Refreshing.{CanRefreshAt, refreshed_by, refreshed_at, refresh_told_at}
 use Rattle.environment_lines.proofs.RefreshedSites.{refreshed_at-is, told_at-is}
 
 behind_of : (p : Phase) (b : Bool) → refused (is_setup p || b) refusal.WrongPhase ≡ None → is_setup p ≡ false
@@ -38,7 +38,7 @@ behind_of phase.Setup b none = absurd (cc none)
 behind_of phase.Running b none = refl
 behind_of phase.Suspended b none = refl
 
-module _ (w : WorldState) (built : IsBuilt w) (site : SiteName) (how : Refresh) (passes : known_refusal (command.Refresh site how) w ≡ None)
+module _ (w : WorldState) (built : IsBuilt w) (site : SiteName) (how : Refresh) (passes : precheck_refusal (command.Refresh site how) w ≡ None)
     (x m : SiteState) (at_x : site_of site w.sites ≡ Some x) (at_m : found_site w.sites (master_of w.schema site) ≡ Some m) where
   behind : is_setup w.phase ≡ false
   behind = behind_of w.phase (has_block w) (or_then-None (behind_setup_step w) _ passes).0
@@ -75,22 +75,22 @@ module _ (w : WorldState) (built : IsBuilt w) (site : SiteName) (how : Refresh) 
     can_refresh_at = record { here = x; there = m; at_place = at_place; at_master = at_there; apart = two_places; can = can; reaches = reaches }
 
     -- and that is the world's refresh
-    pub sites_refreshed : place ≡ place_of site w.sites → refreshed_at w.sites place there ≡ at_site site (refreshed w.sites) w.sites
+    pub sites_refreshed : place ≡ site_place site w.sites → refreshed_at w.sites place there ≡ at_site site (refreshed w.sites) w.sites
     unfolding can_refresh_at
     sites_refreshed is =
-        let here : slice_get w.sites (place_of site w.sites) ≡ Some x = subst (λ (k : ℕ). slice_get w.sites k ≡ Some x) is at_place in
+        let here : slice_get w.sites (site_place site w.sites) ≡ Some x = subst (λ (k : ℕ). slice_get w.sites k ≡ Some x) is at_place in
         refreshed_at-is how w.sites place there can_refresh_at ∙ ap (slice_set w.sites place) (sym refreshed_is) ∙ ap (λ (k : ℕ). slice_set w.sites k (refreshed w.sites x)) is
         ∙ slice_set-place site (refreshed w.sites) w.sites x here
 
     -- which tells what is told there
-    pub told_there : refresh_answer site how w ≡ told_at how w.sites place there
+    pub told_there : refresh_answer site how w ≡ refresh_told_at how w.sites place there
     unfolding can_refresh_at
     told_there = rw (at_x, at_m) (sym (told_at-is how w.sites place there can_refresh_at))
 
 -- ---- what was read of a world
 
 -- a site and its master were found at their places, in sites that are the world's
-module _ (w : WorldState) (built : IsBuilt w) (site : SiteName) (how : Refresh) (passes : known_refusal (command.Refresh site how) w ≡ None) (seen : WorldState) (schema : Schema) (xs ys : List SiteState)
+module _ (w : WorldState) (built : IsBuilt w) (site : SiteName) (how : Refresh) (passes : precheck_refusal (command.Refresh site how) w ≡ None) (seen : WorldState) (schema : Schema) (xs ys : List SiteState)
     (master : SiteName) (place there : ℕ) (world_is : seen ≡ w) (schema_is : schema ≡ seen.schema) (named : Some master ≡ master_of schema site)
     (xs_are : xs ≡ seen.sites) (at : IsAt site xs place) (ys_are : ys ≡ seen.sites) (its : IsAt master ys there) where
   here : IsAt site w.sites place
@@ -112,9 +112,9 @@ module _ (w : WorldState) (built : IsBuilt w) (site : SiteName) (how : Refresh) 
       ∙ sites_refreshed w built site how passes here.site served.site here.found at_master place there here.there served.there here.is in
       ap (λ (zs : List SiteState). record seen { sites = zs }) all ∙ ap (λ (v : WorldState). record v { sites = at_site site (refreshed w.sites) w.sites }) world_is
 
-  pub told_refreshed : (sites : List SiteState) → sites ≡ seen.sites → refresh_answer site how w ≡ told_at how sites place there
+  pub told_refreshed : (sites : List SiteState) → sites ≡ seen.sites → refresh_answer site how w ≡ refresh_told_at how sites place there
   told_refreshed sites are = told_there w built site how passes here.site served.site here.found at_master place there here.there served.there
-      ∙ ap (λ (zs : List SiteState). told_at how zs place there) (sym (are ∙ ap (λ (v : WorldState). v.sites) world_is))
+      ∙ ap (λ (zs : List SiteState). refresh_told_at how zs place there) (sym (are ∙ ap (λ (v : WorldState). v.sites) world_is))
 
   -- no site more and none less
   pub as_many_sites : (sites new : List SiteState) → sites ≡ seen.sites → new ≡ refreshed_at sites place there → length new ≡ length sites

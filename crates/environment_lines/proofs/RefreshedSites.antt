@@ -6,13 +6,13 @@ use Rattle.script_parse.specs.declared.command.Refresh.{Refresh}
 use Rattle.world_state.specs.Refusals.{log_step}
 use Rattle.world_state.specs.Answers.{refresh_told}
 use Rattle.environment.specs.Worlds.{CanRefreshFrom}
-use Rattle.environment_lines.specs.Refreshing.{CanRefreshAt, refreshed_by, refreshed_at, told_at}
+use Rattle.environment_lines.specs.Refreshing.{CanRefreshAt, refreshed_by, refreshed_at, refresh_told_at}
 
 module _ (how : Refresh) (sites : List SiteState) (place master : ℕ) (can : CanRefreshAt how sites place master) where
   pub refreshed_at-is : refreshed_at sites place master ≡ slice_set sites place (refreshed_by can.there can.here)
   refreshed_at-is = rw (can.at_place, can.at_master) refl
 
-  pub told_at-is : told_at how sites place master ≡ Some (refresh_told how can.here can.there)
+  pub told_at-is : refresh_told_at how sites place master ≡ Some (refresh_told how can.here can.there)
   told_at-is = rw (can.at_place, can.at_master) refl
 
   -- the two sites, as they were read

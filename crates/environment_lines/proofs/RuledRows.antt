@@ -12,10 +12,10 @@ use Rattle.site_state.specs.State.{LogState}
 use Rattle.site_state.specs.Notes.{pending_keys}
 use Rattle.event_laws.specs.Rules.{pending_parents}
 use Rattle.fast_refresh.specs.Showing.{has_key, ShowsOthers}
-use Rattle.snapshot_laws.specs.Waiting.{waits_for, unsettled_keys}
+use Rattle.snapshot_laws.specs.Waiting.{waits_for, outdated_keys}
 use Rattle.subquery_snapshots.specs.declared.rule.Rule.{Rule}
 use Rattle.subquery_snapshots.specs.declared.rule.Rule.TheVariants as rules
-use Rattle.subquery_snapshots.specs.Rules.{rule_picks, waits, ShowsSettled}
+use Rattle.subquery_snapshots.specs.Rules.{rule_picks, waits, ShowsUpToDate}
 use Rattle.environment_lines.specs.Ruled.{IsRuleOf}
 
 -- the rule of a snapshot picks the rows that the snapshot picks
@@ -33,10 +33,10 @@ same_waits parents query (Some p) (rules.Whole own) is = absurd is
 same_waits parents query (Some p) (rules.Parent q) is = ap {B = Cells → Bool} (λ (r : Parent). λ (row : Cells). has_key (parent_key r row) parents) is
 
 -- so a table that has what the snapshot shows of each settled row has what the rule shows of it
-pub settled_so : (schema : Schema) (tables : List Rows) (s : Snapshot) (rule : Rule) (logs : List LogState) (own : Rows) → IsRuleOf s.query s.parent rule
-    → ShowsOthers (columns_of schema s.table) (picks schema tables s) (unsettled_keys schema logs tables s) (rows_of tables s.table) own
-    → ShowsSettled schema tables s.table rule (pending_keys logs s) (pending_parents logs s) own
-settled_so schema tables s rule logs own is shows =
+pub up_to_date_so : (schema : Schema) (tables : List Rows) (s : Snapshot) (rule : Rule) (logs : List LogState) (own : Rows) → IsRuleOf s.query s.parent rule
+    → ShowsOthers (columns_of schema s.table) (picks schema tables s) (outdated_keys schema logs tables s) (rows_of tables s.table) own
+    → ShowsUpToDate schema tables s.table rule (pending_keys logs s) (pending_parents logs s) own
+up_to_date_so schema tables s rule logs own is shows =
     let columns = columns_of schema s.table in
     let rows = rows_of tables s.table in
     let pending = pending_keys logs s in

@@ -5,7 +5,7 @@ use Rattle.rep_values.specs.declared.name.SiteName.{SiteName}
 use Rattle.rep_values.specs.declared.refusal.Refusal.{Refusal}
 use Rattle.script_parse.specs.declared.command.Command.TheVariants as command
 use Rattle.site_state.specs.State.{SiteState}
-use Rattle.event_laws.specs.Core.{Core, site_of}
+use Rattle.event_laws.specs.Cluster.{Cluster, site_of}
 use Rattle.event_laws.specs.Joins.{may_join, joined}
 use Rattle.event_laws.specs.Events.{run}
 use Rattle.join_laws.specs.Joined.{HasJoined}
@@ -20,11 +20,11 @@ use Rattle.environment.proofs.Joining.{CanJoin, can_join}
 use Rattle.environment_lines.specs.Joining.{world_join, TakesOver}
 
 -- sites, and of what was sent and begun nothing
-abbrev alone : List SiteState → Core
+abbrev alone : List SiteState → Cluster
 alone sites = record { sites = sites; sent = []; begun = [] }
 
 -- what has joined has joined whatever was sent and begun
-joined_alone : (v : Core) (from : SiteState) (site : SiteName) (ys : List SiteState) → HasJoined v from site (record v { sites = ys }) → HasJoined (alone v.sites) from site (alone ys)
+joined_alone : (v : Cluster) (from : SiteState) (site : SiteName) (ys : List SiteState) → HasJoined v from site (record v { sites = ys }) → HasJoined (alone v.sites) from site (alone ys)
 joined_alone v from site ys has = record {
   it = has.it;
   there = has.there;
@@ -44,7 +44,7 @@ module _ (w : WorldState) (built : IsBuilt w) (site source : SiteName) (passes :
   goes = behind_goes w built.of_convergence can.behind
 
   -- where the events behind Setup led
-  abbrev led : Core
+  abbrev led : Cluster
   led = run goes.leads.events goes.start
 
   same : led.sites ≡ w.sites

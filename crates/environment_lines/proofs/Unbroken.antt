@@ -11,13 +11,13 @@ use Rattle.world_state.specs.declared.phase.Phase.TheVariants as phase
 use Rattle.world_state.specs.World.{WorldState}
 use Rattle.world_state.specs.Phases.{has_block, broken_by, lowest_broken, resume_step, phase_step}
 use Rattle.world_state.proofs.LowestRules.{lower-None}
-use Rattle.environment.specs.Known.{known_refusal}
+use Rattle.environment.specs.Precheck.{precheck_refusal}
 
 no_rule : (o : Option ℕ) → option_map refusal.SchemaRule o ≡ None → o ≡ None
 no_rule None is = refl
 no_rule (Some rule) is = absurd (cc is)
 
-pub unbroken : (w : WorldState) → w.phase ≡ phase.Setup → known_refusal command.Resume w ≡ None → (broken_rule w.schema ≡ None) × (broken_by w.procs.tables ≡ None)
+pub unbroken : (w : WorldState) → w.phase ≡ phase.Setup → precheck_refusal command.Resume w ≡ None → (broken_rule w.schema ≡ None) × (broken_by w.procs.tables ≡ None)
 unbroken w setup passes =
     let step : resume_step w.phase (lowest_broken w.schema w.procs.tables) ≡ None
     = (or_then-None (refused (has_block w) refusal.WrongPhase) _ (or_then-None (phase_step command.Resume w) None passes).0).1 in

@@ -2,7 +2,7 @@
 use Rattle.std.specs.Prelude.{◌≡◌, true, [], Some, None}
 use Rattle.rep_values.specs.declared.name.SiteName.{SiteName}
 use Rattle.site_state.specs.State.{SiteState}
-use Rattle.event_laws.specs.Core.{Core, site_of}
+use Rattle.event_laws.specs.Cluster.{Cluster, site_of}
 use Rattle.event_laws.specs.Joins.{may_join, joined}
 use Rattle.join_laws.specs.Joined.{HasJoined}
 use Rattle.world_state.specs.World.{WorldState}
@@ -12,7 +12,7 @@ abbrev pub world_join : SiteName → SiteName → WorldState → WorldState
 world_join site source w = record w { sites = joined site source w.sites }
 
 -- the sites of a world, and of what was sent and begun nothing
-abbrev pub sites_alone : WorldState → Core
+abbrev pub sites_alone : WorldState → Cluster
 sites_alone w = record { sites = w.sites; sent = []; begun = [] }
 
 -- a late master takes over from a master: it wasn't there, the other one was, and all masters were quiet; now it is there as a copy

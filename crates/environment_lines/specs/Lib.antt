@@ -4,7 +4,7 @@ pub mod Ruled
 pub mod Refreshing
 pub mod Joining
 pub use Rattle.environment.specs.Following
-pub use Rattle.environment.specs.Known
+pub use Rattle.environment.specs.Precheck
 pub use Rattle.environment.specs.Texts
 pub use Rattle.environment.specs.Doing
 pub use Rattle.environment.specs.Worlds

@@ -38,5 +38,5 @@ abbrev pub refreshed_at : List SiteState → ℕ → ℕ → List SiteState
 refreshed_at sites place master = written_between sites place (slice_get sites place) (slice_get sites master)
 
 -- what that tells
-abbrev pub told_at : Refresh → List SiteState → ℕ → ℕ → Option RefreshTold
-told_at how sites place master = refresh_between how (slice_get sites place) (slice_get sites master)
+abbrev pub refresh_told_at : Refresh → List SiteState → ℕ → ℕ → Option RefreshTold
+refresh_told_at how sites place master = refresh_between how (slice_get sites place) (slice_get sites master)

@@ -10,10 +10,10 @@ use Rattle.snapshot_query.specs.declared.parent.Parent.{Parent}
 use Rattle.snapshot_query.specs.declared.snapshot.Snapshot.{Snapshot}
 use Rattle.snapshot_query.specs.Parents.{picks}
 use Rattle.site_state.specs.State.{LogState}
-use Rattle.site_state.specs.Fits.{IsKeyed}
+use Rattle.site_state.specs.Fits.{SchemaIsKeyed}
 use Rattle.event_laws.specs.Rules.{pending_parents, IsParentWithin}
 use Rattle.fast_refresh.specs.Showing.{ShowsOthers}
-use Rattle.snapshot_laws.specs.Waiting.{unsettled_keys}
+use Rattle.snapshot_laws.specs.Waiting.{outdated_keys}
 use Rattle.subquery_snapshots.specs.declared.rule.Rule.{Rule}
 use Rattle.subquery_snapshots.specs.declared.rule.Rule.TheVariants as rules
 
@@ -27,14 +27,14 @@ IsRuleOf query (Some p) (rules.Parent parent) = parent.now ≡ p
 -- master and site have tables of one schema, a snapshot and its parents are of these, its pending parents rise, and its own table
 -- has what it shows of the master's row under each settled key
 pub record CanRenew (schema : Schema) (logs : List LogState) (master_schema : Schema) (master own : List Rows) (s : Snapshot) : Type 0 where
-  pub keyed : IsKeyed schema
+  pub keyed : SchemaIsKeyed schema
   pub same : master_schema ≡ schema
   pub tables : AreTables schema master
   pub older : AreTables schema own
   pub within : s.table < length schema.tables
   pub parents : IsParentWithin schema s.parent
   pub rising : IsRising key_cmp (pending_parents logs s)
-  pub others : ShowsOthers (columns_of schema s.table) (picks schema master s) (unsettled_keys schema logs master s) (rows_of master s.table) (rows_of own s.table)
+  pub others : ShowsOthers (columns_of schema s.table) (picks schema master s) (outdated_keys schema logs master s) (rows_of master s.table) (rows_of own s.table)
 
 abbrev pub CanRenewEach : Schema → List LogState → Schema → List Rows → List Rows → List Snapshot → Type 0
 CanRenewEach schema logs master_schema master own snapshots = AllByRecursion (CanRenew schema logs master_schema master own) snapshots

@@ -2,15 +2,15 @@
 ghost use Rattle.std.specs.Prelude.{◌≡◌, ◌≤◌, ◌-◌, ◌⊎◌, ◌++◌, ◌∷◌, [], None, Some, slice_get, IfOk, IfErr, OnOk, OnErr};
 ghost use Rattle.rep_values.specs.declared.refusal.Refusal.TheVariants as refusal;
 ghost use Rattle.site_state.specs.Commits.{site_commit, commit_answer};
-ghost use Rattle.event_laws.specs.Core.{site_of, at_site};
+ghost use Rattle.event_laws.specs.Cluster.{site_of, at_site};
 ghost use Rattle.world_state.specs.Blocks.{stated_more, stop_at_site, line_in};
-ghost use Rattle.world_state.specs.Answers.{number_at, number_of};
+ghost use Rattle.world_state.specs.Answers.{number_there, answered_number};
 ghost use Rattle.report_text.specs.Sheet.{Appends, most_line};
-ghost use Rattle.environment.specs.Known.{known_refusal};
+ghost use Rattle.environment.specs.Precheck.{precheck_refusal};
 ghost use Rattle.environment.specs.Texts.{committed_text};
 ghost use Rattle.environment.specs.Doing.{Does};
 
-use environment::{Environment, Site, drop_last, no_memory, place_of, room_for_line};
+use environment::{WorldParts, Site, drop_last, no_memory, place_of, room_for_line};
 use local_txn::LocalStop;
 use page_tables::PageTables;
 use rep_calls::Statement;
@@ -26,12 +26,12 @@ const MOST_STATEMENTS: usize = 1_000;
 
 /// `txn`
 pub fn open_block(
-    environment: &mut Environment,
+    environment: &mut WorldParts,
     alloc: Global,
     line: u32,
     site: &SiteName,
 ) -> Result<Lines, Refused>
-    requires passes { known_refusal (Command.Txn site.now) environment.old ≡ None }
+    requires passes { precheck_refusal (Command.Txn site.now) environment.old ≡ None }
     ensures { Does line (Command.Txn site.now) environment.old environment.new result }
 {
     environment.block = Some(Block {
@@ -65,13 +65,13 @@ fn keep_statement(
 }
 
 /// A statement. One behind the first that is too many isn't kept.
-pub fn state(
-    environment: &mut Environment,
+pub fn add_statement(
+    environment: &mut WorldParts,
     alloc: Global,
     line: u32,
     statement: &Statement,
 ) -> Result<Lines, Refused>
-    requires passes { known_refusal (Command.Statement statement.now) environment.old ≡ None }
+    requires passes { precheck_refusal (Command.Statement statement.now) environment.old ≡ None }
     ensures { Does line (Command.Statement statement.now) environment.old environment.new result }
 {
     let Some(block) = &mut environment.block else {
@@ -84,8 +84,8 @@ pub fn state(
 }
 
 /// `abandon`
-pub fn abandon(environment: &mut Environment, alloc: Global, line: u32) -> Result<Lines, Refused>
-    requires passes { known_refusal Command.Abandon environment.old ≡ None }
+pub fn abandon(environment: &mut WorldParts, alloc: Global, line: u32) -> Result<Lines, Refused>
+    requires passes { precheck_refusal Command.Abandon environment.old ≡ None }
     ensures { Does line Command.Abandon environment.old environment.new result }
 {
     environment.block = None;
@@ -110,7 +110,7 @@ fn commit_block(
 ) -> Result<u64, LocalStop>
     ensures ok { OnOk result (sites.new.items ≡ at_site block.now.site (site_commit block.now.statements) sites.old.items) }
     ensures passes { OnOk result (stop_at_site block.now.statements (site_of block.now.site sites.old.items) ≡ None) }
-    ensures number { IfOk result (λ number. number ≡ number_at (λ x. number_of (commit_answer block.now.statements x)) (site_of block.now.site sites.old.items)) }
+    ensures number { IfOk result (λ number. number ≡ number_there (λ x. answered_number (commit_answer block.now.statements x)) (site_of block.now.site sites.old.items)) }
     ensures err { IfErr result (λ stop. (stop ≡ record { statement = 0; refusal = refusal.Memory })
         ⊎ (stop_at_site block.now.statements (site_of block.now.site sites.old.items) ≡ Some stop)) }
     ensures kept { OnErr result (sites.new.items ≡ sites.old.items) }
@@ -153,8 +153,8 @@ fn line_of(block: &Block, line: u32, statement: u32) -> u32
 }
 
 /// `commit`. Where a statement is refused, the block is closed too.
-pub fn commit(environment: &mut Environment, alloc: Global, line: u32) -> Result<Lines, Refused>
-    requires passes { known_refusal Command.Commit environment.old ≡ None }
+pub fn commit(environment: &mut WorldParts, alloc: Global, line: u32) -> Result<Lines, Refused>
+    requires passes { precheck_refusal Command.Commit environment.old ≡ None }
     ensures { Does line Command.Commit environment.old environment.new result }
 {
     let Ok(mut lines) = room_for_line(alloc) else {

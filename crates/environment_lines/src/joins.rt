@@ -6,14 +6,14 @@ ghost use Rattle.site_state.specs.Joining.{site_open, site_copy};
 ghost use Rattle.event_laws.specs.Joins.{count_at, queue_counts, open_to_each, copied};
 ghost use Rattle.world_state.specs.Answers.{row_count, join_count};
 ghost use Rattle.environment.specs.Following.{IsBuilt};
-ghost use Rattle.environment.specs.Known.{known_refusal};
+ghost use Rattle.environment.specs.Precheck.{precheck_refusal};
 ghost use Rattle.environment.specs.Doing.{Does};
 ghost use Rattle.environment_lines.specs.Joining.{world_join};
 
-use environment::{Environment, Site, master_here, no_memory, place_of, room_for_line};
+use environment::{WorldParts, Site, master_here, no_memory, place_of, room_for_line};
 use master_join::copy_site;
 use page_tables::PageTables;
-use rep_calls::Past;
+use rep_calls::PastEntry;
 use rep_lists::{Copies, Items, NoMemory};
 use rep_schema::RowStore;
 use rep_values::SiteName;
@@ -44,17 +44,17 @@ fn row_count(store: &PageTables) -> Result<u64, NoMemory>
 }
 
 /// A site's name, and how much it has queued.
-fn count_at(site: &Site<PageTables>) -> Past
+fn count_at(site: &Site<PageTables>) -> PastEntry
     ensures { result ≡ count_at site.now }
 {
-    Past {
+    PastEntry {
         origin: *site.name(),
         number: site.queue_count(),
     }
 }
 
 /// How much each master has queued.
-fn queue_counts(alloc: Global, sites: &[Site<PageTables>]) -> Result<Items<Past>, NoMemory>
+fn queue_counts(alloc: Global, sites: &[Site<PageTables>]) -> Result<Items<PastEntry>, NoMemory>
     ensures { IfOk result (λ counts. counts ≡ queue_counts sites.now) }
 {
     let mut counts = Items::new(alloc);
@@ -80,7 +80,7 @@ fn first_copy(
     alloc: Global,
     source: &Site<PageTables>,
     site: &SiteName,
-    firsts: &[Past],
+    firsts: &[PastEntry],
 ) -> Result<Site<PageTables>, NoMemory>
     requires { is_master_site source.now.schema site.now ≡ true }
     ensures { IfOk result (λ first. first ≡ site_copy source.now (master_here source.now.schema site.now) firsts.now) }
@@ -146,13 +146,13 @@ fn add_site(
 
 /// A late master joins as a copy of another one. How many rows it takes over is answered.
 fn join_site(
-    environment: &mut Environment,
+    environment: &mut WorldParts,
     alloc: Global,
     site: &SiteName,
     source: &SiteName,
 ) -> Result<u64, NoMemory>
     requires built { IsBuilt environment.old }
-    requires passes { known_refusal (Command.Join site.now source.now) environment.old ≡ None }
+    requires passes { precheck_refusal (Command.Join site.now source.now) environment.old ≡ None }
     ensures ok { OnOk result (environment.new ≡ world_join site.now source.now environment.old) }
     ensures rows { IfOk result (λ rows. rows ≡ join_count source.now environment.old) }
     ensures kept { OnErr result (environment.new ≡ environment.old) }
@@ -169,14 +169,14 @@ fn join_site(
 
 /// `join`
 pub fn join(
-    environment: &mut Environment,
+    environment: &mut WorldParts,
     alloc: Global,
     line: u32,
     site: &SiteName,
     source: &SiteName,
 ) -> Result<Lines, Refused>
     requires built { IsBuilt environment.old }
-    requires passes { known_refusal (Command.Join site.now source.now) environment.old ≡ None }
+    requires passes { precheck_refusal (Command.Join site.now source.now) environment.old ≡ None }
     ensures { Does line (Command.Join site.now source.now) environment.old environment.new result }
 {
     let Ok(mut lines) = room_for_line(alloc) else {

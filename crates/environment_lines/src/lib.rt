@@ -11,8 +11,8 @@ mod shown;
 mod sites;
 mod snapshots;
 
-pub use blocks::{abandon, commit, open_block, state};
-pub use environment::{Environment, Site, convergence_holds, place_of};
+pub use blocks::{abandon, commit, open_block, add_statement};
+pub use environment::{WorldParts, Site, convergence_holds, place_of};
 pub use joins::join;
 pub use links::{add_fates, clear_fates, set_link};
 pub use refreshing::{purge_log, refresh};

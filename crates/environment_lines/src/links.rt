@@ -2,10 +2,10 @@
 ghost use Rattle.std.specs.Prelude.{◌≡◌, None};
 ghost use Rattle.world_state.specs.Steps.{is_up_word};
 ghost use Rattle.environment.specs.Following.{IsBuilt};
-ghost use Rattle.environment.specs.Known.{known_refusal};
+ghost use Rattle.environment.specs.Precheck.{precheck_refusal};
 ghost use Rattle.environment.specs.Doing.{Does};
 
-use environment::{Environment, no_memory};
+use environment::{WorldParts, no_memory};
 use net_plan::Fate;
 use rep_lists::Items;
 use rep_values::SiteName;
@@ -16,7 +16,7 @@ use world_state::Refused;
 
 /// `fate` with fates
 pub fn add_fates(
-    environment: &mut Environment,
+    environment: &mut WorldParts,
     alloc: Global,
     line: u32,
     from: &SiteName,
@@ -24,7 +24,7 @@ pub fn add_fates(
     fates: &Items<Fate>,
 ) -> Result<Lines, Refused>
     requires built { IsBuilt environment.old }
-    requires passes { known_refusal (Command.Fates from.now to.now fates.now) environment.old ≡ None }
+    requires passes { precheck_refusal (Command.Fates from.now to.now fates.now) environment.old ≡ None }
     ensures { Does line (Command.Fates from.now to.now fates.now) environment.old environment.new result }
 {
     let Ok(()) = environment.net.add_fates(from, to, fates.as_slice()) else {
@@ -35,14 +35,14 @@ pub fn add_fates(
 
 /// `fate` with `clear`
 pub fn clear_fates(
-    environment: &mut Environment,
+    environment: &mut WorldParts,
     alloc: Global,
     line: u32,
     from: &SiteName,
     to: &SiteName,
 ) -> Result<Lines, Refused>
     requires built { IsBuilt environment.old }
-    requires passes { known_refusal (Command.ClearFates from.now to.now) environment.old ≡ None }
+    requires passes { precheck_refusal (Command.ClearFates from.now to.now) environment.old ≡ None }
     ensures { Does line (Command.ClearFates from.now to.now) environment.old environment.new result }
 {
     environment.net.clear_fates(from, to);
@@ -60,7 +60,7 @@ fn is_up_word(link: Link) -> bool
 
 /// `link`
 pub fn set_link(
-    environment: &mut Environment,
+    environment: &mut WorldParts,
     alloc: Global,
     line: u32,
     from: &SiteName,
@@ -68,7 +68,7 @@ pub fn set_link(
     link: Link,
 ) -> Result<Lines, Refused>
     requires built { IsBuilt environment.old }
-    requires passes { known_refusal (Command.Link from.now to.now link) environment.old ≡ None }
+    requires passes { precheck_refusal (Command.Link from.now to.now link) environment.old ≡ None }
     ensures { Does line (Command.Link from.now to.now link) environment.old environment.new result }
 {
     environment.net.set_link(from, to, is_up_word(link));

@@ -9,13 +9,13 @@ ghost use Rattle.world_state.specs.Answers.{goes_by_logs, refresh_told, refresh_
 ghost use Rattle.world_state.specs.Steps.{world_refresh};
 ghost use Rattle.environment.specs.Worlds.{CanRefreshFrom};
 ghost use Rattle.environment.specs.Following.{IsBuilt};
-ghost use Rattle.environment.specs.Known.{known_refusal};
+ghost use Rattle.environment.specs.Precheck.{precheck_refusal};
 ghost use Rattle.environment.specs.Texts.{refreshed_text};
 ghost use Rattle.environment.specs.Doing.{Does};
-ghost use Rattle.environment_lines.specs.Refreshing.{CanRefreshAt, refreshed_by, refreshed_at, told_at, told_of};
+ghost use Rattle.environment_lines.specs.Refreshing.{CanRefreshAt, refreshed_by, refreshed_at, refresh_told_at, told_of};
 
 use crate::ruled::{have_parents, rows_of_each, rows_of_each_by_logs};
-use environment::{Environment, Site, master_of, no_memory, place_of, room_for_line, young_step};
+use environment::{WorldParts, Site, master_of, no_memory, place_of, room_for_line, young_step};
 use event_laws::queries_are_rules;
 use fast_refresh::CountedView;
 use page_tables::PageTables;
@@ -161,7 +161,7 @@ fn refresh_in_front(
     requires order { place < master }
     requires can { CanRefreshAt how sites.old place master }
     ensures ok { OnOk result (sites.new ≡ refreshed_at sites.old place master) }
-    ensures told { IfOk result (λ told. told_at how sites.old place master ≡ Some (told_of told)) }
+    ensures told { IfOk result (λ told. refresh_told_at how sites.old place master ≡ Some (told_of told)) }
     ensures kept { OnErr result (sites.new ≡ sites.old) }
 {
     let (front, back) = sites.split_at_mut(master);
@@ -180,7 +180,7 @@ fn refresh_behind(
     requires order { master < place }
     requires can { CanRefreshAt how sites.old place master }
     ensures ok { OnOk result (sites.new ≡ refreshed_at sites.old place master) }
-    ensures told { IfOk result (λ told. told_at how sites.old place master ≡ Some (told_of told)) }
+    ensures told { IfOk result (λ told. refresh_told_at how sites.old place master ≡ Some (told_of told)) }
     ensures kept { OnErr result (sites.new ≡ sites.old) }
 {
     let (front, back) = sites.split_at_mut(place);
@@ -198,7 +198,7 @@ fn refresh_at(
 ) -> Result<Told, NoMemory>
     requires { CanRefreshAt how sites.old place master }
     ensures ok { OnOk result (sites.new ≡ refreshed_at sites.old place master) }
-    ensures told { IfOk result (λ told. told_at how sites.old place master ≡ Some (told_of told)) }
+    ensures told { IfOk result (λ told. refresh_told_at how sites.old place master ≡ Some (told_of told)) }
     ensures kept { OnErr result (sites.new ≡ sites.old) }
 {
     if place < master {
@@ -210,13 +210,13 @@ fn refresh_at(
 
 /// Refreshes a site of an environment.
 fn refresh_site(
-    environment: &mut Environment,
+    environment: &mut WorldParts,
     alloc: Global,
     site: &SiteName,
     how: Refresh,
 ) -> Result<Told, NoMemory>
     requires built { IsBuilt environment.old }
-    requires passes { known_refusal (Command.Refresh site.now how) environment.old ≡ None }
+    requires passes { precheck_refusal (Command.Refresh site.now how) environment.old ≡ None }
     ensures ok { OnOk result (environment.new ≡ world_refresh site.now environment.old) }
     ensures told { IfOk result (λ told. refresh_answer site.now how environment.old ≡ Some (told_of told)) }
     ensures kept { OnErr result (environment.new ≡ environment.old) }
@@ -249,14 +249,14 @@ fn put_told(lines: &mut Lines, site: SiteName, told: &Told)
 
 /// `refresh`
 pub fn refresh(
-    environment: &mut Environment,
+    environment: &mut WorldParts,
     alloc: Global,
     line: u32,
     site: &SiteName,
     how: Refresh,
 ) -> Result<Lines, Refused>
     requires built { IsBuilt environment.old }
-    requires passes { known_refusal (Command.Refresh site.now how) environment.old ≡ None }
+    requires passes { precheck_refusal (Command.Refresh site.now how) environment.old ≡ None }
     ensures { Does line (Command.Refresh site.now how) environment.old environment.new result }
 {
     let Ok(mut lines) = room_for_line(alloc) else {
@@ -271,14 +271,14 @@ pub fn refresh(
 
 /// `purge-log`
 pub fn purge_log(
-    environment: &mut Environment,
+    environment: &mut WorldParts,
     alloc: Global,
     line: u32,
     master: &SiteName,
     table: &TableName,
 ) -> Result<Lines, Refused>
     requires built { IsBuilt environment.old }
-    requires passes { known_refusal (Command.PurgeLog master.now table.now) environment.old ≡ None }
+    requires passes { precheck_refusal (Command.PurgeLog master.now table.now) environment.old ≡ None }
     ensures { Does line (Command.PurgeLog master.now table.now) environment.old environment.new result }
 {
     let Ok(mut lines) = room_for_line(alloc) else {

@@ -4,7 +4,7 @@ ghost use Rattle.std.specs.List.{AllByRecursion};
 ghost use Rattle.rep_schema.specs.Tables.{rows_of};
 ghost use Rattle.snapshot_query.specs.Parents.{rule_rows};
 ghost use Rattle.site_state.specs.Notes.{log_of, keys_in, logged_above};
-ghost use Rattle.site_state.specs.Fits.{IsKeyed, AreWithin};
+ghost use Rattle.site_state.specs.Fits.{SchemaIsKeyed, AreWithin};
 ghost use Rattle.event_laws.specs.Rules.{rows_ruled, pending_parents, looked_up, HaveNoParents, IsParentWithin};
 ghost use Rattle.environment_lines.specs.Ruled.{IsRuleOf, CanRenew, CanRenewEach};
 
@@ -25,7 +25,7 @@ fn rows_of_one(
     snapshot: &Watched,
     master: &PageTables,
 ) -> Result<Items<Row>, NoMemory>
-    requires keyed { IsKeyed master.now.schema }
+    requires keyed { SchemaIsKeyed master.now.schema }
     requires within { snapshot.now.snapshot.table < length master.now.schema.tables }
     requires parents { IsParentWithin master.now.schema snapshot.now.snapshot.parent }
     ensures { IfOk result (λ rows. rows ≡ rule_rows master.now.schema master.now.tables snapshot.now.snapshot) }
@@ -43,7 +43,7 @@ pub(crate) fn rows_of_each(
     snapshots: &Notes,
     master: &PageTables,
 ) -> Result<Items<TableRows>, NoMemory>
-    requires keyed { IsKeyed master.now.schema }
+    requires keyed { SchemaIsKeyed master.now.schema }
     requires within { AreWithin master.now.schema snapshots.now.snapshots }
     requires parents { AllByRecursion (λ s. IsParentWithin master.now.schema s.parent) snapshots.now.snapshots }
     ensures { IfOk result (λ rows. rows ≡ rows_ruled master.now.schema master.now.tables snapshots.now.snapshots) }

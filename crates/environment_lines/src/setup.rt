@@ -2,16 +2,16 @@
 ghost use Rattle.std.specs.Prelude.{◌≡◌, true, None, OnOk, OnErr};
 ghost use Rattle.schema_rules.specs.Rules.{broken_rule};
 ghost use Rattle.script_parse.specs.Named.{NamesColumn};
-ghost use Rattle.site_state.specs.Fits.{IsKeyed};
+ghost use Rattle.site_state.specs.Fits.{SchemaIsKeyed};
 ghost use Rattle.proc_state.specs.Calls.{AreProcedures};
 ghost use Rattle.world_state.specs.Making.{world_made};
 ghost use Rattle.world_state.specs.Phases.{is_setup, broken_by};
 ghost use Rattle.world_state.specs.Procs.{proc_schema, procs_made};
 ghost use Rattle.environment.specs.Following.{IsBuilt};
-ghost use Rattle.environment.specs.Known.{known_refusal};
+ghost use Rattle.environment.specs.Precheck.{precheck_refusal};
 ghost use Rattle.environment.specs.Doing.{Does};
 
-use environment::{Environment, Procs, make_net, make_proc_sites, make_sites, no_memory};
+use environment::{WorldParts, Procs, make_net, make_proc_sites, make_sites, no_memory};
 use local_txn::put_base_row;
 use rep_declare::Declare;
 use rep_lists::{Items, NoMemory};
@@ -24,14 +24,14 @@ use world_state::{Phase, Refused};
 
 /// A line that declares something.
 pub fn declare(
-    environment: &mut Environment,
+    environment: &mut WorldParts,
     alloc: Global,
     line: u32,
     declaration: &Declare,
 ) -> Result<Lines, Refused>
     requires built { IsBuilt environment.old }
     requires named { NamesColumn (Command.Declare declaration.now) }
-    requires passes { known_refusal (Command.Declare declaration.now) environment.old ≡ None }
+    requires passes { precheck_refusal (Command.Declare declaration.now) environment.old ≡ None }
     ensures { Does line (Command.Declare declaration.now) environment.old environment.new result }
 {
     match environment.store.declare(alloc, declaration) {
@@ -42,14 +42,14 @@ pub fn declare(
 
 /// `row`
 pub fn add_row(
-    environment: &mut Environment,
+    environment: &mut WorldParts,
     alloc: Global,
     line: u32,
     table: &TableName,
     values: &Items<Literal>,
 ) -> Result<Lines, Refused>
     requires built { IsBuilt environment.old }
-    requires passes { known_refusal (Command.Row table.now values.now) environment.old ≡ None }
+    requires passes { precheck_refusal (Command.Row table.now values.now) environment.old ≡ None }
     ensures { Does line (Command.Row table.now values.now) environment.old environment.new result }
 {
     match put_base_row(alloc, &mut environment.store, table, values.as_slice()) {
@@ -60,7 +60,7 @@ pub fn add_row(
 
 /// The sites that hold tables of procedures are made, and the net of calls between them.
 fn end_procs(procs: &mut Procs, alloc: Global, schema: &Schema) -> Result<(), NoMemory>
-    requires keyed { IsKeyed (proc_schema schema.now procs.old.tables) }
+    requires keyed { SchemaIsKeyed (proc_schema schema.now procs.old.tables) }
     requires procedures { AreProcedures (proc_schema schema.now procs.old.tables) procs.old.procedures }
     ensures ok { OnOk result (procs.new ≡ procs_made schema.now procs.old) }
     ensures err { OnErr result (procs.new ≡ procs.old) }
@@ -73,7 +73,7 @@ fn end_procs(procs: &mut Procs, alloc: Global, schema: &Schema) -> Result<(), No
 }
 
 /// Setup ends: the sites are made, and the nets between them.
-fn end_setup(environment: &mut Environment, alloc: Global) -> Result<(), NoMemory>
+fn end_setup(environment: &mut WorldParts, alloc: Global) -> Result<(), NoMemory>
     requires built { IsBuilt environment.old }
     requires setup { is_setup environment.old.phase ≡ true }
     requires sound { broken_rule environment.old.schema ≡ None }
@@ -92,9 +92,9 @@ fn end_setup(environment: &mut Environment, alloc: Global) -> Result<(), NoMemor
 }
 
 /// `resume`
-pub fn resume(environment: &mut Environment, alloc: Global, line: u32) -> Result<Lines, Refused>
+pub fn resume(environment: &mut WorldParts, alloc: Global, line: u32) -> Result<Lines, Refused>
     requires built { IsBuilt environment.old }
-    requires passes { known_refusal Command.Resume environment.old ≡ None }
+    requires passes { precheck_refusal Command.Resume environment.old ≡ None }
     ensures { Does line Command.Resume environment.old environment.new result }
 {
     match environment.phase {
@@ -110,8 +110,8 @@ pub fn resume(environment: &mut Environment, alloc: Global, line: u32) -> Result
 }
 
 /// `suspend`
-pub fn suspend(environment: &mut Environment, alloc: Global, line: u32) -> Result<Lines, Refused>
-    requires passes { known_refusal Command.Suspend environment.old ≡ None }
+pub fn suspend(environment: &mut WorldParts, alloc: Global, line: u32) -> Result<Lines, Refused>
+    requires passes { precheck_refusal Command.Suspend environment.old ≡ None }
     ensures { Does line Command.Suspend environment.old environment.new result }
 {
     environment.phase = Phase::Suspended;

@@ -1,14 +1,14 @@
 //! What is shown of a site.
 ghost use Rattle.std.specs.Prelude.{◌≡◌, ◌++◌, None, filter, IfOk, OnOk};
-ghost use Rattle.event_laws.specs.Core.{site_of};
+ghost use Rattle.event_laws.specs.Cluster.{site_of};
 ghost use Rattle.world_state.specs.World.{is_there};
 ghost use Rattle.world_state.specs.Procs.{proc_of};
-ghost use Rattle.environment.specs.Known.{known_refusal};
+ghost use Rattle.environment.specs.Precheck.{precheck_refusal};
 ghost use Rattle.environment.specs.Texts.{senders_there, destinations_there, shown_text, shown_found, shown_calls, show_text};
 ghost use Rattle.environment.specs.Doing.{Does};
 
 use environment::{
-    Environment, Site, add_errors, add_journal, add_log, add_marks, add_queue, no_memory, place_of,
+    WorldParts, Site, add_errors, add_journal, add_log, add_marks, add_queue, no_memory, place_of,
     proc_place_of,
 };
 use page_tables::PageTables;
@@ -24,7 +24,7 @@ use world_state::Refused;
 
 /// Those of some sites that are there.
 fn those_there(
-    environment: &Environment,
+    environment: &WorldParts,
     alloc: Global,
     names: &[SiteName],
 ) -> Result<Items<SiteName>, NoMemory>
@@ -41,7 +41,7 @@ fn those_there(
 
 /// The senders of a site that are there, as declared.
 fn senders_there(
-    environment: &Environment,
+    environment: &WorldParts,
     alloc: Global,
     site: &SiteName,
 ) -> Result<Items<SiteName>, NoMemory>
@@ -53,7 +53,7 @@ fn senders_there(
 
 /// The destinations of a site that are there, as declared.
 fn destinations_there(
-    environment: &Environment,
+    environment: &WorldParts,
     alloc: Global,
     site: &SiteName,
 ) -> Result<Items<SiteName>, NoMemory>
@@ -67,7 +67,7 @@ fn destinations_there(
 fn add_queue_there(
     lines: &mut Lines,
     alloc: Global,
-    environment: &Environment,
+    environment: &WorldParts,
     name: &SiteName,
     site: &Site<PageTables>,
 ) -> Result<(), NoMemory>
@@ -82,7 +82,7 @@ fn add_queue_there(
 fn add_marks_there(
     lines: &mut Lines,
     alloc: Global,
-    environment: &Environment,
+    environment: &WorldParts,
     name: &SiteName,
     site: &Site<PageTables>,
 ) -> Result<(), NoMemory>
@@ -104,7 +104,7 @@ fn add_marks_there(
 fn add_shown(
     lines: &mut Lines,
     alloc: Global,
-    environment: &Environment,
+    environment: &WorldParts,
     what: Shown,
     name: &SiteName,
     site: &Site<PageTables>,
@@ -126,7 +126,7 @@ fn add_shown(
 fn add_found(
     lines: &mut Lines,
     alloc: Global,
-    environment: &Environment,
+    environment: &WorldParts,
     what: Shown,
     name: &SiteName,
 ) -> Result<(), NoMemory>
@@ -158,7 +158,7 @@ fn add_calls(lines: &mut Lines, sites: &[ProcSite], name: &SiteName) -> Result<(
 fn add_line(
     lines: &mut Lines,
     alloc: Global,
-    environment: &Environment,
+    environment: &WorldParts,
     what: Shown,
     name: &SiteName,
 ) -> Result<(), NoMemory>
@@ -173,13 +173,13 @@ fn add_line(
 
 /// `show`
 pub fn show(
-    environment: &Environment,
+    environment: &WorldParts,
     alloc: Global,
     line: u32,
     what: Shown,
     site: &SiteName,
 ) -> Result<Lines, Refused>
-    requires { known_refusal (Command.Show what site.now) environment.now ≡ None }
+    requires { precheck_refusal (Command.Show what site.now) environment.now ≡ None }
     ensures { Does line (Command.Show what site.now) environment.now environment.now result }
 {
     let mut lines = Lines::make(alloc);

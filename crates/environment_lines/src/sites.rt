@@ -1,9 +1,9 @@
 //! One site: its clock, its queue and its errors.
 ghost use Rattle.std.specs.Prelude.{◌≡◌, None};
-ghost use Rattle.environment.specs.Known.{known_refusal};
+ghost use Rattle.environment.specs.Precheck.{precheck_refusal};
 ghost use Rattle.environment.specs.Doing.{Does};
 
-use environment::{Environment, no_memory, place_of, room_for_line};
+use environment::{WorldParts, no_memory, place_of, room_for_line};
 use rep_values::SiteName;
 use report_text::{Lines, drop_error_line, execute_line, purge_line};
 use script_parse::Command;
@@ -12,13 +12,13 @@ use world_state::Refused;
 
 /// `clock`
 pub fn set_clock(
-    environment: &mut Environment,
+    environment: &mut WorldParts,
     alloc: Global,
     line: u32,
     site: &SiteName,
     time: u64,
 ) -> Result<Lines, Refused>
-    requires passes { known_refusal (Command.Clock site.now time) environment.old ≡ None }
+    requires passes { precheck_refusal (Command.Clock site.now time) environment.old ≡ None }
     ensures { Does line (Command.Clock site.now time) environment.old environment.new result }
 {
     let Some(place) = place_of(&environment.sites, site) else {
@@ -30,12 +30,12 @@ pub fn set_clock(
 
 /// `purge`
 pub fn purge(
-    environment: &mut Environment,
+    environment: &mut WorldParts,
     alloc: Global,
     line: u32,
     site: &SiteName,
 ) -> Result<Lines, Refused>
-    requires passes { known_refusal (Command.Purge site.now) environment.old ≡ None }
+    requires passes { precheck_refusal (Command.Purge site.now) environment.old ≡ None }
     ensures { Does line (Command.Purge site.now) environment.old environment.new result }
 {
     let Ok(mut lines) = room_for_line(alloc) else {
@@ -51,14 +51,14 @@ pub fn purge(
 
 /// `execute`
 pub fn execute(
-    environment: &mut Environment,
+    environment: &mut WorldParts,
     alloc: Global,
     line: u32,
     site: &SiteName,
     origin: &SiteName,
     position: u64,
 ) -> Result<Lines, Refused>
-    requires passes { known_refusal (Command.Execute site.now origin.now position) environment.old ≡ None }
+    requires passes { precheck_refusal (Command.Execute site.now origin.now position) environment.old ≡ None }
     ensures { Does line (Command.Execute site.now origin.now position) environment.old environment.new result }
 {
     let Ok(mut lines) = room_for_line(alloc) else {
@@ -82,14 +82,14 @@ pub fn execute(
 
 /// `drop-error`
 pub fn drop_error(
-    environment: &mut Environment,
+    environment: &mut WorldParts,
     alloc: Global,
     line: u32,
     site: &SiteName,
     origin: &SiteName,
     position: u64,
 ) -> Result<Lines, Refused>
-    requires passes { known_refusal (Command.DropError site.now origin.now position) environment.old ≡ None }
+    requires passes { precheck_refusal (Command.DropError site.now origin.now position) environment.old ≡ None }
     ensures { Does line (Command.DropError site.now origin.now position) environment.old environment.new result }
 {
     let Ok(mut lines) = room_for_line(alloc) else {

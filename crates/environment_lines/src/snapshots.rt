@@ -5,11 +5,11 @@ ghost use Rattle.rep_schema.specs.Tables.{columns_of};
 ghost use Rattle.rep_declare.specs.Additions.{column_number};
 ghost use Rattle.world_state.specs.Declaring.{query_of, declared_snapshot};
 ghost use Rattle.environment.specs.Following.{IsBuilt};
-ghost use Rattle.environment.specs.Known.{known_refusal};
+ghost use Rattle.environment.specs.Precheck.{precheck_refusal};
 ghost use Rattle.environment.specs.Doing.{Does};
 ghost use Rattle.environment_lines.specs.Declaring.{IsParentThere};
 
-use environment::{Environment, column_number, no_memory, tests_in, tests_of};
+use environment::{WorldParts, column_number, no_memory, tests_in, tests_of};
 use rep_lists::{Items, NoMemory};
 use rep_schema::{Column, RowStore, Schema, columns_of};
 use rep_values::{Name, SiteName, TableName};
@@ -117,7 +117,7 @@ fn declared_snapshot(
 
 /// `snapshot` or `subsnapshot`
 pub fn add_snapshot(
-    environment: &mut Environment,
+    environment: &mut WorldParts,
     alloc: Global,
     line: u32,
     site: &SiteName,
@@ -126,7 +126,7 @@ pub fn add_snapshot(
     tests: &Option<Items<TestWords>>,
 ) -> Result<Lines, Refused>
     requires built { IsBuilt environment.old }
-    requires passes { known_refusal (Command.Snapshot site.now table.now parent.now tests.now) environment.old ≡ None }
+    requires passes { precheck_refusal (Command.Snapshot site.now table.now parent.now tests.now) environment.old ≡ None }
     ensures { Does line (Command.Snapshot site.now table.now parent.now tests.now) environment.old environment.new result }
 {
     let schema = environment.store.schema();

@@ -3,7 +3,7 @@ pub mod Travelling
 pub mod Sending
 pub mod Repeats
 pub mod Delivering
-pub mod Settled
+pub mod Applied
 pub mod Masters
 pub mod Whole
 pub mod PartlyPushed

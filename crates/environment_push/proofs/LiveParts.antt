@@ -7,7 +7,7 @@ use Rattle.rep_values.specs.RefusalSteps.{refused}
 use Rattle.rep_values.proofs.RefusalSteps.{or_then-None, refused-None}
 use Rattle.site_state.specs.State.{SiteState}
 use Rattle.site_state.specs.Steps.{begun}
-use Rattle.event_laws.specs.Core.{Core, site_of, at_site}
+use Rattle.event_laws.specs.Cluster.{Cluster, site_of, at_site}
 use Rattle.event_laws.specs.Events.{Begin, is_master_in}
 use Rattle.live_laws.specs.declared.turn.LiveTurn.{LiveTurn}
 use Rattle.live_laws.specs.declared.turn.Session.{Session}
@@ -19,12 +19,12 @@ use Rattle.world_state.specs.declared.phase.Phase.{Phase}
 use Rattle.world_state.specs.declared.phase.Phase.TheVariants as phase
 use Rattle.world_state.specs.World.{WorldState, with_site}
 use Rattle.world_state.specs.Phases.{is_setup, is_running, has_block}
-use Rattle.world_state.specs.Pushes.{pushed_in, world_answer}
+use Rattle.world_state.specs.Pushes.{pushed_in, world_return_mark}
 use Rattle.world_laws.specs.Simulation.{Simulates, Leads, AreEvents}
 use Rattle.world_laws.proofs.Finding.{at_found, at_twice}
 use Rattle.world_laws.proofs.SiteSteps.{SiteRuns}
-use Rattle.world_laws.proofs.Pieces.{none_lead, then_lead, site_leads, pushed_in_leads, answer_leads}
-use Rattle.procedure_worlds.proofs.Kept.{same_procs}
+use Rattle.world_laws.proofs.Pieces.{none_lead, then_lead, site_leads, pushed_in_leads, return_mark_leads}
+use Rattle.procedure_worlds.proofs.ProceduresStay.{same_procs}
 use Rattle.environment.specs.Following.{IsBuilt}
 use Rattle.environment.proofs.Apart.{apart_behind}
 use Rattle.environment.proofs.Following.{of_script_leads, of_convergence_leads}
@@ -44,8 +44,8 @@ live_part_does name sessions turns = record {
   keeps = λ x. turns_here sessions turns (begun x);
   runs = λ x v found. record {
     events = events_of name sessions turns ++ Begin name ∷ [];
-    sites = ap (λ (u : Core). u.sites) (live_parts_are_events name sessions turns v);
-    sent = ap (λ (u : Core). u.sent) (live_parts_are_events name sessions turns v);
+    sites = ap (λ (u : Cluster). u.sites) (live_parts_are_events name sessions turns v);
+    sent = ap (λ (u : Cluster). u.sent) (live_parts_are_events name sessions turns v);
   };
 }
 
@@ -55,7 +55,7 @@ brought_leads (from ∷ more) name = then_lead (pushed_in from name None) (broug
 
 answered_lead : (names : List SiteName) (name : SiteName) → AreEvents (answered_to names name)
 answered_lead [] name = none_lead
-answered_lead (to ∷ more) name = then_lead (world_answer name to) (answered_to more name) (answer_leads name to) (answered_lead more name)
+answered_lead (to ∷ more) name = then_lead (world_return_mark name to) (answered_to more name) (return_mark_leads name to) (answered_lead more name)
 
 opened_leads : (name : SiteName) → AreEvents (live_opened name)
 opened_leads name w v s =
@@ -81,7 +81,7 @@ built_site name change does w behind built = record {
   calls_linked = built.calls_linked;
 }
   where
-    leads : (v : Core) → Simulates w v → Leads (with_site name change w) v
+    leads : (v : Cluster) → Simulates w v → Leads (with_site name change w) v
     leads v s = site_leads name change does w v s
 
 first_false : (b c : Bool) → (b || c) ≡ false → b ≡ false

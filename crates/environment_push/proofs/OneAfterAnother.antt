@@ -8,10 +8,10 @@ use Rattle.rep_schema.specs.Sites.{senders_of}
 use Rattle.deferred_queue.specs.Streams.{is_same_site}
 use Rattle.deferred_queue.proofs.Sites.{is_same_site-refl}
 use Rattle.site_state.specs.State.{SiteState, is_among}
-use Rattle.event_laws.specs.Core.{site_of}
+use Rattle.event_laws.specs.Cluster.{site_of}
 use Rattle.world_state.specs.World.{WorldState, with_site}
 use Rattle.world_state.specs.Phases.{is_setup}
-use Rattle.world_state.specs.Pushes.{pushed_in, world_answer}
+use Rattle.world_state.specs.Pushes.{pushed_in, world_return_mark}
 use Rattle.world_laws.proofs.Finding.{at_none}
 use Rattle.environment.specs.Following.{PushesInPart, IsBuilt}
 use Rattle.environment.proofs.Following.{in_part_linked}
@@ -71,7 +71,7 @@ module _ (names : List SiteName) (name : SiteName) (place : ℕ) (from : SiteNam
       ap (brought_from (drop (place + 1) names) name) come ∙ sym (ap (λ (ns : List SiteName). brought_from ns name w) next) ∙ left
 
   -- the marks that are left to go back
-  pub answered_next : (w y z : WorldState) → y ≡ world_answer name from w → answered_to (drop place names) name w ≡ z → answered_to (drop (place + 1) names) name y ≡ z
+  pub answered_next : (w y z : WorldState) → y ≡ world_return_mark name from w → answered_to (drop place names) name w ≡ z → answered_to (drop (place + 1) names) name y ≡ z
   answered_next w y z gone left =
       ap (answered_to (drop (place + 1) names) name) gone ∙ sym (ap (λ (ns : List SiteName). answered_to ns name w) next) ∙ left
 

@@ -7,8 +7,8 @@ use Rattle.net_plan.specs.Directions.{on_way_between, is_up}
 use Rattle.world_state.specs.declared.phase.Phase.{Phase}
 use Rattle.world_state.specs.World.{WorldState}
 use Rattle.world_state.specs.Phases.{is_setup}
-use Rattle.world_state.specs.Pushes.{positions_above, world_release, world_send_above, world_take, world_deliver, pushed_in, world_send_mark, world_bring_mark, world_answer}
-use Rattle.world_laws.proofs.Calling.{on_way_between-delivered, take_then_deliver, deliver_none}
+use Rattle.world_state.specs.Pushes.{positions_above, world_release, world_send_above, world_deliver_one, world_deliver, pushed_in, world_send_mark, world_deliver_mark, world_return_mark}
+use Rattle.world_laws.proofs.Calling.{on_way_between-delivered, deliver_one_then_all, deliver_none}
 use Rattle.environment.specs.Following.{Take, Release, There, Back, SendMark, PushesInPart, IsBuilt}
 use Rattle.environment.proofs.Following.{in_part_none, in_part_one, in_part_then, built_in_part}
 use Rattle.environment_push.specs.Travelling.{Travels}
@@ -29,10 +29,10 @@ one_fewer n (packet ∷ packets) few = omega (arith, few)
 so_many_travel : (n : ℕ) (from to : SiteName) (w : WorldState) → length (on_way_between from to w.net) ≤ n → Travels from to w (world_deliver from to w)
 so_many_travel zero from to w few = travels_none from to w (world_deliver from to w) (deliver_none from to w (no_packets (on_way_between from to w.net) few))
 so_many_travel (suc n) from to w few =
-    travels_then from to w (world_take from to w) (world_deliver from to w) (travels_one from to Take w (world_take from to w) refl)
-    (subst (λ (y : WorldState). Travels from to (world_take from to w) y) (take_then_deliver from to w) (so_many_travel n from to (world_take from to w) fewer))
+    travels_then from to w (world_deliver_one from to w) (world_deliver from to w) (travels_one from to Take w (world_deliver_one from to w) refl)
+    (subst (λ (y : WorldState). Travels from to (world_deliver_one from to w) y) (deliver_one_then_all from to w) (so_many_travel n from to (world_deliver_one from to w) fewer))
   where
-    fewer : length (on_way_between from to (world_take from to w).net) ≤ n
+    fewer : length (on_way_between from to (world_deliver_one from to w).net) ≤ n
     fewer = subst (λ (packets : List Packet). length packets ≤ n) (sym (on_way_between-delivered from to w.net)) (one_fewer n (on_way_between from to w.net) few)
 
 -- to take in all that is on the way is to take in one after the other
@@ -51,10 +51,10 @@ pushed_in_part from to count w =
     (travels_there from to sent (world_deliver from to sent) (travels_all from to sent))
 
 -- and so it is that the mark goes back
-pub answered_in_part : (from to : SiteName) (w : WorldState) → PushesInPart to from w (world_answer from to w)
+pub answered_in_part : (from to : SiteName) (w : WorldState) → PushesInPart to from w (world_return_mark from to w)
 answered_in_part from to w = go (is_up from to w.net)
   where
-    marked : PushesInPart to from w (world_bring_mark from to w)
+    marked : PushesInPart to from w (world_deliver_mark from to w)
     marked =
         let freed : WorldState = world_release from to w in
         let sent : WorldState = world_send_mark from to freed in
@@ -62,7 +62,7 @@ answered_in_part from to w = go (is_up from to w.net)
         (in_part_then to from w freed sent (in_part_one to from (Back Release) w freed refl) (in_part_one to from SendMark freed sent refl))
         (travels_back to from sent (world_deliver from to sent) (travels_all from to sent))
 
-    go : (b : Bool) → PushesInPart to from w (cond b (world_bring_mark from to w) w)
+    go : (b : Bool) → PushesInPart to from w (cond b (world_deliver_mark from to w) w)
     go true = marked
     go false = in_part_none to from w w refl
 
@@ -81,7 +81,7 @@ brought_in_part (from ∷ more) name w = (pushed_in from name None w, (pushed_in
 -- the marks go back to them
 pub answered_each_in_part : (names : List SiteName) (name : SiteName) (w : WorldState) → PushEachInPart names name w (answered_to names name w)
 answered_each_in_part [] name w = refl
-answered_each_in_part (to ∷ more) name w = (world_answer name to w, (answered_in_part name to w, answered_each_in_part more name (world_answer name to w)))
+answered_each_in_part (to ∷ more) name w = (world_return_mark name to w, (answered_in_part name to w, answered_each_in_part more name (world_return_mark name to w)))
 
 -- ---- what stays
 

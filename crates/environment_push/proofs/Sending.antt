@@ -6,7 +6,7 @@ use Rattle.rep_values.specs.declared.name.SiteName.{SiteName}
 use Rattle.deferred_queue.specs.Streams.{acked_by}
 use Rattle.site_state.specs.State.{SiteState, acked_of}
 use Rattle.site_state.specs.Streams.{stream_to}
-use Rattle.site_state.specs.Deferrals.{marks_of}
+use Rattle.site_state.specs.Deferrals.{deferred_marks}
 use Rattle.site_state.proofs.Deferring.{acked_by-marks}
 use Rattle.world_state.specs.World.{WorldState}
 use Rattle.world_state.specs.Pushes.{world_send, world_send_each, at_most, positions_in}
@@ -30,7 +30,7 @@ pub sent_in_part : (from to : SiteName) (positions : List ℕ) (w y : WorldState
 sent_in_part from to positions w y is = in_part from to (map (λ (position : ℕ). Send position) positions) w y (is ∙ sent_done from to positions w)
 
 -- the positions that aren't acknowledged, of a site that is there
-pub positions_in-there : (to : SiteName) (count : Option ℕ) (o : Option SiteState) (x : SiteState) (acked number : ℕ) → o ≡ Some x → acked ≡ acked_by to (marks_of x)
+pub positions_in-there : (to : SiteName) (count : Option ℕ) (o : Option SiteState) (x : SiteState) (acked number : ℕ) → o ≡ Some x → acked ≡ acked_by to (deferred_marks x)
     → number ≡ at_most count (length (stream_to to x) - acked) → positions_in to count o ≡ range_with_len (acked + 1) number
 positions_in-there to count o x acked number is acked_is number_is =
     let same : acked ≡ acked_of to x = acked_is ∙ acked_by-marks to x.destinations in

@@ -7,16 +7,16 @@ use Rattle.rep_values.specs.RefusalSteps.{refused, first_refusal}
 use Rattle.rep_values.proofs.RefusalSteps.{or_then-None, refused-None, refused_not-None}
 use Rattle.net_plan.specs.Directions.{HasDirection}
 use Rattle.script_parse.specs.declared.command.Command.TheVariants as command
-use Rattle.event_laws.specs.Core.{site_of}
+use Rattle.event_laws.specs.Cluster.{site_of}
 use Rattle.world_state.specs.World.{WorldState, is_there, gets_from}
 use Rattle.world_state.specs.Phases.{is_setup, has_block, behind_setup_step}
 use Rattle.world_state.specs.Refusals.{are_there, has_sender, further_steps}
 use Rattle.world_state.specs.Pushes.{positions_above, pushed_in, world_push}
 use Rattle.environment.specs.Following.{PushesInPart, IsBuilt}
-use Rattle.environment.specs.Known.{known_refusal}
+use Rattle.environment.specs.Precheck.{precheck_refusal}
 use Rattle.environment.specs.Texts.{pushed_text}
-use Rattle.environment.specs.Doing.{IsDone, IsShort}
-use Rattle.environment_push.specs.Settling.{told_text}
+use Rattle.environment.specs.Doing.{IsDone, IsOutOfMemory}
+use Rattle.environment_push.specs.Applying.{told_text}
 
 both_true : (b c : Bool) → (b && c) ≡ true → (b ≡ true) × (c ≡ true)
 both_true true c is = (refl, is)
@@ -27,7 +27,7 @@ first_false true c is = absurd (cc is)
 first_false false c is = refl
 
 module _ (from to : SiteName) (count : Option ℕ) (w : WorldState) where
-  module _ (passes : known_refusal (command.Push from to count) w ≡ None) where
+  module _ (passes : precheck_refusal (command.Push from to count) w ≡ None) where
     steps : (behind_setup_step w ≡ None) × (first_refusal (further_steps (command.Push from to count) w) ≡ None)
     steps = or_then-None (behind_setup_step w) (first_refusal (further_steps (command.Push from to count) w)) passes
 
@@ -65,7 +65,7 @@ module _ (from to : SiteName) (count : Option ℕ) (w : WorldState) where
         subst (λ (name : SiteName). PushesInPart a name w new) other (subst (λ (name : SiteName). PushesInPart name to w new) one part)
 
     -- a push for which there was no memory
-    pub push_short : (number : ℕ) (new : WorldState) → PushesInPart from to w new → IsShort number (command.Push from to count) w new (record { line = number; refusal = refusal.Memory })
+    pub push_short : (number : ℕ) (new : WorldState) → PushesInPart from to w new → IsOutOfMemory number (command.Push from to count) w new (record { line = number; refusal = refusal.Memory })
     push_short number new part = record { memory = refl; line = refl; passes = λ untried. passes; kept = λ other. absurd (cc other); pushed = pushed_so new part; called = λ a b other. absurd (cc other) }
 
   -- what is told of a push

@@ -8,14 +8,14 @@ use Rattle.rep_schema.specs.Sites.{senders_of}
 use Rattle.net_plan.specs.Directions.{HasDirection, is_up}
 use Rattle.site_state.specs.State.{SiteState, is_among}
 use Rattle.site_state.specs.Steps.{begun}
-use Rattle.event_laws.specs.Core.{site_of}
+use Rattle.event_laws.specs.Cluster.{site_of}
 use Rattle.event_laws.specs.Events.{is_master_in}
 use Rattle.live_laws.specs.declared.turn.LiveTurn.{LiveTurn}
 use Rattle.live_laws.specs.declared.turn.Session.{Session}
 use Rattle.live_laws.specs.Turns.{site_after}
 use Rattle.world_state.specs.World.{WorldState, with_site}
 use Rattle.world_state.specs.Phases.{is_running, has_block}
-use Rattle.world_state.specs.Pushes.{pushed_in, world_answer}
+use Rattle.world_state.specs.Pushes.{pushed_in, world_return_mark}
 use Rattle.world_laws.specs.Simulation.{AreEvents}
 use Rattle.environment.specs.Following.{PushesInPart, IsBuilt}
 
@@ -53,7 +53,7 @@ live_opened name w = with_site name begun (brought_from (reaching name w) name w
 -- the mark for what came from these goes back to them, to one after the other
 abbrev pub answered_to : List SiteName → SiteName → WorldState → WorldState
 answered_to [] name w = w
-answered_to (to ∷ more) name w = answered_to more name (world_answer name to w)
+answered_to (to ∷ more) name w = answered_to more name (world_return_mark name to w)
 
 -- so it does to all that reach the site. No link changes while a site is lent, so they are those from which all came in
 abbrev pub live_closed : SiteName → WorldState → WorldState

@@ -1,5 +1,5 @@
 -- The definitions of this crate.
 pub mod Travelling
 pub mod Repeats
-pub mod Settling
+pub mod Applying
 pub mod Lending

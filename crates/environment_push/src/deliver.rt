@@ -2,12 +2,12 @@
 ghost use Rattle.std.specs.Prelude.{◌≡◌, is_some, IfOk, OnOk, OnErr};
 ghost use Rattle.net_plan.specs.Directions.{HasDirection, first_between};
 ghost use Rattle.site_state.specs.Packets.{site_accept};
-ghost use Rattle.event_laws.specs.Core.{at_site};
-ghost use Rattle.world_state.specs.Pushes.{world_take, world_deliver};
+ghost use Rattle.event_laws.specs.Cluster.{at_site};
+ghost use Rattle.world_state.specs.Pushes.{world_deliver_one, world_deliver};
 ghost use Rattle.environment_push.specs.Repeats.{is_repeat};
 ghost use Rattle.environment_push.specs.Travelling.{Travels};
 
-use environment::{Environment, Site, place_of};
+use environment::{WorldParts, Site, place_of};
 use packet_code::Sealed;
 use page_tables::PageTables;
 use rep_lists::NoMemory;
@@ -55,14 +55,14 @@ fn accept_at(
 
 /// A site takes in the first packet on the way to it, and whether there is one is answered. Where there is no memory, the
 /// packet may be gone, like one that is lost.
-fn take(
-    environment: &mut Environment,
+fn deliver_one(
+    environment: &mut WorldParts,
     alloc: Global,
     from: &SiteName,
     to: &SiteName,
 ) -> Result<bool, NoMemory>
     requires { HasDirection environment.old.net from.now to.now }
-    ensures ok { OnOk result (environment.new ≡ world_take from.now to.now environment.old) }
+    ensures ok { OnOk result (environment.new ≡ world_deliver_one from.now to.now environment.old) }
     ensures some { IfOk result (λ some. some ≡ is_some (first_between from.now to.now environment.old.net)) }
     ensures travels { Travels from.now to.now environment.old environment.new }
 {
@@ -75,7 +75,7 @@ fn take(
 
 /// A site takes in all that is on the way to it from another one.
 pub(crate) fn deliver_all(
-    environment: &mut Environment,
+    environment: &mut WorldParts,
     alloc: Global,
     from: &SiteName,
     to: &SiteName,
@@ -85,7 +85,7 @@ pub(crate) fn deliver_all(
     ensures travels { Travels from.now to.now environment.old environment.new }
 {
     'packets: loop {
-        if !take(environment, alloc, from, to)? {
+        if !deliver_one(environment, alloc, from, to)? {
             return Ok(());
         }
     }

@@ -3,16 +3,16 @@ ghost use Rattle.std.specs.Prelude.{◌≡◌, false, true, None, IfOk, OnOk, On
 ghost use Rattle.net_plan.specs.Directions.{HasDirection};
 ghost use Rattle.rep_values.specs.RefusalSteps.{refused};
 ghost use Rattle.site_state.specs.Steps.{begun};
-ghost use Rattle.event_laws.specs.Core.{site_of};
+ghost use Rattle.event_laws.specs.Cluster.{site_of};
 ghost use Rattle.event_laws.specs.Events.{is_master_in};
 ghost use Rattle.world_state.specs.World.{with_site};
 ghost use Rattle.world_state.specs.Phases.{is_setup, is_running, has_block};
 ghost use Rattle.environment.specs.Following.{IsBuilt};
 ghost use Rattle.environment_push.specs.Lending.{live_phase_step, live_refusal, reaches, reaching, brought_from, live_opened, answered_to, live_closed, PushEachInPart, AreLinkedTo};
 
-use crate::answer::answer;
-use crate::pushing::bring;
-use environment::{Environment, Site, place_of};
+use crate::marks::return_mark;
+use crate::pushing::send_and_deliver;
+use environment::{WorldParts, Site, place_of};
 use page_tables::PageTables;
 use rep_lists::{Items, NoMemory};
 use rep_schema::RowStore;
@@ -32,7 +32,7 @@ fn is_running(phase: Phase) -> bool
 }
 
 /// Whether a block is open, of a transaction or of calls.
-fn has_block(environment: &Environment) -> bool
+fn has_block(environment: &WorldParts) -> bool
     ensures { result ≡ has_block environment.now }
 {
     environment.block.is_some() || environment.procs.block.is_some()
@@ -49,7 +49,7 @@ fn is_master_there(sites: &[Site<PageTables>], name: &SiteName) -> bool
 }
 
 /// Why the phase or an open block hinders a live part, if one does.
-fn phase_step(environment: &Environment) -> Option<Refusal>
+fn phase_step(environment: &WorldParts) -> Option<Refusal>
     ensures { result ≡ live_phase_step environment.now }
 {
     if !is_running(environment.phase) || has_block(environment) {
@@ -60,7 +60,7 @@ fn phase_step(environment: &Environment) -> Option<Refusal>
 }
 
 /// Why the site of a name may not be lent out, if something hinders it. It takes no memory.
-pub fn live_refusal(environment: &Environment, name: &SiteName) -> Option<Refusal>
+pub fn live_refusal(environment: &WorldParts, name: &SiteName) -> Option<Refusal>
     ensures { result ≡ live_refusal name.now environment.now }
 {
     if let Some(refusal) = phase_step(environment) {
@@ -74,7 +74,7 @@ pub fn live_refusal(environment: &Environment, name: &SiteName) -> Option<Refusa
 }
 
 /// Whether a master that is there reaches a site.
-fn reaches(environment: &Environment, name: &SiteName, from: &SiteName) -> bool
+fn reaches(environment: &WorldParts, name: &SiteName, from: &SiteName) -> bool
     requires { HasDirection environment.now.net from.now name.now }
     ensures { result ≡ reaches name.now environment.now from.now }
 {
@@ -83,7 +83,7 @@ fn reaches(environment: &Environment, name: &SiteName, from: &SiteName) -> bool
 
 /// The other masters that reach a master, in declared order.
 fn reaching(
-    environment: &Environment,
+    environment: &WorldParts,
     alloc: Global,
     name: &SiteName,
 ) -> Result<Items<SiteName>, NoMemory>
@@ -102,8 +102,8 @@ fn reaching(
 }
 
 /// What these sent comes to a site, of one after the other.
-fn bring_each(
-    environment: &mut Environment,
+fn send_and_deliver_each(
+    environment: &mut WorldParts,
     alloc: Global,
     names: &[SiteName],
     name: &SiteName,
@@ -113,14 +113,14 @@ fn bring_each(
     ensures part { PushEachInPart names.now name.now environment.old environment.new }
 {
     for from in names {
-        bring(environment, alloc, from, name, None)?;
+        send_and_deliver(environment, alloc, from, name, None)?;
     }
     Ok(())
 }
 
 /// The mark for what came from these goes back to them, to one after the other.
-fn answer_each(
-    environment: &mut Environment,
+fn return_mark_each(
+    environment: &mut WorldParts,
     alloc: Global,
     names: &[SiteName],
     name: &SiteName,
@@ -130,13 +130,13 @@ fn answer_each(
     ensures part { PushEachInPart names.now name.now environment.old environment.new }
 {
     for to in names {
-        answer(environment, alloc, name, to)?;
+        return_mark(environment, alloc, name, to)?;
     }
     Ok(())
 }
 
 /// A pass begins at the site of a name, if it is there.
-fn begin(environment: &mut Environment, name: &SiteName) -> Result<(), NoMemory>
+fn begin(environment: &mut WorldParts, name: &SiteName) -> Result<(), NoMemory>
     ensures ok { OnOk result (environment.new ≡ with_site name.now begun environment.old) }
     ensures err { OnErr result (environment.new ≡ environment.old) }
 {
@@ -156,7 +156,7 @@ fn begin(environment: &mut Environment, name: &SiteName) -> Result<(), NoMemory>
 /// acknowledged is sent, it takes all in, and a pass begins there. Where there is no memory, some of this may be done, a packet on
 /// the way may be lost, and nothing else.
 pub fn live_open(
-    environment: &mut Environment,
+    environment: &mut WorldParts,
     alloc: Global,
     name: &SiteName,
 ) -> Result<(), NoMemory>
@@ -166,14 +166,14 @@ pub fn live_open(
     ensures err { OnErr result (PushEachInPart (reaching name.now environment.old) name.now environment.old environment.new) }
 {
     let names = reaching(environment, alloc, name)?;
-    bring_each(environment, alloc, names.as_slice(), name)?;
+    send_and_deliver_each(environment, alloc, names.as_slice(), name)?;
     begin(environment, name)
 }
 
 /// Sends the mark of a master that was lent out to the other masters that reach it, and lets them take it in, where the way there
 /// is up. Where there is no memory, some of this may be done, a packet on the way may be lost, and nothing else.
 pub fn live_close(
-    environment: &mut Environment,
+    environment: &mut WorldParts,
     alloc: Global,
     name: &SiteName,
 ) -> Result<(), NoMemory>
@@ -183,5 +183,5 @@ pub fn live_close(
     ensures part { PushEachInPart (reaching name.now environment.old) name.now environment.old environment.new }
 {
     let names = reaching(environment, alloc, name)?;
-    answer_each(environment, alloc, names.as_slice(), name)
+    return_mark_each(environment, alloc, names.as_slice(), name)
 }

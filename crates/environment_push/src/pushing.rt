@@ -7,15 +7,15 @@ ghost use Rattle.world_state.specs.World.{is_there};
 ghost use Rattle.world_state.specs.Phases.{is_setup};
 ghost use Rattle.world_state.specs.Pushes.{positions_above, pushed_in, world_push};
 ghost use Rattle.environment.specs.Following.{PushesInPart, IsBuilt};
-ghost use Rattle.environment.specs.Known.{known_refusal};
+ghost use Rattle.environment.specs.Precheck.{precheck_refusal};
 ghost use Rattle.environment.specs.Texts.{pushed_text};
 ghost use Rattle.environment.specs.Doing.{Does};
 
-use crate::answer::answer;
+use crate::marks::return_mark;
 use crate::deliver::deliver_all;
 use crate::send::{release, send_above};
-use crate::settle::{Pushed, settle_and_tell};
-use environment::Environment;
+use crate::applying::{Pushed, apply_and_tell};
+use environment::WorldParts;
 use rep_lists::NoMemory;
 use rep_values::{Refusal, SiteName};
 use report_text::{Lines, MOST_LINE};
@@ -24,8 +24,8 @@ use std::alloc::Global;
 use world_state::Refused;
 
 /// What is held is released, what isn't acknowledged is sent, and all is taken in. It answers how many positions were sent.
-pub(crate) fn bring(
-    environment: &mut Environment,
+pub(crate) fn send_and_deliver(
+    environment: &mut WorldParts,
     alloc: Global,
     from: &SiteName,
     to: &SiteName,
@@ -44,7 +44,7 @@ pub(crate) fn bring(
 
 /// A push for whose line there is room.
 fn push_in_room<P: Passing>(
-    environment: &mut Environment,
+    environment: &mut WorldParts,
     alloc: Global,
     passing: &P,
     lines: &mut Lines,
@@ -63,20 +63,20 @@ fn push_in_room<P: Passing>(
     ensures text { OnOk result (lines.new.bytes ≡ lines.old.bytes ++ pushed_text from.now to.now count environment.old) }
     ensures part { PushesInPart from.now to.now environment.old environment.new }
 {
-    let sent = bring(environment, alloc, from, to, count)?;
+    let sent = send_and_deliver(environment, alloc, from, to, count)?;
     let pushed = Pushed {
         from: *from,
         to: *to,
         sent,
     };
-    settle_and_tell(environment, alloc, passing, lines, pushed)?;
-    answer(environment, alloc, to, from)?;
+    apply_and_tell(environment, alloc, passing, lines, pushed)?;
+    return_mark(environment, alloc, to, from)?;
     Ok(())
 }
 
 /// A push between sites that are there, with a direction each way.
 fn push_linked<P: Passing>(
-    environment: &mut Environment,
+    environment: &mut WorldParts,
     alloc: Global,
     passing: &P,
     from: &SiteName,
@@ -105,7 +105,7 @@ fn push_linked<P: Passing>(
 /// what came of it. Its mark goes back where that direction is up. Whoever makes the receiver's passes, the site is the same.
 /// Where there is no memory, some of this may be done, a packet on the way may be lost, and nothing else.
 pub fn push<P: Passing>(
-    environment: &mut Environment,
+    environment: &mut WorldParts,
     alloc: Global,
     passing: &P,
     line: u32,
@@ -115,7 +115,7 @@ pub fn push<P: Passing>(
 ) -> Result<Lines, Refused>
     requires able { P.able passing.now }
     requires built { IsBuilt environment.old }
-    requires passes { known_refusal (Command.Push from.now to.now count) environment.old ≡ None }
+    requires passes { precheck_refusal (Command.Push from.now to.now count) environment.old ≡ None }
     ensures { Does line (Command.Push from.now to.now count) environment.old environment.new result }
 {
     match push_linked(environment, alloc, passing, from, to, count) {

@@ -2,12 +2,12 @@
 ghost use Rattle.std.specs.Prelude.{◌≡◌, ◌+◌, ◌-◌, ◌<◌, ◌≤◌, ◌^◌, length, IfOk, OnOk, OnErr};
 ghost use Rattle.std.specs.List.{range_with_len};
 ghost use Rattle.net_plan.specs.Directions.{HasDirection};
-ghost use Rattle.event_laws.specs.Core.{site_of};
+ghost use Rattle.event_laws.specs.Cluster.{site_of};
 ghost use Rattle.event_laws.specs.Events.{packet_from};
 ghost use Rattle.world_state.specs.Pushes.{at_most, sent_on, world_release, world_send, positions_in, positions_above, world_send_above};
 ghost use Rattle.environment.specs.Following.{PushesInPart};
 
-use environment::{Environment, Site, place_of};
+use environment::{WorldParts, Site, place_of};
 use packet_code::Sealed;
 use page_tables::PageTables;
 use rep_lists::NoMemory;
@@ -16,7 +16,7 @@ use std::alloc::Global;
 
 /// What is held from a site to another one goes on the way.
 pub(crate) fn release(
-    environment: &mut Environment,
+    environment: &mut WorldParts,
     from: &SiteName,
     to: &SiteName,
 ) -> Result<(), NoMemory>
@@ -30,7 +30,7 @@ pub(crate) fn release(
 
 /// Sends a packet, where there is one.
 pub(crate) fn send_some(
-    environment: &mut Environment,
+    environment: &mut WorldParts,
     alloc: Global,
     from: &SiteName,
     to: &SiteName,
@@ -66,7 +66,7 @@ fn packet_of(
 
 /// The packet of a position is sent, where there is one.
 fn send(
-    environment: &mut Environment,
+    environment: &mut WorldParts,
     alloc: Global,
     from: &SiteName,
     to: &SiteName,
@@ -126,7 +126,7 @@ fn unsent_of(
 
 /// What isn't acknowledged is sent, at most so many where a count is given. It answers how many positions that is.
 pub(crate) fn send_above(
-    environment: &mut Environment,
+    environment: &mut WorldParts,
     alloc: Global,
     from: &SiteName,
     to: &SiteName,

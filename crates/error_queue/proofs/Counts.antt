@@ -8,7 +8,7 @@ use Rattle.rep_lists.proofs.Places.{drop_from_place}
 use Rattle.rep_values.specs.declared.name.SiteName.{SiteName}
 use Rattle.error_queue.specs.declared.entry.ErrorEntry.{ErrorEntry}
 use Rattle.error_queue.specs.ErrorLists.{no_errors, in_order}
-use Rattle.error_queue.specs.Kept.{Held, lists_of}
+use Rattle.error_queue.specs.ErrorQueueState.{OriginErrorsState, lists_of}
 
 module _ {X : Type 0} (at : X → Ordering) where
   -- a value that wasn't there is one more
@@ -42,16 +42,16 @@ module _ {X : Type 0} (at : X → Ordering) where
       go Greater none later = refl
 
 -- the errors of a list take the place of those before
-pub length-in_order-set : (hs : List Held) (i : ℕ) (h d : Held) → i < length hs
+pub length-in_order-set : (hs : List OriginErrorsState) (i : ℕ) (h d : OriginErrorsState) → i < length hs
     → length (in_order (lists_of (set hs i h))) + length (get_or hs i d).list.entries ≡ length (in_order (lists_of hs)) + length h.list.entries
 length-in_order-set [] i h d within = absurd (omega (arith, within))
 length-in_order-set (x ∷ xs) zero h d within = omega (arith, length-append h.list.entries (in_order (lists_of xs)), length-append x.list.entries (in_order (lists_of xs)))
 length-in_order-set (x ∷ xs) (suc i) h d within =
     omega (arith, length-append x.list.entries (in_order (lists_of (set xs i h))), length-append x.list.entries (in_order (lists_of xs)), length-in_order-set xs i h d (omega (arith, within)))
 
-module _ (at : ErrorEntry → Ordering) (hs : List Held) (i : ℕ) (old new : Held) (within : i < length hs) (is : old ≡ get_or hs i old) where
+module _ (at : ErrorEntry → Ordering) (hs : List OriginErrorsState) (i : ℕ) (old new : OriginErrorsState) (within : i < length hs) (is : old ≡ get_or hs i old) where
   length-in_order-place : length (in_order (lists_of (set hs i new))) + length old.list.entries ≡ length (in_order (lists_of hs)) + length new.list.entries
-  length-in_order-place = omega (arith, length-in_order-set hs i new old within, ap (λ (h : Held). length h.list.entries) is)
+  length-in_order-place = omega (arith, length-in_order-set hs i new old within, ap (λ (h : OriginErrorsState). length h.list.entries) is)
 
   -- an error that is added is one more
   pub length-in_order-put : (e : ErrorEntry) → find_at at old.list.entries ≡ None → new.list.entries ≡ put_at at e old.list.entries → length (in_order (lists_of (set hs i new))) ≡ length (in_order (lists_of hs)) + 1
@@ -88,11 +88,11 @@ slice_get-second (x ∷ xs) ys i zero is = absurd (omega (arith, is))
 slice_get-second (x ∷ xs) ys i (suc n) is = slice_get-second xs ys i n (omega (arith, is))
 
 -- the errors from a list on, where the place is one of its own
-pub in_order-here : (hs : List Held) (i left : ℕ) (h : Held) → i < length hs → h ≡ get_or hs i h → left < length h.list.entries → slice_get (in_order (lists_of (drop i hs))) left ≡ slice_get h.list.entries left
+pub in_order-here : (hs : List OriginErrorsState) (i left : ℕ) (h : OriginErrorsState) → i < length hs → h ≡ get_or hs i h → left < length h.list.entries → slice_get (in_order (lists_of (drop i hs))) left ≡ slice_get h.list.entries left
 in_order-here hs i left h within is below = rw (drop_from_place hs i h within is) (slice_get-first h.list.entries (in_order (lists_of (drop (i + 1) hs))) left below)
 
 -- and where it is behind them
-pub in_order-behind : (hs : List Held) (i left : ℕ) (h : Held) → i < length hs → h ≡ get_or hs i h → length h.list.entries ≤ left
+pub in_order-behind : (hs : List OriginErrorsState) (i left : ℕ) (h : OriginErrorsState) → i < length hs → h ≡ get_or hs i h → length h.list.entries ≤ left
     → slice_get (in_order (lists_of (drop i hs))) left ≡ slice_get (in_order (lists_of (drop (i + 1) hs))) (left - length h.list.entries)
 in_order-behind hs i left h within is behind =
     let place : left ≡ length h.list.entries + (left - length h.list.entries) = omega (arith, behind) in

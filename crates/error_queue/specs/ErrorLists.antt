@@ -36,12 +36,12 @@ abbrev pub errors_from : SiteName → List ErrorList → List ErrorEntry
 errors_from origin lists = entries_in (list_of origin lists)
 
 -- where an error stands beside a position
-abbrev pub beside : ℕ → ErrorEntry → Ordering
-beside position e = nat_cmp e.position position
+abbrev pub error_beside : ℕ → ErrorEntry → Ordering
+error_beside position e = nat_cmp e.position position
 
 -- the error of a position, if it stands
 abbrev pub error_in : SiteName → ℕ → List ErrorList → Option ErrorEntry
-error_in origin position lists = find_at (beside position) (errors_from origin lists)
+error_in origin position lists = find_at (error_beside position) (errors_from origin lists)
 
 -- the errors by origin as declared, then by position
 abbrev pub in_order : List ErrorList → List ErrorEntry
@@ -58,8 +58,8 @@ IsOrigin lists site = list_of site lists ≢ None
 
 -- the lists with one error more
 abbrev pub added : ErrorEntry → List ErrorList → List ErrorList
-added e lists = at_origin e.origin (put_at (beside e.position) e) lists
+added e lists = at_origin e.origin (put_at (error_beside e.position) e) lists
 
 -- the lists without the error of a position
 abbrev pub removed : SiteName → ℕ → List ErrorList → List ErrorList
-removed origin position lists = at_origin origin (take_at (beside position)) lists
+removed origin position lists = at_origin origin (take_at (error_beside position)) lists

@@ -1,3 +1,3 @@
 -- The definitions of this crate.
 pub mod ErrorLists
-pub mod Kept
+pub mod ErrorQueueState

@@ -2,7 +2,7 @@
 ghost use Rattle.std.specs.Prelude.{◌≡◌, ◌↔◌, ℕ, ◌+◌, ◌≤◌, [], None, length, map, option_copied, slice_get, IfOk, OnOk, IsTrue};
 ghost use Rattle.std.specs.List.{position};
 ghost use Rattle.error_queue.specs.ErrorLists.{no_errors, error_in, in_order, added, removed, IsOrigin};
-ghost use Rattle.error_queue.specs.Kept.{lists_of, rooms_of, least, is_list_of};
+ghost use Rattle.error_queue.specs.ErrorQueueState.{lists_of, rooms_of, least, is_list_of};
 
 use crate::ErrorEntry;
 use crate::origin_errors::OriginErrors;
@@ -22,7 +22,7 @@ pub struct Errors {
 impl Model for Errors {
     ghost use Rattle.std.specs.Prelude.{◌≡◌, ◌-◌, ◌^◌, length};
     ghost use Rattle.error_queue.specs.ErrorLists.{ErrorQueue, in_order};
-    ghost use Rattle.error_queue.specs.Kept.{lists_of, rooms_of, least};
+    ghost use Rattle.error_queue.specs.ErrorQueueState.{lists_of, rooms_of, least};
 
     ghost Value = { ErrorQueue };
 

@@ -3,8 +3,8 @@ ghost use Rattle.std.specs.Prelude.{◌≡◌, ◌↔◌, ◌+◌, ◌-◌, ◌�
 ghost use Rattle.std.specs.VecDeque.{deque_len, deque_capacity};
 ghost use Rattle.rep_lists.specs.Rising.{IsRising, IsThere, IsGap, find_at, put_at, take_at};
 ghost use Rattle.rep_values.specs.Name.{same_bytes};
-ghost use Rattle.error_queue.specs.ErrorLists.{beside, no_errors};
-ghost use Rattle.error_queue.specs.Kept.{by_position, is_list_of, AreErrorsOf};
+ghost use Rattle.error_queue.specs.ErrorLists.{error_beside, no_errors};
+ghost use Rattle.error_queue.specs.ErrorQueueState.{by_error_position, is_list_of, AreErrorsOf};
 
 use crate::ErrorEntry;
 use rep_lists::NoMemory;
@@ -25,9 +25,9 @@ pub struct OriginErrors {
 impl Model for OriginErrors {
     ghost use Rattle.std.specs.Prelude.{◌-◌};
     ghost use Rattle.std.specs.VecDeque.{deque_len, deque_capacity};
-    ghost use Rattle.error_queue.specs.Kept.{Held, AreErrorsOf};
+    ghost use Rattle.error_queue.specs.ErrorQueueState.{OriginErrorsState, AreErrorsOf};
 
-    ghost Value = { Held };
+    ghost Value = { OriginErrorsState };
 
     ghost view = { λ o. record { list = record { origin = o.origin; entries = o.entries.items }; room = deque_capacity o.entries - deque_len o.entries } };
 
@@ -36,20 +36,20 @@ impl Model for OriginErrors {
 
 /// The place of a position, or else the place where it would stand.
 fn search(entries: &VecDeque<ErrorEntry>, position: u64) -> Result<usize, usize>
-    requires { IsRising by_position entries.now.items }
-    ensures found { IfOk result (IsThere (beside position) entries.now.items) }
-    ensures absent { IfErr result (IsGap (beside position) entries.now.items) }
+    requires { IsRising by_error_position entries.now.items }
+    ensures found { IfOk result (IsThere (error_beside position) entries.now.items) }
+    ensures absent { IfErr result (IsGap (error_beside position) entries.now.items) }
 {
     entries.binary_search_by(
         |entry: &ErrorEntry| -> Ordering
-            ensures { result ≡ beside position entry.now }
+            ensures { result ≡ error_beside position entry.now }
         { entry.position.cmp(&position) },
     )
 }
 
 fn find(entries: &VecDeque<ErrorEntry>, position: u64) -> Option<&ErrorEntry>
-    requires { IsRising by_position entries.now.items }
-    ensures { option_copied result ≡ find_at (beside position) entries.now.items }
+    requires { IsRising by_error_position entries.now.items }
+    ensures { option_copied result ≡ find_at (error_beside position) entries.now.items }
 {
     match search(entries, position) {
         Ok(place) => Some(&entries[place]),
@@ -58,9 +58,9 @@ fn find(entries: &VecDeque<ErrorEntry>, position: u64) -> Option<&ErrorEntry>
 }
 
 fn take_out(entries: &mut VecDeque<ErrorEntry>, position: u64) -> Option<ErrorEntry>
-    requires { IsRising by_position entries.old.items }
-    ensures taken { result ≡ find_at (beside position) entries.old.items }
-    ensures entries { entries.new.items ≡ take_at (beside position) entries.old.items }
+    requires { IsRising by_error_position entries.old.items }
+    ensures taken { result ≡ find_at (error_beside position) entries.old.items }
+    ensures entries { entries.new.items ≡ take_at (error_beside position) entries.old.items }
     ensures room { deque_capacity entries.old - deque_len entries.old ≤ deque_capacity entries.new - deque_len entries.new }
 {
     match search(entries, position) {
@@ -71,10 +71,10 @@ fn take_out(entries: &mut VecDeque<ErrorEntry>, position: u64) -> Option<ErrorEn
 
 /// Puts an error in its place, where none stands. It takes no memory.
 fn put_in(entries: &mut VecDeque<ErrorEntry>, error: ErrorEntry)
-    requires rising { IsRising by_position entries.old.items }
-    requires absent { find_at (beside error.position) entries.old.items ≡ None }
+    requires rising { IsRising by_error_position entries.old.items }
+    requires absent { find_at (error_beside error.position) entries.old.items ≡ None }
     requires room { 1 ≤ deque_capacity entries.old - deque_len entries.old }
-    ensures entries { entries.new.items ≡ put_at (beside error.position) error entries.old.items }
+    ensures entries { entries.new.items ≡ put_at (error_beside error.position) error entries.old.items }
     ensures room { deque_capacity entries.old - deque_len entries.old ≤ deque_capacity entries.new - deque_len entries.new + 1 }
 {
     match search(entries, error.position) {
@@ -140,7 +140,7 @@ impl OriginErrors {
 
     /// The error of a position; None exactly where none stands.
     pub fn get(&self, position: u64) -> Option<&ErrorEntry>
-        ensures { option_copied result ≡ find_at (beside position) self.now.list.entries }
+        ensures { option_copied result ≡ find_at (error_beside position) self.now.list.entries }
     {
         find(&self.entries, position)
     }
@@ -158,10 +158,10 @@ impl OriginErrors {
     /// Adds an error of the origin, of a position that has none. It takes no memory.
     pub(crate) fn add(&mut self, error: ErrorEntry)
         requires own { same_bytes self.old.list.origin.0 error.origin.0 ≡ true }
-        requires absent { find_at (beside error.position) self.old.list.entries ≡ None }
+        requires absent { find_at (error_beside error.position) self.old.list.entries ≡ None }
         requires room { 1 ≤ self.old.room }
         ensures origin { self.new.list.origin ≡ self.old.list.origin }
-        ensures entries { self.new.list.entries ≡ put_at (beside error.position) error self.old.list.entries }
+        ensures entries { self.new.list.entries ≡ put_at (error_beside error.position) error self.old.list.entries }
         ensures room { self.old.room ≤ self.new.room + 1 }
     {
         put_in(&mut self.entries, error);
@@ -169,9 +169,9 @@ impl OriginErrors {
 
     /// Takes the error of a position out, if it stands, and keeps its room.
     pub(crate) fn take(&mut self, position: u64) -> Option<ErrorEntry>
-        ensures error { result ≡ find_at (beside position) self.old.list.entries }
+        ensures error { result ≡ find_at (error_beside position) self.old.list.entries }
         ensures origin { self.new.list.origin ≡ self.old.list.origin }
-        ensures entries { self.new.list.entries ≡ take_at (beside position) self.old.list.entries }
+        ensures entries { self.new.list.entries ≡ take_at (error_beside position) self.old.list.entries }
         ensures room { self.old.room ≤ self.new.room }
     {
         take_out(&mut self.entries, position)

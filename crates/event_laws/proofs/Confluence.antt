@@ -7,7 +7,7 @@ use mathlib.Core.List.{append_assoc}
 use Rattle.std.proofs.lemmas.Bool.Decides.{nat_tests}
 use Rattle.rep_values.specs.declared.name.SiteName.{SiteName}
 use Rattle.rep_schema.specs.declared.schema.Schema.{Schema}
-use Rattle.rep_calls.specs.declared.past.Past.{Past}
+use Rattle.rep_calls.specs.declared.past.PastEntry.{PastEntry}
 use Rattle.conflict_detect.specs.Fits.{TxnFits}
 use Rattle.txn_effects.specs.Contents.{IsContent}
 use Rattle.deferred_queue.specs.Streams.{is_same_site}
@@ -122,7 +122,7 @@ module _ (origin : SiteName) (start : SiteState) (is : CanPassInAnyOrder origin 
     frame : bare x ≡ bare start
     queue : queue_of x ≡ queue_of start
     pasts : pasts_of x ≡ pasts_of start
-    covers : (past : List Past) → NamesOthers origin past → list_all (is_covered x) past ≡ list_all (is_covered start) past
+    covers : (past : List PastEntry) → NamesOthers origin past → list_all (is_covered x) past ≡ list_all (is_covered start) past
 
   at_start : Within start
   at_start = record { frame = refl; queue = refl; pasts = refl; covers = λ past off. refl }

@@ -8,7 +8,7 @@ use Rattle.rep_schema.specs.declared.schema.SiteEntry.{SiteEntry}
 use Rattle.rep_schema.specs.Shape.{is_master}
 use Rattle.rep_schema.specs.Named.{is_site}
 use Rattle.rep_schema.specs.Sites.{senders_of, destinations_of}
-use Rattle.rep_calls.specs.declared.past.Past.{Past}
+use Rattle.rep_calls.specs.declared.past.PastEntry.{PastEntry}
 use Rattle.packet_code.specs.declared.packet.Packet.{Packet}
 use Rattle.site_state.specs.State.{SiteState, is_master_site}
 use Rattle.site_state.specs.Purges.{site_purge}
@@ -34,7 +34,7 @@ refreshed_names sites x _ (happening.From master found is) = record { here = ref
 
 -- ---- one that joins
 
-origins-map : (firsts : List Past) (names : List SiteName) → origins (map (sender_from firsts) names) ≡ names
+origins-map : (firsts : List PastEntry) (names : List SiteName) → origins (map (sender_from firsts) names) ≡ names
 origins-map firsts [] = refl
 origins-map firsts (name ∷ names) = ap (λ rest. name ∷ rest) (origins-map firsts names)
 

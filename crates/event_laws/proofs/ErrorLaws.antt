@@ -16,7 +16,7 @@ use Rattle.site_state.specs.Ready.{stale_of}
 use Rattle.site_state.specs.Passes.{effect_here, finished_by, applied_unless, apply_answer_by, apply_answer_unless}
 use Rattle.site_state.specs.Errors.{effect_of_error, executed_by, executed_found, execute_refusal_by, execute_refusal_found, dropped_found}
 use Rattle.site_state.proofs.Stepping.{arrived_has, error_found}
-use Rattle.event_laws.specs.ErrorLaws.{StandsWhole, ErrorsStandWhole, RefusedExecutionsChangeNothing, IsExecuted, ExecutionsApplyAnew, IsDropped, DropsSettle}
+use Rattle.event_laws.specs.ErrorLaws.{StandsWhole, ErrorsStandWhole, RefusedExecutionsChangeNothing, IsExecuted, ExecutionsApplyAnew, IsDropped, DropsClear}
 
 -- a position is itself
 pub is_position-own : (origin : SiteName) (position p : ℕ) → p ≡ position → is_position origin position origin p ≡ true
@@ -70,8 +70,8 @@ executions_apply_anew x origin position is = go (error_at origin position x.jour
     go None stood is = absurd (cc is)
     go (Some e) stood is = by e stood (effect_of_error e x) is
 
-pub drops_settle : DropsSettle
-drops_settle x origin position is = go (error_at origin position x.journal) refl is
+pub drops_clear : DropsClear
+drops_clear x origin position is = go (error_at origin position x.journal) refl is
   where
     go : (found : Option ErrorEntry) → error_at origin position x.journal ≡ found → cond (is_some found) None (Some refusal.NoSuchError) ≡ None → IsDropped x (dropped_found found x) origin position
     go None stood is = absurd (cc is)

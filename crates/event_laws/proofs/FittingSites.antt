@@ -6,7 +6,7 @@ use Rattle.rep_values.specs.declared.name.SiteName.{SiteName}
 use Rattle.rep_schema.specs.declared.schema.Schema.{Schema}
 use Rattle.rep_schema.specs.Tables.{AreTables}
 use Rattle.rep_schema.specs.Sites.{senders_of}
-use Rattle.rep_calls.specs.declared.past.Past.{Past}
+use Rattle.rep_calls.specs.declared.past.PastEntry.{PastEntry}
 use Rattle.unique_resolve.proofs.Settlements.{AreCounters-first}
 use Rattle.packet_code.specs.declared.packet.Packet.{Packet}
 use Rattle.rep_laws.specs.Commuting.{IsSound}
@@ -26,7 +26,7 @@ use Rattle.site_state.specs.Joining.{sender_from, site_open, site_copy}
 use Rattle.site_state.proofs.Growing.{queue_after-rebased}
 use Rattle.site_state.proofs.Stepping.{commit_steps, apply_steps, execute_steps, drop_steps}
 use Rattle.site_state.proofs.Changing.{accept_later}
-use Rattle.event_laws.specs.Core.{Core, site_of, at_site}
+use Rattle.event_laws.specs.Cluster.{Cluster, site_of, at_site}
 use Rattle.event_laws.specs.Joins.{queue_counts, copied, with_joined, may_join, joined_by, joined}
 use Rattle.event_laws.specs.Events.{Event, Commit, SetClock, Send, SendMark, Deliver, Begin, Apply, Execute, Drop, Purge, PurgeLog, Refresh, Join, receiver, delivered, may_apply, applied_where, master_of, found_site, refreshed, happens, run}
 use Rattle.event_laws.specs.Starts.{IsNewSite}
@@ -89,7 +89,7 @@ module _ (schema : Schema) where
       by None there = absurd (cc there)
       by (Some name) there = let m = found name master there in subst (λ (s : Schema). AreTables s (tables_of master)) (m.same ∙ sym h.same) m.fits.content.tables
 
-  none_arrived : (firsts : List Past) (names : List SiteName) → SendersFit schema (map (sender_from firsts) names)
+  none_arrived : (firsts : List PastEntry) (names : List SiteName) → SendersFit schema (map (sender_from firsts) names)
   none_arrived firsts [] = tt
   none_arrived firsts (n ∷ ns) = (tt, none_arrived firsts ns)
 
@@ -123,7 +123,7 @@ module _ (schema : Schema) where
   at_fits : (site : SiteName) (change : SiteState → SiteState) (sites : List SiteState) → ((x : SiteState) → (change x).schema ≡ x.schema) → ((x : SiteState) → SiteFits x → SiteFits (change x)) → AllFit sites → AllFit (at_site site change sites)
   at_fits site change sites same keeps all = all_at (FitsIn schema) site change sites (λ x h. record { same = same x ∙ h.same; fits = keeps x h.fits }) all
 
-  happens_fits : (e : Event) (w : Core) → AllFit w.sites → AllFit (happens e w).sites
+  happens_fits : (e : Event) (w : Cluster) → AllFit w.sites → AllFit (happens e w).sites
   happens_fits (Commit site statements) w all = at_fits site (site_commit statements) w.sites (λ x. (commit_steps statements x).schema) (commit_fits statements) all
   happens_fits (SetClock site clock) w all = all_at (FitsIn schema) site (site_clock clock) w.sites (λ x h. plain_fits x _ refl refl refl refl refl h.fits.within h) all
   happens_fits (Send from to position) w all = all
@@ -147,7 +147,7 @@ module _ (schema : Schema) where
       all_at (FitsIn schema) site (refreshed w.sites) w.sites (λ x. refresh_fits w.sites (λ name m there. found_all (FitsIn schema) name w.sites m all there) x (refreshed w.sites x) (refreshed_is w.sites x)) all
   happens_fits (Join site from) w all = joined_fits w.sites site from all
 
-  run_fits : (es : List Event) (w : Core) → AllFit w.sites → AllFit (run es w).sites
+  run_fits : (es : List Event) (w : Cluster) → AllFit w.sites → AllFit (run es w).sites
   run_fits [] w all = all
   run_fits (e ∷ es) w all = happens_fits e (run es w) (run_fits es w all)
 

@@ -11,7 +11,7 @@ use Rattle.site_state.specs.Purges.{site_purge}
 use Rattle.site_state.specs.Refreshes.{site_refresh}
 use Rattle.event_laws.specs.Rules.{rows_ruled}
 use Rattle.site_state.proofs.Stepping.{Steps, clock_steps, begun_steps, purge_log_steps, commit_steps, apply_steps, execute_steps, drop_steps}
-use Rattle.event_laws.specs.Core.{Core, site_of, at_site}
+use Rattle.event_laws.specs.Cluster.{Cluster, site_of, at_site}
 use Rattle.event_laws.specs.Joins.{may_join, with_joined, joined_by, joined}
 use Rattle.event_laws.specs.Events.{Event, Commit, SetClock, Send, SendMark, Deliver, Begin, Apply, Execute, Drop, Purge, PurgeLog, Refresh, Join, with_packet, packet_from, mark_from, receiver, delivered, may_apply, applied_where, master_of, refreshed_from, found_site, refreshed, happens, run}
 
@@ -75,7 +75,7 @@ joined_becomes sites sent site source = go (site_of site sites) refl (site_of so
     go None is (Some x) found = by x is found (may_join sites x site) refl
 
 -- every event is of one of these kinds
-pub happens_becomes : (e : Event) (w : Core) → Becomes w.sites w.sent (happens e w).sites (happens e w).sent
+pub happens_becomes : (e : Event) (w : Cluster) → Becomes w.sites w.sent (happens e w).sites (happens e w).sent
 happens_becomes (Commit site statements) w = Journalled site _ (commit_steps statements)
 happens_becomes (SetClock site clock) w = Journalled site _ (clock_steps clock)
 happens_becomes (Send from to position) w = Sends from to position
@@ -93,6 +93,6 @@ happens_becomes (Join site source) w = joined_becomes w.sites w.sent site source
 -- what each kind keeps holds after every list of events
 pub run_keeps : (P : List SiteState → List Packet → Type 0)
     → ((xs : List SiteState) (sent : List Packet) (ys : List SiteState) (more : List Packet) → Becomes xs sent ys more → P xs sent → P ys more)
-    → (es : List Event) (w : Core) → P w.sites w.sent → P (run es w).sites (run es w).sent
+    → (es : List Event) (w : Cluster) → P w.sites w.sent → P (run es w).sites (run es w).sent
 run_keeps P keeps [] w is = is
 run_keeps P keeps (e ∷ es) w is = keeps _ _ _ _ (happens_becomes e (run es w)) (run_keeps P keeps es w is)

@@ -7,7 +7,7 @@ use Rattle.rep_values.specs.declared.name.SiteName.{SiteName}
 use Rattle.rep_schema.specs.declared.schema.Schema.{Schema}
 use Rattle.rep_schema.specs.Shape.{HasShape}
 use Rattle.rep_schema.specs.Sites.{senders_of, destinations_of}
-use Rattle.rep_calls.specs.declared.past.Past.{Past}
+use Rattle.rep_calls.specs.declared.past.PastEntry.{PastEntry}
 use Rattle.deferred_queue.specs.Streams.{is_same_site}
 use Rattle.deferred_queue.proofs.Sites.{is_same_site-true, is_same_site-refl}
 use Rattle.packet_code.specs.declared.packet.Packet.{Packet}
@@ -19,10 +19,10 @@ use Rattle.site_state.specs.Journal.{finished}
 use Rattle.site_state.specs.Making.{is_late_master, new_destination, master_here}
 use Rattle.site_state.specs.Joining.{opened_from, site_open, number_for, sender_from, site_copy}
 use Rattle.site_state.proofs.Destinations.{opened_in-opened, opened_from_stays, opened_in-other, opened_in-own}
-use Rattle.event_laws.specs.Core.{site_of}
+use Rattle.event_laws.specs.Cluster.{site_of}
 use Rattle.event_laws.specs.Joins.{count_at, queue_counts, open_to_each, copied, with_joined, may_join}
 use Rattle.site_state.specs.State.{is_among}
-use Rattle.event_laws.specs.Waiting.{IsFirst, AbsentAreClosed}
+use Rattle.event_laws.specs.Waiting.{IsFirstNumber, AbsentAreClosed}
 use Rattle.event_laws.proofs.Sites.{found_or, site_of-joined, found_name, found_all}
 use Rattle.event_laws.proofs.NewSites.{open_to_each_keeps, copied_is_new, copied_here}
 use Rattle.site_state.proofs.SchemaSites.{sender_has_destination, own_is_no_sender, late_has_masters}
@@ -212,26 +212,26 @@ module _ (schema : Schema) (shape : HasShape schema) (sites : List SiteState) (s
       d = among_destination site o.destinations
           (rw (is.declared.destinations, found_name origin sites o there) (sender_has_destination schema shape site origin among))
 
-  first_of_it : (origin : SiteName) → is_among (senders_of schema site) origin ≡ true → IsFirst (site_of origin ys) site (number_for origin (queue_counts sites))
+  first_of_it : (origin : SiteName) → is_among (senders_of schema site) origin ≡ true → IsFirstNumber (site_of origin ys) site (number_for origin (queue_counts sites))
   first_of_it origin among = rw (found origin) (go (site_of origin sites) refl)
     where
       masters : (o : SiteState) → site_of origin sites ≡ Some o → o.here.is_master ≡ true
       masters o there = (found_all (IsSiteOf schema) origin sites o all_of there).declared.is_master
           ∙ ap (is_master_site schema) (found_name origin sites o there) ∙ late_has_masters schema shape site origin late among
 
-      others : (b : Bool) → is_same_site new.here.site origin ≡ b → site_of origin sites ≡ None → IsFirst (cond b (Some new) None) site (number_for origin (queue_counts sites))
+      others : (b : Bool) → is_same_site new.here.site origin ≡ b → site_of origin sites ≡ None → IsFirstNumber (cond b (Some new) None) site (number_for origin (queue_counts sites))
       others true same none =
           let own : origin ≡ site = sym (is_same_site-true new.here.site origin same) ∙ name_is in
           let among_own : is_among (senders_of schema site) site ≡ true = subst (λ (n : SiteName). is_among (senders_of schema site) n ≡ true) own among in
           absurd (cc (among_own, own_is_no_sender schema shape site))
       others false same none = number_absent origin sites none
 
-      go : (o : Option SiteState) → site_of origin sites ≡ o → IsFirst (found_or (site_of origin (new ∷ [])) (option_map (site_open site) o)) site (number_for origin (queue_counts sites))
+      go : (o : Option SiteState) → site_of origin sites ≡ o → IsFirstNumber (found_or (site_of origin (new ∷ [])) (option_map (site_open site) o)) site (number_for origin (queue_counts sites))
       go None none = others (is_same_site new.here.site origin) refl none
       go (Some o) there = rw (number_there origin sites o there (masters o there)) (open_to_it origin o among there, omega arith)
 
   firsts_of_it : (names : List SiteName) → AllByRecursion (λ (n : SiteName). is_among (senders_of schema site) n ≡ true) names
-      → AllByRecursion (λ (s : SenderState). IsFirst (site_of s.origin ys) site s.first) (map (sender_from (queue_counts sites)) names)
+      → AllByRecursion (λ (s : SenderState). IsFirstNumber (site_of s.origin ys) site s.first) (map (sender_from (queue_counts sites)) names)
   firsts_of_it [] among = tt
   firsts_of_it (n ∷ ns) among = (first_of_it n among.0, firsts_of_it ns among.1)
 
@@ -252,17 +252,17 @@ module _ (schema : Schema) (shape : HasShape schema) (sites : List SiteState) (s
 
   -- ---- the others
 
-  past_later : (origin : SiteName) (number : ℕ) (past : List Past) → PastIs (site_of origin sites) number past → PastIs (site_of origin ys) number past
+  past_later : (origin : SiteName) (number : ℕ) (past : List PastEntry) → PastIs (site_of origin sites) number past → PastIs (site_of origin ys) number past
   past_later origin number past is = rw (found origin) (go (site_of origin sites) is)
     where
       go : (o : Option SiteState) → PastIs o number past → PastIs (found_or (site_of origin (new ∷ [])) (option_map (site_open site) o)) number past
       go None is = absurd is
       go (Some o) is = is
 
-  first_later : (name origin : SiteName) (first : ℕ) → site_of name sites ≢ None → is_among (senders_of schema name) origin ≡ true → IsFirst (site_of origin sites) name first → IsFirst (site_of origin ys) name first
+  first_later : (name origin : SiteName) (first : ℕ) → site_of name sites ≢ None → is_among (senders_of schema name) origin ≡ true → IsFirstNumber (site_of origin sites) name first → IsFirstNumber (site_of origin ys) name first
   first_later name origin first there among is = rw (found origin) (go (site_of origin sites) is)
     where
-      joined : (b : Bool) → is_same_site new.here.site origin ≡ b → first ≡ 0 → IsFirst (cond b (Some new) None) name first
+      joined : (b : Bool) → is_same_site new.here.site origin ≡ b → first ≡ 0 → IsFirstNumber (cond b (Some new) None) name first
       joined true same zero =
           let own : origin ≡ site = sym (is_same_site-true new.here.site origin same) ∙ name_is in
           let to : is_among (destinations_of schema site) name ≡ true =
@@ -270,12 +270,12 @@ module _ (schema : Schema) (shape : HasShape schema) (sites : List SiteState) (s
           rw zero (opened_to name to there, omega arith)
       joined false same zero = zero
 
-      go : (o : Option SiteState) → IsFirst o name first → IsFirst (found_or (site_of origin (new ∷ [])) (option_map (site_open site) o)) name first
+      go : (o : Option SiteState) → IsFirstNumber o name first → IsFirstNumber (found_or (site_of origin (new ∷ [])) (option_map (site_open site) o)) name first
       go None zero = joined (is_same_site new.here.site origin) refl zero
       go (Some o) is = (opened_from_stays (count_of o) (opened_of name o) (opened_of name (site_open site o)) first (opened_in-opened name site (count_of o) o.destinations) is.0, is.1)
 
   firsts_later : (name : SiteName) (ss : List SenderState) → site_of name sites ≢ None → AllByRecursion (λ (s : SenderState). is_among (senders_of schema name) s.origin ≡ true) ss
-      → AllByRecursion (λ (s : SenderState). IsFirst (site_of s.origin sites) name s.first) ss → AllByRecursion (λ (s : SenderState). IsFirst (site_of s.origin ys) name s.first) ss
+      → AllByRecursion (λ (s : SenderState). IsFirstNumber (site_of s.origin sites) name s.first) ss → AllByRecursion (λ (s : SenderState). IsFirstNumber (site_of s.origin ys) name s.first) ss
   firsts_later name [] there among all = tt
   firsts_later name (s ∷ ss) there among all = (first_later name s.origin s.first there among.0 all.0, firsts_later name ss there among.1 all.1)
 

@@ -3,7 +3,7 @@ pub mod Sites
 pub mod Runs
 pub mod Happening
 pub mod NewSites
-pub mod Holding
+pub mod RunInvariants
 pub mod MarkLaws
 pub mod OrderLaws
 pub mod ErrorLaws

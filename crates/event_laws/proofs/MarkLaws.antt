@@ -12,10 +12,10 @@ use Rattle.deferred_queue.specs.Streams.{is_same_site, at_position}
 use Rattle.deferred_queue.proofs.Sites.{is_same_site-true}
 use Rattle.packet_code.specs.declared.packet.Packet.{Packet}
 use Rattle.site_state.specs.declared.arrival.Arrival.{Arrival}
-use Rattle.site_state.specs.State.{SenderState, SiteState, sender_of, arrived_in, arrived_at, arrivals, beside, opened_of, acked_of}
+use Rattle.site_state.specs.State.{SenderState, SiteState, sender_of, arrived_in, arrived_at, arrivals, arrival_beside, opened_of, acked_of}
 use Rattle.site_state.specs.Journal.{finished, low_water}
 use Rattle.site_state.specs.Streams.{queue_of, stream_in, stream_to, dep_at, shares}
-use Rattle.site_state.specs.Packets.{count_opened, number_at, carry_of, packet_found}
+use Rattle.site_state.specs.Packets.{count_opened, stream_number, carry_of, packet_found}
 use Rattle.site_state.specs.Purges.{site_purge}
 use Rattle.site_state.specs.Contents.{tables_of}
 use Rattle.site_state.specs.Refreshes.{site_refresh}
@@ -26,7 +26,7 @@ use Rattle.site_state.proofs.Growing.{dep_at-covers}
 use Rattle.site_state.proofs.Stepping.{Later, later_same, steps_later, IsSent, found_at}
 use Rattle.site_state.proofs.Destinations.{acked_in-opened}
 use Rattle.site_state.proofs.Changing.{PurgedIsAcked, purged_kept, accept_later, purge_later, refresh_later, open_later, open_purged}
-use Rattle.event_laws.specs.Core.{Core, site_of}
+use Rattle.event_laws.specs.Cluster.{Cluster, site_of}
 use Rattle.event_laws.specs.Joins.{with_joined, copied}
 use Rattle.event_laws.specs.Events.{Event, with_packet, packet_from, mark_from, receiver, run}
 use Rattle.event_laws.specs.Starts.{IsNewSite, IsStart, InEveryRun}
@@ -34,16 +34,16 @@ use Rattle.event_laws.specs.Marks.{journal_in, acked_at, low_at, MarksAreLow, Pu
 use Rattle.event_laws.proofs.Sites.{found_or, site_of-joined, found_again, found_all, all_at, all_joined, all_at_place}
 use Rattle.event_laws.proofs.Happening.{IsRefreshed, Becomes, run_keeps}
 use Rattle.event_laws.proofs.Happening as happening
-use Rattle.event_laws.proofs.Holding.{SentBy, PacketHolds, ArrivalHolds, SendersHold, SiteHolds, HoldsAt, Holds, LaterIn, AllLater, Keeps, low_at-later, packets_later, senders_later, holds_at, steps_keep, purge_keeps, accept_keeps}
+use Rattle.event_laws.proofs.RunInvariants.{SentBy, PacketHolds, ArrivalHolds, SendersHold, SiteHolds, HoldsAt, Holds, LaterIn, AllLater, Keeps, low_at-later, packets_later, senders_later, holds_at, steps_keep, purge_keeps, accept_keeps}
 use Rattle.event_laws.proofs.NewSites.{copied_is_new, start_is_new}
 
 -- ---- what is sent
 
 -- what stands at a position of a stream is sent with its number and its dependency number
-sent_from : (to : SiteName) (position : ℕ) (x : SiteState) (txn : Txn) → at_position position (stream_to to x) ≡ Some txn → IsSent x to (number_at to position x) position (dep_at x.schema position (stream_to to x)) txn
+sent_from : (to : SiteName) (position : ℕ) (x : SiteState) (txn : Txn) → at_position position (stream_to to x) ≡ Some txn → IsSent x to (stream_number to position x) position (dep_at x.schema position (stream_to to x)) txn
 sent_from to position x txn there = go (opened_of to x) refl
   where
-    go : (o : Option ℕ) → opened_of to x ≡ o → IsSent x to (number_at to position x) position (dep_at x.schema position (stream_to to x)) txn
+    go : (o : Option ℕ) → opened_of to x ≡ o → IsSent x to (stream_number to position x) position (dep_at x.schema position (stream_to to x)) txn
     go None is = let none : at_position position (stream_in None (queue_of x)) ≡ Some txn = rw is at there in absurd (cc none)
     go (Some count) is = record { count = count; opened = is; there = there; dep_is = refl; number_is = ap (λ o. count_opened o + position) is }
 
@@ -53,14 +53,14 @@ sends_hold sites sent from to position holds = by (site_of from sites) refl
     kept : (x : SiteState) (txn : Txn) → site_of from sites ≡ Some x → at_position position (stream_to to x) ≡ Some txn → (b : Bool) → Holds sites (with_packet (cond b None (Some (carry_of to position x txn))) sent)
     kept x txn found there true = holds
     kept x txn found there false = record {
-      packets = (subst (λ (o : Option SiteState). SentBy o to (number_at to position x) position (dep_at x.schema position (stream_to to x)) txn) (sym (found_again from sites x found)) (sent_from to position x txn there), holds.packets);
+      packets = (subst (λ (o : Option SiteState). SentBy o to (stream_number to position x) position (dep_at x.schema position (stream_to to x)) txn) (sym (found_again from sites x found)) (sent_from to position x txn there), holds.packets);
       each = holds.each;
       low = holds.low;
     }
 
     go : (x : SiteState) → site_of from sites ≡ Some x → (t : Option Txn) → at_position position (stream_to to x) ≡ t → Holds sites (with_packet (packet_found to position x t) sent)
     go x found None there = holds
-    go x found (Some txn) there = kept x txn found there (nat_le (number_at to position x) x.purged)
+    go x found (Some txn) there = kept x txn found there (nat_le (stream_number to position x) x.purged)
 
     by : (o : Option SiteState) → site_of from sites ≡ o → Holds sites (with_packet (packet_from to position o) sent)
     by None found = holds
@@ -173,14 +173,14 @@ becomes_holds xs sent _ _ (happening.Purges name) holds = holds_at xs sent name 
 becomes_holds xs sent _ _ (happening.Refreshes name change refreshed) holds = holds_at xs sent name change (refreshed_keeps xs name change refreshed) holds
 becomes_holds xs sent _ _ (happening.Joins site from source absent found may) holds = joined_holds xs sent site source holds
 
-pub start_holds : (schema : Schema) (start : Core) → IsStart schema start → Holds start.sites start.sent
+pub start_holds : (schema : Schema) (start : Cluster) → IsStart schema start → Holds start.sites start.sent
 start_holds schema start is = record {
   packets = rw is.sent tt;
   each = λ site. start_is_new schema (HoldsAt start.sites site) start.sites site tt (λ x new. new_holds schema start.sites site x new) is.sites;
   low = λ origin site. start_is_new schema (λ o. acked_at site o ≤ low_at origin (site_of site start.sites)) start.sites origin (omega arith) (λ x new. rw (new.acked site) (omega arith)) is.sites;
 }
 
-pub run_holds : (schema : Schema) (start : Core) (events : List Event) → IsStart schema start → Holds (run events start).sites (run events start).sent
+pub run_holds : (schema : Schema) (start : Cluster) (events : List Event) → IsStart schema start → Holds (run events start).sites (run events start).sent
 run_holds schema start events is = run_keeps Holds becomes_holds events start (start_holds schema start is)
 
 -- ---- what holds of each site and stays
@@ -214,7 +214,7 @@ start_schema : (schema : Schema) (sites : List SiteState) → AllByRecursion (Is
 start_schema schema [] all = tt
 start_schema schema (x ∷ xs) all = (all.0.schema_is, start_schema schema xs all.1)
 
-pub run_schema : (schema : Schema) (start : Core) (events : List Event) → IsStart schema start → AllByRecursion (IsOfSchema schema) (run events start).sites
+pub run_schema : (schema : Schema) (start : Cluster) (events : List Event) → IsStart schema start → AllByRecursion (IsOfSchema schema) (run events start).sites
 run_schema schema start events is =
     run_keeps (λ xs sent. AllByRecursion (IsOfSchema schema) xs) (becomes_all (IsOfSchema schema) (schema_stays schema)) events start (start_schema schema start.sites is.sites)
 
@@ -235,9 +235,9 @@ arrived_was_sent sites site origin [] p a holds found = absurd (cc found)
 arrived_was_sent sites site origin (s ∷ ss) p a holds found = go (is_same_site s.origin origin) refl (arrived_was_sent sites site origin ss p a holds.1) found
   where
     go : (b : Bool) → is_same_site s.origin origin ≡ b → (arrived_at origin p ss ≡ Some a → SentBy (site_of origin sites) site a.number a.position a.dep a.txn)
-        → find_at (beside p) (arrived_in (cond b (Some s) (sender_of origin ss))) ≡ Some a → SentBy (site_of origin sites) site a.number a.position a.dep a.txn
+        → find_at (arrival_beside p) (arrived_in (cond b (Some s) (sender_of origin ss))) ≡ Some a → SentBy (site_of origin sites) site a.number a.position a.dep a.txn
     go true is later found =
-        subst (λ (o : SiteName). SentBy (site_of o sites) site a.number a.position a.dep a.txn) (is_same_site-true s.origin origin is) (find_holds (ArrivalHolds sites site s.origin) (beside p) s.arrived a holds.0 found)
+        subst (λ (o : SiteName). SentBy (site_of o sites) site a.number a.position a.dep a.txn) (is_same_site-true s.origin origin is) (find_holds (ArrivalHolds sites site s.origin) (arrival_beside p) s.arrived a holds.0 found)
     go false is later found = later found
 
 -- ---- the laws
@@ -262,7 +262,7 @@ numbered_by : (site : SiteName) (o : SiteState) (p q : ℕ) (a b : Arrival) → 
 numbered_by site o p q a b at_a at_b sent_a sent_b less shared =
     omega (arith, at_a, sent_b.dep_is, dep_at-covers o.schema (stream_to site o) a.position b.position a.txn b.txn sent_a.there sent_b.there (omega (arith, less, at_a, at_b)) shared)
 
-pub are_well_numbered : (schema : Schema) (w : Core) → AllByRecursion (IsOfSchema schema) w.sites → Holds w.sites w.sent → AreWellNumbered w.sites
+pub are_well_numbered : (schema : Schema) (w : Cluster) → AllByRecursion (IsOfSchema schema) w.sites → Holds w.sites w.sent → AreWellNumbered w.sites
 are_well_numbered schema w of_schema holds site origin x found p q a b at_a at_b less shared =
     go (site_of origin w.sites) refl (arrived_was_sent w.sites site origin x.senders p a held.senders at_a) (arrived_was_sent w.sites site origin x.senders q b held.senders at_b)
   where

@@ -7,7 +7,7 @@ use Rattle.rep_lists.proofs.Rising.{all_put}
 use Rattle.rep_values.specs.declared.name.SiteName.{SiteName}
 use Rattle.rep_schema.specs.declared.schema.Schema.{Schema}
 use Rattle.rep_calls.specs.declared.call.Txn.{Txn}
-use Rattle.rep_calls.specs.declared.past.Past.{Past}
+use Rattle.rep_calls.specs.declared.past.PastEntry.{PastEntry}
 use Rattle.conflict_detect.specs.FitTests.{txn_fits}
 use Rattle.deferred_queue.specs.Streams.{is_same_site, at_position}
 use Rattle.deferred_queue.proofs.Sites.{is_same_site-true}
@@ -15,10 +15,10 @@ use Rattle.deferred_queue.proofs.Positions.{at_position-within, found_position}
 use Rattle.packet_code.specs.declared.packet.Packet.{Packet}
 use Rattle.packet_code.specs.declared.packet.Packet.TheVariants.{Carry, Mark}
 use Rattle.site_state.specs.declared.arrival.Arrival.{Arrival}
-use Rattle.site_state.specs.State.{SenderState, SiteState, is_master_site, sender_of, at_sender, beside, arrived_at, opened_of}
+use Rattle.site_state.specs.State.{SenderState, SiteState, is_master_site, sender_of, at_sender, arrival_beside, arrived_at, opened_of}
 use Rattle.site_state.specs.Streams.{with_one, queue_of, count_of, stream_to, stream_in}
 use Rattle.site_state.specs.Pasts.{pasts_of}
-use Rattle.site_state.specs.Packets.{past_in, count_opened, number_at, past_before, carry_of, packet_found, is_known_past, with_arrival, arrived_by, taken_unless, is_foreign, site_accept}
+use Rattle.site_state.specs.Packets.{past_in, count_opened, stream_number, past_before, carry_of, packet_found, is_known_past, with_arrival, arrived_by, taken_unless, is_foreign, site_accept}
 use Rattle.site_state.specs.Purges.{site_purge}
 use Rattle.site_state.proofs.Growing.{length-queued_behind, queued_behind-none, at_position-append}
 use Rattle.site_state.proofs.Stepping.{Steps}
@@ -28,9 +28,9 @@ use Rattle.site_state.proofs.Pasts.{arrived_at-put, finished_have_arrived, lengt
 use Rattle.site_state.proofs.Queueing.{Adds, adds_nothing, steps_add, accept_adds, purge_adds, refresh_adds}
 use Rattle.site_state.specs.Contents.{tables_of}
 use Rattle.event_laws.specs.Rules.{rows_ruled}
-use Rattle.event_laws.specs.Core.{site_of, at_site}
+use Rattle.event_laws.specs.Cluster.{site_of, at_site}
 use Rattle.event_laws.specs.Events.{with_packet, packet_from, mark_from, receiver}
-use Rattle.event_laws.specs.Waiting.{IsFirst, AreFirsts, AbsentAreClosed}
+use Rattle.event_laws.specs.Waiting.{IsFirstNumber, AreFirsts, AbsentAreClosed}
 use Rattle.event_laws.proofs.Sites.{KeepsHere, at_split, found_again}
 use Rattle.event_laws.proofs.Happening.{IsRefreshed}
 use Rattle.event_laws.proofs.Happening as happening
@@ -38,7 +38,7 @@ use Rattle.event_laws.proofs.Happening as happening
 -- ---- what holds
 
 -- a sender that is there had seen this when it queued a number
-abbrev pub PastIs : Option SiteState → ℕ → List Past → Type 0
+abbrev pub PastIs : Option SiteState → ℕ → List PastEntry → Type 0
 PastIs None number past = ⊥
 PastIs (Some o) number past = at_position number (pasts_of o) ≡ Some past
 
@@ -47,7 +47,7 @@ PacketPast sites (Carry from to number position dep past txn) = PastIs (site_of 
 PacketPast sites (Mark from to mark) = Unit {0}
 
 -- what was seen is of the site itself or one of its senders
-abbrev pub is_known : SiteName → List SenderState → Past → Bool
+abbrev pub is_known : SiteName → List SenderState → PastEntry → Bool
 is_known here senders seen = is_same_site seen.origin here || is_some (sender_of seen.origin senders)
 
 -- what holds of each arrival with its sender
@@ -96,19 +96,19 @@ front_longer false x xs = omega arith
 pub count_of-adds : (x y : SiteState) → Adds x y → count_of x ≤ count_of y
 count_of-adds x y adds = rw adds.queue (front_longer adds.queues adds.txn (queue_of x))
 
-past_later : (o u : Option SiteState) (number : ℕ) (past : List Past) → AddsIn o u → PastIs o number past → PastIs u number past
+past_later : (o u : Option SiteState) (number : ℕ) (past : List PastEntry) → AddsIn o u → PastIs o number past → PastIs u number past
 past_later None u number past adds is = absurd is
 past_later (Some x) None number past adds is = absurd adds
 past_later (Some x) (Some y) number past adds is = rw adds.pasts (front_position adds.queues _ past (pasts_of x) number is)
 
-first_later : (o u : Option SiteState) (site : SiteName) (first : ℕ) → AddsIn o u → IsFirst o site first → IsFirst u site first
+first_later : (o u : Option SiteState) (site : SiteName) (first : ℕ) → AddsIn o u → IsFirstNumber o site first → IsFirstNumber u site first
 first_later None None site first adds is = is
 first_later None (Some y) site first adds is = absurd adds
 first_later (Some x) None site first adds is = absurd adds
 first_later (Some x) (Some y) site first adds is = (adds.opened site ∙ is.0, omega (arith, is.1, count_of-adds x y adds))
 
 -- what a packet tells goes on to hold where pasts do
-pub packets_past : (xs ys : List SiteState) (sent : List Packet) → ((from : SiteName) (number : ℕ) (past : List Past) → PastIs (site_of from xs) number past → PastIs (site_of from ys) number past)
+pub packets_past : (xs ys : List SiteState) (sent : List Packet) → ((from : SiteName) (number : ℕ) (past : List PastEntry) → PastIs (site_of from xs) number past → PastIs (site_of from ys) number past)
     → AllByRecursion (PacketPast xs) sent → AllByRecursion (PacketPast ys) sent
 packets_past xs ys [] later holds = tt
 packets_past xs ys (Carry from to number position dep past txn ∷ sent) later holds = (later from number past holds.0, packets_past xs ys sent later holds.1)
@@ -122,8 +122,8 @@ pub each_map : (P Q : SenderState → Arrival → Type 0) → ((s : SenderState)
 each_map P Q implies [] all = tt
 each_map P Q implies (s ∷ ss) all = (arrivals_map (P s) (Q s) (implies s) s.arrived all.0, each_map P Q implies ss all.1)
 
-firsts_later : (xs ys : List SiteState) (site : SiteName) (ss : List SenderState) → AllAdd xs ys → AllByRecursion (λ (s : SenderState). IsFirst (site_of s.origin xs) site s.first) ss
-    → AllByRecursion (λ (s : SenderState). IsFirst (site_of s.origin ys) site s.first) ss
+firsts_later : (xs ys : List SiteState) (site : SiteName) (ss : List SenderState) → AllAdd xs ys → AllByRecursion (λ (s : SenderState). IsFirstNumber (site_of s.origin xs) site s.first) ss
+    → AllByRecursion (λ (s : SenderState). IsFirstNumber (site_of s.origin ys) site s.first) ss
 firsts_later xs ys site [] adds all = tt
 firsts_later xs ys site (s ∷ ss) adds all = (first_later (site_of s.origin xs) (site_of s.origin ys) site s.first (adds s.origin) all.0, firsts_later xs ys site ss adds all.1)
 
@@ -198,16 +198,16 @@ each_put P from a [] is all = tt
 each_put P from a (s ∷ ss) is all = go (is_same_site s.origin from) refl (each_put P from a ss is all.1)
   where
     go : (b : Bool) → is_same_site s.origin from ≡ b → EachArrival (λ s. P s.origin) (at_sender from (with_arrival a) ss) → EachArrival (λ s. P s.origin) (cond b (with_arrival a s ∷ ss) (s ∷ at_sender from (with_arrival a) ss))
-    go true same later = (all_put (beside a.position) (P s.origin) a s.arrived (rw (is_same_site-true s.origin from same) is) all.0, all.1)
+    go true same later = (all_put (arrival_beside a.position) (P s.origin) a s.arrived (rw (is_same_site-true s.origin from same) is) all.0, all.1)
     go false same later = (all.0, later)
 
-firsts_put : (sites : List SiteState) (site from : SiteName) (a : Arrival) (ss : List SenderState) → AllByRecursion (λ (s : SenderState). IsFirst (site_of s.origin sites) site s.first) ss
-    → AllByRecursion (λ (s : SenderState). IsFirst (site_of s.origin sites) site s.first) (at_sender from (with_arrival a) ss)
+firsts_put : (sites : List SiteState) (site from : SiteName) (a : Arrival) (ss : List SenderState) → AllByRecursion (λ (s : SenderState). IsFirstNumber (site_of s.origin sites) site s.first) ss
+    → AllByRecursion (λ (s : SenderState). IsFirstNumber (site_of s.origin sites) site s.first) (at_sender from (with_arrival a) ss)
 firsts_put sites site from a [] all = tt
 firsts_put sites site from a (s ∷ ss) all = go (is_same_site s.origin from) (firsts_put sites site from a ss all.1)
   where
-    go : (b : Bool) → AllByRecursion (λ (s : SenderState). IsFirst (site_of s.origin sites) site s.first) (at_sender from (with_arrival a) ss)
-        → AllByRecursion (λ (s : SenderState). IsFirst (site_of s.origin sites) site s.first) (cond b (with_arrival a s ∷ ss) (s ∷ at_sender from (with_arrival a) ss))
+    go : (b : Bool) → AllByRecursion (λ (s : SenderState). IsFirstNumber (site_of s.origin sites) site s.first) (at_sender from (with_arrival a) ss)
+        → AllByRecursion (λ (s : SenderState). IsFirstNumber (site_of s.origin sites) site s.first) (cond b (with_arrival a s ∷ ss) (s ∷ at_sender from (with_arrival a) ss))
     go true later = (all.0, all.1)
     go false later = (all.0, later)
 
@@ -222,7 +222,7 @@ is_some-sender_of origin from a (s ∷ ss) = go (is_same_site s.origin from) (is
     go false true is later = rw is refl
     go false false is later = rw is later
 
-all_weaker : (p q : Past → Bool) (xs : List Past) → ((x : Past) → p x ≡ true → q x ≡ true) → list_all p xs ≡ true → list_all q xs ≡ true
+all_weaker : (p q : PastEntry → Bool) (xs : List PastEntry) → ((x : PastEntry) → p x ≡ true → q x ≡ true) → list_all p xs ≡ true → list_all q xs ≡ true
 all_weaker p q [] implies all = refl
 all_weaker p q (x ∷ xs) implies all = by (p x) refl (all_weaker p q xs implies) all
   where
@@ -230,7 +230,7 @@ all_weaker p q (x ∷ xs) implies all = by (p x) refl (all_weaker p q xs implies
     by true is later all = rw (implies x is) (later all)
     by false is later all = cc
 
-known_put : (here from : SiteName) (a : Arrival) (ss : List SenderState) (past : List Past) → list_all (is_known here ss) past ≡ true → list_all (is_known here (at_sender from (with_arrival a) ss)) past ≡ true
+known_put : (here from : SiteName) (a : Arrival) (ss : List SenderState) (past : List PastEntry) → list_all (is_known here ss) past ≡ true → list_all (is_known here (at_sender from (with_arrival a) ss)) past ≡ true
 known_put here from a ss past known = all_weaker (is_known here ss) (is_known here (at_sender from (with_arrival a) ss)) past (λ q is. rw (is_some-sender_of q.origin from a ss) is) known
 
 last_false : (a b c d : Bool) → (a || b || c || d) ≡ false → d ≡ false
@@ -243,7 +243,7 @@ not_false : (b : Bool) → not b ≡ false → b ≡ true
 not_false true is = refl
 not_false false is = cc
 
-known_weaker : (x : SiteState) (seen : Past) → is_known_past x seen ≡ true → is_known x.here.site x.senders seen ≡ true
+known_weaker : (x : SiteState) (seen : PastEntry) → is_known_past x seen ≡ true → is_known x.here.site x.senders seen ≡ true
 known_weaker x seen is = go (is_same_site seen.origin x.here.site) (is_master_site x.schema seen.origin) is
   where
     go : (b c : Bool) → (b || (c && is_some (sender_of seen.origin x.senders))) ≡ true → (b || is_some (sender_of seen.origin x.senders)) ≡ true
@@ -332,17 +332,17 @@ has_past to position count x txn opened there = go (nat_le count (length (queue_
 pub sends_meet : (sites : List SiteState) (sent : List Packet) (from to : SiteName) (position : ℕ) → Meets sites sent → Meets sites (with_packet (packet_from to position (site_of from sites)) sent)
 sends_meet sites sent from to position meets = by (site_of from sites) refl
   where
-    past : (x : SiteState) (o : Option (List Past)) → at_position (number_at to position x) (pasts_of x) ≡ o → o ≢ None → at_position (number_at to position x) (pasts_of x) ≡ Some (past_in o)
+    past : (x : SiteState) (o : Option (List PastEntry)) → at_position (stream_number to position x) (pasts_of x) ≡ o → o ≢ None → at_position (stream_number to position x) (pasts_of x) ≡ Some (past_in o)
     past x None is some = absurd (some refl)
     past x (Some p) is some = is
 
-    numbered : (x : SiteState) (txn : Txn) → at_position position (stream_to to x) ≡ Some txn → (o : Option ℕ) → opened_of to x ≡ o → at_position (number_at to position x) (pasts_of x) ≢ None
+    numbered : (x : SiteState) (txn : Txn) → at_position position (stream_to to x) ≡ Some txn → (o : Option ℕ) → opened_of to x ≡ o → at_position (stream_number to position x) (pasts_of x) ≢ None
     numbered x txn there None is = let none : at_position position (stream_in None (queue_of x)) ≡ Some txn = rw is at there in absurd (cc none)
     numbered x txn there (Some count) is = subst (λ (n : ℕ). at_position n (pasts_of x) ≢ None) (sym (ap (λ o. count_opened o + position) is)) (has_past to position count x txn is there)
 
     one : (x : SiteState) (txn : Txn) → site_of from sites ≡ Some x → at_position position (stream_to to x) ≡ Some txn → PacketPast sites (carry_of to position x txn)
-    one x txn found there = subst (λ (o : Option SiteState). PastIs o (number_at to position x) (past_before (number_at to position x) x)) (sym (found_again from sites x found))
-        (past x (at_position (number_at to position x) (pasts_of x)) refl (numbered x txn there (opened_of to x) refl))
+    one x txn found there = subst (λ (o : Option SiteState). PastIs o (stream_number to position x) (past_before (stream_number to position x) x)) (sym (found_again from sites x found))
+        (past x (at_position (stream_number to position x) (pasts_of x)) refl (numbered x txn there (opened_of to x) refl))
 
     kept : (x : SiteState) (txn : Txn) → site_of from sites ≡ Some x → at_position position (stream_to to x) ≡ Some txn → (b : Bool) → Meets sites (with_packet (cond b None (Some (carry_of to position x txn))) sent)
     kept x txn found there true = meets
@@ -350,7 +350,7 @@ sends_meet sites sent from to position meets = by (site_of from sites) refl
 
     go : (x : SiteState) → site_of from sites ≡ Some x → (t : Option Txn) → at_position position (stream_to to x) ≡ t → Meets sites (with_packet (packet_found to position x t) sent)
     go x found None there = meets
-    go x found (Some txn) there = kept x txn found there (nat_le (number_at to position x) x.purged)
+    go x found (Some txn) there = kept x txn found there (nat_le (stream_number to position x) x.purged)
 
     by : (o : Option SiteState) → site_of from sites ≡ o → Meets sites (with_packet (packet_from to position o) sent)
     by None found = meets

@@ -6,7 +6,7 @@ use Rattle.rep_values.specs.declared.name.SiteName.{SiteName}
 use Rattle.rep_schema.specs.declared.schema.Schema.{Schema}
 use Rattle.rep_schema.specs.Tables.{Rows}
 use Rattle.rep_schema.specs.Sites.{senders_of, destinations_of}
-use Rattle.rep_calls.specs.declared.past.Past.{Past}
+use Rattle.rep_calls.specs.declared.past.PastEntry.{PastEntry}
 use Rattle.deferred_queue.specs.Streams.{is_same_site}
 use Rattle.local_txn.specs.declared.local.Here.{Here}
 use Rattle.snapshot_query.specs.declared.snapshot.Snapshot.{Snapshot}
@@ -15,7 +15,7 @@ use Rattle.site_state.specs.Streams.{count_of}
 use Rattle.site_state.specs.Making.{new_sender, new_destination, new_site, master_here}
 use Rattle.site_state.specs.Joining.{site_open, sender_from, site_copy}
 use Rattle.site_state.proofs.Destinations.{acked_in-opened}
-use Rattle.event_laws.specs.Core.{site_of}
+use Rattle.event_laws.specs.Cluster.{site_of}
 use Rattle.event_laws.specs.Joins.{queue_counts, open_to_each, copied}
 use Rattle.event_laws.specs.Starts.{IsNewSite}
 
@@ -60,7 +60,7 @@ new_site_is_new schema here logged snapshots base = record {
   purged = refl;
 }
 
-arrived_copied : (firsts : List Past) (names : List SiteName) → NothingArrived (map (sender_from firsts) names)
+arrived_copied : (firsts : List PastEntry) (names : List SiteName) → NothingArrived (map (sender_from firsts) names)
 arrived_copied firsts [] = tt
 arrived_copied firsts (name ∷ names) = (refl, arrived_copied firsts names)
 

@@ -14,7 +14,7 @@ use Rattle.site_state.specs.declared.entry.Entry.TheVariants.{Local, Done, Error
 use Rattle.error_queue.specs.declared.entry.ErrorEntry.{ErrorEntry}
 use Rattle.site_state.specs.declared.arrival.Arrival.{Arrival}
 use Rattle.site_state.specs.State.{SiteState, arrived_at}
-use Rattle.site_state.specs.Journal.{finishes, settles, is_position, low_water, error_at}
+use Rattle.site_state.specs.Journal.{finishes, clears_error, is_position, low_water, error_at}
 use Rattle.site_state.specs.Streams.{stream_to, shares}
 use Rattle.site_state.specs.Steps.{count_where}
 use Rattle.site_state.specs.Packets.{arrived_by, taken_unless, is_foreign, site_accept}
@@ -25,17 +25,17 @@ use Rattle.site_state.proofs.Growing.{IsFront, at_position-append, at_position-o
 use Rattle.site_state.proofs.Stepping.{MayFollow, IsTaken, with_entry, Journals, no_entry, one_entry, steps_later, Later, IsSent, stream_to-later, arrived_has, is_position-true}
 use Rattle.site_state.proofs.Changing.{accept_later, purge_later}
 use Rattle.journal_order.proofs.Waited.{due_dep}
-use Rattle.event_laws.specs.Core.{Core, site_of, at_site}
+use Rattle.event_laws.specs.Cluster.{Cluster, site_of, at_site}
 use Rattle.event_laws.specs.Joins.{copied, with_joined}
 use Rattle.event_laws.specs.Events.{Event, receiver, run}
 use Rattle.event_laws.specs.Starts.{IsStart, InEveryRun}
 use Rattle.event_laws.specs.Marks.{journal_in}
-use Rattle.event_laws.specs.Orders.{AreFinishedOnce, AreSettledOnce, FollowsEarlier, FollowsIn, EntryFollows, IsInOrder, EarlierComesFirst}
+use Rattle.event_laws.specs.Orders.{AreFinishedOnce, AreClearedOnce, FollowsEarlier, FollowsIn, EntryFollows, IsInOrder, EarlierComesFirst}
 use Rattle.event_laws.proofs.Sites.{at_split, site_of-joined, found_or}
 use Rattle.event_laws.proofs.Happening.{IsRefreshed, Becomes, run_keeps}
 use Rattle.event_laws.proofs.Happening as happening
 use Rattle.event_laws.proofs.NewSites.{copied_is_new, start_is_new}
-use Rattle.event_laws.proofs.Holding.{SentBy, SendersHold, HoldsAt, Holds, LaterIn, AllLater, at_later}
+use Rattle.event_laws.proofs.RunInvariants.{SentBy, SendersHold, HoldsAt, Holds, LaterIn, AllLater, at_later}
 use Rattle.event_laws.proofs.MarkLaws.{becomes_holds, start_holds, arrived_was_sent, refreshed_later, joined_later}
 
 -- ---- once
@@ -46,7 +46,7 @@ count_standing (Some e) = 1
 
 -- an error was settled or stands only where its position was finished
 record IsOnce (journal : List Entry) (origin : SiteName) (position : ℕ) : Type 0 where
-  settled : count_where (settles origin position) journal + count_standing (error_at origin position journal) ≤ count_where (finishes origin position) journal
+  settled : count_where (clears_error origin position) journal + count_standing (error_at origin position journal) ≤ count_where (finishes origin position) journal
   finished : count_where (finishes origin position) journal ≤ 1
 
 count_where-none : (test : Entry → Bool) (es : List Entry) → list_any test es ≡ false → count_where test es ≡ 0
@@ -62,8 +62,8 @@ taken_was_unfinished x origin o position p txn taken is =
     let same = is_position-true origin o position p is in
     count_where-none (finishes origin position) x.journal (rw (← same.0, ← same.1) taken.unfinished)
 
-settled_stood : (x : SiteState) (origin o : SiteName) (position p : ℕ) → error_at o p x.journal ≢ None → is_position origin position o p ≡ true → count_standing (error_at origin position x.journal) ≡ 1
-settled_stood x origin o position p stands is =
+cleared_stood : (x : SiteState) (origin o : SiteName) (position p : ℕ) → error_at o p x.journal ≢ None → is_position origin position o p ≡ true → count_standing (error_at origin position x.journal) ≡ 1
+cleared_stood x origin o position p stands is =
     let same = is_position-true origin o position p is in
     rw (← same.0, ← same.1) (one (error_at o p x.journal) stands)
   where
@@ -86,12 +86,12 @@ once_more x (Error o p call error txn) origin position follows once = go (is_pos
 once_more x (Executed o p onward txn) origin position follows once = go (is_position origin position o p) refl
   where
     go : (b : Bool) → is_position origin position o p ≡ b → IsOnce (Executed o p onward txn ∷ x.journal) origin position
-    go true is = let stood = settled_stood x origin o position p follows is in record { settled = rw is (omega (arith, once.settled, stood)); finished = once.finished }
+    go true is = let stood = cleared_stood x origin o position p follows is in record { settled = rw is (omega (arith, once.settled, stood)); finished = once.finished }
     go false is = record { settled = rw is once.settled; finished = once.finished }
 once_more x (Dropped o p) origin position follows once = go (is_position origin position o p) refl
   where
     go : (b : Bool) → is_position origin position o p ≡ b → IsOnce (Dropped o p ∷ x.journal) origin position
-    go true is = let stood = settled_stood x origin o position p follows is in record { settled = rw is (omega (arith, once.settled, stood)); finished = once.finished }
+    go true is = let stood = cleared_stood x origin o position p follows is in record { settled = rw is (omega (arith, once.settled, stood)); finished = once.finished }
     go false is = record { settled = rw is once.settled; finished = once.finished }
 once_more x (Refreshed moment) origin position follows once = record { settled = once.settled; finished = once.finished }
 
@@ -245,7 +245,7 @@ becomes_in_order xs sent _ _ (happening.Joins site from source absent found may)
 becomes_ordered : (xs : List SiteState) (sent : List Packet) (ys : List SiteState) (more : List Packet) → Becomes xs sent ys more → AreOrdered xs sent → AreOrdered ys more
 becomes_ordered xs sent ys more becomes are = record { holds = becomes_holds xs sent ys more becomes are.holds; orders = becomes_in_order xs sent ys more becomes are }
 
-run_ordered : (schema : Schema) (start : Core) (events : List Event) → IsStart schema start → AreOrdered (run events start).sites (run events start).sent
+run_ordered : (schema : Schema) (start : Cluster) (events : List Event) → IsStart schema start → AreOrdered (run events start).sites (run events start).sent
 run_ordered schema start events is = run_keeps AreOrdered becomes_ordered events start (record {
   holds = start_holds schema start is;
   orders = λ site. start_is_new schema (λ o. OrderAt start.sites site (journal_in o)) start.sites site (none_in_order start.sites site) (λ x new. rw new.journal (none_in_order start.sites site)) is.sites;
@@ -256,8 +256,8 @@ run_ordered schema start events is = run_keeps AreOrdered becomes_ordered events
 pub are_finished_once : InEveryRun AreFinishedOnce
 are_finished_once schema start events is site origin position = (((run_ordered schema start events is).orders site).once origin position).finished
 
-pub are_settled_once : InEveryRun AreSettledOnce
-are_settled_once schema start events is site origin position =
+pub are_cleared_once : InEveryRun AreClearedOnce
+are_cleared_once schema start events is site origin position =
     let once = ((run_ordered schema start events is).orders site).once origin position in omega (arith, once.settled, once.finished)
 
 pub earlier_comes_first : InEveryRun EarlierComesFirst

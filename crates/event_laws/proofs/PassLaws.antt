@@ -10,7 +10,7 @@ use Rattle.std.specs.declared.cmp.Ordering.TheVariants.{Less, Equal, Greater}
 use Rattle.rep_lists.specs.Rising.{find_at, found_here}
 use Rattle.rep_lists.specs.RisingLaws.{RisesBy}
 use Rattle.rep_values.specs.declared.name.SiteName.{SiteName}
-use Rattle.rep_calls.specs.declared.past.Past.{Past}
+use Rattle.rep_calls.specs.declared.past.PastEntry.{PastEntry}
 use Rattle.txn_effects.specs.Calls.{Effect}
 use Rattle.txn_effects.specs.Transactions.{Failure}
 use Rattle.deferred_queue.specs.Streams.{is_same_site}
@@ -20,7 +20,7 @@ use Rattle.site_state.specs.declared.entry.Entry.{Entry}
 use Rattle.site_state.specs.declared.entry.Entry.TheVariants.{Done, Error}
 use Rattle.site_state.specs.declared.answers.Why.{Why}
 use Rattle.site_state.specs.declared.arrival.Arrival.{Arrival}
-use Rattle.site_state.specs.State.{DestinationState, SiteState, sender_of, arrived_at, arrivals, beside}
+use Rattle.site_state.specs.State.{DestinationState, SiteState, sender_of, arrived_at, arrivals, arrival_beside}
 use Rattle.site_state.specs.Arrivals.{NamesOthers, CanPass}
 use Rattle.site_state.specs.Journal.{finishes, finished, position_by, last_finished, low_water, is_position}
 use Rattle.site_state.specs.Streams.{count_of}
@@ -116,11 +116,11 @@ other_way origin o off = go (is_same_site origin o) refl
     go false is = refl
     go true is = let same : origin ≡ o = is_same_site-true origin o is in let own : is_same_site o origin ≡ true = rw same (is_same_site-refl o) in absurd (cc (own, off))
 
-pub past_same : (origin : SiteName) (bound : ℕ) (x y : SiteState) → After origin bound x y → (past : List Past) → NamesOthers origin past → list_all (is_covered y) past ≡ list_all (is_covered x) past
+pub past_same : (origin : SiteName) (bound : ℕ) (x y : SiteState) → After origin bound x y → (past : List PastEntry) → NamesOthers origin past → list_all (is_covered y) past ≡ list_all (is_covered x) past
 past_same origin bound x y after [] off = refl
 past_same origin bound x y after (seen ∷ past) off = go (is_same_site seen.origin origin) refl off (past_same origin bound x y after past)
   where
-    go : (b : Bool) → is_same_site seen.origin origin ≡ b → (not b && list_all (λ (q : Past). not (is_same_site q.origin origin)) past) ≡ true
+    go : (b : Bool) → is_same_site seen.origin origin ≡ b → (not b && list_all (λ (q : PastEntry). not (is_same_site q.origin origin)) past) ≡ true
         → (NamesOthers origin past → list_all (is_covered y) past ≡ list_all (is_covered x) past) → (is_covered y seen && list_all (is_covered y) past) ≡ (is_covered x seen && list_all (is_covered x) past)
     go true is off later = cc
     go false is off later =
@@ -218,20 +218,20 @@ own_order n = go (nat_cmp n n) refl
     go Equal is = refl
     go Greater is = let other = nat_cmp_total.antisymm n n in absurd (cc (is, other))
 
-behind_head : (x : Arrival) (xs ys : List Arrival) → AllByRecursion (λ (b : Arrival). nat_cmp x.position b.position ≡ Less) ys → AllByRecursion (λ (b : Arrival). find_at (beside b.position) xs ≡ Some b) ys
-    → AllByRecursion (λ (b : Arrival). find_at (beside b.position) (x ∷ xs) ≡ Some b) ys
+behind_head : (x : Arrival) (xs ys : List Arrival) → AllByRecursion (λ (b : Arrival). nat_cmp x.position b.position ≡ Less) ys → AllByRecursion (λ (b : Arrival). find_at (arrival_beside b.position) xs ≡ Some b) ys
+    → AllByRecursion (λ (b : Arrival). find_at (arrival_beside b.position) (x ∷ xs) ≡ Some b) ys
 behind_head x xs [] less found = tt
 behind_head x xs (b ∷ bs) less found = (rw less.0 found.0, behind_head x xs bs less.1 found.1)
 
-pub each_found : (xs : List Arrival) → RisesBy (λ (a : Arrival). a.position) nat_cmp xs → AllByRecursion (λ (a : Arrival). find_at (beside a.position) xs ≡ Some a) xs
+pub each_found : (xs : List Arrival) → RisesBy (λ (a : Arrival). a.position) nat_cmp xs → AllByRecursion (λ (a : Arrival). find_at (arrival_beside a.position) xs ≡ Some a) xs
 each_found [] rising = tt
 each_found (x ∷ xs) rising = (rw (own_order x.position) refl, behind_head x xs xs rising.0 (each_found xs rising.1))
 
-pub found_holds : (P : Arrival → Type 0) (p : ℕ) (xs : List Arrival) (a : Arrival) → AllByRecursion P xs → find_at (beside p) xs ≡ Some a → P a
+pub found_holds : (P : Arrival → Type 0) (p : ℕ) (xs : List Arrival) (a : Arrival) → AllByRecursion P xs → find_at (arrival_beside p) xs ≡ Some a → P a
 found_holds P p [] a all found = absurd (cc found)
-found_holds P p (y ∷ ys) a all found = go (beside p y) (found_holds P p ys a all.1) found
+found_holds P p (y ∷ ys) a all found = go (arrival_beside p y) (found_holds P p ys a all.1) found
   where
-    go : (o : Ordering) → (find_at (beside p) ys ≡ Some a → P a) → found_here o y (find_at (beside p) ys) ≡ Some a → P a
+    go : (o : Ordering) → (find_at (arrival_beside p) ys ≡ Some a → P a) → found_here o y (find_at (arrival_beside p) ys) ≡ Some a → P a
     go Less later found = later found
     go Equal later found = let same : y ≡ a = cc found in rw (← same) all.0
     go Greater later found = absurd (cc found)

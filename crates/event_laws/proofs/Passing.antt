@@ -13,7 +13,7 @@ use Rattle.rep_values.specs.declared.name.SiteName.{SiteName}
 use Rattle.rep_schema.specs.declared.schema.Schema.{Schema}
 use Rattle.rep_schema.specs.Shape.{HasShape}
 use Rattle.rep_calls.specs.declared.call.Txn.{Txn}
-use Rattle.rep_calls.specs.declared.past.Past.{Past}
+use Rattle.rep_calls.specs.declared.past.PastEntry.{PastEntry}
 use Rattle.deferred_queue.specs.Streams.{is_same_site, at_position}
 use Rattle.deferred_queue.proofs.Sites.{is_same_site-true}
 use Rattle.local_txn.specs.declared.local.Here.{Here}
@@ -22,16 +22,16 @@ use Rattle.packet_code.specs.declared.packet.Packet.TheVariants.{Carry, Mark}
 use Rattle.site_state.specs.declared.entry.Entry.{Entry}
 use Rattle.site_state.specs.declared.entry.Entry.TheVariants.{Local, Done, Error, Executed, Dropped, Refreshed}
 use Rattle.site_state.specs.declared.arrival.Arrival.{Arrival}
-use Rattle.site_state.specs.State.{SenderState, SiteState, is_master_site, sender_of, at_sender, arrived_in, arrived_at, beside}
+use Rattle.site_state.specs.State.{SenderState, SiteState, is_master_site, sender_of, at_sender, arrived_in, arrived_at, arrival_beside}
 use Rattle.site_state.specs.Arrivals.{NamesOthers}
 use Rattle.site_state.specs.Streams.{with_one, went_onward, stream_to}
 use Rattle.site_state.specs.Pasts.{beside_name, seen_of, with_seen, past_at, pasts_after, pasts_of}
-use Rattle.site_state.specs.Packets.{past_in, number_at, carry_of, packet_found, with_arrival, arrived_by, taken_unless, is_foreign, site_accept}
+use Rattle.site_state.specs.Packets.{past_in, stream_number, carry_of, packet_found, with_arrival, arrived_by, taken_unless, is_foreign, site_accept}
 use Rattle.site_state.specs.Purges.{site_purge}
 use Rattle.site_state.specs.Joining.{site_open}
 use Rattle.site_state.proofs.Growing.{dep_at-earlier}
 use Rattle.site_state.proofs.Stepping.{Steps}
-use Rattle.event_laws.specs.Core.{Core, site_of}
+use Rattle.event_laws.specs.Cluster.{Cluster, site_of}
 use Rattle.event_laws.specs.Joins.{copied}
 use Rattle.event_laws.specs.Events.{Event, with_packet, packet_from, mark_from, receiver, run}
 use Rattle.event_laws.specs.Starts.{IsNewSite, IsStart}
@@ -42,7 +42,7 @@ use Rattle.event_laws.proofs.Sites.{found_all, all_at, all_joined, all_at_place}
 use Rattle.event_laws.proofs.Happening.{IsRefreshed, Becomes, run_keeps}
 use Rattle.event_laws.proofs.Happening as happening
 use Rattle.event_laws.proofs.NewSites.{copied_is_new}
-use Rattle.event_laws.proofs.Holding.{SentBy, ArrivalHolds, SendersHold, HoldsAt}
+use Rattle.event_laws.proofs.RunInvariants.{SentBy, ArrivalHolds, SendersHold, HoldsAt}
 use Rattle.event_laws.proofs.MarkLaws.{run_holds}
 use Rattle.site_state.proofs.SchemaSites.{senders_of-others}
 use Rattle.site_state.proofs.DeclaredSites.{origins}
@@ -72,7 +72,7 @@ pub record Passes (schema : Schema) (xs : List SiteState) (sent : List Packet) :
 put_passes : (a : Arrival) (s : SenderState) → NamesOthers s.origin a.past → ArrivalsPass s → ArrivalsPass (with_arrival a s)
 put_passes a s names passes = record {
   rising = rising_put (λ (a : Arrival). a.position) nat_cmp nat_cmp_total a s.arrived passes.rising;
-  others = all_put (beside a.position) (λ (a : Arrival). NamesOthers s.origin a.past) a s.arrived names passes.others;
+  others = all_put (arrival_beside a.position) (λ (a : Arrival). NamesOthers s.origin a.past) a s.arrived names passes.others;
 }
 
 arrived_put : (from : SiteName) (a : Arrival) (ss : List SenderState) → NamesOthers from a.past → AllByRecursion ArrivalsPass ss → AllByRecursion ArrivalsPass (at_sender from (with_arrival a) ss)
@@ -101,11 +101,11 @@ not_false : (b : Bool) → b ≡ false → not b ≡ true
 not_false true is = cc
 not_false false is = refl
 
-others_put : (site : SiteName) (at : Past → Ordering) (y : Past) (xs : List Past) → is_same_site y.origin site ≡ false → NamesOthers site xs → NamesOthers site (put_at at y xs)
+others_put : (site : SiteName) (at : PastEntry → Ordering) (y : PastEntry) (xs : List PastEntry) → is_same_site y.origin site ≡ false → NamesOthers site xs → NamesOthers site (put_at at y xs)
 others_put site at y [] off names = rw off refl
 others_put site at y (x ∷ xs) off names = go (at x) (is_same_site x.origin site) refl names (others_put site at y xs off)
   where
-    go : (o : Ordering) (b : Bool) → is_same_site x.origin site ≡ b → (not b && list_all (λ (q : Past). not (is_same_site q.origin site)) xs) ≡ true → (NamesOthers site xs → NamesOthers site (put_at at y xs))
+    go : (o : Ordering) (b : Bool) → is_same_site x.origin site ≡ b → (not b && list_all (λ (q : PastEntry). not (is_same_site q.origin site)) xs) ≡ true → (NamesOthers site xs → NamesOthers site (put_at at y xs))
         → NamesOthers site (put_here o y x xs (put_at at y xs))
     go o true is names later = cc
     go Less false is names later = rw is (later names)
@@ -123,7 +123,7 @@ past_others site schema es (s ∷ ss) others = go (is_master_site schema s.origi
     go true later = others_put site (beside_name s.origin) _ (past_at schema es ss) others.0 later
     go false later = later
 
-one_others : (site : SiteName) (b : Bool) (past : List Past) (pasts : List (List Past)) → NamesOthers site past → AllByRecursion (NamesOthers site) pasts → AllByRecursion (NamesOthers site) (with_one b past pasts)
+one_others : (site : SiteName) (b : Bool) (past : List PastEntry) (pasts : List (List PastEntry)) → NamesOthers site past → AllByRecursion (NamesOthers site) pasts → AllByRecursion (NamesOthers site) (with_one b past pasts)
 one_others site true past pasts is later = (is, later)
 one_others site false past pasts is later = later
 
@@ -136,7 +136,7 @@ pasts_others here schema ss (Executed o p onward txn ∷ es) others = one_others
 pasts_others here schema ss (Dropped o p ∷ es) others = pasts_others here schema ss es others
 pasts_others here schema ss (Refreshed moment ∷ es) others = pasts_others here schema ss es others
 
-found_others : (site : SiteName) (pasts : List (List Past)) (n : ℕ) → AllByRecursion (NamesOthers site) pasts → NamesOthers site (past_in (at_position n pasts))
+found_others : (site : SiteName) (pasts : List (List PastEntry)) (n : ℕ) → AllByRecursion (NamesOthers site) pasts → NamesOthers site (past_in (at_position n pasts))
 found_others site [] n others = refl
 found_others site (p ∷ ps) n others = go (n == length ps + 1) (found_others site ps n others.1)
   where
@@ -160,12 +160,12 @@ module _ (schema : Schema) (shape : HasShape schema) where
       kept x txn is false = record {
         sites_of = passes.sites_of;
         sites = passes.sites;
-        packets = (found_others x.here.site (pasts_of x) (number_at to position x) (pasts_others x.here x.schema x.senders x.journal (senders_are_others schema shape x is.declared)), passes.packets);
+        packets = (found_others x.here.site (pasts_of x) (stream_number to position x) (pasts_others x.here x.schema x.senders x.journal (senders_are_others schema shape x is.declared)), passes.packets);
       }
 
       go : (x : SiteState) → IsSiteOf schema x → (t : Option Txn) → Passes schema sites (with_packet (packet_found to position x t) sent)
       go x is None = passes
-      go x is (Some txn) = kept x txn is (nat_le (number_at to position x) x.purged)
+      go x is (Some txn) = kept x txn is (nat_le (stream_number to position x) x.purged)
 
       by : (o : Option SiteState) → site_of from sites ≡ o → Passes schema sites (with_packet (packet_from to position o) sent)
       by None found = passes
@@ -225,7 +225,7 @@ module _ (schema : Schema) (shape : HasShape schema) where
 
 -- ---- the law
 
-run_passes : (schema : Schema) (start : Core) (events : List Event) → IsStart schema start → AreDeclared schema start.sites → Passes schema (run events start).sites (run events start).sent
+run_passes : (schema : Schema) (start : Cluster) (events : List Event) → IsStart schema start → AreDeclared schema start.sites → Passes schema (run events start).sites (run events start).sent
 run_passes schema start events is declared = run_keeps (Passes schema) (becomes_pass schema declared.shape) events start (record {
   sites_of = start_sites_of schema start.sites is.sites declared.each;
   sites = start_passes schema declared.shape start.sites is.sites;

@@ -3,7 +3,7 @@ use Rattle.std.proofs.Common.{◌≡◌, List, [], ◌∷◌, ◌++◌, set, Boo
 use Rattle.std.specs.Prelude.{◌||◌, ◌+◌, Option, filter, length}
 use Rattle.rep_schema.specs.declared.schema.Schema.{Schema}
 use Rattle.rep_schema.specs.Tables.{Rows, rows_of, AreTables}
-use Rattle.rep_schema.proofs.KeptTables.{AreTables-set}
+use Rattle.rep_schema.proofs.TableSteps.{AreTables-set}
 use Rattle.rep_schema.proofs.FilteredRows.{IsTable-filter}
 use Rattle.snapshot_query.specs.declared.parent.Parent.{Parent}
 use Rattle.snapshot_query.specs.declared.snapshot.Snapshot.{Snapshot}

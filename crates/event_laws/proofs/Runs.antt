@@ -1,9 +1,9 @@
 -- Events, and others behind them.
 use Rattle.std.proofs.Common.{◌≡◌, List, [], ◌∷◌, ◌++◌, refl, ap}
-use Rattle.event_laws.specs.Core.{Core}
+use Rattle.event_laws.specs.Cluster.{Cluster}
 use Rattle.event_laws.specs.Events.{Event, happens, run}
 
 -- events behind others are events behind what those lead to
-pub run-append : (es fs : List Event) (v : Core) → run (es ++ fs) v ≡ run es (run fs v)
+pub run-append : (es fs : List Event) (v : Cluster) → run (es ++ fs) v ≡ run es (run fs v)
 run-append [] fs v = refl
 run-append (e ∷ es) fs v = ap (happens e) (run-append es fs v)

@@ -8,7 +8,7 @@ use Rattle.deferred_queue.specs.Streams.{is_same_site}
 use Rattle.deferred_queue.proofs.Sites.{is_same_site-true, is_same_site-refl}
 use Rattle.local_txn.specs.declared.local.Here.{Here}
 use Rattle.site_state.specs.State.{SiteState}
-use Rattle.event_laws.specs.Core.{site_of, at_site}
+use Rattle.event_laws.specs.Cluster.{site_of, at_site}
 
 -- what changes a site leaves what it is
 abbrev pub KeepsHere : (SiteState → SiteState) → Type 0

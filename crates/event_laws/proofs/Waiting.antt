@@ -11,7 +11,7 @@ use Rattle.rep_values.specs.declared.name.SiteName.{SiteName}
 use Rattle.rep_schema.specs.declared.schema.Schema.{Schema}
 use Rattle.rep_schema.specs.Shape.{HasShape}
 use Rattle.rep_calls.specs.declared.call.Txn.{Txn}
-use Rattle.rep_calls.specs.declared.past.Past.{Past}
+use Rattle.rep_calls.specs.declared.past.PastEntry.{PastEntry}
 use Rattle.txn_effects.specs.Calls.{Effect}
 use Rattle.txn_effects.specs.Transactions.{Failure}
 use Rattle.deferred_queue.specs.Streams.{is_same_site, at_position}
@@ -22,11 +22,11 @@ use Rattle.site_state.specs.declared.entry.Entry.{Entry}
 use Rattle.site_state.specs.declared.answers.Why.{Why}
 use Rattle.site_state.specs.declared.answers.Why.TheVariants as why
 use Rattle.site_state.specs.declared.arrival.Arrival.{Arrival}
-use Rattle.site_state.specs.State.{SenderState, SiteState, is_master_site, sender_of, arrived_in, first_in, beside, arrived_at, arrivals, opened_of}
+use Rattle.site_state.specs.State.{SenderState, SiteState, is_master_site, sender_of, arrived_in, first_in, arrival_beside, arrived_at, arrivals, opened_of}
 use Rattle.site_state.specs.Journal.{finished, low_water}
 use Rattle.site_state.specs.Streams.{with_one, queue_of, count_of, queued_behind, stream_in, stream_to}
 use Rattle.site_state.specs.Pasts.{greatest_finished, seen_of, with_seen, past_at, past_of, pasts_of, beside_name}
-use Rattle.site_state.specs.Ready.{number_in, covered, is_covered, is_due, stale_of, is_ready}
+use Rattle.site_state.specs.Ready.{arrival_number, covered, is_covered, is_due, stale_of, is_ready}
 use Rattle.site_state.specs.Steps.{begun}
 use Rattle.site_state.specs.Passes.{effect_here, finished_by, site_apply, apply_each}
 use Rattle.site_state.specs.Joining.{site_open}
@@ -36,16 +36,16 @@ use Rattle.site_state.proofs.Stepping.{IsSent, arrived_has}
 use Rattle.site_state.proofs.Destinations.{IsOpenedFrom}
 use Rattle.site_state.proofs.Pasts.{length-pasts_after}
 use Rattle.site_state.proofs.Queueing.{Adds, Opens, Queues, open_opens}
-use Rattle.event_laws.specs.Core.{Core, site_of}
+use Rattle.event_laws.specs.Cluster.{Cluster, site_of}
 use Rattle.event_laws.specs.Joins.{copied, with_joined}
 use Rattle.event_laws.specs.Events.{Event, happens, run}
 use Rattle.event_laws.specs.Starts.{IsNewSite, IsStart}
-use Rattle.event_laws.specs.Waiting.{IsFirst, AreFirsts, AbsentAreClosed, AreMeshed, IsDelivered, PassesFinishNothing, NothingWaits, NothingWaitsForEver}
+use Rattle.event_laws.specs.Waiting.{IsFirstNumber, AreFirsts, AbsentAreClosed, SitesLinkAsDeclared, IsDelivered, PassesFinishNothing, NothingWaits, NothingWaitsForEver}
 use Rattle.event_laws.proofs.Sites.{found_or, site_of-joined, all_at_place}
 use Rattle.event_laws.proofs.Happening.{Becomes, happens_becomes, run_keeps}
 use Rattle.event_laws.proofs.Happening as happening
 use Rattle.event_laws.proofs.NewSites.{copied_is_new, start_is_new}
-use Rattle.event_laws.proofs.Holding.{SentBy, ArrivalHolds, SendersHold, SiteHolds, HoldsAt, Holds}
+use Rattle.event_laws.proofs.RunInvariants.{SentBy, ArrivalHolds, SendersHold, SiteHolds, HoldsAt, Holds}
 use Rattle.event_laws.proofs.MarkLaws.{becomes_holds, start_holds, arrived_was_sent}
 use Rattle.event_laws.proofs.PassLaws.{Finishes, apply_finishes}
 use Rattle.event_laws.proofs.PassLaws as passing
@@ -74,7 +74,7 @@ number_of_sent o to number position dep txn sent = go (nat_le sent.count (length
         let above : length (queue_of o) ≤ sent.count = grind (arith, nat_tests) in
         absurd (omega (arith, place.0, place.1, ap length (queued_behind-none sent.count (queue_of o) above)))
 
-first_queued : (o : Option SiteState) (site : SiteName) (first : ℕ) → IsFirst o site first → first ≤ count_in o
+first_queued : (o : Option SiteState) (site : SiteName) (first : ℕ) → IsFirstNumber o site first → first ≤ count_in o
 first_queued None site first is = omega (arith, is)
 first_queued (Some o) site first is = is.1
 
@@ -92,12 +92,12 @@ greatest_queued sites site origin journal (a ∷ arrived) holds = go (finished o
     go false later = omega (arith, later)
 
 -- what was seen of a master is a number from 1 that it has queued by then
-record WasQueued (sites : List SiteState) (seen : Past) : Type 0 where
+record WasQueued (sites : List SiteState) (seen : PastEntry) : Type 0 where
   from_one : 0 < seen.number
   queued : seen.number ≤ count_in (site_of seen.origin sites)
 
 past_queued : (sites : List SiteState) (site : SiteName) (schema : Schema) (journal : List Entry) (ss : List SenderState) → SendersHold sites site ss
-    → AllByRecursion (λ (s : SenderState). IsFirst (site_of s.origin sites) site s.first) ss → AllByRecursion (WasQueued sites) (past_at schema journal ss)
+    → AllByRecursion (λ (s : SenderState). IsFirstNumber (site_of s.origin sites) site s.first) ss → AllByRecursion (WasQueued sites) (past_at schema journal ss)
 past_queued sites site schema journal [] holds firsts = tt
 past_queued sites site schema journal (s ∷ ss) holds firsts = go (is_master_site schema s.origin) (nat_lt 0 (seen_of journal s)) refl (past_queued sites site schema journal ss holds.1 firsts.1)
   where
@@ -279,7 +279,7 @@ nothing_arrived : (P : SenderState → Arrival → Type 0) (ss : List SenderStat
 nothing_arrived P [] none = tt
 nothing_arrived P (s ∷ ss) none = (rw none.0 tt, nothing_arrived P ss none.1)
 
-start_met : (schema : Schema) (start : Core) → IsStart schema start → AreMeshed schema start.sites → AreMet schema start.sites start.sent
+start_met : (schema : Schema) (start : Cluster) → IsStart schema start → SitesLinkAsDeclared schema start.sites → AreMet schema start.sites start.sent
 start_met schema start is meshed = record {
   sites_of = start_sites_of schema start.sites is.sites meshed.declared.each;
   holds = start_holds schema start is;
@@ -340,11 +340,11 @@ each_not_ready origin (a ∷ arrived) x same = go (stale_of origin a.position x)
     go None is None there later = absurd (not_stale_arrived origin a.position x is there)
     go None is (Some found) there later = applied found (effect_here origin found x) (rw (is, there) refl)
 
-find_holds : (P : Arrival → Type 0) (p : ℕ) (xs : List Arrival) (a : Arrival) → AllByRecursion P xs → find_at (beside p) xs ≡ Some a → P a
+find_holds : (P : Arrival → Type 0) (p : ℕ) (xs : List Arrival) (a : Arrival) → AllByRecursion P xs → find_at (arrival_beside p) xs ≡ Some a → P a
 find_holds P p [] a all found = absurd (cc found)
-find_holds P p (y ∷ ys) a all found = go (beside p y) (find_holds P p ys a all.1) found
+find_holds P p (y ∷ ys) a all found = go (arrival_beside p y) (find_holds P p ys a all.1) found
   where
-    go : (o : Ordering) → (find_at (beside p) ys ≡ Some a → P a) → found_here o y (find_at (beside p) ys) ≡ Some a → P a
+    go : (o : Ordering) → (find_at (arrival_beside p) ys ≡ Some a → P a) → found_here o y (find_at (arrival_beside p) ys) ≡ Some a → P a
     go Less later found = later found
     go Equal later found = let same : y ≡ a = cc found in rw (← same) all.0
     go Greater later found = absurd (cc found)
@@ -367,7 +367,7 @@ nothing_ready x finish_nothing origin position = go (stale_of origin position x)
 
 -- ---- after the last event
 
-record Final (schema : Schema) (site : SiteName) (x : SiteState) (f : Core) : Type 0 where
+record Final (schema : Schema) (site : SiteName) (x : SiteState) (f : Cluster) : Type 0 where
   is : site_of site f.sites ≡ Some x
   met : AreMet schema f.sites f.sent
   delivered : IsDelivered f.sites site x
@@ -378,15 +378,15 @@ abbrev AreFinished : SiteName → SiteState → SiteName → Option SiteState �
 AreFinished site x origin None = Unit {0}
 AreFinished site x origin (Some o) = (p : ℕ) (t : Txn) → at_position p (stream_to site o) ≡ Some t → finished origin x.journal p ≡ true
 
-pub first_of_sender : (sites : List SiteState) (site origin : SiteName) (ss : List SenderState) (s : SenderState) → AllByRecursion (λ (s : SenderState). IsFirst (site_of s.origin sites) site s.first) ss
-    → sender_of origin ss ≡ Some s → IsFirst (site_of origin sites) site s.first
+pub first_of_sender : (sites : List SiteState) (site origin : SiteName) (ss : List SenderState) (s : SenderState) → AllByRecursion (λ (s : SenderState). IsFirstNumber (site_of s.origin sites) site s.first) ss
+    → sender_of origin ss ≡ Some s → IsFirstNumber (site_of origin sites) site s.first
 first_of_sender sites site origin [] s firsts found = absurd (cc found)
 first_of_sender sites site origin (y ∷ ys) s firsts found = go (is_same_site y.origin origin) refl (first_of_sender sites site origin ys s firsts.1) found
   where
-    go : (b : Bool) → is_same_site y.origin origin ≡ b → (sender_of origin ys ≡ Some s → IsFirst (site_of origin sites) site s.first) → cond b (Some y) (sender_of origin ys) ≡ Some s → IsFirst (site_of origin sites) site s.first
+    go : (b : Bool) → is_same_site y.origin origin ≡ b → (sender_of origin ys ≡ Some s → IsFirstNumber (site_of origin sites) site s.first) → cond b (Some y) (sender_of origin ys) ≡ Some s → IsFirstNumber (site_of origin sites) site s.first
     go true own later found =
         let same : y ≡ s = cc found in
-        subst (λ (o : SiteName). IsFirst (site_of o sites) site s.first) (is_same_site-true y.origin origin own) (subst (λ (z : SenderState). IsFirst (site_of y.origin sites) site z.first) same firsts.0)
+        subst (λ (o : SiteName). IsFirstNumber (site_of o sites) site s.first) (is_same_site-true y.origin origin own) (subst (λ (z : SenderState). IsFirstNumber (site_of y.origin sites) site z.first) same firsts.0)
     go false own later found = later found
 
 -- what holds of each arrival with its sender's name holds of one that is found
@@ -394,12 +394,12 @@ pub arrival_holds : (P : SiteName → Arrival → Type 0) (origin : SiteName) (p
 arrival_holds P origin p [] a all found = absurd (cc found)
 arrival_holds P origin p (s ∷ ss) a all found = by (is_same_site s.origin origin) refl (arrival_holds P origin p ss a all.1) found
   where
-    by : (b : Bool) → is_same_site s.origin origin ≡ b → (arrived_at origin p ss ≡ Some a → P origin a) → find_at (beside p) (arrived_in (cond b (Some s) (sender_of origin ss))) ≡ Some a → P origin a
+    by : (b : Bool) → is_same_site s.origin origin ≡ b → (arrived_at origin p ss ≡ Some a → P origin a) → find_at (arrival_beside p) (arrived_in (cond b (Some s) (sender_of origin ss))) ≡ Some a → P origin a
     by true own later found = subst (λ (o : SiteName). P o a) (is_same_site-true s.origin origin own) (find_holds (P s.origin) p s.arrived a all.0 found)
     by false own later found = later found
 
-all_covered : (x : SiteState) (P : Past → Type 0) (here : SiteName) → ((seen : Past) → P seen → is_known here x.senders seen ≡ true → is_covered x seen ≡ true)
-    → (past : List Past) → AllByRecursion P past → list_all (is_known here x.senders) past ≡ true → list_all (is_covered x) past ≡ true
+all_covered : (x : SiteState) (P : PastEntry → Type 0) (here : SiteName) → ((seen : PastEntry) → P seen → is_known here x.senders seen ≡ true → is_covered x seen ≡ true)
+    → (past : List PastEntry) → AllByRecursion P past → list_all (is_known here x.senders) past ≡ true → list_all (is_covered x) past ≡ true
 all_covered x P here each [] all known = refl
 all_covered x P here each (seen ∷ past) all known = by (is_known here x.senders seen) refl (all_covered x P here each past all.1) known
   where
@@ -408,7 +408,7 @@ all_covered x P here each (seen ∷ past) all known = by (is_known here x.sender
     by true is later known = rw (each seen all.0 is) (later known)
     by false is later known = cc
 
-module _ (schema : Schema) (shape : HasShape schema) (site : SiteName) (x : SiteState) (f : Core) (final : Final schema site x f) where
+module _ (schema : Schema) (shape : HasShape schema) (site : SiteName) (x : SiteState) (f : Cluster) (final : Final schema site x f) where
   held : SiteHolds f.sites site x
   held = subst (HoldsAt f.sites site) final.is (final.met.holds.each site)
 
@@ -420,7 +420,7 @@ module _ (schema : Schema) (shape : HasShape schema) (site : SiteName) (x : Site
       → n - s.first ≤ low_water origin x.journal → n ≤ covered origin x
   covers origin s o n is opened there within = rw is (go (low_water origin x.journal) refl (low_water origin x.journal == 0) refl)
     where
-      found : (low : ℕ) → low_water origin x.journal ≡ low → 0 < low → (b : Option Arrival) → arrived_at origin low x.senders ≡ b → n ≤ number_in b
+      found : (low : ℕ) → low_water origin x.journal ≡ low → 0 < low → (b : Option Arrival) → arrived_at origin low x.senders ≡ b → n ≤ arrival_number b
       found low same above None at = absurd (meets.arrived origin low (low_water-below origin x.journal low above (omega (arith, same))) at)
       found low same above (Some b) at =
           let sent : SentBy (Some o) site b.number b.position b.dep b.txn = subst (λ (u : Option SiteState). SentBy u site b.number b.position b.dep b.txn) there (arrived_was_sent f.sites site origin x.senders low b held.senders at) in
@@ -428,15 +428,15 @@ module _ (schema : Schema) (shape : HasShape schema) (site : SiteName) (x : Site
           let same_count : sent.count ≡ s.first = cc (sent.opened, opened) in
           omega (arith, sent.number_is, position, same_count, within, same)
 
-      go : (low : ℕ) → low_water origin x.journal ≡ low → (b : Bool) → (low == 0) ≡ b → n ≤ cond (low == 0) (first_in (Some s)) (number_in (find_at (beside low) (arrived_in (Some s))))
+      go : (low : ℕ) → low_water origin x.journal ≡ low → (b : Bool) → (low == 0) ≡ b → n ≤ cond (low == 0) (first_in (Some s)) (arrival_number (find_at (arrival_beside low) (arrived_in (Some s))))
       go low same true none = rw none (let zero_low : low ≡ 0 = grind (arith, nat_tests) in omega (arith, within, same, zero_low))
       go low same false some =
           let above : 0 < low = grind (arith, nat_tests) in
-          let at : arrived_at origin low x.senders ≡ find_at (beside low) (arrived_in (Some s)) = ap (λ u. find_at (beside low) (arrived_in u)) is in
+          let at : arrived_at origin low x.senders ≡ find_at (arrival_beside low) (arrived_in (Some s)) = ap (λ u. find_at (arrival_beside low) (arrived_in u)) is in
           rw (some, ← at) (found low same above (arrived_at origin low x.senders) refl)
 
   -- what was queued by some event is covered in the end, if all that was is finished
-  queued_covered : (sites : List SiteState) → AllOnward sites f.sites → ((origin : SiteName) → AreFinished site x origin (site_of origin sites)) → (seen : Past) → WasQueued sites seen
+  queued_covered : (sites : List SiteState) → AllOnward sites f.sites → ((origin : SiteName) → AreFinished site x origin (site_of origin sites)) → (seen : PastEntry) → WasQueued sites seen
       → is_known x.here.site x.senders seen ≡ true → is_covered x seen ≡ true
   queued_covered sites on all seen was known = go (is_same_site seen.origin x.here.site) refl known
     where
@@ -455,7 +455,7 @@ module _ (schema : Schema) (shape : HasShape schema) (site : SiteName) (x : Site
       low_by s o y opened (inl same) queued done = low_enough s.first o (sym same ∙ opened) queued done
       low_by s o y opened (inr later) queued done = let above : count_of o ≤ s.first = rw opened at later.1 in omega (arith, above, queued)
 
-      later : (s : SenderState) → sender_of seen.origin x.senders ≡ Some s → (o u : Option SiteState) → site_of seen.origin f.sites ≡ u → OnwardIn o u → IsFirst u site s.first → AreFinished site x seen.origin o
+      later : (s : SenderState) → sender_of seen.origin x.senders ≡ Some s → (o u : Option SiteState) → site_of seen.origin f.sites ≡ u → OnwardIn o u → IsFirstNumber u site s.first → AreFinished site x seen.origin o
           → seen.number ≤ count_in o → seen.number ≤ covered seen.origin x
       later s is None u at on first done queued = absurd (omega (arith, was.from_one, queued))
       later s is (Some o) None at on first done queued = absurd on
@@ -464,7 +464,7 @@ module _ (schema : Schema) (shape : HasShape schema) (site : SiteName) (x : Site
       by : (s : Option SenderState) → sender_of seen.origin x.senders ≡ s → is_some s ≡ true → nat_le seen.number (covered seen.origin x) ≡ true
       by None is some = cc
       by (Some s) is some =
-          let first : IsFirst (site_of seen.origin f.sites) site s.first = first_of_sender f.sites site seen.origin x.senders s meets.firsts is in
+          let first : IsFirstNumber (site_of seen.origin f.sites) site s.first = first_of_sender f.sites site seen.origin x.senders s meets.firsts is in
           let within = later s is (site_of seen.origin sites) (site_of seen.origin f.sites) refl (on seen.origin) first (all seen.origin) was.queued in
           grind (arith, nat_tests)
 
@@ -473,7 +473,7 @@ module _ (schema : Schema) (shape : HasShape schema) (site : SiteName) (x : Site
       go false other known = rw other (by (sender_of seen.origin x.senders) refl known)
 
   -- the transaction that an origin queues next, all before it being finished, is due when it has arrived
-  next_due : (sites : List SiteState) → AllOnward sites f.sites → ((origin : SiteName) → AreFinished site x origin (site_of origin sites)) → (origin : SiteName) (o y : SiteState) (c : ℕ) (a : Arrival) (p : ℕ) (past : List Past)
+  next_due : (sites : List SiteState) → AllOnward sites f.sites → ((origin : SiteName) → AreFinished site x origin (site_of origin sites)) → (origin : SiteName) (o y : SiteState) (c : ℕ) (a : Arrival) (p : ℕ) (past : List PastEntry)
       → AllByRecursion (WasQueued sites) past → AreFinished site x origin (Some o) → opened_of site o ≡ Some c → c ≤ length (queue_of o) → p ≡ length (queued_behind c (queue_of o)) + 1
       → site_of origin f.sites ≡ Some y → opened_of site y ≡ Some c → at_position (length (queue_of o) + 1) (pasts_of y) ≡ Some past
       → arrived_at origin p x.senders ≡ Some a → is_due origin x a ≡ true
@@ -538,7 +538,7 @@ module _ (schema : Schema) (shape : HasShape schema) (site : SiteName) (x : Site
       on_xs s = onward_before (site_of s xs) (site_of s ys) (site_of s f.sites) (queues s) (on s)
 
       -- the newest one, of a stream that was open before
-      newest : (o u y : SiteState) (t : Txn) (c p : ℕ) (past : List Past) → AllByRecursion (WasQueued xs) past → pasts_of u ≡ past ∷ pasts_of o → opened_of site u ≡ opened_of site o → site_of origin f.sites ≡ Some y → Onward u y
+      newest : (o u y : SiteState) (t : Txn) (c p : ℕ) (past : List PastEntry) → AllByRecursion (WasQueued xs) past → pasts_of u ≡ past ∷ pasts_of o → opened_of site u ≡ opened_of site o → site_of origin f.sites ≡ Some y → Onward u y
           → AreFinished site x origin (Some o) → opened_of site o ≡ Some c → c ≤ length (queue_of o) → p ≡ length (queued_behind c (queue_of o)) + 1 → at_position p (stream_to site u) ≡ Some t → finished origin x.journal p ≡ true
       newest o u y t c p past queued pasts opens at_f onward done opened under at there =
           next_finished origin p (final.delivered origin y p t at_f (onward_there site u y p t onward there))
@@ -612,7 +612,7 @@ module _ (schema : Schema) (shape : HasShape schema) (site : SiteName) (x : Site
       none None p t there = absurd (cc there)
       none (Some c) p t there = absurd (cc there)
 
-  run_finished : (es : List Event) (start : Core) → IsStart schema start → AreMet schema start.sites start.sent → AllOnward (run es start).sites f.sites → (origin : SiteName) → AreFinished site x origin (site_of origin (run es start).sites)
+  run_finished : (es : List Event) (start : Cluster) → IsStart schema start → AreMet schema start.sites start.sent → AllOnward (run es start).sites f.sites → (origin : SiteName) → AreFinished site x origin (site_of origin (run es start).sites)
   run_finished [] start is met on origin = start_finished start.sites is.sites origin
   run_finished (e ∷ es) start is met on origin =
       let before : AreMet schema (run es start).sites (run es start).sent = run_keeps (AreMet schema) (becomes_met schema shape) es start met in
@@ -632,12 +632,12 @@ module _ (schema : Schema) (shape : HasShape schema) (site : SiteName) (x : Site
       go (Some a) at some = by a (arrived_has origin p x a at) (site_of origin f.sites) (arrived_was_sent f.sites site origin x.senders p a held.senders at) (all origin)
 
 -- what holds of the sites and packets after every list of events
-pub run_met : (schema : Schema) (start : Core) (events : List Event) → IsStart schema start → AreMeshed schema start.sites → AreMet schema (run events start).sites (run events start).sent
+pub run_met : (schema : Schema) (start : Cluster) (events : List Event) → IsStart schema start → SitesLinkAsDeclared schema start.sites → AreMet schema (run events start).sites (run events start).sent
 run_met schema start events is meshed = run_keeps (AreMet schema) (becomes_met schema meshed.declared.shape) events start (start_met schema start is meshed)
 
 pub nothing_waits_for_ever : NothingWaitsForEver
 nothing_waits_for_ever schema start events is meshed site x found delivered finish_nothing =
-    let f : Core = run events start in
+    let f : Cluster = run events start in
     let shape = meshed.declared.shape in
     let met = start_met schema start is meshed in
     let final : Final schema site x f = record {

@@ -12,7 +12,7 @@ use Rattle.deferred_queue.specs.Streams.{is_same_site}
 use Rattle.deferred_queue.proofs.Sites.{is_same_site-true}
 use Rattle.site_state.specs.declared.entry.Entry.{Entry}
 use Rattle.site_state.specs.declared.arrival.Arrival.{Arrival}
-use Rattle.site_state.specs.State.{SenderState, SiteState, sender_of, arrived_in, beside}
+use Rattle.site_state.specs.State.{SenderState, SiteState, sender_of, arrived_in, arrival_beside}
 use Rattle.site_state.specs.Journal.{finished}
 use Rattle.site_state.specs.Steps.{count_where}
 use Rattle.site_state.proofs.LowWater.{finished-append}
@@ -96,11 +96,11 @@ waiting_less origin before after (s ∷ ss) more some = go (is_same_site s.origi
 
 -- ---- what is found is one of the arrivals
 
-pub found_any : (f : Arrival → Bool) (position : ℕ) (arrived : List Arrival) (a : Arrival) → find_at (beside position) arrived ≡ Some a → f a ≡ true → list_any f arrived ≡ true
+pub found_any : (f : Arrival → Bool) (position : ℕ) (arrived : List Arrival) (a : Arrival) → find_at (arrival_beside position) arrived ≡ Some a → f a ≡ true → list_any f arrived ≡ true
 found_any f position [] a found is = absurd (cc found)
-found_any f position (b ∷ bs) a found is = go (beside position b) found (found_any f position bs a)
+found_any f position (b ∷ bs) a found is = go (arrival_beside position b) found (found_any f position bs a)
   where
-    go : (o : Ordering) → found_here o b (find_at (beside position) bs) ≡ Some a → (find_at (beside position) bs ≡ Some a → f a ≡ true → list_any f bs ≡ true) → (f b || list_any f bs) ≡ true
+    go : (o : Ordering) → found_here o b (find_at (arrival_beside position) bs) ≡ Some a → (find_at (arrival_beside position) bs ≡ Some a → f a ≡ true → list_any f bs ≡ true) → (f b || list_any f bs) ≡ true
     go Less found later = or_right (f b) (list_any f bs) (later found is)
     go Equal found later = let same : b ≡ a = cc found in or_left (f b) (list_any f bs) (rw same is)
     go Greater found later = absurd (cc found)

@@ -9,7 +9,7 @@ use Rattle.site_state.specs.Journal.{low_water}
 use Rattle.site_state.specs.Packets.{site_packet}
 use Rattle.site_state.specs.Purges.{purge_answer}
 use Rattle.site_state.proofs.WorkedSites.{a, b, master, additive, row, add, moved, of_calls}
-use Rattle.event_laws.specs.Core.{Core}
+use Rattle.event_laws.specs.Cluster.{Cluster}
 use Rattle.event_laws.specs.Events.{Event, Commit, Send, SendMark, Deliver, Purge}
 use Rattle.event_laws.proofs.WorkedRuns.{masters, then_run, carried, passed, marked, pushed, shown, journal_at, rows_at}
 
@@ -27,13 +27,13 @@ first_lost = Send a b 1 ∷ carried a b (2 ∷ 3 ∷ []) ++ passed b a (2 ∷ 3 
 abbrev all_again : List Event
 all_again = carried a b (1 ∷ 2 ∷ 3 ∷ []) ++ Deliver 0 ∷ passed b a (1 ∷ 2 ∷ 3 ∷ []) ++ marked b a
 
-abbrev queued : Core
+abbrev queued : Cluster
 queued = then_run three_blocks (masters two (row 1 10 ∷ row 2 20 ∷ []) (a ∷ b ∷ []))
 
-abbrev after_the_loss : Core
+abbrev after_the_loss : Cluster
 after_the_loss = then_run first_lost queued
 
-abbrev sent_again : Core
+abbrev sent_again : Cluster
 sent_again = then_run all_again after_the_loss
 
 -- the third block depends on the first
@@ -77,10 +77,10 @@ first_late =
 abbrev comes_late : List Event
 comes_late = Deliver 3 ∷ passed b a (1 ∷ 2 ∷ 3 ∷ []) ++ SendMark b a ∷ []
 
-abbrev late_one : Core
+abbrev late_one : Cluster
 late_one = then_run first_late (masters two (row 1 10 ∷ []) (a ∷ b ∷ []))
 
-abbrev mark_lost : Core
+abbrev mark_lost : Cluster
 mark_lost = then_run comes_late late_one
 
 nothing_without_the_first : journal_at b late_one ≡ []
@@ -95,7 +95,7 @@ nothing_to_purge : shown 9 purge_answer a mark_lost ≡ 0
 unfolding group_columns_of
 nothing_to_purge = refl
 
-abbrev mark_comes : Core
+abbrev mark_comes : Cluster
 mark_comes = then_run (Purge a ∷ pushed a b (1 ∷ 2 ∷ 3 ∷ [])) mark_lost
 
 repeats_are_applied_once : rows_at b mark_comes ≡ (row 1 13 ∷ []) ∷ []

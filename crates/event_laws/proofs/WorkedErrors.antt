@@ -8,19 +8,19 @@ use Rattle.rep_calls.specs.declared.call.Call.TheVariants as call
 use Rattle.site_state.specs.declared.entry.Entry.TheVariants as entry
 use Rattle.site_state.specs.Errors.{errors_of, execute_refusal, drop_refusal}
 use Rattle.site_state.proofs.WorkedSites.{a, b, master, plain, row, set_to, delete, moved, of_calls}
-use Rattle.event_laws.specs.Core.{Core}
+use Rattle.event_laws.specs.Cluster.{Cluster}
 use Rattle.event_laws.specs.Events.{Commit, Execute, Drop}
 use Rattle.event_laws.proofs.WorkedRuns.{masters, then_run, pushed, shown, journal_at, rows_at}
 
 abbrev two : Schema
 two = plain (master a ∷ master b ∷ [])
 
-abbrev start : Core
+abbrev start : Cluster
 start = masters two (row 1 10 ∷ row 2 20 ∷ []) (a ∷ b ∷ [])
 
 -- ---- the second call of a block conflicts with an update at the other site
 
-abbrev in_conflict : Core
+abbrev in_conflict : Cluster
 in_conflict = then_run (Commit b (set_to 2 21 ∷ []) ∷ Commit a (set_to 1 11 ∷ set_to 2 22 ∷ []) ∷ pushed a b (1 ∷ [])) start
 
 error_stands_whole : shown [] errors_of b in_conflict
@@ -36,7 +36,7 @@ still_fails : shown None (execute_refusal a 1) b in_conflict ≡ Some (refusal.S
 unfolding group_columns_of
 still_fails = refl
 
-abbrev mended : Core
+abbrev mended : Cluster
 mended = then_run (Execute b a 1 ∷ Commit b (set_to 2 20 ∷ []) ∷ []) in_conflict
 
 no_refusal_then : shown (Some refusal.NoSuchError) (execute_refusal a 1) b mended ≡ None
@@ -58,7 +58,7 @@ moments_of_the_site = refl
 
 -- ---- the same error, dropped
 
-abbrev dropped : Core
+abbrev dropped : Cluster
 dropped = then_run (Drop b a 1 ∷ []) in_conflict
 
 dropped_journal : journal_at b dropped
@@ -76,7 +76,7 @@ dropped_is_not_executed = refl
 
 -- ---- a delete at one site, an update of the row at the other
 
-abbrev deleted : Core
+abbrev deleted : Cluster
 deleted = then_run (Commit a (delete 1 ∷ []) ∷ Commit b (set_to 1 11 ∷ []) ∷ pushed a b (1 ∷ []) ++ pushed b a (1 ∷ [])) start
 
 delete_finds_another_row : journal_at b deleted

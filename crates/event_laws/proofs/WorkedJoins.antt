@@ -6,7 +6,7 @@ use Rattle.packet_code.specs.declared.packet.Packet.TheVariants.{Carry}
 use Rattle.site_state.specs.State.{opened_of, first_number}
 use Rattle.site_state.specs.Packets.{site_packet}
 use Rattle.site_state.proofs.WorkedSites.{a, b, d, master, late_master, additive, row, add, moved, of_calls}
-use Rattle.event_laws.specs.Core.{Core, site_of}
+use Rattle.event_laws.specs.Cluster.{Cluster, site_of}
 use Rattle.event_laws.specs.Quiet.{unquiet_at}
 use Rattle.event_laws.specs.Events.{Commit, Join}
 use Rattle.event_laws.proofs.WorkedRuns.{masters, then_run, pushed, shown, rows_at}
@@ -14,7 +14,7 @@ use Rattle.event_laws.proofs.WorkedRuns.{masters, then_run, pushed, shown, rows_
 abbrev with_late : Schema
 with_late = additive (master a ∷ master b ∷ late_master d ∷ [])
 
-abbrev committed : Core
+abbrev committed : Cluster
 committed = then_run (Commit a (add 1 5 ∷ []) ∷ []) (masters with_late (row 1 10 ∷ []) (a ∷ b ∷ []))
 
 -- what a was queued for b hinders it there
@@ -30,7 +30,7 @@ nothing_is_queued_for_a_late_site : shown None (opened_of d) a committed ≡ Non
 unfolding group_columns_of
 nothing_is_queued_for_a_late_site = refl
 
-abbrev joined : Core
+abbrev joined : Cluster
 joined = then_run (pushed a b (1 ∷ []) ++ Join d a ∷ []) committed
 
 copied_rows : rows_at d joined ≡ (row 1 15 ∷ []) ∷ []
@@ -45,7 +45,7 @@ opened_behind_the_first : shown None (opened_of d) a joined ≡ Some 1
 unfolding group_columns_of
 opened_behind_the_first = refl
 
-abbrev updated : Core
+abbrev updated : Cluster
 updated = then_run (Commit b (add 1 2 ∷ []) ∷ []) joined
 
 packet_to_the_joined : shown None (site_packet d 1) b updated ≡ Some (Carry b d 1 1 0 (record { origin = a; number = 1 } ∷ []) (of_calls (moved 0 1 15 17 ∷ [])))

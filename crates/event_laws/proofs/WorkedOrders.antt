@@ -4,18 +4,18 @@ use Rattle.rep_schema.specs.Groups.{group_columns_of}
 use Rattle.site_state.specs.declared.entry.Entry.TheVariants as entry
 use Rattle.site_state.specs.Journal.{low_water}
 use Rattle.site_state.proofs.WorkedSites.{a, b, row, add, moved, of_calls}
-use Rattle.event_laws.specs.Core.{Core}
+use Rattle.event_laws.specs.Cluster.{Cluster}
 use Rattle.event_laws.specs.Events.{Commit}
 use Rattle.event_laws.proofs.WorkedRuns.{masters, then_run, carried, passed, shown, journal_at, rows_at}
 use Rattle.event_laws.proofs.WorkedDeliveries.{two}
 
-abbrev two_come : Core
+abbrev two_come : Cluster
 two_come = then_run (Commit a (add 1 1 ∷ []) ∷ Commit a (add 2 1 ∷ []) ∷ carried a b (1 ∷ 2 ∷ [])) (masters two (row 1 10 ∷ row 2 20 ∷ []) (a ∷ b ∷ []))
 
-abbrev rising : Core
+abbrev rising : Cluster
 rising = then_run (passed b a (1 ∷ 2 ∷ [])) two_come
 
-abbrev falling : Core
+abbrev falling : Cluster
 falling = then_run (passed b a (2 ∷ 1 ∷ [])) two_come
 
 rising_journal : journal_at b rising ≡ entry.Done a 2 0 (of_calls (moved 0 2 20 21 ∷ [])) ∷ entry.Done a 1 0 (of_calls (moved 0 1 10 11 ∷ [])) ∷ []

@@ -13,19 +13,19 @@ use Rattle.site_state.specs.Ready.{covered, stale_of, first_ready}
 use Rattle.site_state.specs.Packets.{site_packet}
 use Rattle.site_state.specs.Errors.{execute_refusal}
 use Rattle.site_state.proofs.WorkedSites.{a, b, c, master, additive, row, add, insert, moved, of_calls}
-use Rattle.event_laws.specs.Core.{Core}
+use Rattle.event_laws.specs.Cluster.{Cluster}
 use Rattle.event_laws.specs.Events.{Commit, Send}
 use Rattle.event_laws.proofs.WorkedRuns.{masters, then_run, carried, passed, marked, pushed, shown, journal_at, rows_at}
 
 abbrev three : Schema
 three = additive (master a ∷ master b ∷ master c ∷ [])
 
-abbrev start : Core
+abbrev start : Cluster
 start = masters three [] (a ∷ b ∷ c ∷ [])
 
 -- ---- an update of a row that came from a third site
 
-abbrev updated : Core
+abbrev updated : Cluster
 updated = then_run (Commit a (insert 1 10 ∷ []) ∷ pushed a b (1 ∷ []) ++ Commit b (add 1 5 ∷ []) ∷ []) start
 
 past_of_the_update : shown None (site_packet c 1) b updated ≡ Some (Carry b c 1 1 0 (record { origin = a; number = 1 } ∷ []) (of_calls (moved 0 1 10 15 ∷ [])))
@@ -36,7 +36,7 @@ nothing_seen_before : shown None (site_packet b 1) a updated ≡ Some (Carry a b
 unfolding group_columns_of
 nothing_seen_before = refl
 
-abbrev update_first : Core
+abbrev update_first : Cluster
 update_first = then_run (pushed b c (1 ∷ [])) updated
 
 update_waits : journal_at c update_first ≡ []
@@ -48,7 +48,7 @@ unfolding group_columns_of
 update_is_not_ready = refl
 
 -- the insert comes, and a pass for each sender is made
-abbrev insert_then : Core
+abbrev insert_then : Cluster
 insert_then = then_run (carried a c (1 ∷ []) ++ passed c a (1 ∷ []) ++ passed c b (1 ∷ []) ++ marked c a) update_first
 
 update_follows : journal_at c insert_then ≡ entry.Done b 1 0 (of_calls (moved 0 1 10 15 ∷ [])) ∷ entry.Done a 1 0 (of_calls (call.Insert 0 (row 1 10) ∷ [])) ∷ []
@@ -69,7 +69,7 @@ update_at_its_origin = refl
 
 -- ---- a gap: what was seen is the greatest finished number, though the one before was lost
 
-abbrev gap_seen : Core
+abbrev gap_seen : Cluster
 gap_seen = then_run (
     Commit a (insert 1 10 ∷ []) ∷ Commit a (insert 2 20 ∷ []) ∷ Send a b 1 ∷ carried a b (2 ∷ []) ++ passed b a (1 ∷ 2 ∷ []) ++ marked b a
     ++ Commit b (add 2 1 ∷ []) ∷ []
@@ -84,7 +84,7 @@ unfolding group_columns_of
 no_mark_over_the_gap = refl
 
 -- the first insert alone doesn't cover it
-abbrev first_comes : Core
+abbrev first_comes : Cluster
 first_comes = then_run (pushed b c (1 ∷ []) ++ pushed a c (1 ∷ []) ++ passed c b (1 ∷ [])) gap_seen
 
 covered_by_the_first : shown 9 (covered a) c first_comes ≡ 1
@@ -95,7 +95,7 @@ waits_for_the_second : shown (Some 9) (first_ready b 0) c first_comes ≡ None
 unfolding group_columns_of
 waits_for_the_second = refl
 
-abbrev second_comes : Core
+abbrev second_comes : Cluster
 second_comes = then_run (carried a c (2 ∷ []) ++ passed c a (1 ∷ 2 ∷ [])) first_comes
 
 second_makes_it_ready : shown None (first_ready b 0) c second_comes ≡ Some 1

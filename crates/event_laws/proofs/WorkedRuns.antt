@@ -8,16 +8,16 @@ use Rattle.site_state.specs.declared.entry.Entry.{Entry}
 use Rattle.site_state.specs.State.{SiteState}
 use Rattle.site_state.specs.Contents.{tables_of}
 use Rattle.site_state.proofs.WorkedSites.{at_first}
-use Rattle.event_laws.specs.Core.{Core, site_of}
+use Rattle.event_laws.specs.Cluster.{Cluster, site_of}
 use Rattle.event_laws.specs.Events.{Event, Send, SendMark, Deliver, Begin, Apply, run}
 
 -- these masters, at which nothing has happened
-abbrev pub masters : Schema → Rows → List SiteName → Core
+abbrev pub masters : Schema → Rows → List SiteName → Cluster
 masters schema rows sites = record { sites = map (at_first schema rows) sites; sent = []; begun = [] }
 
 -- ---- runs, with the events in the order in which they happen
 
-abbrev pub then_run : List Event → Core → Core
+abbrev pub then_run : List Event → Cluster → Cluster
 then_run [] w = w
 then_run (e ∷ es) w = then_run es (run (e ∷ []) w)
 
@@ -45,11 +45,11 @@ of_site other f None = other
 of_site other f (Some x) = f x
 
 -- something of the site of a name, where it is there
-abbrev pub shown : {X : Type 0} → X → (SiteState → X) → SiteName → Core → X
+abbrev pub shown : {X : Type 0} → X → (SiteState → X) → SiteName → Cluster → X
 shown other f site w = of_site other f (site_of site w.sites)
 
-abbrev pub journal_at : SiteName → Core → List Entry
+abbrev pub journal_at : SiteName → Cluster → List Entry
 journal_at site w = shown [] (λ x. x.journal) site w
 
-abbrev pub rows_at : SiteName → Core → List Rows
+abbrev pub rows_at : SiteName → Cluster → List Rows
 rows_at site w = shown [] tables_of site w

@@ -22,7 +22,7 @@ use Rattle.site_state.specs.Packets.{site_packet}
 use Rattle.site_state.specs.Purges.{purge_log_answer}
 use Rattle.site_state.specs.Making.{new_site}
 use Rattle.site_state.proofs.WorkedSites.{a, b, s, master, snapshot_of, number_column, key_column, table_t, additive, n, row, at_first, add, moved, of_calls}
-use Rattle.event_laws.specs.Core.{Core}
+use Rattle.event_laws.specs.Cluster.{Cluster}
 use Rattle.event_laws.specs.Rules.{rows_ruled, refresh_ruled_answer, is_young}
 use Rattle.event_laws.specs.Events.{Commit, PurgeLog, Refresh}
 use Rattle.event_laws.proofs.WorkedRuns.{then_run, pushed, shown, journal_at, rows_at}
@@ -39,14 +39,14 @@ with_other = additive (master a ∷ master b ∷ snapshot_of s a ∷ [])
 abbrev above_5 : Snapshot
 above_5 = record { table = 0; query = record { tests = record { column = 1; op = Gt; value = n 5 } ∷ [] }; parent = None; mark = 0; touched = [] }
 
-abbrev start_above_5 : Core
+abbrev start_above_5 : Cluster
 start_above_5 = record {
   sites = at_first with_other (row 1 10 ∷ row 2 3 ∷ []) a ∷ at_first with_other (row 1 10 ∷ row 2 3 ∷ []) b ∷ snapshot_site with_other above_5 (row 1 10 ∷ []) ∷ [];
   sent = [];
   begun = [];
 }
 
-abbrev sent_on : Core
+abbrev sent_on : Cluster
 sent_on = then_run (Commit s (add 1 2 ∷ []) ∷ pushed s a (1 ∷ []) ++ pushed a b (1 ∷ []) ++ Refresh s ∷ []) start_above_5
 
 update_goes_onward : journal_at a sent_on ≡ entry.Done s 1 1 (of_calls (moved 0 1 10 12 ∷ [])) ∷ []
@@ -96,7 +96,7 @@ zone_row k zone q = n k ∷ n zone ∷ n q ∷ []
 abbrev zone_1 : Snapshot
 zone_1 = record { table = 0; query = record { tests = record { column = 1; op = Eq; value = n 1 } ∷ [] }; parent = None; mark = 0; touched = [] }
 
-abbrev start_zone_1 : Core
+abbrev start_zone_1 : Cluster
 start_zone_1 = record {
   sites = at_first zones (zone_row 1 1 10 ∷ zone_row 2 1 20 ∷ zone_row 3 2 30 ∷ []) a ∷ snapshot_site zones zone_1 (zone_row 1 1 10 ∷ zone_row 2 1 20 ∷ []) ∷ [];
   sent = [];
@@ -114,16 +114,16 @@ abbrev none_counted : RefreshCount
 none_counted = record { keys = 0; rows = 0 }
 
 -- what a refresh by the master's logs answers
-abbrev count_of_refresh : Core → RefreshCount
+abbrev count_of_refresh : Cluster → RefreshCount
 count_of_refresh w = shown none_counted (λ m. shown none_counted (λ x. refresh_ruled_answer m.logs (rows_ruled x.schema (tables_of m) x.snapshots) x) s w) a w
 
 -- the pending keys of the snapshot
-abbrev pending : Core → List Cells
+abbrev pending : Cluster → List Cells
 pending w = shown [] (λ m. shown [] (λ x. flat_map (pending_keys m.logs) x.snapshots) s w) a w
 
 -- ---- one key changed at the master
 
-abbrev third_changed : Core
+abbrev third_changed : Cluster
 third_changed = then_run (Commit a (set_column (codes "Q") 3 31 ∷ []) ∷ []) start_zone_1
 
 third_is_logged : shown [] (λ x. x.logs) a third_changed ≡ record { table = 0; keys = record { key = n 3 ∷ []; moment = 1 } ∷ []; purged = 0 } ∷ []
@@ -137,7 +137,7 @@ one_key_two_rows = refl
 -- ---- a row left the zone at the master, and the snapshot site changed it and another one: its block is in error, and both
 -- of its keys are looked up, though the log has only one of them
 
-abbrev both_changed : Core
+abbrev both_changed : Cluster
 both_changed = then_run (
     Commit a (set_column (codes "ZONE") 1 2 ∷ []) ∷ Commit s (set_column (codes "Q") 1 11 ∷ set_column (codes "Q") 2 21 ∷ []) ∷ pushed s a (1 ∷ [])
     ) start_zone_1
@@ -165,7 +165,7 @@ nothing_is_pending_then = refl
 
 -- ---- the snapshot site's update isn't acknowledged, and then the log is purged above the snapshot's mark
 
-abbrev at_snapshot_site : Core
+abbrev at_snapshot_site : Cluster
 at_snapshot_site = then_run (Commit s (set_column (codes "Q") 2 21 ∷ []) ∷ []) start_zone_1
 
 -- a refresh shows the master's rows all the same
@@ -173,14 +173,14 @@ masters_rows_before_it_is_acknowledged : rows_at s (then_run (Refresh s ∷ []) 
 unfolding group_columns_of
 masters_rows_before_it_is_acknowledged = refl
 
-abbrev acknowledged : Core
+abbrev acknowledged : Cluster
 acknowledged = then_run (pushed s a (1 ∷ [])) at_snapshot_site
 
 one_key_to_purge : shown 9 (purge_log_answer 0) a acknowledged ≡ 1
 unfolding group_columns_of
 one_key_to_purge = refl
 
-abbrev too_young : Core → List Bool
+abbrev too_young : Cluster → List Bool
 too_young w = shown [] (λ m. shown [] (λ x. map (is_young m.logs) x.snapshots) s w) a w
 
 log_tells_all : too_young acknowledged ≡ false ∷ []

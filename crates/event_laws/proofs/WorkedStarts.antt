@@ -18,10 +18,10 @@ use Rattle.snapshot_query.specs.declared.snapshot.Snapshot.{Snapshot}
 use Rattle.site_state.specs.State.{SiteState, opened_of}
 use Rattle.site_state.specs.Making.{master_here, new_site}
 use Rattle.site_state.proofs.WorkedSites.{a, b, d, s, master, late_master, snapshot_of, additive, row, at_first}
-use Rattle.event_laws.specs.Core.{Core, site_of}
+use Rattle.event_laws.specs.Cluster.{Cluster, site_of}
 use Rattle.event_laws.specs.Starts.{IsStart}
 use Rattle.event_laws.specs.Declared.{AreDeclared}
-use Rattle.event_laws.specs.Waiting.{AreFirsts, StreamsMeet, AbsentAreClosed, AreMeshed}
+use Rattle.event_laws.specs.Waiting.{AreFirsts, StreamsMeet, AbsentAreClosed, SitesLinkAsDeclared}
 use Rattle.event_laws.specs.Fitting.{IsFitStart}
 use Rattle.event_laws.proofs.Sites.{found_all}
 use Rattle.event_laws.proofs.NewSites.{new_site_is_new}
@@ -35,7 +35,7 @@ all_rows = record { table = 0; query = record { tests = [] }; parent = None; mar
 abbrev site_s : SiteState
 site_s = new_site schema (record { site = s; is_master = false; tables = true ∷ [] }) [] (all_rows ∷ []) ((row 1 10 ∷ []) ∷ [])
 
-abbrev start : Core
+abbrev start : Cluster
 start = record { sites = at_first schema (row 1 10 ∷ []) a ∷ at_first schema (row 1 10 ∷ []) b ∷ site_s ∷ []; sent = []; begun = [] }
 
 -- ---- the schema
@@ -167,7 +167,7 @@ absent_are_closed site absent x found late gone =
     only false false false true is = cc
     only false false false false is = cc
 
-are_meshed : AreMeshed schema start.sites
+are_meshed : SitesLinkAsDeclared schema start.sites
 are_meshed = record { declared = are_declared; streams = streams_meet; closed = absent_are_closed }
 
 base_tables : AreTables schema ((row 1 10 ∷ []) ∷ [])

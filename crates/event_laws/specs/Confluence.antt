@@ -20,7 +20,7 @@ use Rattle.site_state.specs.Steps.{begun}
 use Rattle.site_state.specs.Passes.{site_apply, site_pass}
 use Rattle.site_state.specs.Errors.{errors_of}
 use Rattle.journal_order.specs.Waited.{IsWellNumbered}
-use Rattle.event_laws.specs.Core.{Core, site_of}
+use Rattle.event_laws.specs.Cluster.{Cluster, site_of}
 use Rattle.event_laws.specs.Events.{Event, run}
 use Rattle.event_laws.specs.Declared.{AreDeclared}
 use Rattle.event_laws.specs.Fitting.{IsFitStart}
@@ -88,5 +88,5 @@ PassesTakeSuchAnOrder = (origin : SiteName) (x : SiteState) → CanPass origin (
 -- every site can pass in any order for every sender that is a master, after every list of events, where sites are as the
 -- schema declares them
 abbrev pub EverySiteCanPassInAnyOrder : Type 0
-EverySiteCanPassInAnyOrder = (schema : Schema) (start : Core) (events : List Event) → IsFitStart schema start → AreDeclared schema start.sites
+EverySiteCanPassInAnyOrder = (schema : Schema) (start : Cluster) (events : List Event) → IsFitStart schema start → AreDeclared schema start.sites
     → (site origin : SiteName) (x : SiteState) → site_of site (run events start).sites ≡ Some x → is_master_site schema origin ≡ true → CanPassInAnyOrder origin x

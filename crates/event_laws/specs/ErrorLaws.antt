@@ -54,5 +54,5 @@ pub record IsDropped (x y : SiteState) (origin : SiteName) (position : ℕ) : Ty
   pub settled : error_at origin position y.journal ≡ None
 
 -- a drop that isn't refused does that
-abbrev pub DropsSettle : Type 0
-DropsSettle = (x : SiteState) (origin : SiteName) (position : ℕ) → drop_refusal origin position x ≡ None → IsDropped x (site_drop origin position x) origin position
+abbrev pub DropsClear : Type 0
+DropsClear = (x : SiteState) (origin : SiteName) (position : ℕ) → drop_refusal origin position x ≡ None → IsDropped x (site_drop origin position x) origin position

@@ -21,7 +21,7 @@ use Rattle.site_state.specs.Errors.{site_execute, site_drop}
 use Rattle.site_state.specs.Purges.{site_purge, site_purge_log}
 use Rattle.site_state.specs.Refreshes.{site_refresh}
 use Rattle.event_laws.specs.Rules.{rows_ruled}
-use Rattle.event_laws.specs.Core.{Core, site_of, at_site}
+use Rattle.event_laws.specs.Cluster.{Cluster, site_of, at_site}
 use Rattle.event_laws.specs.Joins.{joined}
 
 -- what can happen to the sites and to what was sent
@@ -76,7 +76,7 @@ is_master_in None = false
 is_master_in (Some x) = x.here.is_master
 
 -- a position may be applied at a site: at a master a pass was begun there
-abbrev pub may_apply : SiteName → Core → Bool
+abbrev pub may_apply : SiteName → Cluster → Bool
 may_apply site w = is_among w.begun site || not (is_master_in (site_of site w.sites))
 
 abbrev pub applied_where : Bool → SiteName → SiteName → ℕ → List SiteState → List SiteState
@@ -121,7 +121,7 @@ begun_after site (Some x) names = without_found (master_of x.schema site) names
 -- ---- events
 
 -- what is there after an event; one that can't happen changes no site, and nothing is sent
-abbrev pub happens : Event → Core → Core
+abbrev pub happens : Event → Cluster → Cluster
 happens (Commit site statements) w = record w { sites = at_site site (site_commit statements) w.sites }
 happens (SetClock site clock) w = record w { sites = at_site site (site_clock clock) w.sites }
 happens (Send from to position) w = record w { sent = with_packet (packet_from to position (site_of from w.sites)) w.sent }
@@ -137,6 +137,6 @@ happens (Refresh site) w = record w { sites = at_site site (refreshed w.sites) w
 happens (Join site source) w = record w { sites = joined site source w.sites }
 
 -- what is there after events, the newest of which stands first
-abbrev pub run : List Event → Core → Core
+abbrev pub run : List Event → Cluster → Cluster
 run [] w = w
 run (e ∷ es) w = happens e (run es w)

@@ -14,7 +14,7 @@ use Rattle.site_state.specs.Contents.{content_of, txn_of}
 use Rattle.site_state.specs.Streams.{queue_of}
 use Rattle.site_state.specs.Commits.{block_at}
 use Rattle.site_state.specs.Fits.{EntryFits, SendersFit, AreWithin}
-use Rattle.event_laws.specs.Core.{Core, site_of}
+use Rattle.event_laws.specs.Cluster.{Cluster, site_of}
 use Rattle.event_laws.specs.Events.{Event, run}
 use Rattle.event_laws.specs.Starts.{IsStart}
 
@@ -24,7 +24,7 @@ pub record StartsFit (schema : Schema) (x : SiteState) : Type 0 where
   pub within : AreWithin schema x.snapshots
 
 -- new sites of a sound schema, each with tables as base rows
-pub record IsFitStart (schema : Schema) (w : Core) : Type 0 where
+pub record IsFitStart (schema : Schema) (w : Cluster) : Type 0 where
   pub sound : IsSound schema
   pub start : IsStart schema w
   pub sites : AllByRecursion (StartsFit schema) w.sites
@@ -41,5 +41,5 @@ pub record FitsHere (x : SiteState) : Type 0 where
 
 -- so it is at every site after every list of events
 abbrev pub EverySiteFits : Type 0
-EverySiteFits = (schema : Schema) (start : Core) (events : List Event) → IsFitStart schema start
+EverySiteFits = (schema : Schema) (start : Cluster) (events : List Event) → IsFitStart schema start
     → (site : SiteName) (x : SiteState) → site_of site (run events start).sites ≡ Some x → FitsHere x

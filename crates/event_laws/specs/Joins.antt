@@ -1,19 +1,19 @@
 -- A late master joins.
 use Rattle.std.specs.Prelude.{◌&&◌, Bool, cond, List, [], ◌∷◌, ◌++◌, map, filter, Option, Some, None}
 use Rattle.rep_values.specs.declared.name.SiteName.{SiteName}
-use Rattle.rep_calls.specs.declared.past.Past.{Past}
+use Rattle.rep_calls.specs.declared.past.PastEntry.{PastEntry}
 use Rattle.site_state.specs.State.{SiteState}
 use Rattle.site_state.specs.Streams.{count_of}
 use Rattle.site_state.specs.Making.{is_late_master, master_here}
 use Rattle.site_state.specs.Joining.{site_open, site_copy}
-use Rattle.event_laws.specs.Core.{site_of}
+use Rattle.event_laws.specs.Cluster.{site_of}
 use Rattle.event_laws.specs.Quiet.{are_quiet}
 
-abbrev pub count_at : SiteState → Past
+abbrev pub count_at : SiteState → PastEntry
 count_at x = record { origin = x.here.site; number = count_of x }
 
 -- the queue count of each master that is there
-abbrev pub queue_counts : List SiteState → List Past
+abbrev pub queue_counts : List SiteState → List PastEntry
 queue_counts sites = map count_at (filter (λ (x : SiteState). x.here.is_master) sites)
 
 -- a site is open to each of these that it has as a destination

@@ -1,5 +1,5 @@
 -- The definitions of this crate.
-pub mod Core
+pub mod Cluster
 pub mod Quiet
 pub mod Joins
 pub mod Rules

@@ -6,10 +6,10 @@ use Rattle.deferred_queue.specs.Streams.{at_position}
 use Rattle.site_state.specs.declared.entry.Entry.{Entry}
 use Rattle.site_state.specs.declared.entry.Entry.TheVariants.{Local, Done, Error, Executed, Dropped, Refreshed}
 use Rattle.site_state.specs.State.{SiteState}
-use Rattle.site_state.specs.Journal.{finishes, settles, finished}
+use Rattle.site_state.specs.Journal.{finishes, clears_error, finished}
 use Rattle.site_state.specs.Streams.{stream_to, shares}
 use Rattle.site_state.specs.Steps.{count_where}
-use Rattle.event_laws.specs.Core.{site_of}
+use Rattle.event_laws.specs.Cluster.{site_of}
 use Rattle.event_laws.specs.Marks.{journal_in}
 
 -- at each site each position is finished at most once
@@ -17,8 +17,8 @@ abbrev pub AreFinishedOnce : List SiteState → Type 0
 AreFinishedOnce sites = (site origin : SiteName) (position : ℕ) → count_where (finishes origin position) (journal_in (site_of site sites)) ≤ 1
 
 -- and its error is executed or dropped at most once
-abbrev pub AreSettledOnce : List SiteState → Type 0
-AreSettledOnce sites = (site origin : SiteName) (position : ℕ) → count_where (settles origin position) (journal_in (site_of site sites)) ≤ 1
+abbrev pub AreClearedOnce : List SiteState → Type 0
+AreClearedOnce sites = (site origin : SiteName) (position : ℕ) → count_where (clears_error origin position) (journal_in (site_of site sites)) ≤ 1
 
 -- a transaction that was finished is the one that its origin has at the position, and of the earlier ones there, those that
 -- share a token with it were finished before

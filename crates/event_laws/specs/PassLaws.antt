@@ -12,7 +12,7 @@ use Rattle.site_state.specs.Streams.{count_of}
 use Rattle.site_state.specs.Ready.{is_ready}
 use Rattle.site_state.specs.Passes.{site_pass}
 use Rattle.site_state.specs.Purges.{site_purge}
-use Rattle.event_laws.specs.Core.{Core, site_of}
+use Rattle.event_laws.specs.Cluster.{Cluster, site_of}
 use Rattle.event_laws.specs.Events.{Event, run}
 use Rattle.event_laws.specs.Starts.{IsStart}
 use Rattle.event_laws.specs.Declared.{AreDeclared}
@@ -29,7 +29,7 @@ LowWaterIsThatOfTheFinished = (origin : SiteName) (journal : List Entry) → IsL
 -- so every site can make such a pass for every sender, after every list of events, where sites are as the schema declares
 -- them
 abbrev pub EverySiteCanPass : Type 0
-EverySiteCanPass = (schema : Schema) (start : Core) (events : List Event) → IsStart schema start → AreDeclared schema start.sites
+EverySiteCanPass = (schema : Schema) (start : Cluster) (events : List Event) → IsStart schema start → AreDeclared schema start.sites
     → (site origin : SiteName) (x : SiteState) → site_of site (run events start).sites ≡ Some x → CanPass origin (arrivals origin x)
 
 abbrev pub AckedSince : Option ℕ → ℕ → ℕ → Type 0

@@ -2,7 +2,7 @@
 use Rattle.std.specs.Prelude.{ℕ, ◌==◌, ◌&&◌, Bool, not, List, map, filter, length}
 use Rattle.std.specs.List.{list_all}
 use Rattle.rep_values.specs.declared.name.SiteName.{SiteName}
-use Rattle.rep_calls.specs.declared.past.Past.{Past}
+use Rattle.rep_calls.specs.declared.past.PastEntry.{PastEntry}
 use Rattle.deferred_queue.specs.Streams.{is_same_site}
 use Rattle.site_state.specs.State.{SiteState}
 use Rattle.site_state.specs.Streams.{stream_to}
@@ -12,11 +12,11 @@ use Rattle.site_state.specs.Joining.{unfinished}
 abbrev pub is_other_master : SiteName → SiteState → Bool
 is_other_master site x = x.here.is_master && not (is_same_site x.here.site site)
 
-abbrev pub last_position_to : SiteName → SiteState → Past
+abbrev pub last_position_to : SiteName → SiteState → PastEntry
 last_position_to site x = record { origin = x.here.site; number = length (stream_to site x) }
 
 -- of each other master that is there, its last position for a site
-abbrev pub last_positions : SiteName → List SiteState → List Past
+abbrev pub last_positions : SiteName → List SiteState → List PastEntry
 last_positions site sites = map (last_position_to site) (filter (is_other_master site) sites)
 
 -- how much hinders quiet at a site: what the other masters queued for it and it hasn't finished, and the errors of

@@ -10,7 +10,7 @@ use Rattle.site_state.specs.Journal.{finished}
 use Rattle.site_state.specs.Streams.{stream_to, count_of}
 use Rattle.site_state.specs.Passes.{site_pass}
 use Rattle.site_state.specs.Making.{is_late_master}
-use Rattle.event_laws.specs.Core.{Core, site_of}
+use Rattle.event_laws.specs.Cluster.{Cluster, site_of}
 use Rattle.event_laws.specs.Events.{Event, run}
 use Rattle.event_laws.specs.Starts.{IsStart}
 use Rattle.event_laws.specs.Declared.{AreDeclared}
@@ -19,13 +19,13 @@ use Rattle.event_laws.specs.Declared.{AreDeclared}
 
 -- a sender that is there is open to a site from the first number on that the site has of it, and of one that isn't there
 -- that number is 0
-abbrev pub IsFirst : Option SiteState → SiteName → ℕ → Type 0
-IsFirst None site first = first ≡ 0
-IsFirst (Some o) site first = (opened_of site o ≡ Some first) × (first ≤ count_of o)
+abbrev pub IsFirstNumber : Option SiteState → SiteName → ℕ → Type 0
+IsFirstNumber None site first = first ≡ 0
+IsFirstNumber (Some o) site first = (opened_of site o ≡ Some first) × (first ≤ count_of o)
 
 abbrev pub AreFirsts : List SiteState → SiteName → Option SiteState → Type 0
 AreFirsts sites site None = Unit {0}
-AreFirsts sites site (Some x) = AllByRecursion (λ (s : SenderState). IsFirst (site_of s.origin sites) site s.first) x.senders
+AreFirsts sites site (Some x) = AllByRecursion (λ (s : SenderState). IsFirstNumber (site_of s.origin sites) site s.first) x.senders
 
 -- senders and their destinations agree on where each stream begins
 abbrev pub StreamsMeet : List SiteState → Type 0
@@ -37,7 +37,7 @@ AbsentAreClosed schema sites = (site absent : SiteName) (x : SiteState) → site
     → opened_of absent x ≡ None
 
 -- the sites are as the schema declares them, and their streams meet
-pub record AreMeshed (schema : Schema) (sites : List SiteState) : Type 0 where
+pub record SitesLinkAsDeclared (schema : Schema) (sites : List SiteState) : Type 0 where
   pub declared : AreDeclared schema sites
   pub streams : StreamsMeet sites
   pub closed : AbsentAreClosed schema sites
@@ -60,6 +60,6 @@ NothingWaits x = (origin : SiteName) (position : ℕ) → arrived_at origin posi
 
 -- so it is at every site after every list of events
 abbrev pub NothingWaitsForEver : Type 0
-NothingWaitsForEver = (schema : Schema) (start : Core) (events : List Event) → IsStart schema start → AreMeshed schema start.sites
+NothingWaitsForEver = (schema : Schema) (start : Cluster) (events : List Event) → IsStart schema start → SitesLinkAsDeclared schema start.sites
     → (site : SiteName) (x : SiteState) → site_of site (run events start).sites ≡ Some x
     → IsDelivered (run events start).sites site x → PassesFinishNothing x → NothingWaits x

@@ -1,9 +1,9 @@
 //! Laws over every list of events, and over every site. The functions are empty: their contracts are the laws.
 ghost use Rattle.event_laws.specs.Confluence.{EverySiteCanPassInAnyOrder, OneSiteComesOfAnyOrder, PassesTakeSuchAnOrder};
-ghost use Rattle.event_laws.specs.ErrorLaws.{DropsSettle, ErrorsStandWhole, ExecutionsApplyAnew, RefusedExecutionsChangeNothing};
+ghost use Rattle.event_laws.specs.ErrorLaws.{DropsClear, ErrorsStandWhole, ExecutionsApplyAnew, RefusedExecutionsChangeNothing};
 ghost use Rattle.event_laws.specs.Fitting.{EverySiteFits};
 ghost use Rattle.event_laws.specs.Marks.{AreWellNumbered, MarksAreLow, PurgedIsFinished};
-ghost use Rattle.event_laws.specs.Orders.{AreFinishedOnce, AreSettledOnce, EarlierComesFirst};
+ghost use Rattle.event_laws.specs.Orders.{AreFinishedOnce, AreClearedOnce, EarlierComesFirst};
 ghost use Rattle.event_laws.specs.PassLaws.{EverySiteCanPass, LowWaterIsThatOfTheFinished, PassesLeaveNothingReady, PurgesTakeWhatIsAcknowledged};
 ghost use Rattle.event_laws.specs.Rules.{QueriesAreRules};
 ghost use Rattle.event_laws.specs.Starts.{InEveryRun};
@@ -21,7 +21,7 @@ pub fn marks_are_never_ahead()
 /// of a stream that share a token the earlier is finished first.
 pub fn earlier_comes_first()
     ensures once { InEveryRun AreFinishedOnce }
-    ensures settled { InEveryRun AreSettledOnce }
+    ensures settled { InEveryRun AreClearedOnce }
     ensures order { InEveryRun EarlierComesFirst }
 {}
 
@@ -35,7 +35,7 @@ pub fn errors_stand_whole()
 pub fn executions_apply_anew()
     ensures refused { RefusedExecutionsChangeNothing }
     ensures executed { ExecutionsApplyAnew }
-    ensures dropped { DropsSettle }
+    ensures dropped { DropsClear }
 {}
 
 /// After a pass no position of the sender is ready. Every site can make such a pass for every sender, whatever happens.

@@ -13,7 +13,7 @@ use Rattle.rep_schema.specs.declared.check.Check.{Check}
 use Rattle.rep_schema.specs.Tables.{Cells, Rows, columns_of, find_row, rows_of, RowFits, AreTables}
 use Rattle.rep_schema.specs.Checks.{failed_check}
 use Rattle.rep_schema.specs.Groups.{group_columns_of, values_at, are_same}
-use Rattle.rep_schema.specs.Putting.{changes_between, made_all}
+use Rattle.rep_schema.specs.Putting.{changes_between, after_changes}
 use Rattle.rep_schema.proofs.FoundRows.{found_row}
 use Rattle.rep_schema.proofs.ValuesAt.{are_same-Decides}
 use Rattle.schema_rules.specs.declared.forms.Form.TheVariants as form
@@ -36,10 +36,10 @@ use Rattle.local_txn.specs.Convergent.{is_convergent}
 use Rattle.local_txn.specs.Laws.{StampsOfABlockRise}
 use Rattle.site_state.specs.State.{SiteState}
 use Rattle.site_state.specs.Contents.{content_of, tables_of, journal_content}
-use Rattle.event_laws.specs.Core.{Core, site_of}
+use Rattle.event_laws.specs.Cluster.{Cluster, site_of}
 use Rattle.event_laws.specs.Events.{Event}
 use Rattle.event_laws.specs.Fitting.{IsFitStart}
-use Rattle.event_laws.specs.Waiting.{AreMeshed}
+use Rattle.event_laws.specs.Waiting.{SitesLinkAsDeclared}
 use Rattle.convergence_laws.specs.Beginning.{BaseRowsAreFilled}
 use Rattle.convergence_laws.specs.GroupForms.{form_at, value_of, KeepsForms}
 use Rattle.convergence_laws.specs.Journals.{IsSoundTxn, AreMade}
@@ -49,12 +49,12 @@ use Rattle.convergence_laws.specs.Laws.{BlocksKeepForms}
 use Rattle.convergence_laws.proofs.Moves.{DecisionLaws}
 use Rattle.convergence_laws.proofs.RowsCome.{parts_move}
 use Rattle.convergence_laws.proofs.CallsCome.{is_row-same, calls_come}
-use Rattle.excuse_laws.specs.Excuses.{NoRowIsMissing, RangeIsLeftBySum, is_on_convergent, is_row_tie_or_range, is_row_or_range, IsExcusedOn, BeginAlike}
+use Rattle.excuse_laws.specs.Excuses.{NoRowIsMissing, RangeIsLeftBySum, is_on_convergent, is_row_tie_or_range, is_row_or_range, IsExcusedOn, KeysBeginAlike}
 use Rattle.excuse_laws.specs.Laws.{ErrorsAreExcused}
-use Rattle.excuse_laws.proofs.Signs.{Sign, signs_in, signs_in-append, signs_of}
-use Rattle.excuse_laws.proofs.Signing.{IsSettled, SettledBy}
+use Rattle.excuse_laws.proofs.OneTimeWrites.{OneTimeWrite, writes_in, writes_in-append, signs_of}
+use Rattle.excuse_laws.proofs.WritingOnce.{IsDecided, DecidedBy}
 use Rattle.excuse_laws.proofs.Moving.{ComesFrom}
-use Rattle.excuse_laws.proofs.SignsStep.{IsWell}
+use Rattle.excuse_laws.proofs.WritesStep.{IsWell}
 use Rattle.site_state.specs.Steps.{count_where}
 use Rattle.excuse_laws.proofs.MissingRows.{missing_here}
 use Rattle.excuse_laws.proofs.LeftRanges.{fails_there, range_left_here}
@@ -62,7 +62,7 @@ use Rattle.excuse_laws.proofs.Unmixed.{all_convergent}
 use Rattle.excuse_laws.proofs.Running.{sites_after, keeps, well_after, FailuresAreSo, failures_after}
 use Rattle.excuse_laws.proofs.Inserting.{Behind, behind, txn_sound, unmixed_sent, fails_convergent, made_once, not_there, made_behind, no_key_is_taken}
 use Rattle.excuse_laws.proofs.Values.{passing, Passes, passing_comes, any_counts, moved_from}
-use Rattle.excuse_laws.proofs.LatestSigns.{is_pair, pair_has, has_pair, latest_sign}
+use Rattle.excuse_laws.proofs.LatestWrites.{is_pair, pair_has, has_pair, latest_sign}
 use Rattle.excuse_laws.proofs.Levels.{one_text}
 use Rattle.excuse_laws.proofs.Named.{unnamed, is_whole, whole_is, levelled_is, sent_named, rows_named, base_carries}
 use Rattle.excuse_laws.proofs.Ties.{PartFails, part_fails, Ties, conflict_ties}
@@ -147,7 +147,7 @@ split_parts test (q ∷ before) after part = go (q.group == part.group) (test q.
 one_counts : (test : Cells → Bool) (values : Cells) → test values ≡ true → count_where test (values ∷ []) ≡ 1
 one_counts test values passes = rw passes (omega arith)
 
-module _ (schema : Schema) (decides : DecisionLaws) (rises : StampsOfABlockRise) (blocks : BlocksKeepForms) (start : Core) (is : IsFitStart schema start) (meshed : AreMeshed schema start.sites)
+module _ (schema : Schema) (decides : DecisionLaws) (rises : StampsOfABlockRise) (blocks : BlocksKeepForms) (start : Cluster) (is : IsFitStart schema start) (meshed : SitesLinkAsDeclared schema start.sites)
     (filled : BaseRowsAreFilled schema start.sites) (events : List Event) (x o : SiteState) (position : ℕ) (txn : Txn) (failure : Failure)
     (x_found : site_of x.here.site (sites_after schema decides rises blocks start is meshed events) ≡ Some x) (master : x.here.is_master ≡ true)
     (comes : ComesFrom (sites_after schema decides rises blocks start is meshed events) x o position txn) (gives : effect_on schema o.here.site txn (content_of x) ≡ Err failure) where
@@ -158,7 +158,7 @@ module _ (schema : Schema) (decides : DecisionLaws) (rises : StampsOfABlockRise)
   well = well_after schema decides rises blocks start is meshed events x.here.site x x_found
 
   abbrev tables : List Rows
-  tables = made_all schema f.effect.changes (tables_of x)
+  tables = after_changes schema f.effect.changes (tables_of x)
 
   -- ---- at a part of an update that ties
 
@@ -179,7 +179,7 @@ module _ (schema : Schema) (decides : DecisionLaws) (rises : StampsOfABlockRise)
       count = passing schema is.sound decides table convergent key q.part.group at by has test
 
       abbrev made : ℕ
-      made = signs_in count f.done
+      made = writes_in count f.done
 
       abbrev earlier : ℕ
       earlier = count_where test (map new_of (mine q.before))
@@ -218,8 +218,8 @@ module _ (schema : Schema) (decides : DecisionLaws) (rises : StampsOfABlockRise)
     abbrev bad : Cells → Bool
     bad = unnamed schema decides rises blocks start is meshed filled table convergent key q.part.group at by has
 
-    none_bad : made bad + (count bad f.call + signs_in (count bad) f.rest) ≡ 0
-    none_bad = sym (ap (signs_in (count bad)) f.whole ∙ signs_in-append (count bad) f.done (f.call ∷ f.rest)) ∙ sent_named schema decides rises blocks start is meshed filled table convergent key q.part.group at by has events x o position txn comes
+    none_bad : made bad + (count bad f.call + writes_in (count bad) f.rest) ≡ 0
+    none_bad = sym (ap (writes_in (count bad)) f.whole ∙ writes_in-append (count bad) f.done (f.call ∷ f.rest)) ∙ sent_named schema decides rises blocks start is meshed filled table convergent key q.part.group at by has events x o position txn comes
 
     off : (b : Bool) → (b ≡ true → ⊥) → b ≡ false
     off true never = absurd (never refl)
@@ -295,7 +295,7 @@ module _ (schema : Schema) (decides : DecisionLaws) (rises : StampsOfABlockRise)
       abbrev pair : Cells → Bool
       pair = is_pair schema is.sound decides table convergent key q.part.group at by has old.stamp owner
 
-      abbrev sign : Sign schema
+      abbrev sign : OneTimeWrite schema
       sign = latest_sign schema is.sound decides table convergent key q.part.group at by has old.stamp owner rises
 
       now_pair : pair now ≡ true
@@ -304,7 +304,7 @@ module _ (schema : Schema) (decides : DecisionLaws) (rises : StampsOfABlockRise)
       new_pair : pair q.part.new ≡ true
       new_pair = has_pair schema is.sound decides table convergent key q.part.group at by has old.stamp owner q.part.new (new.stamped ∙ ap (λ n. Some (Num (pos n))) same_stamp) (new.sited ∙ ap (λ t. Some (Words t)) same_text)
 
-      begins : (site : SiteName) (y : SiteState) → site_of site start.sites ≡ Some y → y.here.is_master ≡ true → PassesIn pair y.base → IsSettled schema sign start.sites
+      begins : (site : SiteName) (y : SiteState) → site_of site start.sites ≡ Some y → y.here.is_master ≡ true → PassesIn pair y.base → IsDecided schema sign start.sites
       begins site y y_found on passes = go (site_of sign.owner start.sites)
         where
           zero_stamp : old.stamp ≡ 0
@@ -313,7 +313,7 @@ module _ (schema : Schema) (decides : DecisionLaws) (rises : StampsOfABlockRise)
               same : Some (Num (pos 0)) ≡ Some (Num (pos old.stamp)) → old.stamp ≡ 0
               same e = cc e
 
-          go : (owner : Option SiteState) → SettledBy schema sign start.sites owner
+          go : (owner : Option SiteState) → DecidedBy schema sign start.sites owner
           go None = λ other z z_found z_on. zero_stamp
           go (Some z) = omega (arith, zero_stamp)
 
@@ -323,7 +323,7 @@ module _ (schema : Schema) (decides : DecisionLaws) (rises : StampsOfABlockRise)
         | inr some ↦ omega (arith, total, all, one, once, some)
       ]
         where
-          total : signs_of sign.count txn ≡ made pair + (count pair f.call + signs_in (count pair) f.rest)
+          total : signs_of sign.count txn ≡ made pair + (count pair f.call + writes_in (count pair) f.rest)
           total = made_behind schema decides rises blocks start is meshed events x o position txn failure x_found master comes gives sign begins
 
           all : count pair f.call ≡ 0 + (earlier pair + (own pair + later pair))
@@ -365,7 +365,7 @@ module _ (schema : Schema) (decides : DecisionLaws) (rises : StampsOfABlockRise)
 
 -- ---- every error
 
-errors_excused : (schema : Schema) (decides : DecisionLaws) (rises : StampsOfABlockRise) (blocks : BlocksKeepForms) (start : Core) (is : IsFitStart schema start) (meshed : AreMeshed schema start.sites) → BeginAlike schema start.sites
+errors_excused : (schema : Schema) (decides : DecisionLaws) (rises : StampsOfABlockRise) (blocks : BlocksKeepForms) (start : Cluster) (is : IsFitStart schema start) (meshed : SitesLinkAsDeclared schema start.sites) → KeysBeginAlike schema start.sites
     → FailuresAreSo schema decides rises blocks start is meshed (IsExcusedOn schema)
 errors_excused schema decides rises blocks start is meshed alike events x o position txn failure x_found master comes gives on = record {
   kind = go failure.error refl (no_key_is_taken schema decides rises blocks start is meshed events x o position txn failure x_found master comes gives alike.shared on).kind;

@@ -8,14 +8,14 @@ use Rattle.rep_values.specs.declared.refusal.ApplyError.{ApplyError}
 use Rattle.rep_schema.specs.declared.schema.Schema.{Schema}
 use Rattle.rep_schema.specs.declared.change.Change.{Change}
 use Rattle.rep_schema.specs.Tables.{Rows, AreTables}
-use Rattle.rep_schema.specs.Putting.{made_all}
-use Rattle.rep_schema.proofs.Making.{made_all-append}
+use Rattle.rep_schema.specs.Putting.{after_changes}
+use Rattle.rep_schema.proofs.Making.{after_changes-append}
 use Rattle.rep_calls.specs.declared.call.Call.{Call}
 use Rattle.conflict_detect.specs.Fits.{CallFits}
 use Rattle.unique_resolve.specs.Numbers.{Numbers, AreCounters}
 use Rattle.txn_effects.specs.Parts.{result_then}
 use Rattle.txn_effects.specs.Calls.{Effect, call_effect}
-use Rattle.txn_effects.specs.Transactions.{Failure, failing_at, behind, calls_effect}
+use Rattle.txn_effects.specs.Transactions.{Failure, failing_at, effect_behind, calls_effect}
 use Rattle.txn_effects.proofs.TransactionEffects.{IsApplied-call_effect}
 use Rattle.rep_laws.specs.Commuting.{IsSound}
 use Rattle.rep_laws.proofs.SoundSchemas.{HasKeys-sound, KeysStandAlone-sound}
@@ -30,12 +30,12 @@ pub record FailsBehind (schema : Schema) (origin : SiteName) (number : ℕ) (cal
   pub counted : failure.call ≡ number + length done
   pub effect : Effect
   pub succeeds : calls_effect schema origin number done tables numbers ≡ Ok effect
-  pub fails : call_effect schema (made_all schema effect.changes tables) effect.numbers origin call ≡ Err failure.error
+  pub fails : call_effect schema (after_changes schema effect.changes tables) effect.numbers origin call ≡ Err failure.error
   pub done_fit : AllByRecursion (CallFits schema) done
   pub done_keep : AllByRecursion (KeepsForms schema) done
   pub fits : CallFits schema call
   pub keeps : KeepsForms schema call
-  pub are : AreTables schema (made_all schema effect.changes tables)
+  pub are : AreTables schema (after_changes schema effect.changes tables)
   pub counters : AreCounters schema effect.numbers
 
 -- a list up to an element, at whose place it is found
@@ -43,7 +43,7 @@ pub found_behind : {X : Type 0} (done : List X) (x : X) (rest : List X) → slic
 found_behind [] x rest = refl
 found_behind (y ∷ done) x rest = found_behind done x rest
 
-behind-Err : (changes : List Change) (result : Result Effect Failure) (failure : Failure) → behind changes result ≡ Err failure → result ≡ Err failure
+behind-Err : (changes : List Change) (result : Result Effect Failure) (failure : Failure) → effect_behind changes result ≡ Err failure → result ≡ Err failure
 behind-Err changes (Ok effect) failure e = cc
 behind-Err changes (Err one) failure e = let same : one ≡ failure = cc in ap (λ f. Err f) same
 
@@ -57,7 +57,7 @@ module _ (schema : Schema) (sound : IsSound schema) (origin : SiteName) where
       go (call_effect schema tables numbers origin call) refl gives (λ tables numbers are counters later. fails_behind (number + 1) calls tables numbers failure are counters fit.1 keep.1 later)
     where
       go : (r : Result Effect ApplyError) → call_effect schema tables numbers origin call ≡ r
-          → result_then (failing_at number r) (λ (x : Effect). behind x.changes (calls_effect schema origin (number + 1) calls (made_all schema x.changes tables) x.numbers)) ≡ Err failure
+          → result_then (failing_at number r) (λ (x : Effect). effect_behind x.changes (calls_effect schema origin (number + 1) calls (after_changes schema x.changes tables) x.numbers)) ≡ Err failure
           → ((tables : List Rows) (numbers : Numbers) → AreTables schema tables → AreCounters schema numbers → calls_effect schema origin (number + 1) calls tables numbers ≡ Err failure
           → FailsBehind schema origin (number + 1) calls tables numbers failure)
           → FailsBehind schema origin number (call ∷ calls) tables numbers failure
@@ -84,10 +84,10 @@ module _ (schema : Schema) (sound : IsSound schema) (origin : SiteName) where
           zero_more n = omega arith
       go (Ok one) is e later =
           let applied = IsApplied-call_effect schema origin sound.shape (HasKeys-sound schema sound.unbroken sound.shape) (KeysStandAlone-sound schema sound.unbroken) call tables numbers one are counters fit.0 is in
-          let rest = later (made_all schema one.changes tables) one.numbers applied.are applied.counters
-          (behind-Err one.changes (calls_effect schema origin (number + 1) calls (made_all schema one.changes tables) one.numbers) failure e) in
-          let together : made_all schema (one.changes ++ rest.effect.changes) tables ≡ made_all schema rest.effect.changes (made_all schema one.changes tables) =
-          made_all-append schema one.changes rest.effect.changes tables in
+          let rest = later (after_changes schema one.changes tables) one.numbers applied.are applied.counters
+          (behind-Err one.changes (calls_effect schema origin (number + 1) calls (after_changes schema one.changes tables) one.numbers) failure e) in
+          let together : after_changes schema (one.changes ++ rest.effect.changes) tables ≡ after_changes schema rest.effect.changes (after_changes schema one.changes tables) =
+          after_changes-append schema one.changes rest.effect.changes tables in
           record {
             done = call ∷ rest.done;
             call = rest.call;

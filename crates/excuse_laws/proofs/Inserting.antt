@@ -7,7 +7,7 @@ use Rattle.rep_values.specs.declared.refusal.ApplyError.{ApplyError}
 use Rattle.rep_values.specs.declared.refusal.ApplyError.TheVariants as error
 use Rattle.rep_schema.specs.declared.schema.Schema.{Schema}
 use Rattle.rep_schema.specs.Tables.{Cells, Rows, columns_of, key_of, find_row, rows_of}
-use Rattle.rep_schema.specs.Putting.{made_all}
+use Rattle.rep_schema.specs.Putting.{after_changes}
 use Rattle.rep_calls.specs.declared.call.Call.{Call}
 use Rattle.rep_calls.specs.declared.call.Call.TheVariants.{Insert, Update, Delete}
 use Rattle.rep_calls.specs.declared.call.Txn.{Txn}
@@ -20,11 +20,11 @@ use Rattle.local_txn.specs.Laws.{StampsOfABlockRise}
 use Rattle.site_state.specs.State.{SiteState, opened_of}
 use Rattle.site_state.specs.Contents.{content_of, tables_of, journal_content}
 use Rattle.site_state.specs.Streams.{queue_of, stream_to}
-use Rattle.event_laws.specs.Core.{Core, site_of}
+use Rattle.event_laws.specs.Cluster.{Cluster, site_of}
 use Rattle.event_laws.specs.Events.{Event}
 use Rattle.event_laws.specs.Fitting.{IsFitStart}
 use Rattle.event_laws.specs.Starts.{IsNewSite}
-use Rattle.event_laws.specs.Waiting.{AreMeshed}
+use Rattle.event_laws.specs.Waiting.{SitesLinkAsDeclared}
 use Rattle.event_laws.proofs.Sites.{found_all}
 use Rattle.convergence_laws.specs.Faults.{Tells, is_insert, ChangesLatest}
 use Rattle.convergence_laws.specs.Journals.{IsSoundTxn}
@@ -35,13 +35,13 @@ use Rattle.convergence_laws.proofs.Faults.{convergent_calls_fail_so}
 use Rattle.excuse_laws.specs.Excuses.{is_on_convergent, is_row_tie_or_range, NoKeyIsTaken, MastersShareKeys}
 use Rattle.excuse_laws.specs.Laws.{KeysAreNeverTaken}
 use Rattle.excuse_laws.proofs.Failing.{FailsBehind, fails_behind, call_found}
-use Rattle.excuse_laws.proofs.Signs.{Sign, signs_in, signs_in-append, signs_of, position_few, stream_few}
-use Rattle.excuse_laws.proofs.Signing.{IsSettled, SettledBy, sent_has_passed}
+use Rattle.excuse_laws.proofs.OneTimeWrites.{OneTimeWrite, writes_in, writes_in-append, signs_of, position_few, stream_few}
+use Rattle.excuse_laws.proofs.WritingOnce.{IsDecided, DecidedBy, sent_has_passed}
 use Rattle.excuse_laws.proofs.OwnChanges.{block_changes_own}
 use Rattle.excuse_laws.proofs.Unmixed.{IsUnmixed, own_unmixed, onward_unmixed, all_convergent}
-use Rattle.excuse_laws.proofs.InsertSigns.{insert_sign, inserts_counted, there_came}
+use Rattle.excuse_laws.proofs.InsertWrites.{insert_sign, inserts_counted, there_came}
 use Rattle.excuse_laws.proofs.Moving.{ComesFrom}
-use Rattle.excuse_laws.proofs.SignsStep.{IsWell, sent_holds}
+use Rattle.excuse_laws.proofs.WritesStep.{IsWell, sent_holds}
 use Rattle.excuse_laws.proofs.Running.{sites_after, well_after, links_after, signed_after, queued_after, failures_after}
 
 -- what holds of all holds of one in the midst
@@ -49,7 +49,7 @@ pub middle_holds : {X : Type 0} (P : X → Type 0) (done : List X) (x : X) (rest
 middle_holds P [] x rest all = all.0
 middle_holds P (y ∷ done) x rest all = middle_holds P done x rest all.1
 
-module _ (schema : Schema) (decides : DecisionLaws) (rises : StampsOfABlockRise) (blocks : BlocksKeepForms) (start : Core) (is : IsFitStart schema start) (meshed : AreMeshed schema start.sites) where
+module _ (schema : Schema) (decides : DecisionLaws) (rises : StampsOfABlockRise) (blocks : BlocksKeepForms) (start : Cluster) (is : IsFitStart schema start) (meshed : SitesLinkAsDeclared schema start.sites) where
   -- ---- each transaction that is sent is unmixed
 
   abbrev Sites : List Event → List SiteState
@@ -90,11 +90,11 @@ module _ (schema : Schema) (decides : DecisionLaws) (rises : StampsOfABlockRise)
     fails_convergent on = middle_holds (λ (call : Call). is_convergent schema (table_of call) ≡ true) behind.done behind.call behind.rest
         (subst (AllByRecursion (λ (call : Call). is_convergent schema (table_of call) ≡ true)) behind.whole (all_convergent schema txn (unmixed_sent events x o position txn comes) on))
 
-    pub told : is_convergent schema (table_of behind.call) ≡ true → Tells schema behind.call (row_named schema (made_all schema behind.effect.changes (tables_of x)) behind.call) failure.error
-    told convergent = convergent_calls_fail_so decides schema (made_all schema behind.effect.changes (tables_of x)) behind.effect.numbers o.here.site behind.call failure.error is.sound behind.are behind.fits behind.keeps convergent behind.fails
+    pub told : is_convergent schema (table_of behind.call) ≡ true → Tells schema behind.call (row_named schema (after_changes schema behind.effect.changes (tables_of x)) behind.call) failure.error
+    told convergent = convergent_calls_fail_so decides schema (after_changes schema behind.effect.changes (tables_of x)) behind.effect.numbers o.here.site behind.call failure.error is.sound behind.are behind.fits behind.keeps convergent behind.fails
 
     -- a sign that what fails would make once more
-    module _ (sign : Sign schema) (begins : (site : SiteName) (x : SiteState) → site_of site start.sites ≡ Some x → x.here.is_master ≡ true → sign.Present x.base → IsSettled schema sign start.sites) where
+    module _ (sign : OneTimeWrite schema) (begins : (site : SiteName) (x : SiteState) → site_of site start.sites ≡ Some x → x.here.is_master ≡ true → sign.Present x.base → IsDecided schema sign start.sites) where
       -- the transaction makes it once, and the master hasn't it
       pub made_once : signs_of sign.count txn ≤ 1
       made_once =
@@ -106,8 +106,8 @@ module _ (schema : Schema) (decides : DecisionLaws) (rises : StampsOfABlockRise)
       not_there makes has = comes.before
           (sent_has_passed schema sign (Sites events) (links_after schema decides rises blocks start is meshed events) (signed_after schema decides rises blocks start is meshed sign begins events) x o position txn x_found comes.there master comes.sent makes has)
 
-      pub made_behind : signs_of sign.count txn ≡ signs_in sign.count behind.done + (sign.count behind.call + signs_in sign.count behind.rest)
-      made_behind = ap (signs_in sign.count) behind.whole ∙ signs_in-append sign.count behind.done (behind.call ∷ behind.rest)
+      pub made_behind : signs_of sign.count txn ≡ writes_in sign.count behind.done + (sign.count behind.call + writes_in sign.count behind.rest)
+      made_behind = ap (writes_in sign.count) behind.whole ∙ writes_in-append sign.count behind.done (behind.call ∷ behind.rest)
 
     module _ (shared : MastersShareKeys schema start.sites) where
       -- the row of an insert isn't there
@@ -115,55 +115,55 @@ module _ (schema : Schema) (decides : DecisionLaws) (rises : StampsOfABlockRise)
         abbrev key : Cells
         key = key_of (columns_of schema table) row
 
-        abbrev sign : Sign schema
+        abbrev sign : OneTimeWrite schema
         sign = insert_sign schema is.sound decides blocks table convergent key
 
         new_base : (site : SiteName) (y : SiteState) → site_of site start.sites ≡ Some y → tables_of y ≡ y.base
         new_base site y found = ap (λ es. (journal_content y.schema y.here.site y.base es).tables) (found_all (IsNewSite schema) site start.sites y is.start.sites found).journal
 
-        begins : (site : SiteName) (y : SiteState) → site_of site start.sites ≡ Some y → y.here.is_master ≡ true → sign.Present y.base → IsSettled schema sign start.sites
+        begins : (site : SiteName) (y : SiteState) → site_of site start.sites ≡ Some y → y.here.is_master ≡ true → sign.Present y.base → IsDecided schema sign start.sites
         begins site y found on there = go (site_of sign.owner start.sites) refl
           where
             has : (other : SiteName) (z : SiteState) → site_of other start.sites ≡ Some z → z.here.is_master ≡ true → sign.Present (tables_of z)
             has other z z_found z_on none = there (shared site other y z table key found z_found on z_on convergent
                 (ap (λ (ts : List Rows). find_row (columns_of schema table) key (rows_of ts table)) (sym (new_base other z z_found)) ∙ none))
 
-            go : (owner : Option SiteState) → site_of sign.owner start.sites ≡ owner → SettledBy schema sign start.sites owner
+            go : (owner : Option SiteState) → site_of sign.owner start.sites ≡ owner → DecidedBy schema sign start.sites owner
             go None absent = has
             go (Some z) at = has sign.owner z at
 
         counted : sign.count behind.call ≡ 1
         counted = ap sign.count inserts ∙ (rw (is_row-same table key table key refl refl) refl)
 
-        pub insert_is_new : find_row (columns_of schema table) key (rows_of (made_all schema behind.effect.changes (tables_of x)) table) ≡ None
-        insert_is_new = none (find_row (columns_of schema table) key (rows_of (made_all schema behind.effect.changes (tables_of x)) table)) refl
+        pub insert_is_new : find_row (columns_of schema table) key (rows_of (after_changes schema behind.effect.changes (tables_of x)) table) ≡ None
+        insert_is_new = none (find_row (columns_of schema table) key (rows_of (after_changes schema behind.effect.changes (tables_of x)) table)) refl
           where
-            total : signs_of sign.count txn ≡ signs_in sign.count behind.done + (sign.count behind.call + signs_in sign.count behind.rest)
+            total : signs_of sign.count txn ≡ writes_in sign.count behind.done + (sign.count behind.call + writes_in sign.count behind.rest)
             total = made_behind sign begins
 
             once : signs_of sign.count txn ≤ 1
             once = made_once sign begins
 
-            came : find_row (columns_of schema table) key (rows_of (made_all schema behind.effect.changes (tables_of x)) table) ≢ None → ⊥
+            came : find_row (columns_of schema table) key (rows_of (after_changes schema behind.effect.changes (tables_of x)) table) ≢ None → ⊥
             came there = elim (there_came schema is.sound decides blocks table convergent key (find_row (columns_of schema table) key (rows_of (tables_of x) table))
-                (find_row (columns_of schema table) key (rows_of (made_all schema behind.effect.changes (tables_of x)) table)) behind.done
+                (find_row (columns_of schema table) key (rows_of (after_changes schema behind.effect.changes (tables_of x)) table)) behind.done
                 (calls_come schema is.sound decides table 0 convergent key 1 behind.done (tables_of x) (content_of x).numbers o.here.site behind.effect well.content.tables well.content.counters behind.done_fit behind.done_keep behind.succeeds) there) [
                   | inl was ↦ not_there sign begins (omega (arith, total, counted)) was
                   | inr inserted ↦ let done = inserts_counted schema is.sound decides blocks table convergent key behind.done in omega (arith, total, counted, once, inserted, done)
                 ]
 
-            none : (found : Option Cells) → find_row (columns_of schema table) key (rows_of (made_all schema behind.effect.changes (tables_of x)) table) ≡ found → found ≡ None
+            none : (found : Option Cells) → find_row (columns_of schema table) key (rows_of (after_changes schema behind.effect.changes (tables_of x)) table) ≡ found → found ≡ None
             none None at = refl
             none (Some r) at = absurd (came (λ empty. cc (sym at ∙ empty)))
 
-      never_taken : is_convergent schema (table_of behind.call) ≡ true → is_insert behind.call ≡ true → (row : Cells) → row_named schema (made_all schema behind.effect.changes (tables_of x)) behind.call ≡ Some row → ⊥
+      never_taken : is_convergent schema (table_of behind.call) ≡ true → is_insert behind.call ≡ true → (row : Cells) → row_named schema (after_changes schema behind.effect.changes (tables_of x)) behind.call ≡ Some row → ⊥
       never_taken convergent inserts row there = go behind.call refl
         where
           go : (call : Call) → behind.call ≡ call → ⊥
           go (Insert table new) at =
               let on : is_convergent schema table ≡ true = ap (λ (c : Call). is_convergent schema (table_of c)) (sym at) ∙ convergent in
               let none = insert_is_new table new at on in
-              let wrong : None ≡ Some row = sym none ∙ ap (row_named schema (made_all schema behind.effect.changes (tables_of x))) (sym at) ∙ there in
+              let wrong : None ≡ Some row = sym none ∙ ap (row_named schema (after_changes schema behind.effect.changes (tables_of x))) (sym at) ∙ there in
               cc
           go (Update table key parts) at = let wrong : false ≡ true = ap is_insert (sym at) ∙ inserts in cc
           go (Delete table old) at = let wrong : false ≡ true = ap is_insert (sym at) ∙ inserts in cc
@@ -173,10 +173,10 @@ module _ (schema : Schema) (decides : DecisionLaws) (rises : StampsOfABlockRise)
         kind = go failure.error (told (fails_convergent on));
         tie = λ group why call found.
             subst (ChangesLatest schema) (call_found schema o.here.site txn.calls (tables_of x) (content_of x).numbers failure call behind found)
-            (subst (Tells schema behind.call (row_named schema (made_all schema behind.effect.changes (tables_of x)) behind.call)) why (told (fails_convergent on)));
+            (subst (Tells schema behind.call (row_named schema (after_changes schema behind.effect.changes (tables_of x)) behind.call)) why (told (fails_convergent on)));
       }
         where
-          go : (why : ApplyError) → Tells schema behind.call (row_named schema (made_all schema behind.effect.changes (tables_of x)) behind.call) why → is_row_tie_or_range why ≡ true
+          go : (why : ApplyError) → Tells schema behind.call (row_named schema (after_changes schema behind.effect.changes (tables_of x)) behind.call) why → is_row_tie_or_range why ≡ true
           go error.NoRow tells = refl
           go (error.UpdateConflict group) tells = refl
           go error.DeleteConflict tells = absurd tells

@@ -17,12 +17,12 @@ use Rattle.site_state.specs.Joining.{site_open, site_copy}
 use Rattle.site_state.specs.Making.{master_here}
 use Rattle.site_state.proofs.Growing.{queued_behind-none}
 use Rattle.site_state.proofs.Destinations.{opened_in-opened, opened_from_stays}
-use Rattle.event_laws.specs.Core.{site_of}
+use Rattle.event_laws.specs.Cluster.{site_of}
 use Rattle.event_laws.specs.Joins.{queue_counts, copied, with_joined}
 use Rattle.event_laws.proofs.Sites.{found_or, site_of-joined}
 use Rattle.event_laws.proofs.NewSites.{open_to_each_keeps, copied_is_new, copied_here}
-use Rattle.excuse_laws.proofs.Signs.{Sign}
-use Rattle.excuse_laws.proofs.Signing.{IsSigned, made_in, Has, IsAlready, SettledBy, IsSettled, AllPassed, Took, Comes, IsTaken, none_found}
+use Rattle.excuse_laws.proofs.OneTimeWrites.{OneTimeWrite}
+use Rattle.excuse_laws.proofs.WritingOnce.{IsSigned, made_in, Has, IsAlready, DecidedBy, IsDecided, AllPassed, Took, Comes, IsTaken, none_found}
 
 -- ---- the one that joins
 
@@ -59,7 +59,7 @@ open_sends site z to position txn found = elim (opened_in-opened to site (length
       absurd (cc wrong)
 ]
 
-module _ (schema : Schema) (sign : Sign schema) (sites : List SiteState) (h : IsSigned schema sign sites) (site : SiteName) (source : SiteState) (absent : site_of site sites ≡ None)
+module _ (schema : Schema) (sign : OneTimeWrite schema) (sites : List SiteState) (h : IsSigned schema sign sites) (site : SiteName) (source : SiteState) (absent : site_of site sites ≡ None)
     (source_found : site_of source.here.site sites ≡ Some source) (master : source.here.is_master ≡ true) (closed : (name : SiteName) (z : SiteState) → site_of name sites ≡ Some z → opened_of site z ≡ None) where
   abbrev new : SiteState
   new = copied sites source site
@@ -86,7 +86,7 @@ module _ (schema : Schema) (sign : Sign schema) (sites : List SiteState) (h : Is
   still : (name : SiteName) (z : SiteState) → site_of name sites ≡ Some z → site_of name others ≡ Some (site_open site z)
   still name z found = site_of-joined name (site_open site) sites new (λ x. refl) ∙ ap (λ o. found_or (site_of name (new ∷ [])) (option_map (site_open site) o)) found
 
-  settled_later : IsSettled schema sign sites → IsSettled schema sign others
+  settled_later : IsDecided schema sign sites → IsDecided schema sign others
   settled_later settled = go (site_of sign.owner sites) refl settled
     where
       already : sign.Given (tables_of source) → IsAlready schema sign new
@@ -94,7 +94,7 @@ module _ (schema : Schema) (sign : Sign schema) (sites : List SiteState) (h : Is
           (subst (λ (ts : List Rows). sign.Already new.here.is_master ts 0) (sym (copied_tables sites source site)) (sign.given new.here.is_master (tables_of source) 0 given))
 
       by : (b : Bool) → is_same_site new.here.site sign.owner ≡ b → ((name : SiteName) (x : SiteState) → site_of name sites ≡ Some x → x.here.is_master ≡ true → sign.Given (tables_of x))
-          → SettledBy schema sign others (cond b (Some new) None)
+          → DecidedBy schema sign others (cond b (Some new) None)
       by true is all = already (all source.here.site source source_found master)
       by false is all = λ name w found on. each (was name w found) on
         where
@@ -102,7 +102,7 @@ module _ (schema : Schema) (sign : Sign schema) (sites : List SiteState) (h : Is
           each {name} {w} (Old z there same) on = rw same (all name z there (rw same at on))
           each {name} {w} (New same) on = rw (same, copied_tables sites source site) (all source.here.site source source_found master)
 
-      go : (o : Option SiteState) → site_of sign.owner sites ≡ o → SettledBy schema sign sites o → IsSettled schema sign others
+      go : (o : Option SiteState) → site_of sign.owner sites ≡ o → DecidedBy schema sign sites o → IsDecided schema sign others
       go (Some o) there already_o = rw (still sign.owner o there) already_o
       go None none all = rw (site_of-joined sign.owner (site_open site) sites new (λ x. refl), none) (by (is_same_site new.here.site sign.owner) refl all)
 
@@ -153,11 +153,11 @@ module _ (schema : Schema) (sign : Sign schema) (sites : List SiteState) (h : Is
       once {name} {w} (Old z there same) = rw same (h.once name z there)
       once {name} {w} (New same) = rw (same, copied_queue sites source site) (omega arith)
 
-      comes : {name : SiteName} {w : SiteState} → Was name w → 1 ≤ made_in schema sign (queue_of w) → Comes schema sign others w × IsSettled schema sign others
+      comes : {name : SiteName} {w : SiteState} → Was name w → 1 ≤ made_in schema sign (queue_of w) → Comes schema sign others w × IsDecided schema sign others
       comes {name} {w} (Old z there same) has = let before = h.comes name z there (rw same at has) in rw same (comes_later z before.0, settled_later before.1)
       comes {name} {w} (New same) has = let none : 1 ≤ 0 = rw (same, copied_queue sites source site) at has in absurd (omega (arith, none))
 
-      settled : {name : SiteName} {w : SiteState} → Was name w → w.here.is_master ≡ true → Has schema sign w → IsSettled schema sign others
+      settled : {name : SiteName} {w : SiteState} → Was name w → w.here.is_master ≡ true → Has schema sign w → IsDecided schema sign others
       settled {name} {w} (Old z there same) on has = settled_later (h.settled name z there (rw same at on) (rw same at has))
       settled {name} {w} (New same) on has = settled_later (h.settled source.here.site source source_found master (source_has w same has))
 

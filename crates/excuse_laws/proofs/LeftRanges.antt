@@ -8,13 +8,13 @@ use Rattle.rep_schema.specs.declared.schema.Schema.{Schema}
 use Rattle.rep_schema.specs.Tables.{Cells, Rows, columns_of, find_row, rows_of, AreTables}
 use Rattle.rep_schema.specs.Fitting.{is_in_range}
 use Rattle.rep_schema.specs.Groups.{group_columns_of, values_at}
-use Rattle.rep_schema.specs.Putting.{made_all}
+use Rattle.rep_schema.specs.Putting.{after_changes}
 use Rattle.schema_rules.specs.declared.forms.Form.TheVariants as form
 use Rattle.rep_calls.specs.declared.call.Call.{Call}
 use Rattle.rep_calls.specs.declared.call.Part.{Part}
 use Rattle.rep_calls.specs.declared.call.Txn.{Txn}
 use Rattle.conflict_detect.specs.Fits.{table_of}
-use Rattle.resolve_methods.specs.SequenceLaws.{number_in, move_of}
+use Rattle.resolve_methods.specs.SequenceLaws.{one_group_number, move_of}
 use Rattle.txn_effects.specs.Calls.{key_named, row_named}
 use Rattle.txn_effects.specs.Transactions.{Failure}
 use Rattle.txn_effects.specs.Contents.{effect_on}
@@ -43,7 +43,7 @@ module _ (schema : Schema) (sound : IsSound schema) (decides : DecisionLaws) (si
   module _ (f : FailsHere) (convergent : is_convergent schema (table_of f.call) ≡ true) where
     -- the row that the call names, behind the calls before it
     abbrev before : Option Cells
-    before = row_named schema (made_all schema f.effect.changes tables) f.call
+    before = row_named schema (after_changes schema f.effect.changes tables) f.call
 
     -- it comes of the first row by all that was applied, and so does its number
     module _ (left : LeavesRange schema f.call before) where
@@ -74,12 +74,12 @@ module _ (schema : Schema) (sound : IsSound schema) (decides : DecisionLaws) (si
                 sum = left.sum;
                 first = first;
                 begins = begins;
-                leaves = subst (λ (z : ℤ). is_in_range (z +ℤ move_of left.part) ≡ false) (ap number_in moved ∙ IsJoin-moved_by schema places form.Sum (values_at places first) parts) left.leaves;
+                leaves = subst (λ (z : ℤ). is_in_range (z +ℤ move_of left.part) ≡ false) (ap one_group_number moved ∙ IsJoin-moved_by schema places form.Sum (values_at places first) parts) left.leaves;
               }
 
     left_by_sum : failure.error ≡ error.ValueRange → SumLeavesRange schema base journal (take (failure.call - 1) txn.calls) f.call
     left_by_sum range =
-        let told = convergent_calls_fail_so decides schema (made_all schema f.effect.changes tables) f.effect.numbers origin f.call failure.error sound f.are f.fits f.keeps convergent f.fails in
+        let told = convergent_calls_fail_so decides schema (after_changes schema f.effect.changes tables) f.effect.numbers origin f.call failure.error sound f.are f.fits f.keeps convergent f.fails in
         subst (λ (calls : List Call). SumLeavesRange schema base journal calls f.call)
         (sym (calls_before schema origin txn.calls tables (journal_content schema site base journal).numbers failure f)) (sum_leaves (subst (Tells schema f.call before) range told))
 

@@ -15,7 +15,7 @@ use Rattle.rep_schema.specs.Shape.{is_master, is_early_master}
 use Rattle.rep_schema.specs.Named.{is_site, site_named}
 use Rattle.rep_schema.specs.Sites.{first_master}
 use Rattle.schema_rules.specs.ConvergentRules.{share_a_level, are_levelled}
-use Rattle.schema_rules.proofs.SoundRules.{IsSound-unbroken}
+use Rattle.schema_rules.proofs.SoundRules.{KeepsAllRules-unbroken}
 use Rattle.resolve_methods.specs.Ranks.{site_found, site_level_of}
 use Rattle.deferred_queue.proofs.Sites.{is_same_site-true, is_same_site-refl}
 use Rattle.local_txn.specs.Convergent.{convergent_in, is_convergent}
@@ -110,7 +110,7 @@ any_named test name (e ∷ es) any = go (is_site name e) any (any_named test nam
 
 module _ (schema : Schema) (sound : IsSound schema) (table : ℕ) (convergent : is_convergent schema table ≡ true) where
   levelled : are_levelled schema.sites ≡ true
-  levelled = go (list_any (λ (t : TableEntry). t.convergent) schema.tables) (some schema.tables table convergent) ((IsSound-unbroken schema).1 sound.unbroken).levelled
+  levelled = go (list_any (λ (t : TableEntry). t.convergent) schema.tables) (some schema.tables table convergent) ((KeepsAllRules-unbroken schema).1 sound.unbroken).levelled
     where
       some : (ts : List TableEntry) (k : ℕ) → convergent_in (slice_get ts k) ≡ true → list_any (λ (t : TableEntry). t.convergent) ts ≡ true
       some [] k is = cc

@@ -15,10 +15,10 @@ use Rattle.site_state.specs.State.{DestinationState, SiteState, is_master_site, 
 use Rattle.site_state.specs.DeclaredSites.{IsDeclared}
 use Rattle.site_state.proofs.DeclaredSites.{sites_in}
 use Rattle.site_state.proofs.SchemaSites.{are_apart, found_any, any_found}
-use Rattle.event_laws.specs.Core.{site_of}
+use Rattle.event_laws.specs.Cluster.{site_of}
 use Rattle.event_laws.proofs.Sites.{found_all}
 use Rattle.event_laws.proofs.DeclaredSites.{IsSiteOf}
-use Rattle.excuse_laws.proofs.Signing.{IsLinked}
+use Rattle.excuse_laws.proofs.WritingOnce.{IsLinked}
 
 both : (a b : Bool) → (a && b) ≡ true → (a ≡ true) × (b ≡ true)
 both true b e = (refl, e)

@@ -6,7 +6,7 @@ use Rattle.rep_values.specs.declared.refusal.ApplyError.{ApplyError}
 use Rattle.rep_values.specs.declared.refusal.ApplyError.TheVariants as error
 use Rattle.rep_schema.specs.declared.schema.Schema.{Schema}
 use Rattle.rep_schema.specs.Tables.{Cells, Rows, columns_of, find_row, rows_of, AreTables}
-use Rattle.rep_schema.specs.Putting.{made_all}
+use Rattle.rep_schema.specs.Putting.{after_changes}
 use Rattle.rep_calls.specs.declared.call.Call.{Call}
 use Rattle.rep_calls.specs.declared.call.Txn.{Txn}
 use Rattle.conflict_detect.specs.Fits.{table_of}
@@ -62,11 +62,11 @@ module _ (schema : Schema) (sound : IsSound schema) (decides : DecisionLaws) (si
 
   -- the row after the calls before the one that fails, beside the journal and these calls
   pub comes_so_far : (f : Fails) (table group : ℕ) (convergent : is_convergent schema table ≡ true) (key : Cells)
-      → Came schema sound decides table group convergent (find_row (columns_of schema table) key (rows_of base table)) (find_row (columns_of schema table) key (rows_of (made_all schema f.effect.changes content.tables) table))
+      → Came schema sound decides table group convergent (find_row (columns_of schema table) key (rows_of base table)) (find_row (columns_of schema table) key (rows_of (after_changes schema f.effect.changes content.tables) table))
       (applied_inserts schema table key journal ++ inserts_in schema table key f.done) (applied_parts table key group journal ++ parts_in table key group f.done)
   comes_so_far f table group convergent key =
       came_on schema sound decides table group convergent (find_row (columns_of schema table) key (rows_of base table)) (find_row (columns_of schema table) key (rows_of content.tables table))
-      (find_row (columns_of schema table) key (rows_of (made_all schema f.effect.changes content.tables) table)) (applied_inserts schema table key journal) (inserts_in schema table key f.done)
+      (find_row (columns_of schema table) key (rows_of (after_changes schema f.effect.changes content.tables) table)) (applied_inserts schema table key journal) (inserts_in schema table key f.done)
       (applied_parts table key group journal) (parts_in table key group f.done)
       (journal_comes schema sound decides table group convergent key site base journal are made)
       (calls_come schema sound decides table group convergent key 1 f.done content.tables content.numbers origin f.effect is_content.tables is_content.counters f.done_fit f.done_keep f.succeeds)
@@ -76,8 +76,8 @@ module _ (schema : Schema) (sound : IsSound schema) (decides : DecisionLaws) (si
       let f = fails_here gives in
       let same : f.call ≡ call = call_found schema origin txn.calls content.tables content.numbers failure call f found in
       let here : is_convergent schema (table_of f.call) ≡ true = subst (λ (c : Call). is_convergent schema (table_of c) ≡ true) (sym same) convergent in
-      let none = no_row_told schema f.call (row_named schema (made_all schema f.effect.changes content.tables) f.call) failure.error no_row
-      (convergent_calls_fail_so decides schema (made_all schema f.effect.changes content.tables) f.effect.numbers origin f.call failure.error sound f.are f.fits f.keeps here f.fails) in
+      let none = no_row_told schema f.call (row_named schema (after_changes schema f.effect.changes content.tables) f.call) failure.error no_row
+      (convergent_calls_fail_so decides schema (after_changes schema f.effect.changes content.tables) f.effect.numbers origin f.call failure.error sound f.are f.fits f.keeps here f.fails) in
       let gone = (comes_so_far f (table_of f.call) 0 here (key_named schema f.call)).none none in
       subst (IsMissing schema base journal) same (record {
         base_row = gone.0;

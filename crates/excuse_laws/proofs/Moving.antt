@@ -40,15 +40,15 @@ use Rattle.site_state.specs.Purges.{site_purge, site_purge_log}
 use Rattle.site_state.proofs.Stepping.{IsTaken, MayFollow, with_entry, Journals, is_position-true, error_found, arrived_has}
 use Rattle.site_state.proofs.Destinations.{opened_in-acknowledged}
 use Rattle.site_state.proofs.Growing.{queue_after-rebased}
-use Rattle.event_laws.specs.Core.{site_of}
+use Rattle.event_laws.specs.Cluster.{site_of}
 use Rattle.event_laws.specs.Fitting.{FitsHere}
 use Rattle.event_laws.specs.Orders.{FollowsIn, IsInOrder}
 use Rattle.event_laws.proofs.Sites.{found_name}
-use Rattle.event_laws.proofs.Holding.{SentBy, SendersHold}
+use Rattle.event_laws.proofs.RunInvariants.{SentBy, SendersHold}
 use Rattle.event_laws.proofs.MarkLaws.{arrived_was_sent}
 use Rattle.event_laws.proofs.Happening.{IsRefreshed}
 use Rattle.event_laws.proofs.Happening as happening
-use Rattle.excuse_laws.proofs.Signing.{HasPassed}
+use Rattle.excuse_laws.proofs.WritingOnce.{HasPassed}
 
 -- a transaction comes from a site that is there, as it stands in its stream
 pub record ComesFrom (sites : List SiteState) (x o : SiteState) (position : ℕ) (txn : Txn) : Type 0 where

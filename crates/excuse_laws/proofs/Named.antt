@@ -24,10 +24,10 @@ use Rattle.rep_laws.proofs.SoundSchemas.{HasKeys-sound, KeysStandAlone-sound}
 use Rattle.site_state.specs.State.{SiteState}
 use Rattle.site_state.specs.Contents.{content_of, tables_of, txn_of}
 use Rattle.site_state.proofs.FittingBlocks.{block_applied}
-use Rattle.event_laws.specs.Core.{Core, site_of}
+use Rattle.event_laws.specs.Cluster.{Cluster, site_of}
 use Rattle.event_laws.specs.Events.{Event}
 use Rattle.event_laws.specs.Fitting.{IsFitStart, StartsFit}
-use Rattle.event_laws.specs.Waiting.{AreMeshed}
+use Rattle.event_laws.specs.Waiting.{SitesLinkAsDeclared}
 use Rattle.event_laws.proofs.Sites.{found_all}
 use Rattle.event_laws.proofs.DeclaredSites.{IsSiteOf}
 use Rattle.convergence_laws.specs.Beginning.{BaseRowsAreFilled}
@@ -39,14 +39,14 @@ use Rattle.convergence_laws.proofs.FormShapes.{IsShaped-form_at}
 use Rattle.convergence_laws.proofs.Moves.{DecisionLaws, within_row}
 use Rattle.convergence_laws.proofs.ConvergentRows.{StandsAlone-convergent}
 use Rattle.convergence_laws.proofs.CallsCome.{txn_comes}
-use Rattle.excuse_laws.proofs.Signs.{signs_of}
-use Rattle.excuse_laws.proofs.Signing.{none_found}
+use Rattle.excuse_laws.proofs.OneTimeWrites.{signs_of}
+use Rattle.excuse_laws.proofs.WritingOnce.{none_found}
 use Rattle.excuse_laws.proofs.Moving.{ComesFrom}
 use Rattle.excuse_laws.proofs.Linking.{sender_named}
-use Rattle.excuse_laws.proofs.SignsStep.{IsWell, sent_holds}
+use Rattle.excuse_laws.proofs.WritesStep.{IsWell, sent_holds}
 use Rattle.excuse_laws.proofs.Levels.{named_has_level, master_has_level, first_has_level}
 use Rattle.excuse_laws.proofs.Values.{passing, Passes, passing_comes, passing_onward}
-use Rattle.excuse_laws.proofs.LatestSigns.{none_made}
+use Rattle.excuse_laws.proofs.LatestWrites.{none_made}
 use Rattle.excuse_laws.proofs.Running.{sites_after, all_of, queued_after, never_bad}
 
 -- a number that is no less than 0
@@ -69,7 +69,7 @@ levelled_is schema None e = cc
 levelled_is schema (Some (Num n)) e = cc
 levelled_is schema (Some (Words text)) e = (text, refl)
 
-module _ (schema : Schema) (decides : DecisionLaws) (rises : StampsOfABlockRise) (blocks : BlocksKeepForms) (start : Core) (is : IsFitStart schema start) (meshed : AreMeshed schema start.sites)
+module _ (schema : Schema) (decides : DecisionLaws) (rises : StampsOfABlockRise) (blocks : BlocksKeepForms) (start : Cluster) (is : IsFitStart schema start) (meshed : SitesLinkAsDeclared schema start.sites)
     (filled : BaseRowsAreFilled schema start.sites) (table : ℕ) (convergent : is_convergent schema table ≡ true) (key : Cells) (group at by : ℕ) (has : form_at schema table group ≡ Some (form.Latest at by)) where
   abbrev pub places : List ℕ
   places = group_columns_of schema table group

@@ -21,13 +21,13 @@ use Rattle.local_txn.specs.declared.local.Stamps.{Stamps}
 use Rattle.local_txn.specs.declared.local.LocalStop.{LocalStop}
 use Rattle.local_txn.specs.declared.side.Side.{Side}
 use Rattle.local_txn.specs.declared.side.Side.TheVariants as which
-use Rattle.local_txn.specs.Held.{table_name, held_table}
+use Rattle.local_txn.specs.Held.{statement_table, held_table}
 use Rattle.local_txn.specs.Literals.{literals_fit, key_literals_fit, values_of}
 use Rattle.local_txn.specs.Sets.{names_columns, sets_fit, sets_filled}
 use Rattle.local_txn.specs.Filled.{written_columns}
 use Rattle.local_txn.specs.Convergent.{is_convergent, side_of, is_other, mixes, barred, begins_with, own_key_step}
-use Rattle.local_txn.specs.Statements.{Standing, row_at, insert_made, update_made, update_outcome, outcome_in, outcome_changes, row_steps, there, new_row_steps, changed_row_steps, steps_in, statement_refusal, statement_changes, standing_after}
-use Rattle.local_txn.specs.Locals.{BlockEffect, unless_refused, behind, statements_effect, beginning, local_effect, most_statements, stop_at}
+use Rattle.local_txn.specs.Statements.{BlockState, row_at, insert_made, update_made, update_outcome, outcome_in, outcome_changes, row_steps, there, new_row_steps, changed_row_steps, steps_in, statement_refusal, statement_changes, block_state_after}
+use Rattle.local_txn.specs.Locals.{BlockEffect, unless_refused, block_effect_behind, statements_effect, block_beginning, local_effect, most_statements, stop_at}
 use Rattle.local_txn.proofs.StatementEffects.{place-held, refusal-held, changes-held}
 
 -- a change on one side of the tables; a new row of a convergent table is a master's, with its name in front of the key
@@ -56,10 +56,10 @@ module _ (schema : Schema) (here : Here) where
       go false = (is, tt)
 
   -- a statement that isn't barred doesn't mix
-  unmixed : (standing : Standing) (table : ℕ) (bars : Bool) → barred schema standing.side table bars ≡ None → mixes standing.side (side_of schema table) ≡ false
+  unmixed : (standing : BlockState) (table : ℕ) (bars : Bool) → barred schema standing.side table bars ≡ None → mixes standing.side (side_of schema table) ≡ false
   unmixed standing table bars none = or_right (is_convergent schema table && bars) (mixes standing.side (side_of schema table)) (refused-None _ refusal.Barred none)
 
-  module _ (standing : Standing) (table : ℕ) where
+  module _ (standing : BlockState) (table : ℕ) where
     abbrev OnItsSide : List Change → Type 0
     OnItsSide changes = AreOwn (side_of schema table) changes × (mixes standing.side (side_of schema table) ≡ false)
 
@@ -114,20 +114,20 @@ module _ (schema : Schema) (here : Here) where
   each_append side (c ∷ cs) others first rest = (first.0, each_append side cs others first.1 rest)
 
   -- what a statement does: its changes are on the side on which the block stands then
-  record Does (standing : Standing) (statement : Statement) : Type 0 where
+  record Does (standing : BlockState) (statement : Statement) : Type 0 where
     side : Side
     own : AreOwn side (statement_changes schema here standing statement)
     unmixed_with : mixes standing.side side ≡ false
-    after : (standing_after schema here standing statement).side ≡ Some side
+    after : (block_state_after schema here standing statement).side ≡ Some side
 
-  statement_does : (standing : Standing) (statement : Statement) → statement_refusal schema here standing statement ≡ None → Does standing statement
+  statement_does : (standing : BlockState) (statement : Statement) → statement_refusal schema here standing statement ≡ None → Does standing statement
   statement_does standing statement none = go (held_table schema here statement) refl
     where
       go : (place : Option ℕ) → held_table schema here statement ≡ place → Does standing statement
       go None nowhere = let refuses = rw nowhere at none in cc
       go (Some table) held =
           let own = statement_own standing table statement (sym (refusal-held schema here standing statement table held) ∙ none) in
-          let place : table_place schema (table_name statement) ≡ Some table = place-held here (table_place schema (table_name statement)) table held in
+          let place : table_place schema (statement_table statement) ≡ Some table = place-held here (table_place schema (statement_table statement)) table held in
           record {
             side = side_of schema table;
             own = rw (changes-held schema here standing statement table held) own.0;
@@ -142,18 +142,18 @@ module _ (schema : Schema) (here : Here) where
   same_side which.Ordinary which.Ordinary e = refl
 
   -- on the side on which a block stands already
-  statements_own : (side : Side) (statements : List Statement) (number : ℕ) (standing : Standing) (block : BlockEffect) → standing.side ≡ Some side → statements_effect schema here number statements standing ≡ Ok block
+  statements_own : (side : Side) (statements : List Statement) (number : ℕ) (standing : BlockState) (block : BlockEffect) → standing.side ≡ Some side → statements_effect schema here number statements standing ≡ Ok block
       → AreOwn side block.changes
   statements_own side [] number standing block at gives =
       let none : record { changes = []; stamps = standing.stamps } ≡ block = cc in
       subst (λ (b : BlockEffect). AreOwn side b.changes) none tt
   statements_own side (s ∷ ss) number standing block at gives =
-      go (statement_refusal schema here standing s) refl (statements_effect schema here (number + 1) ss (standing_after schema here standing s)) refl gives
-      (λ later stands is. statements_own side ss (number + 1) (standing_after schema here standing s) later stands is)
+      go (statement_refusal schema here standing s) refl (statements_effect schema here (number + 1) ss (block_state_after schema here standing s)) refl gives
+      (λ later stands is. statements_own side ss (number + 1) (block_state_after schema here standing s) later stands is)
     where
-      go : (r : Option Refusal) → statement_refusal schema here standing s ≡ r → (rest : Result BlockEffect LocalStop) → statements_effect schema here (number + 1) ss (standing_after schema here standing s) ≡ rest
-          → unless_refused r number (behind (statement_changes schema here standing s) rest) ≡ Ok block
-          → ((later : BlockEffect) → (standing_after schema here standing s).side ≡ Some side → statements_effect schema here (number + 1) ss (standing_after schema here standing s) ≡ Ok later → AreOwn side later.changes)
+      go : (r : Option Refusal) → statement_refusal schema here standing s ≡ r → (rest : Result BlockEffect LocalStop) → statements_effect schema here (number + 1) ss (block_state_after schema here standing s) ≡ rest
+          → unless_refused r number (block_effect_behind (statement_changes schema here standing s) rest) ≡ Ok block
+          → ((later : BlockEffect) → (block_state_after schema here standing s).side ≡ Some side → statements_effect schema here (number + 1) ss (block_state_after schema here standing s) ≡ Ok later → AreOwn side later.changes)
           → AreOwn side block.changes
       go (Some why) refuses rest is e more = cc
       go None none (Err stop) is e more = cc
@@ -165,15 +165,15 @@ module _ (schema : Schema) (here : Here) where
           (each_append side (statement_changes schema here standing s) later.changes (rw one does.own) (more later (does.after ∙ ap (λ o. Some o) (sym one)) is))
 
   -- on the side of the first statement
-  block_own_from : (statements : List Statement) (number : ℕ) (standing : Standing) (block : BlockEffect) → statements_effect schema here number statements standing ≡ Ok block
+  block_own_from : (statements : List Statement) (number : ℕ) (standing : BlockState) (block : BlockEffect) → statements_effect schema here number statements standing ≡ Ok block
       → (side : Side) × AreOwn side block.changes
   block_own_from [] number standing block gives =
       let none : record { changes = []; stamps = standing.stamps } ≡ block = cc in
       (which.Convergent, subst (λ (b : BlockEffect). AreOwn which.Convergent b.changes) none tt)
-  block_own_from (s ∷ ss) number standing block gives = go (statement_refusal schema here standing s) refl (statements_effect schema here (number + 1) ss (standing_after schema here standing s)) refl gives
+  block_own_from (s ∷ ss) number standing block gives = go (statement_refusal schema here standing s) refl (statements_effect schema here (number + 1) ss (block_state_after schema here standing s)) refl gives
     where
-      go : (r : Option Refusal) → statement_refusal schema here standing s ≡ r → (rest : Result BlockEffect LocalStop) → statements_effect schema here (number + 1) ss (standing_after schema here standing s) ≡ rest
-          → unless_refused r number (behind (statement_changes schema here standing s) rest) ≡ Ok block → (side : Side) × AreOwn side block.changes
+      go : (r : Option Refusal) → statement_refusal schema here standing s ≡ r → (rest : Result BlockEffect LocalStop) → statements_effect schema here (number + 1) ss (block_state_after schema here standing s) ≡ rest
+          → unless_refused r number (block_effect_behind (statement_changes schema here standing s) rest) ≡ Ok block → (side : Side) × AreOwn side block.changes
       go (Some why) refuses rest is e = cc
       go None none (Err stop) is e = cc
       go None none (Ok later) is e =
@@ -181,12 +181,12 @@ module _ (schema : Schema) (here : Here) where
           let same : record { changes = statement_changes schema here standing s ++ later.changes; stamps = later.stamps } ≡ block = cc in (
             does.side,
             subst (λ (b : BlockEffect). AreOwn does.side b.changes) same
-                (each_append does.side (statement_changes schema here standing s) later.changes does.own (statements_own does.side ss (number + 1) (standing_after schema here standing s) later does.after is)),
+                (each_append does.side (statement_changes schema here standing s) later.changes does.own (statements_own does.side ss (number + 1) (block_state_after schema here standing s) later does.after is)),
           )
 
   pub block_changes_own : (stamps : Stamps) (statements : List Statement) (tables : List Rows) (block : BlockEffect) → local_effect schema here stamps statements tables ≡ Ok block → (side : Side) × AreOwn side block.changes
   block_changes_own stamps statements tables block gives = go (nat_le (length statements) most_statements) gives
     where
-      go : (b : Bool) → cond b (statements_effect schema here 1 statements (beginning stamps tables)) (stop_at (most_statements + 1) (refusal.LimitReached limit.Statements)) ≡ Ok block → (side : Side) × AreOwn side block.changes
-      go true e = block_own_from statements 1 (beginning stamps tables) block e
+      go : (b : Bool) → cond b (statements_effect schema here 1 statements (block_beginning stamps tables)) (stop_at (most_statements + 1) (refusal.LimitReached limit.Statements)) ≡ Ok block → (side : Side) × AreOwn side block.changes
+      go true e = block_own_from statements 1 (block_beginning stamps tables) block e
       go false e = cc

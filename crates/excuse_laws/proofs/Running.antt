@@ -27,18 +27,18 @@ use Rattle.site_state.specs.Streams.{queue_of, with_one}
 use Rattle.site_state.specs.Making.{is_late_master}
 use Rattle.site_state.specs.Joining.{site_open}
 use Rattle.site_state.proofs.Stepping.{with_entry}
-use Rattle.event_laws.specs.Core.{Core, site_of}
+use Rattle.event_laws.specs.Cluster.{Cluster, site_of}
 use Rattle.event_laws.specs.Joins.{copied, with_joined}
 use Rattle.event_laws.specs.Events.{Event, run}
 use Rattle.event_laws.specs.Starts.{IsNewSite}
 use Rattle.event_laws.specs.Fitting.{IsFitStart}
 use Rattle.event_laws.specs.Marks.{journal_in}
 use Rattle.event_laws.specs.Orders.{IsInOrder}
-use Rattle.event_laws.specs.Waiting.{AbsentAreClosed, AreMeshed}
+use Rattle.event_laws.specs.Waiting.{AbsentAreClosed, SitesLinkAsDeclared}
 use Rattle.event_laws.proofs.Sites.{found_all, found_again, found_or, site_of-joined}
 use Rattle.event_laws.proofs.NewSites.{copied_is_new}
 use Rattle.event_laws.proofs.Happening.{run_keeps}
-use Rattle.event_laws.proofs.Holding.{HoldsAt}
+use Rattle.event_laws.proofs.RunInvariants.{HoldsAt}
 use Rattle.event_laws.proofs.MarkLaws as marks
 use Rattle.event_laws.proofs.OrderLaws.{earlier_comes_first}
 use Rattle.event_laws.proofs.DeclaredSites.{IsSiteOf, becomes_sites_of, start_sites_of, joins_late, joins_from_master}
@@ -50,14 +50,14 @@ use Rattle.convergence_laws.specs.Laws.{BlocksKeepForms}
 use Rattle.convergence_laws.proofs.Moves.{DecisionLaws}
 use Rattle.convergence_laws.proofs.EventsKeepForms.{KeepsIn, run_holds}
 use Rattle.excuse_laws.specs.Excuses.{OfFailures, ErrorsAreSo, RefusalsAreSo}
-use Rattle.excuse_laws.proofs.Signs.{Sign}
-use Rattle.excuse_laws.proofs.Signing.{IsLinked, IsSigned, IsSettled, step_signed}
+use Rattle.excuse_laws.proofs.OneTimeWrites.{OneTimeWrite}
+use Rattle.excuse_laws.proofs.WritingOnce.{IsLinked, IsSigned, IsDecided, step_signed}
 use Rattle.excuse_laws.proofs.Moving.{ComesFrom, NoError, Moves, Happened, Stayed, Erred, Committed, Applied, Errs, error_comes}
 use Rattle.excuse_laws.proofs.Turning.{Turns, AreHeld, happens_turns}
 use Rattle.excuse_laws.proofs.Turning as turning
 use Rattle.excuse_laws.proofs.Linking.{all_linked}
 use Rattle.excuse_laws.proofs.Joining.{empty_sends_none, joined_signed, copied_queue, copied_tables}
-use Rattle.excuse_laws.proofs.SignsStep.{IsWell, step_of, sent_holds}
+use Rattle.excuse_laws.proofs.WritesStep.{IsWell, step_of, sent_holds}
 
 both_sound : (schema : Schema) (txns : List Txn) → AllByRecursion (TxnFits schema) txns → AllByRecursion (TxnKeepsForms schema) txns → AllByRecursion (IsSoundTxn schema) txns
 both_sound schema [] fit keep = tt
@@ -75,7 +75,7 @@ plain_so Says (Some (Executed origin position onward txn)) journal plain so = (t
 plain_so Says (Some (Dropped origin position)) journal plain so = (tt, so)
 plain_so Says (Some (Refreshed moment)) journal plain so = (tt, so)
 
-module _ (schema : Schema) (decides : DecisionLaws) (rises : StampsOfABlockRise) (blocks : BlocksKeepForms) (start : Core) (is : IsFitStart schema start) (meshed : AreMeshed schema start.sites) where
+module _ (schema : Schema) (decides : DecisionLaws) (rises : StampsOfABlockRise) (blocks : BlocksKeepForms) (start : Cluster) (is : IsFitStart schema start) (meshed : SitesLinkAsDeclared schema start.sites) where
   abbrev pub sites_after : List Event → List SiteState
   sites_after events = (run events start).sites
 
@@ -165,7 +165,7 @@ module _ (schema : Schema) (decides : DecisionLaws) (rises : StampsOfABlockRise)
 
   -- ---- signs
 
-  module _ (sign : Sign schema) (begins : (site : SiteName) (x : SiteState) → site_of site start.sites ≡ Some x → x.here.is_master ≡ true → sign.Present x.base → IsSettled schema sign start.sites) where
+  module _ (sign : OneTimeWrite schema) (begins : (site : SiteName) (x : SiteState) → site_of site start.sites ≡ Some x → x.here.is_master ≡ true → sign.Present x.base → IsDecided schema sign start.sites) where
     new_at : (site : SiteName) (x : SiteState) → site_of site start.sites ≡ Some x → IsNewSite schema x
     new_at site x found = found_all (IsNewSite schema) site start.sites x is.start.sites found
 

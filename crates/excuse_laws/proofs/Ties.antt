@@ -21,7 +21,7 @@ use Rattle.resolve_methods.specs.declared.decision.Decision.{Decision}
 use Rattle.resolve_methods.specs.declared.decision.Decision.TheVariants.{TakeNew, TakeNumber, Keep, Undecided, Range}
 use Rattle.resolve_methods.specs.Decide.{decision_of}
 use Rattle.resolve_methods.specs.Ranks.{number_of, site_level_of}
-use Rattle.resolve_methods.specs.SequenceLaws.{number_in, group_number, number_or_zero, move_of, IsSameLevel}
+use Rattle.resolve_methods.specs.SequenceLaws.{one_group_number, group_number, number_or_zero, move_of, IsSameLevel}
 use Rattle.txn_effects.specs.Parts.{result_then, values_by, settled_values, settled_part, settled_parts}
 use Rattle.txn_effects.proofs.PartEffects.{HasGroupValues-PartFits, RowFits-settled_part}
 use Rattle.rep_laws.specs.Commuting.{IsSound}
@@ -142,14 +142,14 @@ module _ (schema : Schema) (sound : IsSound schema) (table : ℕ) where
         go z true e = cc
         go z false e = cc
     undecided_ties (form.Greatest c) has gives =
-        absurd (go (int_lt (group_number schema table part.group row) (number_in part.new))
+        absurd (go (int_lt (group_number schema table part.group row) (one_group_number part.new))
         (rw (decides.greatest schema table c part row (IsShaped-form_at schema sound table part.group (form.Greatest c) has) (HasGroupValues-PartFits schema table part part_fits) fits) at gives))
       where
         go : (b : Bool) → left_by (cond b TakeNew Keep) ≡ Err (error.UpdateConflict group) → ⊥
         go true e = cc
         go false e = cc
     undecided_ties (form.Least c) has gives =
-        absurd (go (int_lt (number_in part.new) (group_number schema table part.group row))
+        absurd (go (int_lt (one_group_number part.new) (group_number schema table part.group row))
         (rw (decides.least schema table c part row (IsShaped-form_at schema sound table part.group (form.Least c) has) (HasGroupValues-PartFits schema table part part_fits) fits) at gives))
       where
         go : (b : Bool) → left_by (cond b TakeNew Keep) ≡ Err (error.UpdateConflict group) → ⊥

@@ -10,7 +10,7 @@ use Rattle.deferred_queue.proofs.Sites.{is_same_site-true}
 use Rattle.packet_code.specs.declared.packet.Packet.{Packet}
 use Rattle.rep_laws.specs.Commuting.{IsSound}
 use Rattle.site_state.specs.State.{SiteState}
-use Rattle.event_laws.specs.Core.{Core, site_of, at_site}
+use Rattle.event_laws.specs.Cluster.{Cluster, site_of, at_site}
 use Rattle.event_laws.specs.Joins.{may_join, with_joined, joined_by, joined}
 use Rattle.event_laws.specs.Events.{Event, Commit, SetClock, Send, SendMark, Deliver, Begin, Apply, Execute, Drop, Purge, PurgeLog, Refresh, Join, receiver, delivered, may_apply, applied_where, refreshed, happens}
 use Rattle.site_state.specs.Commits.{site_commit, site_clock}
@@ -24,7 +24,7 @@ use Rattle.event_laws.specs.Fitting.{FitsHere}
 use Rattle.event_laws.specs.Orders.{IsInOrder}
 use Rattle.event_laws.proofs.Sites.{KeepsHere, found_name, found_again}
 use Rattle.event_laws.proofs.Happening.{refreshed_is}
-use Rattle.event_laws.proofs.Holding.{SendersHold}
+use Rattle.event_laws.proofs.RunInvariants.{SendersHold}
 use Rattle.excuse_laws.proofs.Moving.{Moves, clock_moves, begun_moves, purge_moves, purge_log_moves, accept_moves, refresh_moves, drop_moves, commit_moves, apply_moves, execute_moves}
 
 pub data Turns (sites : List SiteState) (others : List SiteState) : Type 0 where
@@ -108,7 +108,7 @@ joined_turns sites site from = go (site_of site sites) refl (site_of from sites)
     go None is None found = same_turns sites
     go None is (Some x) found = by x is (found_again from sites x found) (may_join sites x site) refl
 
-pub happens_turns : StampsOfABlockRise → (e : Event) (w : Core) → AreHeld w.sites → Turns w.sites (happens e w).sites
+pub happens_turns : StampsOfABlockRise → (e : Event) (w : Cluster) → AreHeld w.sites → Turns w.sites (happens e w).sites
 happens_turns rises (Commit site statements) w h = at_turns w.sites site (site_commit statements) (λ x is again. commit_moves rises w.sites statements x (h.sound site x is) (h.fit site x is)) (λ x. (commit_steps statements x).here)
 happens_turns rises (SetClock site clock) w h = at_turns w.sites site (site_clock clock) (λ x is again. clock_moves w.sites clock x) (λ x. refl)
 happens_turns rises (Send from to position) w h = same_turns w.sites

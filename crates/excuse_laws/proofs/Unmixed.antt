@@ -6,14 +6,14 @@ use Rattle.rep_values.specs.declared.name.SiteName.{SiteName}
 use Rattle.rep_schema.specs.declared.schema.Schema.{Schema}
 use Rattle.rep_schema.specs.declared.change.Change.{Change}
 use Rattle.rep_schema.specs.Tables.{Cells, Rows}
-use Rattle.rep_schema.specs.Putting.{is_unchanged, changes_between, made_all}
+use Rattle.rep_schema.specs.Putting.{is_unchanged, changes_between, after_changes}
 use Rattle.rep_calls.specs.declared.call.Call.{Call}
 use Rattle.rep_calls.specs.declared.call.Txn.{Txn}
 use Rattle.conflict_detect.specs.Fits.{table_of}
 use Rattle.conflict_detect.specs.ChangeCalls.{call_between, call_of}
 use Rattle.unique_resolve.specs.Numbers.{Numbers}
 use Rattle.txn_effects.specs.Calls.{Effect, RowEffect, row_named, row_effect, call_effect}
-use Rattle.txn_effects.specs.Transactions.{failing_at, behind, calls_effect}
+use Rattle.txn_effects.specs.Transactions.{failing_at, effect_behind, calls_effect}
 use Rattle.txn_effects.specs.Contents.{Content, effect_on}
 use Rattle.txn_effects.proofs.Results.{result_then-Ok}
 use Rattle.local_txn.specs.declared.local.Here.{Here}
@@ -66,17 +66,17 @@ module _ (schema : Schema) where
       subst (λ (x : Effect). Of side x.changes) is tt
   calls_of side origin number (call ∷ calls) tables numbers effect all gives =
       let some = result_then-Ok (failing_at number (call_effect schema tables numbers origin call))
-      (λ (x : Effect). behind x.changes (calls_effect schema origin (number + 1) calls (made_all schema x.changes tables) x.numbers)) effect gives in
+      (λ (x : Effect). effect_behind x.changes (calls_effect schema origin (number + 1) calls (after_changes schema x.changes tables) x.numbers)) effect gives in
       let one : Effect = some.0 in
       let first = failing_at-Ok number (call_effect schema tables numbers origin call) one some.1 in
       let row = result_then-Ok (row_effect schema tables numbers origin call (row_named schema tables call))
       (λ (x : RowEffect). Ok (record { changes = changes_between (table_of call) (row_named schema tables call) x.after; numbers = x.numbers })) one first in
       let made : record { changes = changes_between (table_of call) (row_named schema tables call) row.0.after; numbers = row.0.numbers } ≡ one = cc (row.2) in
-      let rest = behind-Ok one.changes (calls_effect schema origin (number + 1) calls (made_all schema one.changes tables) one.numbers) effect some.2 in
+      let rest = behind-Ok one.changes (calls_effect schema origin (number + 1) calls (after_changes schema one.changes tables) one.numbers) effect some.2 in
       subst (λ (x : Effect). Of side x.changes) rest.2
       (of_append side one.changes rest.0.changes
       (subst (λ (x : Effect). Of side x.changes) made (between_of side (table_of call) (row_named schema tables call) row.0.after all.0))
-      (calls_of side origin (number + 1) calls (made_all schema one.changes tables) one.numbers rest.0 all.1 rest.1))
+      (calls_of side origin (number + 1) calls (after_changes schema one.changes tables) one.numbers rest.0 all.1 rest.1))
 
   pub onward_unmixed : (origin : SiteName) (txn : Txn) (content : Content) (effect : Effect) → IsUnmixed schema txn → effect_on schema origin txn content ≡ Ok effect → IsUnmixed schema (txn_of schema effect.changes)
   onward_unmixed origin txn content effect unmixed gives = record { side = unmixed.side; all = calls_of unmixed.side origin 1 txn.calls content.tables content.numbers effect unmixed.all gives }

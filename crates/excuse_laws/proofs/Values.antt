@@ -10,7 +10,7 @@ use Rattle.rep_values.specs.declared.name.SiteName.{SiteName}
 use Rattle.rep_schema.specs.declared.schema.Schema.{Schema}
 use Rattle.rep_schema.specs.Tables.{Cells, Rows, columns_of, key_of, find_row, rows_of, RowFits, AreTables}
 use Rattle.rep_schema.specs.Groups.{shadow_group, groups_of, group_columns_of, group_numbers_of, group_values, values_at, are_same, differ_in}
-use Rattle.rep_schema.specs.Putting.{is_unchanged, changes_between, made_all}
+use Rattle.rep_schema.specs.Putting.{is_unchanged, changes_between, after_changes}
 use Rattle.rep_schema.proofs.FoundRows.{found_row, key_of-found}
 use Rattle.rep_schema.proofs.ValuesAt.{are_same-Decides}
 use Rattle.schema_rules.specs.declared.forms.Form.TheVariants as form
@@ -21,7 +21,7 @@ use Rattle.rep_calls.specs.declared.call.Call.TheVariants.{Insert, Update, Delet
 use Rattle.conflict_detect.specs.Fits.{CallFits, table_of}
 use Rattle.unique_resolve.specs.Numbers.{Numbers, AreCounters}
 use Rattle.txn_effects.specs.Calls.{Effect, RowEffect, key_named, row_named, row_effect, call_effect}
-use Rattle.txn_effects.specs.Transactions.{failing_at, behind, calls_effect}
+use Rattle.txn_effects.specs.Transactions.{failing_at, effect_behind, calls_effect}
 use Rattle.txn_effects.specs.Contents.{Content, IsContent, effect_on}
 use Rattle.txn_effects.proofs.Results.{result_then-Ok}
 use Rattle.txn_effects.proofs.TransactionEffects.{IsApplied-call_effect}
@@ -41,7 +41,7 @@ use Rattle.convergence_laws.proofs.Winners.{moved_by, IsJoin-moved_by}
 use Rattle.convergence_laws.proofs.ConvergentRows.{StandsAlone, StandsAlone-convergent, Leaves-insert, Leaves-update}
 use Rattle.convergence_laws.proofs.RowsCome.{parts_move, Came}
 use Rattle.convergence_laws.proofs.CallsCome.{is_row-same, is_row-elsewhere, failing_at-Ok, behind-Ok}
-use Rattle.excuse_laws.proofs.Signs.{signs_in, signs_in-append}
+use Rattle.excuse_laws.proofs.OneTimeWrites.{writes_in, writes_in-append}
 
 -- ---- counts
 
@@ -100,7 +100,7 @@ module _ (schema : Schema) (sound : IsSound schema) (decides : DecisionLaws) (ta
   abbrev pub passing : Call → ℕ
   passing call = count_where test (map (values_at places) (inserts_for schema table key call)) + count_where test (map new_of (parts_for table key group call))
 
-  pub passing_counted : (calls : List Call) → signs_in passing calls ≡ count_where test (map (values_at places) (inserts_in schema table key calls)) + count_where test (map new_of (parts_in table key group calls))
+  pub passing_counted : (calls : List Call) → writes_in passing calls ≡ count_where test (map (values_at places) (inserts_in schema table key calls)) + count_where test (map new_of (parts_in table key group calls))
   passing_counted [] = refl
   passing_counted (c ∷ cs) =
       let inserts = count_where-map test (values_at places) (inserts_for schema table key c) (inserts_in schema table key cs) in
@@ -130,10 +130,10 @@ module _ (schema : Schema) (sound : IsSound schema) (decides : DecisionLaws) (ta
       left false b e = cc
 
   -- values that pass were a row's, or are made
-  pub passing_comes : (before after : Option Cells) (calls : List Call) → CameBy before after calls → Passes after → Passes before ⊎ (1 ≤ signs_in passing calls)
+  pub passing_comes : (before after : Option Cells) (calls : List Call) → CameBy before after calls → Passes after → Passes before ⊎ (1 ≤ writes_in passing calls)
   passing_comes before after calls came now = go before refl (inserts_in schema table key calls) refl (came.value (form.Latest at by) has)
     where
-      counted : (1 ≤ count_where test (map (values_at places) (inserts_in schema table key calls))) ⊎ (1 ≤ count_where test (map new_of (parts_in table key group calls))) → 1 ≤ signs_in passing calls
+      counted : (1 ≤ count_where test (map (values_at places) (inserts_in schema table key calls))) ⊎ (1 ≤ count_where test (map new_of (parts_in table key group calls))) → 1 ≤ writes_in passing calls
       counted (inl some) = let all = passing_counted calls in omega (arith, some, all)
       counted (inr some) = let all = passing_counted calls in omega (arith, some, all)
 
@@ -151,7 +151,7 @@ module _ (schema : Schema) (sound : IsSound schema) (decides : DecisionLaws) (ta
 
       go : (b : Option Cells) → before ≡ b → (rows : List Cells) → inserts_in schema table key calls ≡ rows
           → option_map (values_at places) after ≡ option_map (λ row. moved_by schema places (form.Latest at by) (values_at places row) (parts_in table key group calls)) (first_row before (inserts_in schema table key calls))
-          → Passes before ⊎ (1 ≤ signs_in passing calls)
+          → Passes before ⊎ (1 ≤ writes_in passing calls)
       go (Some row) was rows is value = elim (by_first row (value ∙ ap (λ o. option_map (λ r. moved_by schema places (form.Latest at by) (values_at places r) (parts_in table key group calls)) (first_row o (inserts_in schema table key calls))) was)) [
         | inl passes ↦ inl (record { row = row; is = was; passes = passes })
         | inr made ↦ inr (counted (inr made))
@@ -254,12 +254,12 @@ module _ (schema : Schema) (sound : IsSound schema) (decides : DecisionLaws) (ta
   between_elsewhere t k away (Some r) (Some other) b a = rw (is_row-elsewhere table key t (key_of (columns_of schema t) r) (subst (AreElsewhere table key t) (sym b) away)) refl
 
   abbrev sent_by : ℕ → Option Cells → Option Cells → ℕ
-  sent_by t before after = signs_in passing (map (call_of schema) (changes_between t before after))
+  sent_by t before after = writes_in passing (map (call_of schema) (changes_between t before after))
 
   one_sent : (t : ℕ) (before after : Option Cells) (n : ℕ) → passing (call_between schema t before after) ≤ n → sent_by t before after ≤ n
   one_sent t before after n few = go (is_unchanged before after)
     where
-      go : (b : Bool) → signs_in passing (map (call_of schema) (cond b [] (record { table = t; before = before; after = after } ∷ []))) ≤ n
+      go : (b : Bool) → writes_in passing (map (call_of schema) (cond b [] (record { table = t; before = before; after = after } ∷ []))) ≤ n
       go true = omega arith
       go false = omega (arith, few)
 
@@ -320,26 +320,26 @@ module _ (schema : Schema) (sound : IsSound schema) (decides : DecisionLaws) (ta
   -- what goes onward makes no more than what came
   calls_send : (number : ℕ) (calls : List Call) (tables : List Rows) (numbers : Numbers) (origin : SiteName) (effect : Effect) → AreTables schema tables → AreCounters schema numbers
       → AllByRecursion (CallFits schema) calls → AllByRecursion (KeepsForms schema) calls → calls_effect schema origin number calls tables numbers ≡ Ok effect
-      → signs_in passing (map (call_of schema) effect.changes) ≤ signs_in passing calls
+      → writes_in passing (map (call_of schema) effect.changes) ≤ writes_in passing calls
   calls_send number [] tables numbers origin effect are counters fit keep gives =
       let is : record { changes = []; numbers = numbers } ≡ effect = cc in
-      subst (λ (x : Effect). signs_in passing (map (call_of schema) x.changes) ≤ 0) is (omega arith)
+      subst (λ (x : Effect). writes_in passing (map (call_of schema) x.changes) ≤ 0) is (omega arith)
   calls_send number (call ∷ calls) tables numbers origin effect are counters fit keep gives =
       let some = result_then-Ok (failing_at number (call_effect schema tables numbers origin call))
-      (λ (x : Effect). behind x.changes (calls_effect schema origin (number + 1) calls (made_all schema x.changes tables) x.numbers)) effect gives in
+      (λ (x : Effect). effect_behind x.changes (calls_effect schema origin (number + 1) calls (after_changes schema x.changes tables) x.numbers)) effect gives in
       let one : Effect = some.0 in
       let first = failing_at-Ok number (call_effect schema tables numbers origin call) one some.1 in
       let applied = IsApplied-call_effect schema origin sound.shape (HasKeys-sound schema sound.unbroken sound.shape) (KeysStandAlone-sound schema sound.unbroken) call tables numbers one are counters fit.0 first in
       let row = result_then-Ok (row_effect schema tables numbers origin call (row_named schema tables call))
       (λ (x : RowEffect). Ok (record { changes = changes_between (table_of call) (row_named schema tables call) x.after; numbers = x.numbers })) one first in
       let made : record { changes = changes_between (table_of call) (row_named schema tables call) row.0.after; numbers = row.0.numbers } ≡ one = cc (row.2) in
-      let here : signs_in passing (map (call_of schema) one.changes) ≤ passing call =
-      subst (λ (x : Effect). signs_in passing (map (call_of schema) x.changes) ≤ passing call) made (row_sends tables numbers origin are counters call row.0 fit.0 keep.0 row.1) in
-      let rest = behind-Ok one.changes (calls_effect schema origin (number + 1) calls (made_all schema one.changes tables) one.numbers) effect some.2 in
-      let later = calls_send (number + 1) calls (made_all schema one.changes tables) one.numbers origin rest.0 applied.are applied.counters fit.1 keep.1 rest.1 in
-      let split = ap (signs_in passing) (map-append (call_of schema) one.changes rest.0.changes) ∙ signs_in-append passing (map (call_of schema) one.changes) (map (call_of schema) rest.0.changes) in
-      subst (λ (x : Effect). signs_in passing (map (call_of schema) x.changes) ≤ passing call + signs_in passing calls) rest.2 (omega (arith, here, later, split))
+      let here : writes_in passing (map (call_of schema) one.changes) ≤ passing call =
+      subst (λ (x : Effect). writes_in passing (map (call_of schema) x.changes) ≤ passing call) made (row_sends tables numbers origin are counters call row.0 fit.0 keep.0 row.1) in
+      let rest = behind-Ok one.changes (calls_effect schema origin (number + 1) calls (after_changes schema one.changes tables) one.numbers) effect some.2 in
+      let later = calls_send (number + 1) calls (after_changes schema one.changes tables) one.numbers origin rest.0 applied.are applied.counters fit.1 keep.1 rest.1 in
+      let split = ap (writes_in passing) (map-append (call_of schema) one.changes rest.0.changes) ∙ writes_in-append passing (map (call_of schema) one.changes) (map (call_of schema) rest.0.changes) in
+      subst (λ (x : Effect). writes_in passing (map (call_of schema) x.changes) ≤ passing call + writes_in passing calls) rest.2 (omega (arith, here, later, split))
 
   pub passing_onward : (origin : SiteName) (txn : Txn) (content : Content) (effect : Effect) → IsContent schema content → IsSoundTxn schema txn → effect_on schema origin txn content ≡ Ok effect
-      → signs_in passing (map (call_of schema) effect.changes) ≤ signs_in passing txn.calls
+      → writes_in passing (map (call_of schema) effect.changes) ≤ writes_in passing txn.calls
   passing_onward origin txn content effect is txn_sound gives = calls_send 1 txn.calls content.tables content.numbers origin effect is.tables is.counters txn_sound.fits.calls txn_sound.keeps gives

@@ -22,7 +22,7 @@ use Rattle.site_state.specs.declared.entry.Entry.TheVariants.{Local, Done, Error
 use Rattle.site_state.specs.State.{SiteState}
 use Rattle.site_state.specs.Journal.{error_at}
 use Rattle.site_state.specs.Errors.{effect_of_error}
-use Rattle.event_laws.specs.Core.{site_of}
+use Rattle.event_laws.specs.Cluster.{site_of}
 use Rattle.convergence_laws.specs.Beginning.{BaseRowsAreFilled}
 use Rattle.convergence_laws.specs.Collections.{Among}
 use Rattle.convergence_laws.specs.Faults.{parts_of, ChangesLatest}
@@ -136,6 +136,6 @@ MastersShareKeys schema sites = (site other : SiteName) (x y : SiteState) (table
     → find_row (columns_of schema table) key (rows_of y.base table) ≡ None → find_row (columns_of schema table) key (rows_of x.base table) ≡ None
 
 -- where masters begin: they share the keys of their base rows, and these are filled in as the first master would
-pub record BeginAlike (schema : Schema) (sites : List SiteState) : Type 0 where
+pub record KeysBeginAlike (schema : Schema) (sites : List SiteState) : Type 0 where
   pub shared : MastersShareKeys schema sites
   pub filled : BaseRowsAreFilled schema sites

@@ -8,7 +8,7 @@ use Rattle.rep_schema.specs.declared.schema.Schema.{Schema}
 use Rattle.rep_schema.specs.declared.schema.Column.{Column}
 use Rattle.rep_schema.specs.declared.change.Change.{Change}
 use Rattle.rep_schema.specs.Tables.{Cells, Rows, columns_of, key_of, find_row, put_row, take_row, rows_of, IsKeyed}
-use Rattle.rep_schema.specs.Changes.{LeadsTo, made, row_like, is_taken_from, room_for}
+use Rattle.rep_schema.specs.Changes.{LeadsTo, after_change, row_like, is_taken_from, room_for}
 use Rattle.rep_schema.specs.Putting.{is_unchanged}
 use Rattle.rep_schema.proofs.FoundRows.{key_of-found, take_row-absent}
 use Rattle.rep_schema.proofs.Leading.{IsChange-take, made-take, IsChange-put, LeadsTo-append, room_for-append}
@@ -45,7 +45,7 @@ module _ (schema : Schema) (table : ℕ) (below : table < length schema.tables) 
       go None none same rest = rw (take_row-absent columns key rows none) same
       go (Some row) found same rest =
           let was : Some row ≡ find_row columns key (rows_of tables table) = sym found ∙ ap (find_row columns key) is in
-          let now : made schema (taken table row) tables ≡ set tables table (take_row columns key rows) =
+          let now : after_change schema (taken table row) tables ≡ set tables table (take_row columns key rows) =
           made-take schema table tables below keyed key (Some row) was ∙ ap (λ rs. set tables table (take_row columns key rs)) (sym is) in (
             IsChange-take schema table tables below keyed key (Some row) was,
             rw now (subst (LeadsTo schema (takings table columns keys (take_row columns key rows)) next) (set-set tables table (take_row columns key rows) (rows_left columns keys (take_row columns key rows))) rest),
@@ -57,7 +57,7 @@ module _ (schema : Schema) (table : ℕ) (below : table < length schema.tables) 
   lead_put [] rows tables is within can = sym (ap (set tables table) is ∙ set-get_or tables table [])
   lead_put (row ∷ coming) rows tables is within can =
       let next : List Rows = set tables table (put_row columns row rows) in
-      let now : made schema (put table columns row rows) tables ≡ next = ap (λ rs. set tables table (put_row columns row rs)) (sym is) in
+      let now : after_change schema (put table columns row rows) tables ≡ next = ap (λ rs. set tables table (put_row columns row rs)) (sym is) in
       let rest = lead_put coming (put_row columns row rows) next (sym (get_or-set_same tables table (put_row columns row rows) [] within)) (rw (length-set tables table (put_row columns row rows)) within) can.2 in (
         IsChange-put schema table tables below keyed row (row_like columns row rows) can.0 (rw (← is) can.1) (ap (row_like columns row) is),
         rw now (subst (LeadsTo schema (puttings table columns coming (put_row columns row rows)) next) (set-set tables table (put_row columns row rows) (rows_with columns coming (put_row columns row rows))) rest),

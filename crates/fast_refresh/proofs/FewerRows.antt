@@ -4,7 +4,7 @@ use Rattle.rep_lists.specs.Rising.{IsRising}
 use Rattle.rep_schema.specs.declared.schema.Schema.{Schema}
 use Rattle.rep_schema.specs.declared.schema.Column.{Column}
 use Rattle.rep_schema.specs.Tables.{Cells, Rows, columns_of, constraint_columns_of, key_of, row_cmp, find_row, picked, IsUniqueRow}
-use Rattle.rep_schema.proofs.KeptTables.{any_from_none}
+use Rattle.rep_schema.proofs.TableSteps.{any_from_none}
 use Rattle.rep_schema.proofs.FoundRows.{found_row}
 use Rattle.rep_schema.proofs.FilteredRows.{none_from_any}
 use Rattle.fast_refresh.proofs.RowsFound.{all_from_finds}

@@ -8,7 +8,7 @@ use Rattle.std.specs.declared.cmp.Ordering.TheVariants.{Less, Equal, Greater}
 use Rattle.rep_lists.specs.Rising.{IsRising, found_here}
 use Rattle.rep_values.specs.OrderLaws.{exact_keys}
 use Rattle.rep_schema.specs.declared.schema.Column.{Column}
-use Rattle.rep_schema.specs.Tables.{Cells, Rows, key_of, beside, row_cmp, find_row}
+use Rattle.rep_schema.specs.Tables.{Cells, Rows, key_of, row_beside, row_cmp, find_row}
 use Rattle.rep_schema.specs.Groups.{are_same}
 use Rattle.rep_schema.specs.Changes.{row_like}
 use Rattle.rep_schema.specs.Putting.{is_unchanged}
@@ -142,9 +142,9 @@ module _ (columns : List Column) (rows : Rows) where
   -- a wanted row whose key isn't there is among the absent ones
   not_absent : (key : Cells) (wanted : Rows) → find_row columns key rows ≡ None → has_key key (map (key_of columns) (absent_rows columns rows wanted)) ≡ false → find_row columns key wanted ≡ None
   not_absent key [] gone none = refl
-  not_absent key (x ∷ xs) gone none = go (beside columns key x) refl (not_absent key xs gone (rest_absent key x (absent_rows columns rows xs) (is_none (row_like columns x rows)) none))
+  not_absent key (x ∷ xs) gone none = go (row_beside columns key x) refl (not_absent key xs gone (rest_absent key x (absent_rows columns rows xs) (is_none (row_like columns x rows)) none))
     where
-      go : (o : Ordering) → beside columns key x ≡ o → find_row columns key xs ≡ None → found_here o x (find_row columns key xs) ≡ None
+      go : (o : Ordering) → row_beside columns key x ≡ o → find_row columns key xs ≡ None → found_here o x (find_row columns key xs) ≡ None
       go Less place later = later
       go Equal place later =
           let own : key_of columns x ≡ key = exact_keys (key_of columns x) key place in

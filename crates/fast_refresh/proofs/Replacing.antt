@@ -8,7 +8,7 @@ use Rattle.rep_values.specs.Order.{key_cmp}
 use Rattle.rep_values.specs.OrderLaws.{key_cmp_total}
 use Rattle.rep_schema.specs.declared.schema.Schema.{Schema}
 use Rattle.rep_schema.specs.declared.schema.Column.{Column}
-use Rattle.rep_schema.specs.Tables.{Cells, Rows, columns_of, key_of, beside, row_cmp, find_row, put_row, take_row, RowFits, IsUniqueRow, IsTable}
+use Rattle.rep_schema.specs.Tables.{Cells, Rows, columns_of, key_of, row_beside, row_cmp, find_row, put_row, take_row, RowFits, IsUniqueRow, IsTable}
 use Rattle.rep_schema.specs.Groups.{are_same}
 use Rattle.rep_schema.specs.Changes.{row_like}
 use Rattle.rep_schema.proofs.ValuesAt.{are_same-Decides}
@@ -21,7 +21,7 @@ use Rattle.fast_refresh.proofs.FewerRows.{IsUniqueRow-fewer}
 
 module _ (columns : List Column) where
   rising_taken : (key : Cells) (rows : Rows) → IsRising (row_cmp columns) rows → IsRising (row_cmp columns) (take_row columns key rows)
-  rising_taken key rows rising = rising_take (key_of columns) key_cmp key_cmp_total (beside columns key) rows rising
+  rising_taken key rows rising = rising_take (key_of columns) key_cmp key_cmp_total (row_beside columns key) rows rising
 
   rising_with_one : (row : Cells) (rows : Rows) → IsRising (row_cmp columns) rows → IsRising (row_cmp columns) (put_row columns row rows)
   rising_with_one row rows rising = rising_put (key_of columns) key_cmp key_cmp_total row rows rising

@@ -10,11 +10,11 @@ pub record MasterState : Type 0 where
   pub count : ℕ
 
 -- one look-up more, where the count isn't at its greatest number
-abbrev pub raised : ℕ → ℕ
-raised count = cond (nat_lt count (2 ^ 64 - 1)) (count + 1) count
+abbrev pub look_ups_raised : ℕ → ℕ
+look_ups_raised count = cond (nat_lt count (2 ^ 64 - 1)) (count + 1) count
 
 -- a row is looked up, and the master is as before
 pub record LooksUp (old new : MasterState) : Type 0 where
   pub schema : new.schema ≡ old.schema
   pub tables : new.tables ≡ old.tables
-  pub count : new.count ≡ raised old.count
+  pub count : new.count ≡ look_ups_raised old.count

@@ -2,7 +2,7 @@
 ghost use Rattle.std.specs.Prelude.{◌≡◌, ◌+◌, ◌<◌, ◌≤◌, ◌++◌, [], ◌∷◌, length, map, slice_get, option_copied, option_to_list, Some, IfOk, OnOk, IfErr};
 ghost use Rattle.std.specs.List.{AllByRecursion};
 ghost use Rattle.rep_lists.specs.Rising.{IsRising, IsThere, IsGap};
-ghost use Rattle.rep_schema.specs.Tables.{columns_of, beside, row_cmp, key_of, find_row, rows_of, RowFits, IsKeyed, IsTable};
+ghost use Rattle.rep_schema.specs.Tables.{columns_of, row_beside, row_cmp, key_of, find_row, rows_of, RowFits, IsKeyed, IsTable};
 ghost use Rattle.snapshot_query.specs.Queries.{query_rows};
 ghost use Rattle.fast_refresh.specs.Showing.{shown};
 ghost use Rattle.fast_refresh.specs.Planned.{gone_here, coming_here, gone_keys, coming_rows, absent_rows, all_keys};
@@ -155,8 +155,8 @@ pub(crate) fn plan_keys<R: RowStore, M: MasterView>(
 /// The place of the row with another row's key, or else the place where that one would stand.
 fn search_like(rows: &[Row], columns: &[Column], like: &[Value]) -> Result<usize, usize>
     requires { IsRising (row_cmp columns.now) rows.now }
-    ensures found { IfOk result (IsThere (beside columns.now (key_of columns.now like.now)) rows.now) }
-    ensures absent { IfErr result (IsGap (beside columns.now (key_of columns.now like.now)) rows.now) }
+    ensures found { IfOk result (IsThere (row_beside columns.now (key_of columns.now like.now)) rows.now) }
+    ensures absent { IfErr result (IsGap (row_beside columns.now (key_of columns.now like.now)) rows.now) }
 {
     rows.binary_search_by(
         |row: &Row| -> Ordering

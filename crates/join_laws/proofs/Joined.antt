@@ -18,11 +18,11 @@ use Rattle.site_state.proofs.Growing.{queued_behind-none}
 use Rattle.site_state.proofs.Destinations.{acked_in-opened, opened_in-opened, opened_in-own}
 use Rattle.site_state.proofs.SchemaSites.{own_is_no_sender, late_has_masters}
 use Rattle.site_state.proofs.DeclaredSites.{open_names}
-use Rattle.event_laws.specs.Core.{Core, site_of}
+use Rattle.event_laws.specs.Cluster.{Cluster, site_of}
 use Rattle.event_laws.specs.Joins.{copied, with_joined, may_join, joined_by, joined}
 use Rattle.event_laws.specs.Events.{Join, run}
 use Rattle.event_laws.specs.Marks.{acked_at, low_at}
-use Rattle.event_laws.specs.Waiting.{IsFirst}
+use Rattle.event_laws.specs.Waiting.{IsFirstNumber}
 use Rattle.event_laws.proofs.Sites.{found_or, site_of-joined, found_name, found_all}
 use Rattle.event_laws.proofs.NewSites.{copied_is_new, copied_here}
 use Rattle.event_laws.proofs.DeclaredSites.{IsSiteOf, late_is_master, joins_late}
@@ -145,7 +145,7 @@ module _ (schema : Schema) (shape : HasShape schema) (sites : List SiteState) (s
       named : (m : SiteState) → site_of name sites ≡ Some m → m.here.is_master ≡ is_master_site schema name
       named m there = (of_site name m there).declared.is_master ∙ ap (is_master_site schema) (found_name name sites m there)
 
-      begins : (s : SenderState) → sender_of name new.senders ≡ Some s → IsFirst (site_of name others) site s.first
+      begins : (s : SenderState) → sender_of name new.senders ≡ Some s → IsFirstNumber (site_of name others) site s.first
       begins s is = first_of_sender others site name new.senders s new_meets.firsts is
 
       -- a master that is there is a sender
@@ -158,10 +158,10 @@ module _ (schema : Schema) (shape : HasShape schema) (sites : List SiteState) (s
       go : (s : Option SenderState) → sender_of name new.senders ≡ s → (o : Option SiteState) → site_of name sites ≡ o → first_in s ≡ master_count o
       go None is None none = refl
       go None is (Some m) there = silent m is there m.here.is_master refl
-      go (Some s) is None none = subst (λ (o : Option SiteState). IsFirst o site s.first) (still_absent name (other s is) none) (begins s is)
+      go (Some s) is None none = subst (λ (o : Option SiteState). IsFirstNumber o site s.first) (still_absent name (other s is) none) (begins s is)
       go (Some s) is (Some m) there =
           let on : m.here.is_master ≡ true = named m there ∙ late_has_masters schema shape site name late (among s is) in
-          let first : IsFirst (Some (site_open site m)) site s.first = subst (λ (o : Option SiteState). IsFirst o site s.first) (opened_there name m there) (begins s is) in
+          let first : IsFirstNumber (Some (site_open site m)) site s.first = subst (λ (o : Option SiteState). IsFirstNumber o site s.first) (opened_there name m there) (begins s is) in
           let same : s.first ≡ count_of m = cc (first.0, opens name m there on) in
           same ∙ ap (λ (b : Bool). cond b (count_of m) 0) (sym on)
 
@@ -230,7 +230,7 @@ joined_is sites site from source absent found may =
 
 pub joins_copy : JoinsCopy
 joins_copy schema start events is meshed site from source absent found may =
-    let w : Core = run events start in
+    let w : Cluster = run events start in
     let same : joined site from w.sites ≡ with_joined w.sites source site = joined_is w.sites site from source absent found may in
     let after : AreMet schema (with_joined w.sites source site) w.sent = subst (λ (xs : List SiteState). AreMet schema xs w.sent) same (run_met schema start (Join site from ∷ events) is meshed) in
     subst (λ (xs : List SiteState). HasJoined w source site (record { sites = xs; sent = w.sent; begun = w.begun })) (sym same)

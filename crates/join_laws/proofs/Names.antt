@@ -13,25 +13,25 @@ use Rattle.site_state.specs.Purges.{site_purge}
 use Rattle.site_state.specs.Joining.{site_open}
 use Rattle.site_state.proofs.SchemaSites as schema_sites
 use Rattle.site_state.proofs.Changing.{accept_later}
-use Rattle.event_laws.specs.Core.{site_of, at_site}
+use Rattle.event_laws.specs.Cluster.{site_of, at_site}
 use Rattle.event_laws.specs.Joins.{copied}
 use Rattle.event_laws.specs.Events.{receiver, run}
 use Rattle.event_laws.proofs.Sites.{KeepsHere, at_split, found_or, site_of-joined}
 use Rattle.event_laws.proofs.Happening.{Becomes, here-IsRefreshed, run_keeps}
 use Rattle.event_laws.proofs.Happening as happening
 use Rattle.event_laws.proofs.NewSites.{copied_here}
-use Rattle.join_laws.specs.Names.{AreApart, AreFoundByName, NamesStayApart, EachIsFoundByItsName}
+use Rattle.join_laws.specs.Names.{SitesApart, AreFoundByName, NamesStayApart, EachIsFoundByItsName}
 
 -- ---- one site changes
 
 none_at : (name other : SiteName) (change : SiteState → SiteState) (xs : List SiteState) → KeepsHere change → site_of other xs ≡ None → site_of other (at_site name change xs) ≡ None
 none_at name other change xs keeps none = at_split (λ (o : Option SiteState). o ≡ None) name other change xs keeps (λ same. ap (option_map change) none) none
 
-pub apart_at : (name : SiteName) (change : SiteState → SiteState) (xs : List SiteState) → KeepsHere change → AreApart xs → AreApart (at_site name change xs)
+pub apart_at : (name : SiteName) (change : SiteState → SiteState) (xs : List SiteState) → KeepsHere change → SitesApart xs → SitesApart (at_site name change xs)
 apart_at name change [] keeps apart = tt
 apart_at name change (x ∷ xs) keeps apart = go (is_same_site x.here.site name) (apart_at name change xs keeps apart.1)
   where
-    go : (b : Bool) → AreApart (at_site name change xs) → AreApart (cond b (change x ∷ xs) (x ∷ at_site name change xs))
+    go : (b : Bool) → SitesApart (at_site name change xs) → SitesApart (cond b (change x ∷ xs) (x ∷ at_site name change xs))
     go true later = (rw (keeps x) apart.0, apart.1)
     go false later = (none_at name x.here.site change xs keeps apart.0, later)
 
@@ -48,21 +48,21 @@ none_joined name change xs new keeps other none =
         absurd (cc (own, other))
     go false same = refl
 
-pub apart_joined : (change : SiteState → SiteState) (xs : List SiteState) (new : SiteState) → KeepsHere change → site_of new.here.site xs ≡ None → AreApart xs → AreApart (map change xs ++ new ∷ [])
+pub apart_joined : (change : SiteState → SiteState) (xs : List SiteState) (new : SiteState) → KeepsHere change → site_of new.here.site xs ≡ None → SitesApart xs → SitesApart (map change xs ++ new ∷ [])
 apart_joined change [] new keeps absent apart = (refl, tt)
 apart_joined change (x ∷ xs) new keeps absent apart = go (is_same_site x.here.site new.here.site) refl absent (λ absent. apart_joined change xs new keeps absent apart.1)
   where
     first : is_same_site x.here.site new.here.site ≡ false → site_of (change x).here.site (map change xs ++ new ∷ []) ≡ None
     first other = rw (keeps x) (none_joined x.here.site change xs new keeps other apart.0)
 
-    go : (b : Bool) → is_same_site x.here.site new.here.site ≡ b → cond b (Some x) (site_of new.here.site xs) ≡ None → (site_of new.here.site xs ≡ None → AreApart (map change xs ++ new ∷ []))
-        → AreApart (change x ∷ (map change xs ++ new ∷ []))
+    go : (b : Bool) → is_same_site x.here.site new.here.site ≡ b → cond b (Some x) (site_of new.here.site xs) ≡ None → (site_of new.here.site xs ≡ None → SitesApart (map change xs ++ new ∷ []))
+        → SitesApart (change x ∷ (map change xs ++ new ∷ []))
     go true same absent later = absurd (cc absent)
     go false other absent later = (first other, later absent)
 
 -- ---- every event
 
-becomes_apart : (xs : List SiteState) (sent : List Packet) (ys : List SiteState) (more : List Packet) → Becomes xs sent ys more → AreApart xs → AreApart ys
+becomes_apart : (xs : List SiteState) (sent : List Packet) (ys : List SiteState) (more : List Packet) → Becomes xs sent ys more → SitesApart xs → SitesApart ys
 becomes_apart xs sent _ _ happening.Stays apart = apart
 becomes_apart xs sent _ _ (happening.Journalled name change steps) apart = apart_at name change xs (λ x. (steps x).here) apart
 becomes_apart xs sent _ _ (happening.Sends from to position) apart = apart
@@ -75,7 +75,7 @@ becomes_apart xs sent _ _ (happening.Joins site from source absent found may) ap
     apart_joined (site_open site) xs (copied xs source site) (λ x. refl) (subst (λ (n : SiteName). site_of n xs ≡ None) (sym named) absent) apart
 
 pub names_stay_apart : NamesStayApart
-names_stay_apart start events apart = run_keeps (λ xs sent. AreApart xs) becomes_apart events start apart
+names_stay_apart start events apart = run_keeps (λ xs sent. SitesApart xs) becomes_apart events start apart
 
 -- ---- sites are found
 
@@ -93,7 +93,7 @@ found_behind y xs (z ∷ zs) none all = (go (is_same_site y.here.site z.here.sit
     go false other = all.0
 
 -- sites whose names are apart are found by their names
-pub found_by_name : (xs : List SiteState) → AreApart xs → AreFoundByName xs
+pub found_by_name : (xs : List SiteState) → SitesApart xs → AreFoundByName xs
 found_by_name [] apart = tt
 found_by_name (x ∷ xs) apart = (rw (is_same_site-refl x.here.site) refl, found_behind x xs xs apart.0 (found_by_name xs apart.1))
 
@@ -116,10 +116,10 @@ none_made made names test name (e ∷ es) apart = go (test e) (none_made made na
     go false later = later
 
 -- sites that are made of some entries of a schema, each with its entry's name, are apart as the entries are
-pub apart_made : (made : SiteEntry → SiteState) → ((e : SiteEntry) → (made e).here.site ≡ e.name) → (test : SiteEntry → Bool) (es : List SiteEntry) → schema_sites.AreApart es → AreApart (map made (filter test es))
+pub apart_made : (made : SiteEntry → SiteState) → ((e : SiteEntry) → (made e).here.site ≡ e.name) → (test : SiteEntry → Bool) (es : List SiteEntry) → schema_sites.AreApart es → SitesApart (map made (filter test es))
 apart_made made names test [] apart = tt
 apart_made made names test (e ∷ es) apart = go (test e) (apart_made made names test es apart.1)
   where
-    go : (b : Bool) → AreApart (map made (filter test es)) → AreApart (map made (cond b (e ∷ filter test es) (filter test es)))
+    go : (b : Bool) → SitesApart (map made (filter test es)) → SitesApart (map made (cond b (e ∷ filter test es) (filter test es)))
     go true later = (rw (names e) (none_made made names test e.name es apart.0), later)
     go false later = later

@@ -13,12 +13,12 @@ use Rattle.site_state.specs.Pasts.{past_of}
 use Rattle.site_state.specs.Ready.{covered, first_ready}
 use Rattle.site_state.specs.Packets.{site_packet}
 use Rattle.site_state.proofs.WorkedSites.{a, b, d, named, master, late_master, additive, row, add, moved, of_calls}
-use Rattle.event_laws.specs.Core.{Core}
+use Rattle.event_laws.specs.Cluster.{Cluster}
 use Rattle.event_laws.specs.Quiet.{unquiet_at, are_quiet}
 use Rattle.event_laws.specs.Joins.{queue_counts}
 use Rattle.event_laws.specs.Events.{Commit, Purge, Join}
 use Rattle.event_laws.proofs.WorkedRuns.{masters, then_run, carried, pushed, shown, journal_at, rows_at}
-use Rattle.join_laws.specs.Names.{AreApart}
+use Rattle.join_laws.specs.Names.{SitesApart}
 use Rattle.join_laws.specs.Joined.{can_join}
 
 abbrev e : SiteName
@@ -28,12 +28,12 @@ e = named (codes "E")
 abbrev with_late : Schema
 with_late = additive (master a ∷ master b ∷ late_master d ∷ late_master e ∷ [])
 
-abbrev start : Core
+abbrev start : Cluster
 start = masters with_late (row 1 10 ∷ []) (a ∷ b ∷ [])
 
 -- ---- a commit of one master hinders the join until it is pushed to the other one
 
-abbrev committed : Core
+abbrev committed : Cluster
 committed = then_run (Commit a (add 1 5 ∷ []) ∷ []) start
 
 commit_is_the_first : journal_at a committed ≡ entry.Local 1 (of_calls (moved 0 1 10 15 ∷ [])) ∷ []
@@ -52,7 +52,7 @@ join_has_to_wait : can_join d a committed.sites ≡ false
 unfolding group_columns_of
 join_has_to_wait = refl
 
-abbrev quiet : Core
+abbrev quiet : Cluster
 quiet = then_run (pushed a b (1 ∷ [])) committed
 
 join_may_happen : can_join d a quiet.sites ≡ true
@@ -65,7 +65,7 @@ counts_at_the_join = refl
 
 -- ---- what it begins with
 
-abbrev joined : Core
+abbrev joined : Cluster
 joined = then_run (Join d a ∷ []) quiet
 
 its_base : shown [] (λ x. x.base) d joined ≡ (row 1 15 ∷ []) ∷ []
@@ -128,20 +128,20 @@ not_again : can_join d b joined.sites ≡ false
 unfolding group_columns_of
 not_again = refl
 
-names_are_apart : AreApart joined.sites
+names_are_apart : SitesApart joined.sites
 unfolding group_columns_of
 names_are_apart = (refl, (refl, (refl, tt)))
 
 -- ---- a commit behind the join comes to it: its past is covered by the first number
 
-abbrev updated : Core
+abbrev updated : Cluster
 updated = then_run (Commit b (add 1 2 ∷ []) ∷ []) joined
 
 what_b_had_seen : shown [] past_of b joined ≡ record { origin = a; number = 1 } ∷ []
 unfolding group_columns_of
 what_b_had_seen = refl
 
-abbrev come : Core
+abbrev come : Cluster
 come = then_run (carried b d (1 ∷ [])) updated
 
 nothing_of_a_is_finished : shown 9 (λ x. low_water a x.journal) d come ≡ 0
@@ -156,7 +156,7 @@ it_is_ready : shown None (first_ready b 0) d come ≡ Some 1
 unfolding group_columns_of
 it_is_ready = refl
 
-abbrev done : Core
+abbrev done : Cluster
 done = then_run (pushed b d (1 ∷ [])) updated
 
 its_first_entry : journal_at d done ≡ entry.Done b 1 0 (of_calls (moved 0 1 15 17 ∷ [])) ∷ []
@@ -169,7 +169,7 @@ its_rows = refl
 
 -- ---- nothing was committed before, and the other master is the source
 
-abbrev joined_early : Core
+abbrev joined_early : Cluster
 joined_early = then_run (Join d b ∷ []) start
 
 not_there_before : can_join d d start.sites ≡ false
@@ -194,7 +194,7 @@ no_second_join = refl
 
 -- ---- it commits itself, and another one joins as its copy
 
-abbrev own_commit : Core
+abbrev own_commit : Cluster
 own_commit = then_run (pushed b a (1 ∷ []) ++ Commit d (add 1 3 ∷ []) ∷ pushed d a (1 ∷ []) ++ pushed d b (1 ∷ [])) done
 
 -- what it has seen of a is its first number
@@ -207,7 +207,7 @@ its_first_packet : shown None (site_packet a 1) d own_commit
 unfolding group_columns_of
 its_first_packet = refl
 
-abbrev both_joined : Core
+abbrev both_joined : Cluster
 both_joined = then_run (Join e d ∷ []) own_commit
 
 rows_of_the_second : rows_at e both_joined ≡ (row 1 20 ∷ []) ∷ []
@@ -232,7 +232,7 @@ old_is_purged : shown 9 (λ x. x.purged) a (then_run (Purge a ∷ []) joined) �
 unfolding group_columns_of
 old_is_purged = refl
 
-abbrev committed_again : Core
+abbrev committed_again : Cluster
 committed_again = then_run (Commit a (add 1 1 ∷ []) ∷ pushed a b (2 ∷ []) ++ Purge a ∷ []) joined
 
 new_one_waits : shown 9 (λ x. x.purged) a committed_again ≡ 1

@@ -10,11 +10,11 @@ use Rattle.site_state.specs.Contents.{content_of, tables_of}
 use Rattle.site_state.specs.Streams.{queue_of, count_of, stream_to}
 use Rattle.site_state.specs.Making.{is_late_master, master_here}
 use Rattle.site_state.specs.DeclaredSites.{IsDeclared}
-use Rattle.event_laws.specs.Core.{Core, site_of}
+use Rattle.event_laws.specs.Cluster.{Cluster, site_of}
 use Rattle.event_laws.specs.Joins.{may_join}
 use Rattle.event_laws.specs.Events.{Event, Join, happens, run}
 use Rattle.event_laws.specs.Starts.{IsStart}
-use Rattle.event_laws.specs.Waiting.{AreMeshed}
+use Rattle.event_laws.specs.Waiting.{SitesLinkAsDeclared}
 
 -- ---- the one that joined
 
@@ -69,7 +69,7 @@ pub record HasOpened (site : SiteName) (x y : SiteState) : Type 0 where
   pub rest : y ≡ record x { destinations = y.destinations }
 
 -- a site has joined as a copy of another one
-pub record HasJoined (before : Core) (source : SiteState) (site : SiteName) (after : Core) : Type 0 where
+pub record HasJoined (before : Cluster) (source : SiteState) (site : SiteName) (after : Cluster) : Type 0 where
   -- it is there, behind the others
   pub it : SiteState
   pub there : site_of site after.sites ≡ Some it
@@ -88,7 +88,7 @@ pub record HasJoined (before : Core) (source : SiteState) (site : SiteName) (aft
 -- after every list of events a late master that isn't there and may join is there behind its join, as a copy of the one that the
 -- join names
 abbrev pub JoinsCopy : Type 0
-JoinsCopy = (schema : Schema) (start : Core) (events : List Event) → IsStart schema start → AreMeshed schema start.sites
+JoinsCopy = (schema : Schema) (start : Cluster) (events : List Event) → IsStart schema start → SitesLinkAsDeclared schema start.sites
     → (site from : SiteName) (source : SiteState) → site_of site (run events start).sites ≡ None → site_of from (run events start).sites ≡ Some source
     → may_join (run events start).sites source site ≡ true
     → HasJoined (run events start) source site (run (Join site from ∷ events) start)
@@ -103,4 +103,4 @@ can_join site from sites = is_none (site_of site sites) && may_copy sites site (
 
 -- any other join changes nothing
 abbrev pub OtherJoinsChangeNothing : Type 0
-OtherJoinsChangeNothing = (w : Core) (site from : SiteName) → can_join site from w.sites ≡ false → happens (Join site from) w ≡ w
+OtherJoinsChangeNothing = (w : Cluster) (site from : SiteName) → can_join site from w.sites ≡ false → happens (Join site from) w ≡ w

@@ -2,13 +2,13 @@
 use Rattle.std.specs.Prelude.{◌≡◌, List, [], ◌∷◌, Some, None}
 use Rattle.std.specs.List.{AllByRecursion}
 use Rattle.site_state.specs.State.{SiteState}
-use Rattle.event_laws.specs.Core.{Core, site_of}
+use Rattle.event_laws.specs.Cluster.{Cluster, site_of}
 use Rattle.event_laws.specs.Events.{Event, run}
 
 -- no two of these sites have the same name
-abbrev pub AreApart : List SiteState → Type 0
-AreApart [] = Unit {0}
-AreApart (x ∷ xs) = (site_of x.here.site xs ≡ None) × AreApart xs
+abbrev pub SitesApart : List SiteState → Type 0
+SitesApart [] = Unit {0}
+SitesApart (x ∷ xs) = (site_of x.here.site xs ≡ None) × SitesApart xs
 
 -- each of these sites is found by its name
 abbrev pub AreFoundByName : List SiteState → Type 0
@@ -16,8 +16,8 @@ AreFoundByName sites = AllByRecursion (λ (x : SiteState). site_of x.here.site s
 
 -- sites whose names are apart stay so, after every list of events
 abbrev pub NamesStayApart : Type 0
-NamesStayApart = (start : Core) (events : List Event) → AreApart start.sites → AreApart (run events start).sites
+NamesStayApart = (start : Cluster) (events : List Event) → SitesApart start.sites → SitesApart (run events start).sites
 
 -- and each of them is found by its name then
 abbrev pub EachIsFoundByItsName : Type 0
-EachIsFoundByItsName = (start : Core) (events : List Event) → AreApart start.sites → AreFoundByName (run events start).sites
+EachIsFoundByItsName = (start : Cluster) (events : List Event) → SitesApart start.sites → AreFoundByName (run events start).sites

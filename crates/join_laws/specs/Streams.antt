@@ -7,10 +7,10 @@ use Rattle.site_state.specs.declared.arrival.Arrival.{Arrival}
 use Rattle.site_state.specs.State.{SiteState, arrived_at, first_number}
 use Rattle.site_state.specs.Streams.{stream_to, dep_at}
 use Rattle.site_state.specs.Pasts.{pasts_of}
-use Rattle.event_laws.specs.Core.{Core, site_of}
+use Rattle.event_laws.specs.Cluster.{Cluster, site_of}
 use Rattle.event_laws.specs.Events.{Event, run}
 use Rattle.event_laws.specs.Starts.{IsStart}
-use Rattle.event_laws.specs.Waiting.{AreMeshed}
+use Rattle.event_laws.specs.Waiting.{SitesLinkAsDeclared}
 
 -- what has arrived at a position is what the stream of its origin has there: the transaction and its dependency number; its number
 -- in the queue, behind the first number; and what the origin had seen before it
@@ -34,9 +34,9 @@ ArrivalsAreOfStreams sites = (site origin : SiteName) (x : SiteState) (position 
 -- ---- runs
 
 -- so it is with the sites after every list of events, where at first they are as the schema declares them and their streams meet
-abbrev pub InEveryMeshedRun : (List SiteState → Type 0) → Type 0
-InEveryMeshedRun Holds = (schema : Schema) (start : Core) (events : List Event) → IsStart schema start → AreMeshed schema start.sites → Holds (run events start).sites
+abbrev pub InEveryLinkedRun : (List SiteState → Type 0) → Type 0
+InEveryLinkedRun Holds = (schema : Schema) (start : Cluster) (events : List Event) → IsStart schema start → SitesLinkAsDeclared schema start.sites → Holds (run events start).sites
 
 -- such sites stay as the schema declares them, their streams meet, and nobody is open to a late master that isn't there
-abbrev pub MeshesStay : Type 0
-MeshesStay = (schema : Schema) (start : Core) (events : List Event) → IsStart schema start → AreMeshed schema start.sites → AreMeshed schema (run events start).sites
+abbrev pub LinksStay : Type 0
+LinksStay = (schema : Schema) (start : Cluster) (events : List Event) → IsStart schema start → SitesLinkAsDeclared schema start.sites → SitesLinkAsDeclared schema (run events start).sites

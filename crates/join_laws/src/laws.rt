@@ -1,7 +1,7 @@
 //! Laws over every list of events. The functions are empty: their contracts are the laws.
 ghost use Rattle.join_laws.specs.Joined.{JoinsCopy, OtherJoinsChangeNothing};
 ghost use Rattle.join_laws.specs.Names.{EachIsFoundByItsName, NamesStayApart};
-ghost use Rattle.join_laws.specs.Streams.{ArrivalsAreOfStreams, InEveryMeshedRun, MeshesStay};
+ghost use Rattle.join_laws.specs.Streams.{ArrivalsAreOfStreams, InEveryLinkedRun, LinksStay};
 ghost use Rattle.event_laws.specs.Waiting.{StreamsMeet};
 
 /// A late master that may join begins with the present tables of the site that it copies and with how much each master has queued by
@@ -17,9 +17,9 @@ pub fn joins_copy()
 /// (`meet`), and all that has arrived is what the stream has at its position (`arrived`). Sites stay as the schema declares them, and
 /// nobody is ever open to a late master that isn't there (`meshed`).
 pub fn streams_meet()
-    ensures meet { InEveryMeshedRun StreamsMeet }
-    ensures arrived { InEveryMeshedRun ArrivalsAreOfStreams }
-    ensures meshed { MeshesStay }
+    ensures meet { InEveryLinkedRun StreamsMeet }
+    ensures arrived { InEveryLinkedRun ArrivalsAreOfStreams }
+    ensures meshed { LinksStay }
 {}
 
 /// Where no two sites have the same name at first, none have it later, whatever happens, joins among it (`apart`); so each site is

@@ -1,7 +1,7 @@
 -- The lemmas of this crate, from the bottom up.
 pub mod Selecting
-pub mod SettledJournals
-pub mod SettledSites
+pub mod SortedJournals
+pub mod SortedSites
 pub mod Waited
 mod SortedEntries
 mod WorkedJournals

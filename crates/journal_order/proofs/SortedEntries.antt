@@ -13,24 +13,24 @@ use Rattle.std.proofs.Math.Seq.{take-append_seam, drop-append_seam}
 use Rattle.rep_lists.specs.Rising.{IsRising}
 use Rattle.site_state.specs.declared.entry.Entry.{Entry}
 use Rattle.site_state.specs.Steps.{count_where}
-use Rattle.journal_order.specs.Settling.{position_of, entries_from, entries_before, by_position, has_position, PositionsDiffer, IsSettled}
-use Rattle.journal_order.proofs.SettledJournals.{count_where-IsPermutation}
+use Rattle.journal_order.specs.Sorting.{finish_position, entries_from, entries_before, by_finish_position, has_position, PositionsDiffer, IsSorted}
+use Rattle.journal_order.proofs.SortedJournals.{count_where-IsPermutation}
 
 -- ---- entries whose positions don't fall, and differ
 
-all_least : (n : ℕ) (e : Entry) (es : List Entry) → ((i : ℕ) → i < length es → n ≤ position_of (get_or es i e)) → AllByRecursion (λ (f : Entry). n ≤ position_of f) es
-all_least n e es least = recursion_from_All (λ (f : Entry). n ≤ position_of f) es (All-from_get_or (λ (f : Entry). n ≤ position_of f) es e least)
+all_least : (n : ℕ) (e : Entry) (es : List Entry) → ((i : ℕ) → i < length es → n ≤ finish_position (get_or es i e)) → AllByRecursion (λ (f : Entry). n ≤ finish_position f) es
+all_least n e es least = recursion_from_All (λ (f : Entry). n ≤ finish_position f) es (All-from_get_or (λ (f : Entry). n ≤ finish_position f) es e least)
 
-none_there : (n : ℕ) (es : List Entry) → count_where (has_position n) es ≡ 0 → AllByRecursion (λ (f : Entry). n ≤ position_of f) es
-    → AllByRecursion (λ (f : Entry). nat_cmp n (position_of f) ≡ Less) es
+none_there : (n : ℕ) (es : List Entry) → count_where (has_position n) es ≡ 0 → AllByRecursion (λ (f : Entry). n ≤ finish_position f) es
+    → AllByRecursion (λ (f : Entry). nat_cmp n (finish_position f) ≡ Less) es
 none_there n [] none least = tt
-none_there n (e ∷ es) none least = go (position_of e == n) refl none (λ rest. none_there n es rest least.1)
+none_there n (e ∷ es) none least = go (finish_position e == n) refl none (λ rest. none_there n es rest least.1)
   where
-    go : (b : Bool) → (position_of e == n) ≡ b → cond b (count_where (has_position n) es + 1) (count_where (has_position n) es) ≡ 0
-        → (count_where (has_position n) es ≡ 0 → AllByRecursion (λ (f : Entry). nat_cmp n (position_of f) ≡ Less) es)
-        → AllByRecursion (λ (f : Entry). nat_cmp n (position_of f) ≡ Less) (e ∷ es)
+    go : (b : Bool) → (finish_position e == n) ≡ b → cond b (count_where (has_position n) es + 1) (count_where (has_position n) es) ≡ 0
+        → (count_where (has_position n) es ≡ 0 → AllByRecursion (λ (f : Entry). nat_cmp n (finish_position f) ≡ Less) es)
+        → AllByRecursion (λ (f : Entry). nat_cmp n (finish_position f) ≡ Less) (e ∷ es)
     go true is none later = absurd (omega (arith, none))
-    go false is none later = (sym (nat_cmp_is n (position_of e) Less (grind (arith, nat_tests, least.0))), later none)
+    go false is none later = (sym (nat_cmp_is n (finish_position e) Less (grind (arith, nat_tests, least.0))), later none)
 
 differ_behind : (e : Entry) (es : List Entry) → PositionsDiffer (e ∷ es) → PositionsDiffer es
 differ_behind e es differ position = go (has_position position e) (differ position)
@@ -39,19 +39,19 @@ differ_behind e es differ position = go (has_position position e) (differ positi
     go true once = omega (arith, once)
     go false once = once
 
-none_behind : (e : Entry) (es : List Entry) → PositionsDiffer (e ∷ es) → count_where (has_position (position_of e)) es ≡ 0
-none_behind e es differ = go (position_of e == position_of e) (grind (arith, nat_tests)) (differ (position_of e))
+none_behind : (e : Entry) (es : List Entry) → PositionsDiffer (e ∷ es) → count_where (has_position (finish_position e)) es ≡ 0
+none_behind e es differ = go (finish_position e == finish_position e) (grind (arith, nat_tests)) (differ (finish_position e))
   where
-    go : (b : Bool) → b ≡ true → cond b (count_where (has_position (position_of e)) es + 1) (count_where (has_position (position_of e)) es) ≤ 1
-        → count_where (has_position (position_of e)) es ≡ 0
+    go : (b : Bool) → b ≡ true → cond b (count_where (has_position (finish_position e)) es + 1) (count_where (has_position (finish_position e)) es) ≤ 1
+        → count_where (has_position (finish_position e)) es ≡ 0
     go true is once = omega (arith, once)
     go false is once = absurd (cc is)
 
-rising_where_differing : (es : List Entry) → IsNonDecreasingBy position_of es → PositionsDiffer es → IsRising by_position es
+rising_where_differing : (es : List Entry) → IsNonDecreasingBy finish_position es → PositionsDiffer es → IsRising by_finish_position es
 rising_where_differing [] up differ = tt
 rising_where_differing (e ∷ es) up differ = (
-  none_there (position_of e) es (none_behind e es differ) (all_least (position_of e) e es (λ i within. up 0 (suc i) e (omega arith) (omega (arith, within)))),
-  rising_where_differing es (IsNonDecreasingBy-drop position_of 1 (e ∷ es) up) (differ_behind e es differ),
+  none_there (finish_position e) es (none_behind e es differ) (all_least (finish_position e) e es (λ i within. up 0 (suc i) e (omega arith) (omega (arith, within)))),
+  rising_where_differing es (IsNonDecreasingBy-drop finish_position 1 (e ∷ es) up) (differ_behind e es differ),
 )
 
 -- ---- the journal
@@ -65,13 +65,13 @@ from_place : (place : ℕ) (left rest : List Entry) → length left ≡ place �
 from_place place left rest long =
     ap (drop place) (reverse-reverse (left ++ rest)) ∙ ap (λ (n : ℕ). drop n (left ++ rest)) (sym long) ∙ drop-append_seam left rest
 
-settled_in_parts : (place : ℕ) (left taken sorted : List Entry) → length left ≡ place → PositionsDiffer (entries_from place (reverse (left ++ reverse taken)))
-    → IsPermutation taken sorted → IsNonDecreasingBy position_of sorted → IsSettled place (reverse (left ++ reverse taken)) (reverse (left ++ sorted))
-settled_in_parts place left taken sorted long differ same up = record {
+sorted_in_parts : (place : ℕ) (left taken sorted : List Entry) → length left ≡ place → PositionsDiffer (entries_from place (reverse (left ++ reverse taken)))
+    → IsPermutation taken sorted → IsNonDecreasingBy finish_position sorted → IsSorted place (reverse (left ++ reverse taken)) (reverse (left ++ sorted))
+sorted_in_parts place left taken sorted long differ same up = record {
   older = before_place place left sorted long ∙ sym (before_place place left (reverse taken) long);
   entries = subst (λ es. IsPermutation es (entries_from place (reverse (left ++ reverse taken)))) (sym (from_place place left sorted long))
       (subst (IsPermutation sorted) (sym (from_place place left (reverse taken) long)) back);
-  rising = subst (IsRising by_position) (sym (from_place place left sorted long)) (rising_where_differing sorted up differ_sorted);
+  rising = subst (IsRising by_finish_position) (sym (from_place place left sorted long)) (rising_where_differing sorted up differ_sorted);
 }
   where
     back : IsPermutation sorted (reverse taken)
@@ -82,10 +82,10 @@ settled_in_parts place left taken sorted long differ same up = record {
         omega (arith, differ position, ap (count_where (has_position position)) (from_place place left (reverse taken) long), count_where-IsPermutation (has_position position) sorted (reverse taken) back)
 
 -- the entries from a place on are taken away, the last first, sorted and put back
-pub settled_by_sort : (place : ℕ) (old left taken sorted new : List Entry) → old ≡ left ++ reverse taken → length left ≡ place → new ≡ left ++ sorted → PositionsDiffer (drop place old)
-    → IsPermutation taken sorted → IsNonDecreasingBy position_of sorted → IsSettled place (reverse old) (reverse new)
-settled_by_sort place old left taken sorted new was long becomes differ same up =
-    subst (λ es. IsSettled place (reverse es) (reverse new)) (sym was)
-    (subst (λ es. IsSettled place (reverse (left ++ reverse taken)) (reverse es)) (sym becomes)
-    (settled_in_parts place left taken sorted long
+pub sorted_by_sort : (place : ℕ) (old left taken sorted new : List Entry) → old ≡ left ++ reverse taken → length left ≡ place → new ≡ left ++ sorted → PositionsDiffer (drop place old)
+    → IsPermutation taken sorted → IsNonDecreasingBy finish_position sorted → IsSorted place (reverse old) (reverse new)
+sorted_by_sort place old left taken sorted new was long becomes differ same up =
+    subst (λ es. IsSorted place (reverse es) (reverse new)) (sym was)
+    (subst (λ es. IsSorted place (reverse (left ++ reverse taken)) (reverse es)) (sym becomes)
+    (sorted_in_parts place left taken sorted long
     (subst PositionsDiffer (sym (ap (drop place) (reverse-reverse (left ++ reverse taken)))) (subst (λ es. PositionsDiffer (drop place es)) was differ)) same up))

@@ -17,18 +17,18 @@ use Rattle.deferred_queue.specs.Streams.{is_same_site}
 use Rattle.site_state.specs.declared.entry.Entry.{Entry}
 use Rattle.site_state.specs.declared.entry.Entry.TheVariants.{Local, Done, Error, Executed, Dropped, Refreshed}
 use Rattle.site_state.specs.declared.arrival.Arrival.{Arrival}
-use Rattle.site_state.specs.State.{SenderState, SiteState, sender_of, at_sender, beside, arrived_in, arrived_at}
+use Rattle.site_state.specs.State.{SenderState, SiteState, sender_of, at_sender, arrival_beside, arrived_in, arrived_at}
 use Rattle.site_state.specs.Journal.{finishes, finished, is_position, low_water}
 use Rattle.site_state.specs.Packets.{with_arrival}
 use Rattle.site_state.specs.Ready.{is_due, is_covered}
 use Rattle.site_state.specs.Fits.{FinishedHaveArrived}
 use Rattle.site_state.proofs.LowWater.{finished-append, low_water-below}
 use Rattle.site_state.proofs.Stepping.{MayFollow, IsTaken, with_entry, is_position-true}
-use Rattle.journal_order.specs.Settling.{position_of, entries_from, entries_before, IsSettled}
+use Rattle.journal_order.specs.Sorting.{finish_position, entries_from, entries_before, IsSorted}
 use Rattle.journal_order.specs.Waited.{EachBehind, HasWaited, HaveWaited, ComesBehind, FinishesEarlierFirst}
 use Rattle.journal_order.proofs.Selecting.{AllByRecursion-weaker, Rises}
-use Rattle.journal_order.proofs.SettledJournals.{all_front, all_reversed, journal_parts, settled_parts, IsPermutation-settled, AllByRecursion-settled}
-use Rattle.journal_order.proofs.SettledSites.{reversed_over, rises}
+use Rattle.journal_order.proofs.SortedJournals.{all_front, all_reversed, journal_parts, sorted_parts, IsPermutation-sorted, AllByRecursion-sorted}
+use Rattle.journal_order.proofs.SortedSites.{reversed_over, rises}
 
 -- what an entry waits for is finished in a journal
 abbrev IsWithin : List SenderState → List Entry → Entry → Type 0
@@ -90,18 +90,18 @@ have_waited x (Some e) follows waited = (entry_has_waited x e follows, waited)
 
 -- ---- what arrives
 
-kept_here : (q : ℕ) (b : Arrival) (xs : List Arrival) → find_at (beside b.position) xs ≡ None → find_at (beside q) xs ≢ None → find_at (beside q) (put_at (beside b.position) b xs) ≡ find_at (beside q) xs
+kept_here : (q : ℕ) (b : Arrival) (xs : List Arrival) → find_at (arrival_beside b.position) xs ≡ None → find_at (arrival_beside q) xs ≢ None → find_at (arrival_beside q) (put_at (arrival_beside b.position) b xs) ≡ find_at (arrival_beside q) xs
 kept_here q b xs new came = go (nat_cmp b.position q) refl
   where
     Goal : Type 0
-    Goal = find_at (beside q) (put_at (beside b.position) b xs) ≡ find_at (beside q) xs
+    Goal = find_at (arrival_beside q) (put_at (arrival_beside b.position) b xs) ≡ find_at (arrival_beside q) xs
 
     other : nat_cmp b.position q ≢ Equal → Goal
     other off = find_put_other (λ (a : Arrival). a.position) nat_cmp nat_cmp_total b q xs off
 
     go : (o : Ordering) → nat_cmp b.position q ≡ o → Goal
     go Less is = other (λ e. absurd (cc (e, is)))
-    go Equal is = absurd (came (subst (λ r. find_at (beside r) xs ≡ None) (exact_unsigned b.position q is) new))
+    go Equal is = absurd (came (subst (λ r. find_at (arrival_beside r) xs ≡ None) (exact_unsigned b.position q is) new))
     go Greater is = other (λ e. absurd (cc (e, is)))
 
 -- what arrived at a position stays what it is when another one arrives
@@ -112,10 +112,10 @@ arrived_at-kept origin from q b (s ∷ ss) new came = go (is_same_site s.origin 
   where
     go : (c d : Bool) → is_same_site s.origin origin ≡ d
         → (arrived_at from b.position ss ≡ None → arrived_at origin q ss ≢ None → arrived_at origin q (at_sender from (with_arrival b) ss) ≡ arrived_at origin q ss)
-        → find_at (beside b.position) (arrived_in (cond c (Some s) (sender_of from ss))) ≡ None
-        → find_at (beside q) (arrived_in (cond (is_same_site s.origin origin) (Some s) (sender_of origin ss))) ≢ None
-        → find_at (beside q) (arrived_in (sender_of origin (cond c (with_arrival b s ∷ ss) (s ∷ at_sender from (with_arrival b) ss))))
-        ≡ find_at (beside q) (arrived_in (cond (is_same_site s.origin origin) (Some s) (sender_of origin ss)))
+        → find_at (arrival_beside b.position) (arrived_in (cond c (Some s) (sender_of from ss))) ≡ None
+        → find_at (arrival_beside q) (arrived_in (cond (is_same_site s.origin origin) (Some s) (sender_of origin ss))) ≢ None
+        → find_at (arrival_beside q) (arrived_in (sender_of origin (cond c (with_arrival b s ∷ ss) (s ∷ at_sender from (with_arrival b) ss))))
+        ≡ find_at (arrival_beside q) (arrived_in (cond (is_same_site s.origin origin) (Some s) (sender_of origin ss)))
     go true true is later new came = rw is (kept_here q b s.arrived new (rw is at came))
     go true false is later new came = rw is refl
     go false true is later new came = rw is refl
@@ -145,7 +145,7 @@ is_position-above origin o p q less = go (is_same_site o origin) (q == p) off
     go false c is = refl
 
 -- an entry of a higher position doesn't finish this one
-finishes-above : (origin : SiteName) (p : ℕ) (e : Entry) → p < position_of e → finishes origin p e ≡ false
+finishes-above : (origin : SiteName) (p : ℕ) (e : Entry) → p < finish_position e → finishes origin p e ≡ false
 finishes-above origin p (Local number txn) less = refl
 finishes-above origin p (Done o q onward txn) less = is_position-above origin o p q less
 finishes-above origin p (Error o q call error txn) less = is_position-above origin o p q less
@@ -154,13 +154,13 @@ finishes-above origin p (Dropped o q) less = refl
 finishes-above origin p (Refreshed moment) less = refl
 
 -- nor do entries of higher positions over a journal
-finished-above : (origin : SiteName) (p : ℕ) (es journal : List Entry) → AllByRecursion (λ (e : Entry). p < position_of e) es → finished origin (reverse es ++ journal) p ≡ finished origin journal p
+finished-above : (origin : SiteName) (p : ℕ) (es journal : List Entry) → AllByRecursion (λ (e : Entry). p < finish_position e) es → finished origin (reverse es ++ journal) p ≡ finished origin journal p
 finished-above origin p [] journal above = refl
 finished-above origin p (e ∷ es) journal above =
     ap (λ l. finished origin l p) (reversed_over e es journal) ∙ finished-above origin p es (e ∷ journal) above.1 ∙ ap (λ (b : Bool). b || finished origin journal p) (finishes-above origin p e above.0)
 
 -- the position that an entry finishes is its own
-position_of-finishes : (origin : SiteName) (q : ℕ) (e : Entry) → finishes origin q e ≡ true → position_of e ≡ q
+position_of-finishes : (origin : SiteName) (q : ℕ) (e : Entry) → finishes origin q e ≡ true → finish_position e ≡ q
 position_of-finishes origin q (Local number txn) is = absurd (cc is)
 position_of-finishes origin q (Done o position onward txn) is = (is_position-true origin o q position is).1
 position_of-finishes origin q (Error o position call error txn) is = (is_position-true origin o q position is).1
@@ -181,17 +181,17 @@ waited_within senders whole (e ∷ es) more waited = (
     older origin p is = finished-append origin (e ∷ []) es p is
 
 -- entries in rising order of position have waited over a journal, where what they wait for is finished at all
-waited_over : (senders : List SenderState) (es journal : List Entry) → HaveWaited senders journal → Rises position_of es → AllByRecursion (IsWithin senders (reverse es ++ journal)) es
+waited_over : (senders : List SenderState) (es journal : List Entry) → HaveWaited senders journal → Rises finish_position es → AllByRecursion (IsWithin senders (reverse es ++ journal)) es
     → HaveWaited senders (reverse es ++ journal)
 waited_over senders [] journal waited rising has = waited
 waited_over senders (e ∷ es) journal waited rising has =
     subst (HaveWaited senders) (sym (reversed_over e es journal))
     (waited_over senders es (e ∷ journal) (own, waited) rising.1 (subst (λ l. AllByRecursion (IsWithin senders l) es) (reversed_over e es journal) has.1))
   where
-    above : (p q : ℕ) → p < q → position_of e ≡ q → AllByRecursion (λ (f : Entry). p < position_of f) (e ∷ es)
+    above : (p q : ℕ) → p < q → finish_position e ≡ q → AllByRecursion (λ (f : Entry). p < finish_position f) (e ∷ es)
     above p q less at = (
       omega (arith, less, at),
-      AllByRecursion-weaker (λ (f : Entry). position_of e < position_of f) (λ (f : Entry). p < position_of f) (λ f higher. omega (arith, less, at, higher)) es rising.0,
+      AllByRecursion-weaker (λ (f : Entry). finish_position e < finish_position f) (λ (f : Entry). p < finish_position f) (λ f higher. omega (arith, less, at, higher)) es rising.0,
     )
 
     own : HasWaited senders e journal
@@ -199,8 +199,8 @@ waited_over senders (e ∷ es) journal waited rising has =
         sym (finished-above origin p (e ∷ es) journal (above p q less (position_of-finishes origin q e here))) ∙ has.0 origin p q a here there from_one less up_to
 
 -- a settled journal's positions have waited too
-pub HaveWaited-settled : (senders : List SenderState) (place : ℕ) (old new : List Entry) → IsSettled place old new → HaveWaited senders old → HaveWaited senders new
-HaveWaited-settled senders place old new settled waited = subst (HaveWaited senders) (sym becomes) (waited_over senders risen older before (rises risen settled.rising) has_risen)
+pub HaveWaited-sorted : (senders : List SenderState) (place : ℕ) (old new : List Entry) → IsSorted place old new → HaveWaited senders old → HaveWaited senders new
+HaveWaited-sorted senders place old new settled waited = subst (HaveWaited senders) (sym becomes) (waited_over senders risen older before (rises risen settled.rising) has_risen)
   where
     older : List Entry
     older = reverse (entries_before place old)
@@ -209,16 +209,16 @@ HaveWaited-settled senders place old new settled waited = subst (HaveWaited send
     risen = entries_from place new
 
     becomes : new ≡ reverse risen ++ older
-    becomes = settled_parts place old new settled
+    becomes = sorted_parts place old new settled
 
     before : HaveWaited senders older
     before = each_rest (HasWaited senders) (reverse (entries_from place old)) older (subst (HaveWaited senders) (journal_parts place old) waited)
 
     alike : (origin : SiteName) (p : ℕ) → finished origin old p ≡ finished origin new p
-    alike origin p = list_any-IsPermutation (finishes origin p) old new (IsPermutation-settled place old new settled)
+    alike origin p = list_any-IsPermutation (finishes origin p) old new (IsPermutation-sorted place old new settled)
 
     has_new : AllByRecursion (IsWithin senders new) new
-    has_new = AllByRecursion-settled (IsWithin senders new) place old new settled (waited_within senders new old (λ origin p is. sym (alike origin p) ∙ is) waited)
+    has_new = AllByRecursion-sorted (IsWithin senders new) place old new settled (waited_within senders new old (λ origin p is. sym (alike origin p) ∙ is) waited)
 
     has_risen : AllByRecursion (IsWithin senders (reverse risen ++ older)) risen
     has_risen = all_reversed (IsWithin senders (reverse risen ++ older)) risen

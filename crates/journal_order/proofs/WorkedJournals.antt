@@ -10,7 +10,7 @@ use Rattle.site_state.specs.declared.entry.Entry.{Entry}
 use Rattle.site_state.specs.declared.entry.Entry.TheVariants.{Done}
 use Rattle.site_state.specs.Contents.{journal_content}
 use Rattle.site_state.proofs.WorkedSites.{a, b, master, plain, row, moved, of_calls}
-use Rattle.journal_order.specs.Settling.{AreInOrder, IsSettleable, IsSettled}
+use Rattle.journal_order.specs.Sorting.{AreInOrder, CanBeSorted, IsSorted}
 
 abbrev two : Schema
 two = plain (master a ∷ master b ∷ [])
@@ -30,17 +30,17 @@ third = Done a 3 0 (of_calls (moved 255 1 11 12 ∷ []))
 
 -- ---- the second one was applied before the others
 
-second_first_is_settleable : IsSettleable two a 0 (third ∷ first ∷ second ∷ [])
+second_first_is_sortable : CanBeSorted two a 0 (third ∷ first ∷ second ∷ [])
 unfolding group_columns_of
-second_first_is_settleable = record {
+second_first_is_sortable = record {
   within = omega arith;
   master = refl;
   entries = (refl, (refl, (refl, tt)));
   order = (((λ shared. absurd (cc shared)), ((λ shared. absurd (cc shared)), tt)), (((λ shared. omega arith), tt), (tt, tt)));
 }
 
-second_first_settled : IsSettled 0 (first ∷ second ∷ []) (second ∷ first ∷ [])
-second_first_settled = record {
+second_first_sorted : IsSorted 0 (first ∷ second ∷ []) (second ∷ first ∷ [])
+second_first_sorted = record {
   older = refl;
   entries = IsPermutation-append_comm (first ∷ []) (second ∷ []);
   rising = ((refl, tt), (tt, tt));
@@ -56,11 +56,11 @@ higher_first_is_not_in_order : AreInOrder two (third ∷ first ∷ []) → ⊥
 unfolding group_columns_of
 higher_first_is_not_in_order order = let less : 3 < 1 = order.0.0 refl in omega (arith, less)
 
-falling_is_not_settled : IsSettled 0 (first ∷ second ∷ []) (first ∷ second ∷ []) → ⊥
-falling_is_not_settled settled = cc settled.rising.0.0
+falling_is_not_sorted : IsSorted 0 (first ∷ second ∷ []) (first ∷ second ∷ []) → ⊥
+falling_is_not_sorted settled = cc settled.rising.0.0
 
-across_the_place_is_not_settled : IsSettled 1 (first ∷ second ∷ []) (second ∷ first ∷ []) → ⊥
-across_the_place_is_not_settled settled = cc settled.older
+across_the_place_is_not_sorted : IsSorted 1 (first ∷ second ∷ []) (second ∷ first ∷ []) → ⊥
+across_the_place_is_not_sorted settled = cc settled.older
 
 -- ---- base rows that are no table: a row behind a greater key is found only when that one is gone
 
@@ -73,9 +73,9 @@ moves_a_row = Done a 1 0 (of_calls (moved 255 3 30 31 ∷ []))
 abbrev deletes_a_row : Entry
 deletes_a_row = Done a 2 0 (of_calls (call.Delete 0 (row 5 50) ∷ []))
 
-they_are_settleable : IsSettleable two a 0 (moves_a_row ∷ deletes_a_row ∷ [])
+they_are_sortable : CanBeSorted two a 0 (moves_a_row ∷ deletes_a_row ∷ [])
 unfolding group_columns_of
-they_are_settleable = record {
+they_are_sortable = record {
   within = omega arith;
   master = refl;
   entries = (refl, (refl, tt));

@@ -1,3 +1,3 @@
 -- The definitions of this crate.
-pub mod Settling
+pub mod Sorting
 pub mod Waited

@@ -5,7 +5,7 @@ use Rattle.rep_values.specs.declared.name.SiteName.{SiteName}
 use Rattle.rep_schema.specs.declared.schema.Schema.{Schema}
 use Rattle.site_state.specs.declared.entry.Entry.{Entry}
 use Rattle.site_state.specs.declared.arrival.Arrival.{Arrival}
-use Rattle.site_state.specs.State.{SenderState, SiteState, beside, arrived_at, arrivals}
+use Rattle.site_state.specs.State.{SenderState, SiteState, arrival_beside, arrived_at, arrivals}
 use Rattle.site_state.specs.Journal.{finishes, finished}
 use Rattle.site_state.specs.Streams.{shares}
 
@@ -27,7 +27,7 @@ HaveWaited senders journal = EachBehind (HasWaited senders) journal
 -- arrivals are well numbered: of two whose transactions share a token, the later one's dependency number is at least the
 -- earlier position
 abbrev pub IsWellNumbered : Schema → List Arrival → Type 0
-IsWellNumbered schema arrived = (p q : ℕ) (a b : Arrival) → find_at (beside p) arrived ≡ Some a → find_at (beside q) arrived ≡ Some b
+IsWellNumbered schema arrived = (p q : ℕ) (a b : Arrival) → find_at (arrival_beside p) arrived ≡ Some a → find_at (arrival_beside q) arrived ≡ Some b
     → p < q → shares schema b.txn a.txn ≡ true → p ≤ b.dep
 
 -- where an entry finishes a position of a sender, the earlier ones whose transactions share a token with its own were

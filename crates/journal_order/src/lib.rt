@@ -2,7 +2,7 @@
 #![tactic(auto)]
 
 mod laws;
-mod settle;
+mod sort;
 
-pub use laws::settling_changes_no_more;
-pub use settle::settle_from;
+pub use laws::sorting_changes_no_more;
+pub use sort::sort_from;

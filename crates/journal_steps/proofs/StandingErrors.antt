@@ -20,7 +20,7 @@ use Rattle.error_queue.specs.ErrorLists as queue
 use Rattle.site_state.specs.declared.arrival.Arrival.{Arrival}
 use Rattle.site_state.specs.declared.entry.Entry.{Entry}
 use Rattle.site_state.specs.declared.entry.Entry.TheVariants.{Local, Done, Error, Executed, Dropped, Refreshed}
-use Rattle.site_state.specs.State.{SenderState, sender_of, at_sender, beside, arrived_in, arrived_at}
+use Rattle.site_state.specs.State.{SenderState, sender_of, at_sender, arrival_beside, arrived_in, arrived_at}
 use Rattle.site_state.specs.Journal.{is_position, finished, error_at}
 use Rattle.site_state.specs.Packets.{with_arrival}
 use Rattle.site_state.specs.Errors as state
@@ -108,11 +108,11 @@ behind_all : (p : ℕ) (a : Arrival) (arrived : List Arrival) → p ≤ a.positi
 behind_all p a [] up_to rising = tt
 behind_all p a (b ∷ arrived) up_to rising = (omega (arith, up_to, less_is a.position b.position rising.0), behind_all p a arrived up_to rising.1)
 
-none_behind : (f : ℕ → Option ErrorEntry) (p : ℕ) (arrived : List Arrival) → AreBehind p arrived → IsAt f → find_at (queue.beside p) (picked_by f arrived) ≡ None
+none_behind : (f : ℕ → Option ErrorEntry) (p : ℕ) (arrived : List Arrival) → AreBehind p arrived → IsAt f → find_at (queue.error_beside p) (picked_by f arrived) ≡ None
 none_behind f p [] behind at = refl
 none_behind f p (a ∷ arrived) behind at = go (f a.position) refl (none_behind f p arrived behind.1 at)
   where
-    go : (o : Option ErrorEntry) → f a.position ≡ o → find_at (queue.beside p) (picked_by f arrived) ≡ None → find_at (queue.beside p) (cons_option o (picked_by f arrived)) ≡ None
+    go : (o : Option ErrorEntry) → f a.position ≡ o → find_at (queue.error_beside p) (picked_by f arrived) ≡ None → find_at (queue.error_beside p) (cons_option o (picked_by f arrived)) ≡ None
     go None is later = later
     go (Some e) is later = let place : nat_cmp e.position p ≡ Greater = rw (at a.position e is) (greater_is a.position p behind.0) in rw place refl
 
@@ -121,12 +121,12 @@ abbrev where_arrived : Option Arrival → Option ErrorEntry → Option ErrorEntr
 where_arrived None error = None
 where_arrived (Some a) error = error
 
-find_picked : (f : ℕ → Option ErrorEntry) (p : ℕ) (arrived : List Arrival) → IsRising by_position arrived → IsAt f → find_at (queue.beside p) (picked_by f arrived) ≡ where_arrived (find_at (beside p) arrived) (f p)
+find_picked : (f : ℕ → Option ErrorEntry) (p : ℕ) (arrived : List Arrival) → IsRising by_position arrived → IsAt f → find_at (queue.error_beside p) (picked_by f arrived) ≡ where_arrived (find_at (arrival_beside p) arrived) (f p)
 find_picked f p [] rising at = refl
 find_picked f p (a ∷ arrived) rising at = go (f a.position) refl (nat_cmp a.position p) refl (find_picked f p arrived rising.1 at)
   where
-    go : (o : Option ErrorEntry) → f a.position ≡ o → (c : Ordering) → nat_cmp a.position p ≡ c → find_at (queue.beside p) (picked_by f arrived) ≡ where_arrived (find_at (beside p) arrived) (f p)
-        → find_at (queue.beside p) (cons_option o (picked_by f arrived)) ≡ where_arrived (found_here c a (find_at (beside p) arrived)) (f p)
+    go : (o : Option ErrorEntry) → f a.position ≡ o → (c : Ordering) → nat_cmp a.position p ≡ c → find_at (queue.error_beside p) (picked_by f arrived) ≡ where_arrived (find_at (arrival_beside p) arrived) (f p)
+        → find_at (queue.error_beside p) (cons_option o (picked_by f arrived)) ≡ where_arrived (found_here c a (find_at (arrival_beside p) arrived)) (f p)
     go None is Less place later = later
     go None is Equal place later =
         let same : a.position ≡ p = exact_unsigned a.position p place in
@@ -154,27 +154,27 @@ same_behind : (f g : ℕ → Option ErrorEntry) (p : ℕ) (arrived : List Arriva
 same_behind f g p [] behind others = tt
 same_behind f g p (a ∷ arrived) behind others = (others a.position (λ same. absurd (omega (arith, behind.0, same))), same_behind f g p arrived behind.1 others)
 
-put_front : (f : ℕ → Option ErrorEntry) (p : ℕ) (e : ErrorEntry) (arrived : List Arrival) → AreBehind p arrived → IsAt f → put_at (queue.beside p) e (picked_by f arrived) ≡ e ∷ picked_by f arrived
+put_front : (f : ℕ → Option ErrorEntry) (p : ℕ) (e : ErrorEntry) (arrived : List Arrival) → AreBehind p arrived → IsAt f → put_at (queue.error_beside p) e (picked_by f arrived) ≡ e ∷ picked_by f arrived
 put_front f p e [] behind at = refl
 put_front f p e (a ∷ arrived) behind at = go (f a.position) refl (put_front f p e arrived behind.1 at)
   where
-    go : (o : Option ErrorEntry) → f a.position ≡ o → put_at (queue.beside p) e (picked_by f arrived) ≡ e ∷ picked_by f arrived
-        → put_at (queue.beside p) e (cons_option o (picked_by f arrived)) ≡ e ∷ cons_option o (picked_by f arrived)
+    go : (o : Option ErrorEntry) → f a.position ≡ o → put_at (queue.error_beside p) e (picked_by f arrived) ≡ e ∷ picked_by f arrived
+        → put_at (queue.error_beside p) e (cons_option o (picked_by f arrived)) ≡ e ∷ cons_option o (picked_by f arrived)
     go None is later = later
     go (Some d) is later = let place : nat_cmp d.position p ≡ Greater = rw (at a.position d is) (greater_is a.position p behind.0) in rw place refl
 
 -- a new error is put among the others
-picked-put : (f g : ℕ → Option ErrorEntry) (p : ℕ) (e : ErrorEntry) (arrived : List Arrival) → IsRising by_position arrived → IsAt f → Others f g p → f p ≡ None → g p ≡ Some e → find_at (beside p) arrived ≢ None
-    → picked_by g arrived ≡ put_at (queue.beside p) e (picked_by f arrived)
+picked-put : (f g : ℕ → Option ErrorEntry) (p : ℕ) (e : ErrorEntry) (arrived : List Arrival) → IsRising by_position arrived → IsAt f → Others f g p → f p ≡ None → g p ≡ Some e → find_at (arrival_beside p) arrived ≢ None
+    → picked_by g arrived ≡ put_at (queue.error_beside p) e (picked_by f arrived)
 picked-put f g p e [] rising at others before after there = absurd (there refl)
 picked-put f g p e (a ∷ arrived) rising at others before after there = go (nat_cmp a.position p) refl there (picked-put f g p e arrived rising.1 at others before after)
   where
-    go : (c : Ordering) → nat_cmp a.position p ≡ c → found_here c a (find_at (beside p) arrived) ≢ None
-        → (find_at (beside p) arrived ≢ None → picked_by g arrived ≡ put_at (queue.beside p) e (picked_by f arrived))
-        → cons_option (g a.position) (picked_by g arrived) ≡ put_at (queue.beside p) e (cons_option (f a.position) (picked_by f arrived))
+    go : (c : Ordering) → nat_cmp a.position p ≡ c → found_here c a (find_at (arrival_beside p) arrived) ≢ None
+        → (find_at (arrival_beside p) arrived ≢ None → picked_by g arrived ≡ put_at (queue.error_beside p) e (picked_by f arrived))
+        → cons_option (g a.position) (picked_by g arrived) ≡ put_at (queue.error_beside p) e (cons_option (f a.position) (picked_by f arrived))
     go Less place there later = rw (others a.position (λ same. absurd (omega (arith, less_is a.position p place, same))), later there) (below (f a.position) refl)
       where
-        below : (o : Option ErrorEntry) → f a.position ≡ o → cons_option o (put_at (queue.beside p) e (picked_by f arrived)) ≡ put_at (queue.beside p) e (cons_option o (picked_by f arrived))
+        below : (o : Option ErrorEntry) → f a.position ≡ o → cons_option o (put_at (queue.error_beside p) e (picked_by f arrived)) ≡ put_at (queue.error_beside p) e (cons_option o (picked_by f arrived))
         below None is = refl
         below (Some d) is = let here : nat_cmp d.position p ≡ Less = rw (at a.position d is) place in rw here refl
     go Equal place there later =
@@ -185,26 +185,26 @@ picked-put f g p e (a ∷ arrived) rising at others before after there = go (nat
         rw (head, none, picked-same g f arrived (same_behind f g p arrived behind others)) (sym (put_front f p e arrived behind at))
     go Greater place there later = absurd (there refl)
 
-take_front : (f : ℕ → Option ErrorEntry) (p : ℕ) (arrived : List Arrival) → AreBehind p arrived → IsAt f → take_at (queue.beside p) (picked_by f arrived) ≡ picked_by f arrived
+take_front : (f : ℕ → Option ErrorEntry) (p : ℕ) (arrived : List Arrival) → AreBehind p arrived → IsAt f → take_at (queue.error_beside p) (picked_by f arrived) ≡ picked_by f arrived
 take_front f p [] behind at = refl
 take_front f p (a ∷ arrived) behind at = go (f a.position) refl (take_front f p arrived behind.1 at)
   where
-    go : (o : Option ErrorEntry) → f a.position ≡ o → take_at (queue.beside p) (picked_by f arrived) ≡ picked_by f arrived
-        → take_at (queue.beside p) (cons_option o (picked_by f arrived)) ≡ cons_option o (picked_by f arrived)
+    go : (o : Option ErrorEntry) → f a.position ≡ o → take_at (queue.error_beside p) (picked_by f arrived) ≡ picked_by f arrived
+        → take_at (queue.error_beside p) (cons_option o (picked_by f arrived)) ≡ cons_option o (picked_by f arrived)
     go None is later = later
     go (Some d) is later = let place : nat_cmp d.position p ≡ Greater = rw (at a.position d is) (greater_is a.position p behind.0) in rw place refl
 
 -- an error that no longer stands is taken out
 picked-take : (f g : ℕ → Option ErrorEntry) (p : ℕ) (arrived : List Arrival) → IsRising by_position arrived → IsAt f → Others f g p → g p ≡ None
-    → picked_by g arrived ≡ take_at (queue.beside p) (picked_by f arrived)
+    → picked_by g arrived ≡ take_at (queue.error_beside p) (picked_by f arrived)
 picked-take f g p [] rising at others after = refl
 picked-take f g p (a ∷ arrived) rising at others after = go (nat_cmp a.position p) refl (picked-take f g p arrived rising.1 at others after)
   where
-    go : (c : Ordering) → nat_cmp a.position p ≡ c → picked_by g arrived ≡ take_at (queue.beside p) (picked_by f arrived)
-        → cons_option (g a.position) (picked_by g arrived) ≡ take_at (queue.beside p) (cons_option (f a.position) (picked_by f arrived))
+    go : (c : Ordering) → nat_cmp a.position p ≡ c → picked_by g arrived ≡ take_at (queue.error_beside p) (picked_by f arrived)
+        → cons_option (g a.position) (picked_by g arrived) ≡ take_at (queue.error_beside p) (cons_option (f a.position) (picked_by f arrived))
     go Less place later = rw (others a.position (λ same. absurd (omega (arith, less_is a.position p place, same))), later) (below (f a.position) refl)
       where
-        below : (o : Option ErrorEntry) → f a.position ≡ o → cons_option o (take_at (queue.beside p) (picked_by f arrived)) ≡ take_at (queue.beside p) (cons_option o (picked_by f arrived))
+        below : (o : Option ErrorEntry) → f a.position ≡ o → cons_option o (take_at (queue.error_beside p) (picked_by f arrived)) ≡ take_at (queue.error_beside p) (cons_option o (picked_by f arrived))
         below None is = refl
         below (Some d) is = let here : nat_cmp d.position p ≡ Less = rw (at a.position d is) place in rw here refl
     go Equal place later =
@@ -213,7 +213,7 @@ picked-take f g p (a ∷ arrived) rising at others after = go (nat_cmp a.positio
         let none : g a.position ≡ None = ap g same ∙ after in
         rw (none, picked-same g f arrived (same_behind f g p arrived behind others)) (here (f a.position) refl behind)
       where
-        here : (o : Option ErrorEntry) → f a.position ≡ o → AreBehind p arrived → picked_by f arrived ≡ take_at (queue.beside p) (cons_option o (picked_by f arrived))
+        here : (o : Option ErrorEntry) → f a.position ≡ o → AreBehind p arrived → picked_by f arrived ≡ take_at (queue.error_beside p) (cons_option o (picked_by f arrived))
         here None is behind = sym (take_front f p arrived behind at)
         here (Some d) is behind = let head : nat_cmp d.position p ≡ Equal = rw (at a.position d is) place in rw head refl
     go Greater place later =
@@ -222,18 +222,18 @@ picked-take f g p (a ∷ arrived) rising at others after = go (nat_cmp a.positio
         let head : g a.position ≡ f a.position = others a.position (λ same. absurd (omega (arith, above, same))) in
         rw (head, picked-same g f arrived (same_behind f g p arrived behind others)) (sym (front (f a.position) refl behind))
       where
-        front : (o : Option ErrorEntry) → f a.position ≡ o → AreBehind p arrived → take_at (queue.beside p) (cons_option o (picked_by f arrived)) ≡ cons_option o (picked_by f arrived)
+        front : (o : Option ErrorEntry) → f a.position ≡ o → AreBehind p arrived → take_at (queue.error_beside p) (cons_option o (picked_by f arrived)) ≡ cons_option o (picked_by f arrived)
         front None is behind = take_front f p arrived behind at
         front (Some d) is behind = let above : p < a.position = grind (arith, nat_tests) in let head : nat_cmp d.position p ≡ Greater = rw (at a.position d is) (greater_is a.position p above) in rw head refl
 
 -- an arrival without an error changes nothing
-picked-arrival : (f : ℕ → Option ErrorEntry) (a : Arrival) (arrived : List Arrival) → f a.position ≡ None → find_at (beside a.position) arrived ≡ None → picked_by f (put_at (beside a.position) a arrived) ≡ picked_by f arrived
+picked-arrival : (f : ℕ → Option ErrorEntry) (a : Arrival) (arrived : List Arrival) → f a.position ≡ None → find_at (arrival_beside a.position) arrived ≡ None → picked_by f (put_at (arrival_beside a.position) a arrived) ≡ picked_by f arrived
 picked-arrival f a [] none absent = rw none refl
 picked-arrival f a (b ∷ arrived) none absent = go (nat_cmp b.position a.position) absent (picked-arrival f a arrived none)
   where
-    go : (c : Ordering) → found_here c b (find_at (beside a.position) arrived) ≡ None
-        → (find_at (beside a.position) arrived ≡ None → picked_by f (put_at (beside a.position) a arrived) ≡ picked_by f arrived)
-        → picked_by f (put_here c a b arrived (put_at (beside a.position) a arrived)) ≡ picked_by f (b ∷ arrived)
+    go : (c : Ordering) → found_here c b (find_at (arrival_beside a.position) arrived) ≡ None
+        → (find_at (arrival_beside a.position) arrived ≡ None → picked_by f (put_at (arrival_beside a.position) a arrived) ≡ picked_by f arrived)
+        → picked_by f (put_here c a b arrived (put_at (arrival_beside a.position) a arrived)) ≡ picked_by f (b ∷ arrived)
     go Less absent later = ap (cons_option (f b.position)) (later absent)
     go Equal absent later = absurd (cc absent)
     go Greater absent later = rw none refl
@@ -323,7 +323,7 @@ another a b p q off = rw (off_both a b off) refl
 -- a new error
 pub errors-added : (journal : List Entry) (origin : SiteName) (p call : ℕ) (error : ApplyError) (txn : Txn) (ss : List SenderState) → StandApart ss → HasCome origin p ss → error_at origin p journal ≡ None
     → lists_by (Error origin p call error txn ∷ journal) ss ≡ added (record { origin = origin; position = p; call = call; error = error; txn = txn }) (lists_by journal ss)
-errors-added journal origin p call error txn ss apart come none = lists_changed journal (Error origin p call error txn ∷ journal) origin (put_at (queue.beside p) e) other ss apart own
+errors-added journal origin p call error txn ss apart come none = lists_changed journal (Error origin p call error txn ∷ journal) origin (put_at (queue.error_beside p) e) other ss apart own
   where
     e : ErrorEntry
     e = record { origin = origin; position = p; call = call; error = error; txn = txn }
@@ -335,10 +335,10 @@ errors-added journal origin p call error txn ss apart come none = lists_changed 
         each [] = tt
         each (a ∷ arrived) = (rw (another s.origin origin p a.position off) refl, each arrived)
 
-    own : (s : SenderState) → sender_of origin ss ≡ Some s → state.errors_from (Error origin p call error txn ∷ journal) s ≡ put_at (queue.beside p) e (state.errors_from journal s)
+    own : (s : SenderState) → sender_of origin ss ≡ Some s → state.errors_from (Error origin p call error txn ∷ journal) s ≡ put_at (queue.error_beside p) e (state.errors_from journal s)
     own s found =
         let name = found_name origin ss s found in
-        subst (λ (o : SiteName). picked_by (λ (q : ℕ). error_at o q (Error origin p call error txn ∷ journal)) s.arrived ≡ put_at (queue.beside p) e (picked_by (λ (q : ℕ). error_at o q journal) s.arrived)) (sym name)
+        subst (λ (o : SiteName). picked_by (λ (q : ℕ). error_at o q (Error origin p call error txn ∷ journal)) s.arrived ≡ put_at (queue.error_beside p) e (picked_by (λ (q : ℕ). error_at o q journal) s.arrived)) (sym name)
         (picked-put (λ (q : ℕ). error_at origin q journal) (λ (q : ℕ). error_at origin q (Error origin p call error txn ∷ journal)) p e s.arrived (come.rising s found) (is_at origin journal)
         (λ q off. rw (elsewhere origin origin p q off) refl) none (rw (itself origin p) refl) (rw found at come.there))
 
@@ -346,7 +346,7 @@ errors-added journal origin p call error txn ss apart come none = lists_changed 
 pub errors-removed : (journal : List Entry) (e : Entry) (origin : SiteName) (p : ℕ) (ss : List SenderState) → StandApart ss → HasCome origin p ss
     → ((o : SiteName) (q : ℕ) → error_at o q (e ∷ journal) ≡ cond (is_position o q origin p) None (error_at o q journal))
     → lists_by (e ∷ journal) ss ≡ removed origin p (lists_by journal ss)
-errors-removed journal e origin p ss apart come settles = lists_changed journal (e ∷ journal) origin (take_at (queue.beside p)) other ss apart own
+errors-removed journal e origin p ss apart come settles = lists_changed journal (e ∷ journal) origin (take_at (queue.error_beside p)) other ss apart own
   where
     other : (s : SenderState) → is_same_site s.origin origin ≡ false → state.errors_from (e ∷ journal) s ≡ state.errors_from journal s
     other s off = picked-same (λ (q : ℕ). error_at s.origin q (e ∷ journal)) (λ (q : ℕ). error_at s.origin q journal) s.arrived (each s.arrived)
@@ -355,10 +355,10 @@ errors-removed journal e origin p ss apart come settles = lists_changed journal 
         each [] = tt
         each (a ∷ arrived) = (settles s.origin a.position ∙ rw (another s.origin origin p a.position off) refl, each arrived)
 
-    own : (s : SenderState) → sender_of origin ss ≡ Some s → state.errors_from (e ∷ journal) s ≡ take_at (queue.beside p) (state.errors_from journal s)
+    own : (s : SenderState) → sender_of origin ss ≡ Some s → state.errors_from (e ∷ journal) s ≡ take_at (queue.error_beside p) (state.errors_from journal s)
     own s found =
         let name = found_name origin ss s found in
-        subst (λ (o : SiteName). picked_by (λ (q : ℕ). error_at o q (e ∷ journal)) s.arrived ≡ take_at (queue.beside p) (picked_by (λ (q : ℕ). error_at o q journal) s.arrived)) (sym name)
+        subst (λ (o : SiteName). picked_by (λ (q : ℕ). error_at o q (e ∷ journal)) s.arrived ≡ take_at (queue.error_beside p) (picked_by (λ (q : ℕ). error_at o q journal) s.arrived)) (sym name)
         (picked-take (λ (q : ℕ). error_at origin q journal) (λ (q : ℕ). error_at origin q (e ∷ journal)) p s.arrived (come.rising s found) (is_at origin journal)
         (λ q off. settles origin q ∙ rw (elsewhere origin origin p q off) refl) (settles origin p ∙ rw (itself origin p) refl))
 
@@ -368,7 +368,7 @@ pub errors-arrival : (journal : List Entry) (from : SiteName) (a : Arrival) (ss 
 errors-arrival journal from a [] not_yet absent = refl
 errors-arrival journal from a (s ∷ ss) not_yet absent = go (is_same_site s.origin from) refl absent (errors-arrival journal from a ss not_yet)
   where
-    go : (b : Bool) → is_same_site s.origin from ≡ b → find_at (beside a.position) (arrived_in (cond b (Some s) (sender_of from ss))) ≡ None
+    go : (b : Bool) → is_same_site s.origin from ≡ b → find_at (arrival_beside a.position) (arrived_in (cond b (Some s) (sender_of from ss))) ≡ None
         → (arrived_at from a.position ss ≡ None → lists_by journal (at_sender from (with_arrival a) ss) ≡ lists_by journal ss)
         → lists_by journal (cond b (with_arrival a s ∷ ss) (s ∷ at_sender from (with_arrival a) ss)) ≡ lists_by journal (s ∷ ss)
     go true is absent later =
@@ -416,27 +416,27 @@ error_in-lists journal origin p ss come rising = go (sender_of origin ss) refl
         let name = found_name origin ss s found in
         let entries : errors_from origin (lists_by journal ss) ≡ picked_by (λ (q : ℕ). error_at origin q journal) s.arrived =
         errors_from-lists journal origin ss s found ∙ ap (λ (o : SiteName). picked_by (λ (q : ℕ). error_at o q journal) s.arrived) name in
-        let here : arrived_at origin p ss ≡ find_at (beside p) s.arrived = rw found refl in
+        let here : arrived_at origin p ss ≡ find_at (arrival_beside p) s.arrived = rw found refl in
         rw entries (find_picked (λ (q : ℕ). error_at origin q journal) p s.arrived (rising s found) (is_at origin journal)
         ∙ ap (λ (a : Option Arrival). where_arrived a (error_at origin p journal)) (sym here) ∙ stands (arrived_at origin p ss) refl)
 
 -- ---- how many they are
 
-length-put_at : (e : ErrorEntry) (entries : List ErrorEntry) → length (put_at (queue.beside e.position) e entries) ≤ length entries + 1
+length-put_at : (e : ErrorEntry) (entries : List ErrorEntry) → length (put_at (queue.error_beside e.position) e entries) ≤ length entries + 1
 length-put_at e [] = omega arith
-length-put_at e (d ∷ entries) = go (queue.beside e.position d) (length-put_at e entries)
+length-put_at e (d ∷ entries) = go (queue.error_beside e.position d) (length-put_at e entries)
   where
-    go : (o : Ordering) → length (put_at (queue.beside e.position) e entries) ≤ length entries + 1 → length (put_here o e d entries (put_at (queue.beside e.position) e entries)) ≤ length (d ∷ entries) + 1
+    go : (o : Ordering) → length (put_at (queue.error_beside e.position) e entries) ≤ length entries + 1 → length (put_here o e d entries (put_at (queue.error_beside e.position) e entries)) ≤ length (d ∷ entries) + 1
     go Less later = omega (arith, later)
     go Equal later = omega arith
     go Greater later = omega arith
 
-length-take_at : (p : ℕ) (entries : List ErrorEntry) (e : ErrorEntry) → find_at (queue.beside p) entries ≡ Some e → length (take_at (queue.beside p) entries) + 1 ≡ length entries
+length-take_at : (p : ℕ) (entries : List ErrorEntry) (e : ErrorEntry) → find_at (queue.error_beside p) entries ≡ Some e → length (take_at (queue.error_beside p) entries) + 1 ≡ length entries
 length-take_at p [] e found = absurd (cc found)
-length-take_at p (d ∷ entries) e found = go (queue.beside p d) found (length-take_at p entries e)
+length-take_at p (d ∷ entries) e found = go (queue.error_beside p d) found (length-take_at p entries e)
   where
-    go : (o : Ordering) → found_here o d (find_at (queue.beside p) entries) ≡ Some e → (find_at (queue.beside p) entries ≡ Some e → length (take_at (queue.beside p) entries) + 1 ≡ length entries)
-        → length (taken_here o d entries (take_at (queue.beside p) entries)) + 1 ≡ length (d ∷ entries)
+    go : (o : Ordering) → found_here o d (find_at (queue.error_beside p) entries) ≡ Some e → (find_at (queue.error_beside p) entries ≡ Some e → length (take_at (queue.error_beside p) entries) + 1 ≡ length entries)
+        → length (taken_here o d entries (take_at (queue.error_beside p) entries)) + 1 ≡ length (d ∷ entries)
     go Less found later = omega (arith, later found)
     go Equal found later = omega arith
     go Greater found later = absurd (cc found)
@@ -450,9 +450,9 @@ count-added e [] = omega arith
 count-added e (l ∷ ls) = go (is_same_site l.origin e.origin) (count-added e ls)
   where
     go : (b : Bool) → length (in_order (added e ls)) ≤ length (in_order ls) + 1
-        → length (in_order (cond b (record { origin = l.origin; entries = put_at (queue.beside e.position) e l.entries } ∷ ls) (l ∷ added e ls))) ≤ length (in_order (l ∷ ls)) + 1
+        → length (in_order (cond b (record { origin = l.origin; entries = put_at (queue.error_beside e.position) e l.entries } ∷ ls) (l ∷ added e ls))) ≤ length (in_order (l ∷ ls)) + 1
     go true later =
-        let new = count_cons (record { origin = l.origin; entries = put_at (queue.beside e.position) e l.entries }) ls in
+        let new = count_cons (record { origin = l.origin; entries = put_at (queue.error_beside e.position) e l.entries }) ls in
         omega (arith, new, count_cons l ls, length-put_at e l.entries)
     go false later = omega (arith, later, count_cons l ls, count_cons l (added e ls))
 
@@ -461,10 +461,10 @@ pub count-removed : (origin : SiteName) (p : ℕ) (lists : List ErrorList) (e : 
 count-removed origin p [] e found = absurd (cc found)
 count-removed origin p (l ∷ ls) e found = go (is_same_site l.origin origin) found (count-removed origin p ls e)
   where
-    go : (b : Bool) → find_at (queue.beside p) (entries_in (cond b (Some l) (list_of origin ls))) ≡ Some e → (error_in origin p ls ≡ Some e → length (in_order (removed origin p ls)) + 1 ≡ length (in_order ls))
-        → length (in_order (cond b (record { origin = l.origin; entries = take_at (queue.beside p) l.entries } ∷ ls) (l ∷ removed origin p ls))) + 1 ≡ length (in_order (l ∷ ls))
+    go : (b : Bool) → find_at (queue.error_beside p) (entries_in (cond b (Some l) (list_of origin ls))) ≡ Some e → (error_in origin p ls ≡ Some e → length (in_order (removed origin p ls)) + 1 ≡ length (in_order ls))
+        → length (in_order (cond b (record { origin = l.origin; entries = take_at (queue.error_beside p) l.entries } ∷ ls) (l ∷ removed origin p ls))) + 1 ≡ length (in_order (l ∷ ls))
     go true found later =
-        let new = count_cons (record { origin = l.origin; entries = take_at (queue.beside p) l.entries }) ls in
+        let new = count_cons (record { origin = l.origin; entries = take_at (queue.error_beside p) l.entries }) ls in
         omega (arith, new, count_cons l ls, length-take_at p l.entries e found)
     go false found later = omega (arith, later found, count_cons l ls, count_cons l (removed origin p ls))
 

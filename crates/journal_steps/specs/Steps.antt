@@ -8,19 +8,19 @@ use Rattle.site_state.specs.declared.entry.Entry.{Entry}
 use Rattle.site_state.specs.declared.entry.Entry.TheVariants as entry
 use Rattle.site_state.specs.declared.answers.Applied.{Applied}
 use Rattle.site_state.specs.declared.answers.Applied.TheVariants as applied
-use Rattle.journal_steps.specs.declared.steps.Settled.{Settled}
-use Rattle.journal_steps.specs.declared.steps.Settled.TheVariants.{Done, Failed}
+use Rattle.journal_steps.specs.declared.steps.ApplyOutcome.{ApplyOutcome}
+use Rattle.journal_steps.specs.declared.steps.ApplyOutcome.TheVariants.{Done, Failed}
 
 -- the entry of a position whose transaction is settled so, the answer, and the error that stands then
-abbrev pub entry_of : SiteName → ℕ → Txn → Settled → Entry
+abbrev pub entry_of : SiteName → ℕ → Txn → ApplyOutcome → Entry
 entry_of origin position txn (Done onward) = entry.Done origin position onward txn
 entry_of origin position txn (Failed call error) = entry.Error origin position call error txn
 
-abbrev pub answer_of : Settled → Applied
+abbrev pub answer_of : ApplyOutcome → Applied
 answer_of (Done onward) = applied.Done
 answer_of (Failed call error) = applied.Error error
 
-abbrev pub error_of : SiteName → ℕ → Txn → Settled → Option ErrorEntry
+abbrev pub error_of : SiteName → ℕ → Txn → ApplyOutcome → Option ErrorEntry
 error_of origin position txn (Done onward) = None
 error_of origin position txn (Failed call error) = Some (record { origin = origin; position = position; call = call; error = error; txn = txn })
 

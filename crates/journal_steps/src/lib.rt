@@ -8,4 +8,4 @@ mod steps;
 
 pub use inboxes::{from_senders, inbox_from, origin_at, place_from};
 pub use journal::{add_error, reserve_beside, reserve_position};
-pub use steps::{Settled, Step, counted, step_of};
+pub use steps::{ApplyOutcome, Step, counted, step_of};

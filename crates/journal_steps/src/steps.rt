@@ -11,7 +11,7 @@ use site_state::{Applied, Entry, PassCount};
 
 /// What becomes of a transaction.
 #[derive(Drop)]
-pub enum Settled {
+pub enum ApplyOutcome {
     /// It is done, and its changed rows were queued onward under a number, 0 where they weren't.
     Done { onward: u64 },
     /// Its first call that fails, from 1, and why.
@@ -78,14 +78,14 @@ fn failed_step(
 
 /// What a position of an origin adds whose transaction is settled so. Of the transaction one copy is for the journal, and one
 /// for the error queue.
-pub fn step_of(origin: &SiteName, position: u64, settled: &Settled, txn: Txn, kept: Txn) -> Step
+pub fn step_of(origin: &SiteName, position: u64, settled: &ApplyOutcome, txn: Txn, kept: Txn) -> Step
     ensures entry { result.entry ≡ entry_of origin.now position txn settled.now }
     ensures answer { result.answer ≡ answer_of settled.now }
     ensures error { result.error ≡ error_of origin.now position kept settled.now }
 {
     match settled {
-        Settled::Done { onward } => done_step(origin, position, *onward, txn),
-        Settled::Failed { call, error } => failed_step(origin, position, *call, error, txn, kept),
+        ApplyOutcome::Done { onward } => done_step(origin, position, *onward, txn),
+        ApplyOutcome::Failed { call, error } => failed_step(origin, position, *call, error, txn, kept),
     }
 }
 

@@ -30,7 +30,7 @@ use Rattle.live_laws.specs.declared.turn.LiveTurn.TheVariants.{Applied, Committe
 use Rattle.live_laws.specs.declared.turn.Block.{Block}
 use Rattle.live_laws.specs.declared.turn.Session.{Session}
 use Rattle.live_laws.specs.Turns.{block_of, reply_by, reply_to, applied_by, applied_found, applied_turn, committed_block, site_after_turn, IsTurn}
-use Rattle.live_laws.specs.RunLaws.{Carries, AreEntriesOf, AreMasters, TurnsAreJournalled}
+use Rattle.live_laws.specs.RunLaws.{ArrivalCarries, AreEntriesOf, AreMasters, TurnsAreJournalled}
 use Rattle.live_laws.proofs.TurnSteps.{turn_steps}
 
 -- what a turn adds to the journal
@@ -60,7 +60,7 @@ applied_adds sessions origin position call error x master ready told = by (effec
     is : a.position ≡ position
     is = arrived_has origin position x a at.there
 
-    carried : Carries origin position x a.txn
+    carried : ArrivalCarries origin position x a.txn
     carried = (a, (at.there, refl))
 
     by : (r : Result Effect Failure) (error : Option ApplyError) → applied_by origin position r ≡ Applied origin position call error → (site_apply origin position x).journal ≡ entry_by origin a r ∷ x.journal

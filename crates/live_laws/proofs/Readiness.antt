@@ -6,12 +6,12 @@ use Rattle.std.proofs.lemmas.Bool.{and_parts}
 use Rattle.std.proofs.lemmas.Bool.Decides.{nat_tests}
 use Rattle.rep_lists.specs.Rising.{find_at}
 use Rattle.rep_values.specs.declared.name.SiteName.{SiteName}
-use Rattle.rep_calls.specs.declared.past.Past.{Past}
+use Rattle.rep_calls.specs.declared.past.PastEntry.{PastEntry}
 use Rattle.deferred_queue.specs.Streams.{is_same_site}
 use Rattle.site_state.specs.declared.arrival.Arrival.{Arrival}
-use Rattle.site_state.specs.State.{SenderState, SiteState, sender_of, arrived_in, first_in, arrived_at, beside}
+use Rattle.site_state.specs.State.{SenderState, SiteState, sender_of, arrived_in, first_in, arrived_at, arrival_beside}
 use Rattle.site_state.specs.Journal.{finished, low_water}
-use Rattle.site_state.specs.Ready.{number_in, covered_at, covered, is_covered, is_due, is_ready}
+use Rattle.site_state.specs.Ready.{arrival_number, covered_at, covered, is_covered, is_due, is_ready}
 use Rattle.site_state.proofs.LowWater.{low_water-below, low_water-greatest}
 use Rattle.site_state.proofs.Stepping.{Steps}
 use Rattle.site_state.proofs.Pasts.{finished_have_arrived}
@@ -40,14 +40,14 @@ low_water-Reaches x y reaches origin = low_water-greatest origin y.journal (low_
 
 -- a covered number rises with the mark
 covered_rises : (low high : ℕ) (s : Option SenderState) → low ≤ high
-    → (0 < high → find_at (beside high) (arrived_in s) ≢ None)
-    → ((p : ℕ) (a : Arrival) → find_at (beside p) (arrived_in s) ≡ Some a → first_in s ≤ a.number)
-    → ((p q : ℕ) (a b : Arrival) → find_at (beside p) (arrived_in s) ≡ Some a → find_at (beside q) (arrived_in s) ≡ Some b → p ≤ q → a.number ≤ b.number)
+    → (0 < high → find_at (arrival_beside high) (arrived_in s) ≢ None)
+    → ((p : ℕ) (a : Arrival) → find_at (arrival_beside p) (arrived_in s) ≡ Some a → first_in s ≤ a.number)
+    → ((p q : ℕ) (a b : Arrival) → find_at (arrival_beside p) (arrived_in s) ≡ Some a → find_at (arrival_beside q) (arrived_in s) ≡ Some b → p ≤ q → a.number ≤ b.number)
     → covered_at low s ≤ covered_at high s
-covered_rises low high s up there first rising = go (low == 0) refl (high == 0) refl (find_at (beside low) (arrived_in s)) refl (find_at (beside high) (arrived_in s)) refl
+covered_rises low high s up there first rising = go (low == 0) refl (high == 0) refl (find_at (arrival_beside low) (arrived_in s)) refl (find_at (arrival_beside high) (arrived_in s)) refl
   where
-    go : (b : Bool) → (low == 0) ≡ b → (c : Bool) → (high == 0) ≡ c → (f : Option Arrival) → find_at (beside low) (arrived_in s) ≡ f → (g : Option Arrival) → find_at (beside high) (arrived_in s) ≡ g
-        → cond b (first_in s) (number_in f) ≤ cond c (first_in s) (number_in g)
+    go : (b : Bool) → (low == 0) ≡ b → (c : Bool) → (high == 0) ≡ c → (f : Option Arrival) → find_at (arrival_beside low) (arrived_in s) ≡ f → (g : Option Arrival) → find_at (arrival_beside high) (arrived_in s) ≡ g
+        → cond b (first_in s) (arrival_number f) ≤ cond c (first_in s) (arrival_number g)
     go true is true at f here g found = omega arith
     go true is false at f here None found = let from_one : 0 < high = grind (arith, nat_tests, at) in absurd (there from_one found)
     go true is false at f here (Some b) found = first high b found
@@ -62,7 +62,7 @@ covered-Reaches x y numbers reaches origin = subst (λ (ss : List SenderState). 
     (λ from_one. numbers.arrived origin (low_water origin y.journal) (low_water-below origin y.journal (low_water origin y.journal) from_one (omega arith)))
     (numbers.first origin) (numbers.rising origin))
 
-all_covered-Reaches : (x y : SiteState) → HasRisingNumbers y → Reaches x y → (past : List Past) → list_all (is_covered x) past ≡ true → list_all (is_covered y) past ≡ true
+all_covered-Reaches : (x y : SiteState) → HasRisingNumbers y → Reaches x y → (past : List PastEntry) → list_all (is_covered x) past ≡ true → list_all (is_covered y) past ≡ true
 all_covered-Reaches x y numbers reaches [] all = refl
 all_covered-Reaches x y numbers reaches (seen ∷ past) all = go (is_same_site seen.origin x.here.site) refl (nat_le seen.number (covered seen.origin x)) refl all (all_covered-Reaches x y numbers reaches past)
   where

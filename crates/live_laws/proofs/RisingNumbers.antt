@@ -5,19 +5,19 @@ use Rattle.std.specs.List.{AllByRecursion}
 use Rattle.rep_lists.specs.Rising.{find_at}
 use Rattle.rep_values.specs.declared.name.SiteName.{SiteName}
 use Rattle.site_state.specs.declared.arrival.Arrival.{Arrival}
-use Rattle.site_state.specs.State.{SenderState, SiteState, sender_of, arrived_in, first_in, arrived_at, beside}
+use Rattle.site_state.specs.State.{SenderState, SiteState, sender_of, arrived_in, first_in, arrived_at, arrival_beside}
 use Rattle.site_state.proofs.Stepping.{arrived_has}
-use Rattle.event_laws.specs.Core.{site_of}
+use Rattle.event_laws.specs.Cluster.{site_of}
 use Rattle.event_laws.specs.Events.{run}
-use Rattle.event_laws.specs.Waiting.{IsFirst}
-use Rattle.event_laws.proofs.Holding.{SentBy, SiteHolds, HoldsAt}
+use Rattle.event_laws.specs.Waiting.{IsFirstNumber}
+use Rattle.event_laws.proofs.RunInvariants.{SentBy, SiteHolds, HoldsAt}
 use Rattle.event_laws.proofs.MarkLaws.{arrived_was_sent}
 use Rattle.event_laws.proofs.Meeting.{SiteMeets, MeetsAt}
 use Rattle.event_laws.proofs.Waiting.{run_met, first_of_sender}
 use Rattle.live_laws.specs.RisingNumbers.{HasRisingNumbers, EverySiteHasRisingNumbers}
 
 -- what a sender that has the site open sent has numbers from its first number on
-first_by : (site : SiteName) (o : Option SiteState) (s : SenderState) (a : Arrival) → IsFirst o site s.first → SentBy o site a.number a.position a.dep a.txn → s.first ≤ a.number
+first_by : (site : SiteName) (o : Option SiteState) (s : SenderState) (a : Arrival) → IsFirstNumber o site s.first → SentBy o site a.number a.position a.dep a.txn → s.first ≤ a.number
 first_by site None s a first sent = absurd sent
 first_by site (Some y) s a first sent = let same : sent.count ≡ s.first = cc (sent.opened, first.0) in omega (arith, same, sent.number_is)
 
@@ -25,11 +25,11 @@ rising_by : (site : SiteName) (o : Option SiteState) (a b : Arrival) → a.posit
 rising_by site None a b up sent later = absurd sent
 rising_by site (Some y) a b up sent later = let same : sent.count ≡ later.count = cc (sent.opened, later.opened) in omega (arith, same, sent.number_is, later.number_is, up)
 
-first_at : (sites : List SiteState) (site origin : SiteName) (ss : List SenderState) (p : ℕ) (a : Arrival) → AllByRecursion (λ (s : SenderState). IsFirst (site_of s.origin sites) site s.first) ss
+first_at : (sites : List SiteState) (site origin : SiteName) (ss : List SenderState) (p : ℕ) (a : Arrival) → AllByRecursion (λ (s : SenderState). IsFirstNumber (site_of s.origin sites) site s.first) ss
     → SentBy (site_of origin sites) site a.number a.position a.dep a.txn → arrived_at origin p ss ≡ Some a → first_in (sender_of origin ss) ≤ a.number
 first_at sites site origin ss p a firsts sent there = go (sender_of origin ss) refl there
   where
-    go : (s : Option SenderState) → sender_of origin ss ≡ s → find_at (beside p) (arrived_in s) ≡ Some a → first_in s ≤ a.number
+    go : (s : Option SenderState) → sender_of origin ss ≡ s → find_at (arrival_beside p) (arrived_in s) ≡ Some a → first_in s ≤ a.number
     go None is found = absurd (cc found)
     go (Some s) is found = first_by site (site_of origin sites) s a (first_of_sender sites site origin ss s firsts is) sent
 

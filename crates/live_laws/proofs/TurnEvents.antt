@@ -7,7 +7,7 @@ use Rattle.site_state.specs.Passes.{site_apply}
 use Rattle.site_state.specs.Commits.{site_commit}
 use Rattle.deferred_queue.proofs.Sites.{is_same_site-refl}
 use Rattle.site_state.specs.Steps.{begun}
-use Rattle.event_laws.specs.Core.{Core, site_of, at_site}
+use Rattle.event_laws.specs.Cluster.{Cluster, site_of, at_site}
 use Rattle.event_laws.specs.Events.{Begin, applied_where, is_master_in, happens, run}
 use Rattle.event_laws.proofs.Sites.{at_same, at_twice}
 use Rattle.event_laws.proofs.Runs.{run-append}
@@ -23,7 +23,7 @@ committed_by_event : (block : Option Block) (x : SiteState) → site_commit (sta
 committed_by_event None x = refl
 committed_by_event (Some block) x = refl
 
-turn_is_event : (site : SiteName) (sessions : List Session) (turn : LiveTurn) (w : Core) → is_among w.begun site ≡ true
+turn_is_event : (site : SiteName) (sessions : List Session) (turn : LiveTurn) (w : Cluster) → is_among w.begun site ≡ true
     → happens (event_of site sessions turn) w ≡ record w { sites = at_site site (site_after_turn sessions turn) w.sites }
 turn_is_event site sessions (Applied origin position call error) w begun = go (is_among w.begun site) begun
   where

@@ -5,7 +5,7 @@ use Rattle.std.specs.Prelude.{◌≡◌, refl, ℕ, zero, suc, List, [], ◌∷�
 use Rattle.rep_values.specs.declared.name.SiteName.{SiteName}
 use Rattle.rep_schema.specs.declared.schema.Schema.{Schema}
 use Rattle.rep_schema.specs.Groups.{group_columns_of}
-use Rattle.rep_calls.specs.declared.past.Past.{Past}
+use Rattle.rep_calls.specs.declared.past.PastEntry.{PastEntry}
 use Rattle.site_state.specs.declared.arrival.Arrival.{Arrival}
 use Rattle.site_state.specs.State.{SiteState}
 use Rattle.site_state.proofs.WorkedSites.{a, b, c, master, additive, row, at_first, moved, of_calls}
@@ -18,7 +18,7 @@ use Rattle.live_laws.proofs.ReadyTurns.{nothing_ready_of}
 abbrev three : Schema
 three = additive (master a ∷ master b ∷ master c ∷ [])
 
-abbrev arrival : ℕ → ℕ → List Past → Arrival
+abbrev arrival : ℕ → ℕ → List PastEntry → Arrival
 arrival position number past = record { position = position; number = number; dep = 0; past = past; txn = of_calls (moved 0 1 10 11 ∷ []) }
 
 -- B's second position has a lower number than its first, and C's transaction had seen B's number 5

@@ -5,10 +5,10 @@ use Rattle.rep_schema.specs.declared.schema.Schema.{Schema}
 use Rattle.site_state.specs.declared.arrival.Arrival.{Arrival}
 use Rattle.site_state.specs.State.{SiteState, arrived_at, first_number}
 use Rattle.site_state.specs.Fits.{FinishedHaveArrived}
-use Rattle.event_laws.specs.Core.{Core, site_of}
+use Rattle.event_laws.specs.Cluster.{Cluster, site_of}
 use Rattle.event_laws.specs.Events.{Event, run}
 use Rattle.event_laws.specs.Starts.{IsStart}
-use Rattle.event_laws.specs.Waiting.{AreMeshed}
+use Rattle.event_laws.specs.Waiting.{SitesLinkAsDeclared}
 
 -- what is finished of a sender arrived, and the queue numbers of what arrived from it are at least its first number and don't
 -- fall where positions rise
@@ -19,5 +19,5 @@ pub record HasRisingNumbers (x : SiteState) : Type 0 where
 
 -- so it is at every site after every list of events, where sites are as the schema declares them
 abbrev pub EverySiteHasRisingNumbers : Type 0
-EverySiteHasRisingNumbers = (schema : Schema) (start : Core) (events : List Event) → IsStart schema start → AreMeshed schema start.sites
+EverySiteHasRisingNumbers = (schema : Schema) (start : Cluster) (events : List Event) → IsStart schema start → SitesLinkAsDeclared schema start.sites
     → (site : SiteName) (x : SiteState) → site_of site (run events start).sites ≡ Some x → HasRisingNumbers x

@@ -14,7 +14,7 @@ use Rattle.site_state.specs.Streams.{shares}
 use Rattle.site_state.specs.Steps.{begun, count_where}
 use Rattle.site_state.specs.Commits.{block_at}
 use Rattle.site_state.specs.Contents.{txn_of}
-use Rattle.event_laws.specs.Core.{Core, at_site}
+use Rattle.event_laws.specs.Cluster.{Cluster, at_site}
 use Rattle.event_laws.specs.Events.{Event, Commit, Apply, Begin, run}
 use Rattle.journal_order.specs.Waited.{IsWellNumbered}
 use Rattle.live_laws.specs.declared.turn.Reply.TheVariants as reply
@@ -47,8 +47,8 @@ EarlierIsAppliedFirst = (origins : List SiteName) (sessions : List Session) (bef
 -- ---- the journal
 
 -- what arrived at a position carries this transaction
-abbrev pub Carries : SiteName → ℕ → SiteState → Txn → Type 0
-Carries origin position x txn = (a : Arrival) × ((arrived_at origin position x.senders ≡ Some a) × (a.txn ≡ txn))
+abbrev pub ArrivalCarries : SiteName → ℕ → SiteState → Txn → Type 0
+ArrivalCarries origin position x txn = (a : Arrival) × ((arrived_at origin position x.senders ≡ Some a) × (a.txn ≡ txn))
 
 -- a transaction is that of what a block changes at a site
 pub record IsOfBlock (sessions : List Session) (session block : ℕ) (x : SiteState) (txn : Txn) : Type 0 where
@@ -60,8 +60,8 @@ pub record IsOfBlock (sessions : List Session) (session block : ℕ) (x : SiteSt
 
 -- the entries that a turn adds to the journal of a site: one, or none where nothing is queued
 abbrev pub AreEntriesOf : List Session → LiveTurn → SiteState → List Entry → Type 0
-AreEntriesOf sessions (Applied origin position call None) x entries = (txn : Txn) × (Carries origin position x txn × (entries ≡ Done origin position 0 txn ∷ []))
-AreEntriesOf sessions (Applied origin position call (Some error)) x entries = (txn : Txn) × (Carries origin position x txn × (entries ≡ Error origin position call error txn ∷ []))
+AreEntriesOf sessions (Applied origin position call None) x entries = (txn : Txn) × (ArrivalCarries origin position x txn × (entries ≡ Done origin position 0 txn ∷ []))
+AreEntriesOf sessions (Applied origin position call (Some error)) x entries = (txn : Txn) × (ArrivalCarries origin position x txn × (entries ≡ Error origin position call error txn ∷ []))
 AreEntriesOf sessions (Committed session block (reply.Commit number)) x entries = (txn : Txn) × (IsOfBlock sessions session block x txn × (entries ≡ Local number txn ∷ []))
 AreEntriesOf sessions (Committed session block reply.Nothing) x entries = entries ≡ []
 AreEntriesOf sessions (Committed session block (reply.Refused line refusal)) x entries = entries ≡ []
@@ -99,10 +99,10 @@ events_of site sessions (turn ∷ turns) = events_of site sessions turns ++ even
 
 -- at a site at which a pass was begun turns are events, which change that site alone
 abbrev pub TurnsAreEvents : Type 0
-TurnsAreEvents = (site : SiteName) (sessions : List Session) (turns : List LiveTurn) (w : Core) → is_among w.begun site ≡ true
+TurnsAreEvents = (site : SiteName) (sessions : List Session) (turns : List LiveTurn) (w : Cluster) → is_among w.begun site ≡ true
     → run (events_of site sessions turns) w ≡ record w { sites = at_site site (site_after sessions turns) w.sites }
 
 -- so is a live part at any site: a pass begins, and the turns follow
 abbrev pub LivePartsAreEvents : Type 0
-LivePartsAreEvents = (site : SiteName) (sessions : List Session) (turns : List LiveTurn) (w : Core)
+LivePartsAreEvents = (site : SiteName) (sessions : List Session) (turns : List LiveTurn) (w : Cluster)
     → run (events_of site sessions turns ++ Begin site ∷ []) w ≡ record w { sites = at_site site (λ x. site_after sessions turns (begun x)) w.sites; begun = site ∷ w.begun }

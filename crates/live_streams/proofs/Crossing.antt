@@ -24,7 +24,7 @@ use Rattle.rep_calls.specs.contracts.statement.Set as set
 use Rattle.rep_calls.specs.contracts.statement.Statement as statement
 use Rattle.rep_calls.specs.contracts.call.Part as part
 use Rattle.rep_calls.specs.contracts.call.Call as call
-use Rattle.rep_calls.specs.contracts.past.Past as past
+use Rattle.rep_calls.specs.contracts.past.PastEntry as past
 use Rattle.rep_values.specs.contracts.name.SiteName as site_name
 use Rattle.rep_values.specs.contracts.refusal.ApplyError as apply_error
 use Rattle.site_state.specs.contracts.entry.Entry as entry

@@ -13,7 +13,7 @@ use Rattle.site_state.specs.State.{SiteState, is_among, arrivals}
 use Rattle.site_state.specs.Ready.{is_ready, first_ready, first_ready_in}
 use Rattle.live_laws.specs.Turns.{NothingReadyOf}
 use Rattle.live_laws.proofs.ReadyTurns.{nothing_ready_of}
-use Rattle.live_streams.specs.Quiet.{IsQuiet, IsQuietAt, AreQuietBefore}
+use Rattle.live_streams.specs.Quiet.{OriginIsQuiet, IsQuietAt, AreQuietBefore}
 
 module _ (origin : SiteName) (x : SiteState) where
   none_above : (arrived : List Arrival) → AllByRecursion (λ (a : Arrival). 1 ≤ a.position) arrived → first_ready_in origin 0 x arrived ≡ None → list_any (λ (a : Arrival). is_ready origin a.position x) arrived ≡ false
@@ -43,7 +43,7 @@ module _ (origin : SiteName) (x : SiteState) where
   ready_where_some (Some position) is = ready_above (arrivals origin x) position (sym is)
 
   -- where there is no least ready position, none is ready
-  pub quiet_where_none : AllByRecursion (λ (a : Arrival). 1 ≤ a.position) (arrivals origin x) → first_ready origin 0 x ≡ None → IsQuiet origin x
+  pub quiet_where_none : AllByRecursion (λ (a : Arrival). 1 ≤ a.position) (arrivals origin x) → first_ready origin 0 x ≡ None → OriginIsQuiet origin x
   quiet_where_none from_one none position =
       nothing_ready_of (origin ∷ []) x (rw (none_above (arrivals origin x) from_one none) refl) origin position (rw (is_same_site-refl origin) refl)
 

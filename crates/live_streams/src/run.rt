@@ -6,7 +6,7 @@ ghost use Rattle.live_streams.specs.Crews.{IsSamePart, IsPartlyRun};
 
 use crate::crew::LiveCrew;
 use crate::live::Live;
-use crate::rounds::settle;
+use crate::rounds::apply_until_quiet;
 use crate::shared::SharedCrew;
 use crate::threads::{Job, jobs_at, make_turns, works_of};
 use live_laws::Session;
@@ -56,7 +56,7 @@ fn ended<R: RowStore>(crew: LiveCrew<R>, alloc: Global) -> Result<Live<R>, (Site
     ensures err { IfErr result (λ stopped. IsPartlyRun crew.origins crew.sessions crew.opened stopped.0) }
 {
     let mut crew = crew;
-    let settled = settle(&mut crew, alloc);
+    let settled = apply_until_quiet(&mut crew, alloc);
     let had_each_block = crew.had_each_block();
     let live = crew.into_live();
     let Ok(()) = settled else {

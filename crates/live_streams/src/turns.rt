@@ -7,7 +7,7 @@ ghost use Rattle.site_state.specs.Commits.{site_commit, commit_answer};
 ghost use Rattle.live_laws.specs.declared.turn.Reply.TheVariants as reply;
 ghost use Rattle.live_laws.specs.Turns.{at_number, reply_by, applied_turn};
 ghost use Rattle.live_streams.specs.Newest.{turn_of};
-ghost use Rattle.live_streams.specs.Quiet.{IsQuiet};
+ghost use Rattle.live_streams.specs.Quiet.{OriginIsQuiet};
 
 use live_laws::{Block, LiveTurn, Reply};
 use local_txn::LocalStop;
@@ -64,7 +64,7 @@ fn newest_turn<R: RowStore>(site: &Site<R>) -> Option<LiveTurn>
 /// The least position of an origin that is ready.
 pub(crate) fn lowest_ready<R: RowStore>(site: &Site<R>, origin: &SiteName) -> Option<u64>
     ensures ready { IfSome result (λ position. is_ready origin.now position site.now ≡ true) }
-    ensures quiet { result ≡ None → IsQuiet origin.now site.now }
+    ensures quiet { result ≡ None → OriginIsQuiet origin.now site.now }
 {
     site.arrivals_are_from_one(origin);
     let lowest = site.lowest_ready(origin, 0);

@@ -12,10 +12,10 @@ use Rattle.rep_values.specs.declared.value.Value.TheVariants.{Num, Words}
 use Rattle.rep_values.specs.OrderLaws.{key_cmp_total}
 use Rattle.rep_schema.specs.declared.schema.Schema.{Schema}
 use Rattle.rep_schema.specs.declared.schema.Column.{Column}
-use Rattle.rep_schema.specs.Tables.{Cells, Rows, columns_of, constraint_columns_of, key_of, beside, row_cmp, find_row, put_row, take_row, picked, RowFits, IsUniqueRow, IsTable}
+use Rattle.rep_schema.specs.Tables.{Cells, Rows, columns_of, constraint_columns_of, key_of, row_beside, row_cmp, find_row, put_row, take_row, picked, RowFits, IsUniqueRow, IsTable}
 use Rattle.rep_schema.specs.Kinds.{is_filled, is_stamp, value_in_range, row_in_range}
-use Rattle.rep_schema.proofs.SameValues.{beside-own}
-use Rattle.rep_schema.proofs.KeptTables.{IsUniqueRow-take}
+use Rattle.rep_schema.proofs.SameValues.{row_beside-own}
+use Rattle.rep_schema.proofs.TableSteps.{IsUniqueRow-take}
 use Rattle.local_txn.specs.Filled.{Filling, filled_from, filled_row, everywhere}
 use Rattle.local_txn.specs.BaseRows.{IsNotFilled, FillsFreely}
 use Rattle.local_txn.proofs.KindRows.{length-are_of, RowFits-are_of, are_of-RowFits, are_of-filled_from, key_of-filled_from}
@@ -108,15 +108,15 @@ module _ (schema : Schema) (table : ℕ) (rows : Rows) (is : IsTable schema tabl
   abbrev key : Cells
   key = key_of columns row
 
-  own_place : beside columns key row ≡ Equal
-  own_place = beside-own columns key row refl
+  own_place : row_beside columns key row ≡ Equal
+  own_place = row_beside-own columns key row refl
 
-  greater : (other : Cells) → row_cmp columns row other ≡ Less → beside columns key other ≡ Greater
+  greater : (other : Cells) → row_cmp columns row other ≡ Less → row_beside columns key other ≡ Greater
   greater other less = key_cmp_total.antisymm (key_of columns other) key ∙ ap ordering_reverse less
 
   -- it is found under its key
   pub find_row-there : find_row columns key rows ≡ Some row
-  find_row-there = find_at-there (row_cmp columns) (beside columns key) row own_place (λ other less. less) greater rows place is.rising there
+  find_row-there = find_at-there (row_cmp columns) (row_beside columns key) row own_place (λ other less. less) greater rows place is.rising there
 
   -- it fits
   pub RowFits-there : RowFits columns row
@@ -144,5 +144,5 @@ module _ (schema : Schema) (table : ℕ) (rows : Rows) (is : IsTable schema tabl
 
     -- and put back it stands at its place
     pub put_row-filled : put_row columns filled (take_row columns key rows) ≡ set rows place filled
-    put_row-filled = subst (λ own. put_at (beside columns own) filled (take_row columns key rows) ≡ set rows place filled) (sym key_of-filled)
-        (put_at-taken (row_cmp columns) (beside columns key) row own_place (λ other less. less) greater filled rows place is.rising there)
+    put_row-filled = subst (λ own. put_at (row_beside columns own) filled (take_row columns key rows) ≡ set rows place filled) (sym key_of-filled)
+        (put_at-taken (row_cmp columns) (row_beside columns key) row own_place (λ other less. less) greater filled rows place is.rising there)

@@ -16,10 +16,10 @@ use Rattle.local_txn.specs.Filled.{written_columns}
 use Rattle.local_txn.specs.Statements.{row_at, row_steps}
 use Rattle.local_txn.specs.BaseRows.{base_row, base_steps}
 use Rattle.local_txn.specs.BaseSteps.{IsBaseRow}
-use Rattle.local_txn.specs.Running.{CanRun, IsKindly}
+use Rattle.local_txn.specs.Running.{CanRun, FitsButForRange}
 use Rattle.local_txn.proofs.KindRows.{are_of-row_written}
 use Rattle.local_txn.proofs.NewRows.{accepted_row, RowFits-accepted, IsUniqueRow-accepted}
-use Rattle.local_txn.proofs.StatementRows.{IsKindly-are_of}
+use Rattle.local_txn.proofs.StatementRows.{FitsButForRange-are_of}
 use Rattle.local_txn.proofs.StatementSteps.{length-literals_fit, IsRowLen-able}
 
 module _ (schema : Schema) (tables : List Rows) (table : ℕ) (values : List Literal) where
@@ -56,8 +56,8 @@ module _ (schema : Schema) (tables : List Rows) (table : ℕ) (values : List Lit
     pub IsRowLen-base : HasShape schema → AreTables schema tables → table < length schema.tables → IsRowLen (length columns)
     IsRowLen-base shape are below = IsRowLen-able schema tables table (CanRun-base shape are below)
 
-    pub IsKindly-base : IsKindly schema table row
-    IsKindly-base = IsKindly-are_of schema table row (are_of-row_written schema columns values fits)
+    pub IsKindly-base : FitsButForRange schema table row
+    IsKindly-base = FitsButForRange-are_of schema table row (are_of-row_written schema columns values fits)
 
     -- the key is there
     pub base_KeyTaken : is_some (row_at schema tables table (key_of columns row)) ≡ true → first_refusal (base_steps schema tables table values) ≡ Some refusal.KeyTaken

@@ -12,7 +12,7 @@ use Rattle.rep_schema.specs.Tables.{Cells, Rows, columns_of, rows_of, RowFits, I
 use Rattle.rep_schema.specs.Kinds.{row_in_range}
 use Rattle.rep_schema.specs.Checks.{failed_check}
 use Rattle.local_txn.specs.Statements.{unique_steps, check_step, row_steps}
-use Rattle.local_txn.specs.Running.{IsKindly}
+use Rattle.local_txn.specs.Running.{FitsButForRange}
 use Rattle.local_txn.proofs.FreeRows.{IsUniqueRow-free}
 
 first_refusal-append : (xs ys : List (Option Refusal)) → first_refusal (xs ++ ys) ≡ or_then (first_refusal xs) (first_refusal ys)
@@ -59,9 +59,9 @@ module _ (schema : Schema) (tables : List Rows) (table : ℕ) (row : Cells) wher
       unfailed (Some check) e = cc
 
   -- it fits
-  pub RowFits-accepted : IsKindly schema table row → IsAccepted → RowFits (columns_of schema table) row
+  pub RowFits-accepted : FitsButForRange schema table row → IsAccepted → RowFits (columns_of schema table) row
   RowFits-accepted kindly accepted = kindly.fits accepted.range
 
   -- and is unique
-  pub IsUniqueRow-accepted : IsTable schema table (rows_of tables table) → IsKindly schema table row → IsAccepted → IsUniqueRow schema table row (rows_of tables table)
+  pub IsUniqueRow-accepted : IsTable schema table (rows_of tables table) → FitsButForRange schema table row → IsAccepted → IsUniqueRow schema table row (rows_of tables table)
   IsUniqueRow-accepted is_table kindly accepted = IsUniqueRow-free schema tables table row is_table (RowFits-accepted kindly accepted) accepted.free

@@ -15,10 +15,10 @@ use Rattle.rep_schema.specs.declared.change.Change.{Change}
 use Rattle.rep_schema.specs.Shape.{HasShape}
 use Rattle.rep_schema.specs.Tables.{Cells, Rows, columns_of, key_of, rows_of, IsTable, AreTables}
 use Rattle.rep_schema.specs.Groups.{are_same}
-use Rattle.rep_schema.specs.Changes.{made_in}
+use Rattle.rep_schema.specs.Changes.{after_change_in}
 use Rattle.rep_schema.specs.Named.{is_table, table_place}
-use Rattle.rep_schema.specs.Putting.{is_unchanged, changes_between, made_all}
-use Rattle.rep_schema.proofs.KeptTables.{IsTable-put, IsTable-take, AreTables-set}
+use Rattle.rep_schema.specs.Putting.{is_unchanged, changes_between, after_changes}
+use Rattle.rep_schema.proofs.TableSteps.{IsTable-put, IsTable-take, AreTables-set}
 use Rattle.rep_schema.proofs.RowFit.{length-fits}
 use Rattle.rep_schema.proofs.ValuesAt.{are_same-Decides}
 use Rattle.rep_calls.specs.declared.statement.Statement.{Statement}
@@ -27,12 +27,12 @@ use Rattle.rep_calls.specs.declared.statement.Set.{Set}
 use Rattle.local_txn.specs.declared.local.Here.{Here}
 use Rattle.local_txn.specs.declared.local.Stamps.{Stamps}
 use Rattle.local_txn.specs.declared.local.LocalStop.{LocalStop}
-use Rattle.local_txn.specs.Held.{table_name, held_table}
+use Rattle.local_txn.specs.Held.{statement_table, held_table}
 use Rattle.local_txn.specs.Literals.{values_of}
 use Rattle.local_txn.specs.Sets.{sets_filled, row_with}
 use Rattle.local_txn.specs.Filled.{Filling, RowMade, everywhere, is_modified, bound_from, has_stamp_from, next_stamp, row_written}
-use Rattle.local_txn.specs.Statements.{Standing, row_at, insert_made, update_made, outcome_in, outcome_changes, steps_in, statement_refusal, statement_changes, standing_after}
-use Rattle.local_txn.specs.Locals.{BlockEffect, unless_refused, behind, statements_effect, beginning, local_effect, most_statements, stop_at}
+use Rattle.local_txn.specs.Statements.{BlockState, row_at, insert_made, update_made, outcome_in, outcome_changes, steps_in, statement_refusal, statement_changes, block_state_after}
+use Rattle.local_txn.specs.Locals.{BlockEffect, unless_refused, block_effect_behind, statements_effect, block_beginning, local_effect, most_statements, stop_at}
 use Rattle.local_txn.specs.Laws.{gives_stamp, StampsRise, GivesStamps}
 use Rattle.local_txn.proofs.FilledRows.{has_stamp_from-same, bound_from-same}
 use Rattle.local_txn.proofs.KindRows.{length-are_of, are_of-row_written}
@@ -69,7 +69,7 @@ above_last stamps bound = omega arith
 pub least_bound : (stamps : Stamps) (bound : ℕ) → bound ≤ next_stamp stamps bound
 least_bound stamps bound = omega arith
 
-module _ (schema : Schema) (here : Here) (shape : HasShape schema) (standing : Standing) (table : ℕ) (is_table : IsTable schema table (rows_of standing.tables table)) where
+module _ (schema : Schema) (here : Here) (shape : HasShape schema) (standing : BlockState) (table : ℕ) (is_table : IsTable schema table (rows_of standing.tables table)) where
   abbrev columns : List Column
   columns = columns_of schema table
 
@@ -141,20 +141,20 @@ module _ (schema : Schema) (here : Here) (shape : HasShape schema) (standing : S
   statement_rises (Delete name key) none = delete_rises (row_at schema standing.tables table (values_of key))
 
   -- the rows of its table stay a table
-  put_back : (row : Cells) → IsNew schema standing.tables table row → IsTable schema table (made_in columns None (Some row) (rows_of standing.tables table))
+  put_back : (row : Cells) → IsNew schema standing.tables table row → IsTable schema table (after_change_in columns None (Some row) (rows_of standing.tables table))
   put_back row new = IsTable-put schema table row (rows_of standing.tables table) (RowFits-accepted schema standing.tables table row new.kindly new.accepted)
       (IsUniqueRow-accepted schema standing.tables table row is_table new.kindly new.accepted) is_table
 
   module _ (are : AreTables schema standing.tables) where
-    keeps : (before after : Option Cells) → IsTable schema table (made_in columns before after (rows_of standing.tables table)) → AreTables schema (made_all schema (changes_between table before after) standing.tables)
+    keeps : (before after : Option Cells) → IsTable schema table (after_change_in columns before after (rows_of standing.tables table)) → AreTables schema (after_changes schema (changes_between table before after) standing.tables)
     keeps before after is = go (is_unchanged before after)
       where
-        go : (b : Bool) → AreTables schema (made_all schema (cond b [] (record { table = table; before = before; after = after } ∷ [])) standing.tables)
+        go : (b : Bool) → AreTables schema (after_changes schema (cond b [] (record { table = table; before = before; after = after } ∷ [])) standing.tables)
         go true = are
-        go false = AreTables-set schema standing.tables table (made_in columns before after (rows_of standing.tables table)) are is
+        go false = AreTables-set schema standing.tables table (after_change_in columns before after (rows_of standing.tables table)) are is
 
     pub statement_keeps : (statement : Statement) → first_refusal (steps_in schema here standing table statement) ≡ None
-        → AreTables schema (made_all schema (outcome_changes table (outcome_in schema here standing table statement)) standing.tables)
+        → AreTables schema (after_changes schema (outcome_changes table (outcome_in schema here standing table statement)) standing.tables)
     statement_keeps (Insert name values) none =
         let passes = insert_passes schema here standing table values none in
         let row = (insert_made schema here standing.stamps table values).row in
@@ -165,29 +165,29 @@ module _ (schema : Schema) (here : Here) (shape : HasShape schema) (standing : S
         rw passes.there (keeps (Some passes.before) (Some row) (put_back row (update_new schema here standing table is_table key sets passes)))
     statement_keeps (Delete name key) none = go (row_at schema standing.tables table (values_of key))
       where
-        go : (row : Option Cells) → AreTables schema (made_all schema (changes_between table row None) standing.tables)
+        go : (row : Option Cells) → AreTables schema (after_changes schema (changes_between table row None) standing.tables)
         go None = are
         go (Some row) = keeps (Some row) None (IsTable-take schema table (key_of columns row) (rows_of standing.tables table) is_table)
 
 module _ (schema : Schema) (here : Here) (shape : HasShape schema) where
   -- what a block does from where it stands
-  record Rises (standing : Standing) (effect : BlockEffect) : Type 0 where
+  record Rises (standing : BlockState) (effect : BlockEffect) : Type 0 where
     rise : StampsRise schema here.site standing.stamps.last effect.stamps.last effect.changes
     clock : effect.stamps.clock ≡ standing.stamps.clock
 
   -- one statement that isn't refused: its stamps rise, the clock stands still, and its tables are tables
-  record OneRises (standing : Standing) (statement : Statement) : Type 0 where
-    rise : StampsRise schema here.site standing.stamps.last (standing_after schema here standing statement).stamps.last (statement_changes schema here standing statement)
-    clock : (standing_after schema here standing statement).stamps.clock ≡ standing.stamps.clock
-    are : AreTables schema (standing_after schema here standing statement).tables
+  record OneRises (standing : BlockState) (statement : Statement) : Type 0 where
+    rise : StampsRise schema here.site standing.stamps.last (block_state_after schema here standing statement).stamps.last (statement_changes schema here standing statement)
+    clock : (block_state_after schema here standing statement).stamps.clock ≡ standing.stamps.clock
+    are : AreTables schema (block_state_after schema here standing statement).tables
 
-  one_rises : (standing : Standing) (statement : Statement) → AreTables schema standing.tables → statement_refusal schema here standing statement ≡ None → OneRises standing statement
+  one_rises : (standing : BlockState) (statement : Statement) → AreTables schema standing.tables → statement_refusal schema here standing statement ≡ None → OneRises standing statement
   one_rises standing statement are none = go (held_table schema here statement) refl
     where
       go : (place : Option ℕ) → held_table schema here statement ≡ place → OneRises standing statement
       go None gone = let refuses = rw gone at none in cc
       go (Some table) held =
-          let below : table < length schema.tables = place_within (is_table (table_name statement)) schema.tables table (place-held here (table_place schema (table_name statement)) table held) in
+          let below : table < length schema.tables = place_within (is_table (statement_table statement)) schema.tables table (place-held here (table_place schema (statement_table statement)) table held) in
           let steps = sym (refusal-held schema here standing statement table held) ∙ none in
           let is_table = are.each table below in
           let after = standing-held schema here standing statement table held in
@@ -198,19 +198,19 @@ module _ (schema : Schema) (here : Here) (shape : HasShape schema) where
             are = rw after (statement_keeps schema here shape standing table is_table are statement steps);
           }
 
-  statements_rise : (statements : List Statement) (number : ℕ) (standing : Standing) (effect : BlockEffect) → AreTables schema standing.tables
+  statements_rise : (statements : List Statement) (number : ℕ) (standing : BlockState) (effect : BlockEffect) → AreTables schema standing.tables
       → statements_effect schema here number statements standing ≡ Ok effect → Rises standing effect
   statements_rise [] number standing effect are gives =
       let is : record { changes = []; stamps = standing.stamps } ≡ effect = cc in
       subst (Rises standing) is (record { rise = refl; clock = refl })
   statements_rise (statement ∷ statements) number standing effect are gives =
-      go (statement_refusal schema here standing statement) refl (statements_effect schema here (number + 1) statements (standing_after schema here standing statement)) refl gives
-      (λ later are_later gives_later. statements_rise statements (number + 1) (standing_after schema here standing statement) later are_later gives_later)
+      go (statement_refusal schema here standing statement) refl (statements_effect schema here (number + 1) statements (block_state_after schema here standing statement)) refl gives
+      (λ later are_later gives_later. statements_rise statements (number + 1) (block_state_after schema here standing statement) later are_later gives_later)
     where
-      go : (refusal : Option Refusal) → statement_refusal schema here standing statement ≡ refusal → (rest : Result BlockEffect LocalStop) → statements_effect schema here (number + 1) statements (standing_after schema here standing statement) ≡ rest
-          → unless_refused refusal number (behind (statement_changes schema here standing statement) rest) ≡ Ok effect
-          → ((later : BlockEffect) → AreTables schema (standing_after schema here standing statement).tables → statements_effect schema here (number + 1) statements (standing_after schema here standing statement) ≡ Ok later
-          → Rises (standing_after schema here standing statement) later)
+      go : (refusal : Option Refusal) → statement_refusal schema here standing statement ≡ refusal → (rest : Result BlockEffect LocalStop) → statements_effect schema here (number + 1) statements (block_state_after schema here standing statement) ≡ rest
+          → unless_refused refusal number (block_effect_behind (statement_changes schema here standing statement) rest) ≡ Ok effect
+          → ((later : BlockEffect) → AreTables schema (block_state_after schema here standing statement).tables → statements_effect schema here (number + 1) statements (block_state_after schema here standing statement) ≡ Ok later
+          → Rises (block_state_after schema here standing statement) later)
           → Rises standing effect
       go (Some why) refuses rest is e rises = cc
       go None passes (Err stop) is e rises = cc
@@ -219,7 +219,7 @@ module _ (schema : Schema) (here : Here) (shape : HasShape schema) where
           let then = rises later one.are is in
           let same : record { changes = statement_changes schema here standing statement ++ later.changes; stamps = later.stamps } ≡ effect = cc in
           subst (Rises standing) same (record {
-            rise = StampsRise-append schema here.site standing.stamps.last (standing_after schema here standing statement).stamps.last later.stamps.last (statement_changes schema here standing statement) later.changes one.rise then.rise;
+            rise = StampsRise-append schema here.site standing.stamps.last (block_state_after schema here standing statement).stamps.last later.stamps.last (statement_changes schema here standing statement) later.changes one.rise then.rise;
             clock = then.clock ∙ one.clock;
           })
 
@@ -228,6 +228,6 @@ module _ (schema : Schema) (here : Here) (shape : HasShape schema) where
       → GivesStamps schema here.site stamps effect
   block_rises stamps statements tables effect are gives = go (nat_le (length statements) most_statements) gives
     where
-      go : (b : Bool) → cond b (statements_effect schema here 1 statements (beginning stamps tables)) (stop_at (most_statements + 1) (refusal.LimitReached limit.Statements)) ≡ Ok effect → GivesStamps schema here.site stamps effect
-      go true e = let rises = statements_rise statements 1 (beginning stamps tables) effect are e in record { rise = rises.rise; clock = rises.clock }
+      go : (b : Bool) → cond b (statements_effect schema here 1 statements (block_beginning stamps tables)) (stop_at (most_statements + 1) (refusal.LimitReached limit.Statements)) ≡ Ok effect → GivesStamps schema here.site stamps effect
+      go true e = let rises = statements_rise statements 1 (block_beginning stamps tables) effect are e in record { rise = rises.rise; clock = rises.clock }
       go false e = cc

@@ -13,8 +13,8 @@ use Rattle.rep_schema.specs.Tables.{columns_in, columns_of, constraints_in, plac
 use Rattle.rep_schema.specs.Kinds.{is_stamp, is_site_kind, is_filled, is_plain, is_key_at, has_kind}
 use Rattle.schema_rules.specs.KeyRules.{is_well_keyed}
 use Rattle.schema_rules.specs.ConstraintRules.{has_plain_columns}
-use Rattle.schema_rules.specs.Soundness.{IsSound}
-use Rattle.schema_rules.proofs.SoundRules.{IsSound-unbroken}
+use Rattle.schema_rules.specs.Soundness.{KeepsAllRules}
+use Rattle.schema_rules.proofs.SoundRules.{KeepsAllRules-unbroken}
 use Rattle.local_txn.specs.BaseRows.{IsNotFilled}
 use Rattle.local_txn.specs.Laws.{SoundSchemasFillFreely}
 
@@ -38,7 +38,7 @@ unfilled_where_key k key allowed is_key =
     let unstamped : not (is_stamp k) ≡ true = rw is_key at allowed in
     rw (is_key, not-true (is_stamp k) unstamped, and_right (is_site_kind k) false refl) refl
 
-keys_unfilled : (schema : Schema) → IsSound schema → (table place : ℕ) (column : Column) → slice_get (columns_of schema table) place ≡ Some column → column.key ≡ true → is_filled column ≡ false
+keys_unfilled : (schema : Schema) → KeepsAllRules schema → (table place : ℕ) (column : Column) → slice_get (columns_of schema table) place ≡ Some column → column.key ≡ true → is_filled column ≡ false
 keys_unfilled schema sound table place column there is_key = go (slice_get schema.tables table) refl there
   where
     go : (entry : Option TableEntry) → slice_get schema.tables table ≡ entry → slice_get (columns_in entry) place ≡ Some column → is_filled column ≡ false
@@ -56,7 +56,7 @@ plain_places columns (place ∷ places) all =
     let plain = (and_parts (not (is_key_at columns place)) (has_kind is_plain columns place) parts.0).1 in
     (λ column there. unfilled_where_plain column.kind column.key (rw there at plain), plain_places columns places parts.1)
 
-constraints_unfilled : (schema : Schema) → IsSound schema → (table constraint : ℕ) → AllByRecursion (IsNotFilled (columns_of schema table)) (constraint_columns_of schema table constraint)
+constraints_unfilled : (schema : Schema) → KeepsAllRules schema → (table constraint : ℕ) → AllByRecursion (IsNotFilled (columns_of schema table)) (constraint_columns_of schema table constraint)
 constraints_unfilled schema sound table constraint = go (slice_get schema.tables table) refl
   where
     plainly : TableEntry → Bool
@@ -75,5 +75,5 @@ constraints_unfilled schema sound table constraint = go (slice_get schema.tables
 -- so filling columns in moves no row
 pub FillsFreely-sound : SoundSchemasFillFreely
 FillsFreely-sound schema unbroken =
-    let sound = (IsSound-unbroken schema).1 unbroken in
+    let sound = (KeepsAllRules-unbroken schema).1 unbroken in
     record { keys = keys_unfilled schema sound; constraints = constraints_unfilled schema sound }

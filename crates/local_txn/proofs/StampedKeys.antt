@@ -17,7 +17,7 @@ use Rattle.local_txn.specs.declared.local.Here.{Here}
 use Rattle.local_txn.specs.Filled.{filled_from, everywhere, next_stamp, inserted}
 use Rattle.txn_effects.specs.Stamps.{first_outside, capped}
 use Rattle.local_txn.specs.Convergent.{is_convergent, barred, begins_with}
-use Rattle.local_txn.specs.Statements.{Standing, row_at, row_steps, new_row_steps}
+use Rattle.local_txn.specs.Statements.{BlockState, row_at, row_steps, new_row_steps}
 use Rattle.local_txn.specs.Running.{inserted_capped}
 use Rattle.local_txn.proofs.KindRows.{are_of-RowFits}
 use Rattle.local_txn.proofs.StampedRows.{outside, filling, row_in_range-capped, made_with-capped}
@@ -79,7 +79,7 @@ alike_keys text site chosen n (c ∷ cs) (v ∷ vs) a b above beyond = cells (ch
     cells false y rest = same_cell v c.key _ _ rest
 
 -- a row whose stamps aren't in range is refused for the same reason with the capped one
-module _ (schema : Schema) (here : Here) (standing : Standing) (table : ℕ) (is_table : IsTable schema table (rows_of standing.tables table)) (row : Cells) (long : length (columns_of schema table) ≡ length row) where
+module _ (schema : Schema) (here : Here) (standing : BlockState) (table : ℕ) (is_table : IsTable schema table (rows_of standing.tables table)) (row : Cells) (long : length (columns_of schema table) ≡ length row) where
   abbrev columns : List Column
   columns = columns_of schema table
 

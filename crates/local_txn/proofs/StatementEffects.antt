@@ -17,10 +17,10 @@ use Rattle.txn_effects.specs.Calls.{Effect, HasKeys, KeysStandAlone}
 use Rattle.txn_effects.specs.Laws.{IsApplied, IsChecked}
 use Rattle.txn_effects.proofs.TransactionEffects.{IsApplied-changes_between}
 use Rattle.local_txn.specs.declared.local.Here.{Here}
-use Rattle.local_txn.specs.Held.{table_name, held_of, holds, held_table}
+use Rattle.local_txn.specs.Held.{statement_table, held_of, holds, held_table}
 use Rattle.local_txn.specs.Literals.{values_of}
 use Rattle.local_txn.specs.Sets.{row_with}
-use Rattle.local_txn.specs.Statements.{Standing, Outcome, row_at, insert_made, update_made, outcome_in, outcome_changes, steps_in, standing_with, statement_refusal, statement_changes, standing_after}
+use Rattle.local_txn.specs.Statements.{BlockState, StatementOutcome, row_at, insert_made, update_made, outcome_in, outcome_changes, steps_in, block_state_with, statement_refusal, statement_changes, block_state_after}
 use Rattle.local_txn.specs.Running.{CanRun}
 use Rattle.local_txn.proofs.NewRows.{RowFits-accepted, IsUniqueRow-accepted}
 use Rattle.local_txn.proofs.StatementRows.{IsNew, update_filling, insert_passes, update_passes, sets_in_order, update_new, key_of-set}
@@ -34,7 +34,7 @@ pub record IsAllowed (schema : Schema) (table : ℕ) (tables : List Rows) (befor
   pub change : IsChange schema (record { table = table; before = before; after = after }) tables
   pub checked : IsChecked schema (record { table = table; before = before; after = after })
 
-module _ (schema : Schema) (here : Here) (standing : Standing) (table : ℕ) (able : CanRun schema standing.tables table) where
+module _ (schema : Schema) (here : Here) (standing : BlockState) (table : ℕ) (able : CanRun schema standing.tables table) where
   -- a new row takes the place of the one with its key
   IsAllowed-new : (row : Cells) (before : Option Cells) → IsNew schema standing.tables table row → before ≡ find_row (columns_of schema table) (key_of (columns_of schema table) row) (rows_of standing.tables table)
       → IsAllowed schema table standing.tables before (Some row)
@@ -71,7 +71,7 @@ module _ (schema : Schema) (here : Here) (standing : Standing) (table : ℕ) (ab
   pub IsApplied-statement : HasKeys schema → KeysStandAlone schema → (statement : Statement) → first_refusal (steps_in schema here standing table statement) ≡ None
       → IsApplied schema standing.tables (effect_with schema (outcome_changes table (outcome_in schema here standing table statement)))
   IsApplied-statement keys apart statement none =
-      let outcome : Outcome = outcome_in schema here standing table statement in
+      let outcome : StatementOutcome = outcome_in schema here standing table statement in
       let allowed = IsAllowed-statement apart statement none in
       IsApplied-changes_between schema here.site able.shape keys apart table outcome.before outcome.after standing.tables (first_numbers schema) able.are (AreCounters-first schema) allowed.change (λ differ. allowed.checked)
 
@@ -84,17 +84,17 @@ place-held here (Some n) table held = go (holds here n) held
     go true is = is
     go false is = cc
 
-module _ (schema : Schema) (here : Here) (standing : Standing) (statement : Statement) (table : ℕ) (held : held_table schema here statement ≡ Some table) where
+module _ (schema : Schema) (here : Here) (standing : BlockState) (statement : Statement) (table : ℕ) (held : held_table schema here statement ≡ Some table) where
   -- a statement's refusal and change are those on its table
   pub refusal-held : statement_refusal schema here standing statement ≡ first_refusal (steps_in schema here standing table statement)
   refusal-held = rw held refl
 
-  place : table_place schema (table_name statement) ≡ Some table
-  place = place-held here (table_place schema (table_name statement)) table held
+  place : table_place schema (statement_table statement) ≡ Some table
+  place = place-held here (table_place schema (statement_table statement)) table held
 
   pub changes-held : statement_changes schema here standing statement ≡ outcome_changes table (outcome_in schema here standing table statement)
   changes-held = rw place refl
 
-  pub standing-held : standing_after schema here standing statement
-      ≡ standing_with schema table (outcome_changes table (outcome_in schema here standing table statement)) (outcome_in schema here standing table statement).last standing
+  pub standing-held : block_state_after schema here standing statement
+      ≡ block_state_with schema table (outcome_changes table (outcome_in schema here standing table statement)) (outcome_in schema here standing table statement).last standing
   standing-held = rw place refl

@@ -17,37 +17,37 @@ use Rattle.local_txn.specs.Literals.{literals_fit, key_literals_fit, values_of}
 use Rattle.local_txn.specs.Sets.{names_columns, names_one_twice, sets_fit, sets_filled, row_with}
 use Rattle.local_txn.specs.Filled.{Filling, filled_from, everywhere, is_modified, bound_from, next_stamp, written_columns, row_written}
 use Rattle.local_txn.specs.Convergent.{barred, own_key_step, rule_step}
-use Rattle.local_txn.specs.Statements.{Standing, row_at, insert_made, update_made, row_steps, there, new_row_steps, insert_steps, changed_row_steps, update_steps}
-use Rattle.local_txn.specs.Running.{IsKindly}
+use Rattle.local_txn.specs.Statements.{BlockState, row_at, insert_made, update_made, row_steps, there, new_row_steps, insert_steps, changed_row_steps, update_steps}
+use Rattle.local_txn.specs.Running.{FitsButForRange}
 use Rattle.local_txn.proofs.KindRows.{are_of, length-are_of, RowFits-are_of, are_of-RowFits, are_of-row_written, are_of-filled_from, are_of-row_with, key_of-row_with, key_of-filled_from, takes}
 use Rattle.local_txn.proofs.ModifiedColumns.{is_modified-key}
 use Rattle.local_txn.proofs.NewRows.{IsAccepted, accepted_row}
 
 -- a row of its columns' kinds
-pub IsKindly-are_of : (schema : Schema) (table : ℕ) (row : Cells) → are_of (columns_of schema table) row ≡ true → IsKindly schema table row
-IsKindly-are_of schema table row are = record { long = length-are_of (columns_of schema table) row are; fits = λ range. RowFits-are_of (columns_of schema table) row are range }
+pub FitsButForRange-are_of : (schema : Schema) (table : ℕ) (row : Cells) → are_of (columns_of schema table) row ≡ true → FitsButForRange schema table row
+FitsButForRange-are_of schema table row are = record { long = length-are_of (columns_of schema table) row are; fits = λ range. RowFits-are_of (columns_of schema table) row are range }
 
 -- a row that literals write, filled in with anything
-pub IsKindly-written : (schema : Schema) (table : ℕ) (values : List Literal) (filling : Filling) (chosen : ℕ → Bool) → literals_fit schema (written_columns (columns_of schema table)) values ≡ true
-    → IsKindly schema table (filled_from filling chosen 0 (columns_of schema table) (row_written (columns_of schema table) (values_of values)))
-IsKindly-written schema table values filling chosen fit =
-    IsKindly-are_of schema table (filled_from filling chosen 0 (columns_of schema table) (row_written (columns_of schema table) (values_of values)))
+pub FitsButForRange-written : (schema : Schema) (table : ℕ) (values : List Literal) (filling : Filling) (chosen : ℕ → Bool) → literals_fit schema (written_columns (columns_of schema table)) values ≡ true
+    → FitsButForRange schema table (filled_from filling chosen 0 (columns_of schema table) (row_written (columns_of schema table) (values_of values)))
+FitsButForRange-written schema table values filling chosen fit =
+    FitsButForRange-are_of schema table (filled_from filling chosen 0 (columns_of schema table) (row_written (columns_of schema table) (values_of values)))
     (are_of-filled_from filling chosen 0 (columns_of schema table) (row_written (columns_of schema table) (values_of values)) (are_of-row_written schema (columns_of schema table) values fit))
 
 -- a row that sets change, filled in with anything
-pub IsKindly-set : (schema : Schema) (table : ℕ) (sets : List Set) (before : Cells) (filling : Filling) (chosen : ℕ → Bool) → sets_fit (columns_of schema table) sets ≡ true → RowFits (columns_of schema table) before
-    → IsKindly schema table (filled_from filling chosen 0 (columns_of schema table) (row_with sets (columns_of schema table) before))
-IsKindly-set schema table sets before filling chosen fit fits =
-    IsKindly-are_of schema table (filled_from filling chosen 0 (columns_of schema table) (row_with sets (columns_of schema table) before))
+pub FitsButForRange-set : (schema : Schema) (table : ℕ) (sets : List Set) (before : Cells) (filling : Filling) (chosen : ℕ → Bool) → sets_fit (columns_of schema table) sets ≡ true → RowFits (columns_of schema table) before
+    → FitsButForRange schema table (filled_from filling chosen 0 (columns_of schema table) (row_with sets (columns_of schema table) before))
+FitsButForRange-set schema table sets before filling chosen fit fits =
+    FitsButForRange-are_of schema table (filled_from filling chosen 0 (columns_of schema table) (row_with sets (columns_of schema table) before))
     (are_of-filled_from filling chosen 0 (columns_of schema table) (row_with sets (columns_of schema table) before)
     (are_of-row_with sets (columns_of schema table) before (and_parts (list_all (takes sets) (columns_of schema table)) (not (names_one_twice sets)) fit).0 (are_of-RowFits (columns_of schema table) before fits).0))
 
 -- a new row that may be put into a table
 pub record IsNew (schema : Schema) (tables : List Rows) (table : ℕ) (row : Cells) : Type 0 where
-  pub kindly : IsKindly schema table row
+  pub kindly : FitsButForRange schema table row
   pub accepted : IsAccepted schema tables table row
 
-module _ (schema : Schema) (here : Here) (standing : Standing) (table : ℕ) where
+module _ (schema : Schema) (here : Here) (standing : BlockState) (table : ℕ) where
   -- what an insert fills in
   abbrev pub insert_filling : Filling
   insert_filling = record { stamp = next_stamp standing.stamps 0; site = here.site }
@@ -76,7 +76,7 @@ module _ (schema : Schema) (here : Here) (standing : Standing) (table : ℕ) whe
       record {
         shape = shape;
         free = gone (row_at schema standing.tables table (key_of (columns_of schema table) row)) (refused-None _ refusal.KeyTaken taken.0);
-        new = record { kindly = IsKindly-written schema table values insert_filling everywhere shape; accepted = accepted_row schema standing.tables table row own.1 };
+        new = record { kindly = FitsButForRange-written schema table values insert_filling everywhere shape; accepted = accepted_row schema standing.tables table row own.1 };
       }
     where
       gone : (o : Option Cells) → is_some o ≡ false → o ≡ None
@@ -120,7 +120,7 @@ module _ (schema : Schema) (here : Here) (standing : Standing) (table : ℕ) whe
 
     -- and the row that takes its place may be put
     pub update_new : IsNew schema standing.tables table (update_made schema here standing.stamps table sets passes.before).row
-    update_new = record { kindly = IsKindly-set schema table sets passes.before (update_filling sets passes.before) (modified_by sets passes.before) sets_in_order before_fits; accepted = passes.accepted }
+    update_new = record { kindly = FitsButForRange-set schema table sets passes.before (update_filling sets passes.before) (modified_by sets passes.before) sets_in_order before_fits; accepted = passes.accepted }
 
 -- a row that sets change has the key that it had, whatever is filled in in its modified groups
 pub key_of-set : (schema : Schema) (table : ℕ) → KeysStandAlone schema → table < length schema.tables → (sets : List Set) (before after other : Cells) (filling : Filling) → sets_fit (columns_of schema table) sets ≡ true

@@ -17,14 +17,14 @@ use Rattle.rep_schema.specs.declared.schema.Column.{Column}
 use Rattle.rep_schema.specs.declared.change.Change.{Change}
 use Rattle.rep_schema.specs.Tables.{Cells, Rows, columns_of, key_of, key_count, key_columns, find_row, take_row, rows_of, RowFits, IsUniqueRow}
 use Rattle.rep_schema.specs.Kinds.{value_in_range, row_in_range, is_filled}
-use Rattle.rep_schema.specs.Changes.{row_like, made_in}
+use Rattle.rep_schema.specs.Changes.{row_like, after_change_in}
 use Rattle.rep_schema.specs.Putting.{changes_between}
 use Rattle.rep_schema.proofs.FoundRows.{found_row, key_of-found}
 use Rattle.rep_schema.proofs.RowFit.{length-fits}
 use Rattle.rep_schema.proofs.Shapes.{length-columns_of}
 use Rattle.rep_calls.specs.declared.statement.Set.{Set}
 use Rattle.txn_effects.specs.Calls.{KeysStandAlone}
-use Rattle.local_txn.specs.declared.footing.Footing.{Footing}
+use Rattle.local_txn.specs.declared.progress.BlockProgress.{BlockProgress}
 use Rattle.local_txn.specs.declared.local.Here.{Here}
 use Rattle.local_txn.specs.declared.stop.Stop.{Stop}
 use Rattle.local_txn.specs.declared.stop.Stop.TheVariants.{Refused, Memory}
@@ -34,8 +34,8 @@ use Rattle.local_txn.specs.ByColumn.{AreSets, names_refusal, takes_each, fills_s
 use Rattle.local_txn.specs.Filled.{Filling, RowMade, filled_from, value_filled, everywhere, is_modified, bound_from, next_stamp, made_with, written_columns, row_written}
 use Rattle.txn_effects.specs.Stamps.{capped}
 use Rattle.local_txn.specs.Convergent.{barred, own_key_step, rule_step}
-use Rattle.local_txn.specs.Statements.{Standing, row_at, insert_made, update_made, insert_in, update_in, delete_in, row_steps, there, new_row_steps, insert_steps, changed_row_steps, update_steps, delete_steps}
-use Rattle.local_txn.specs.Running.{CanRun, IsKindly, inserted_capped, change_steps, ChangesTo, order_steps, AreInOrder, standing_of, footing_after, RunsAs, StopsAs}
+use Rattle.local_txn.specs.Statements.{BlockState, row_at, insert_made, update_made, insert_in, update_in, delete_in, row_steps, there, new_row_steps, insert_steps, changed_row_steps, update_steps, delete_steps}
+use Rattle.local_txn.specs.Running.{CanRun, FitsButForRange, inserted_capped, change_steps, ChangesTo, order_steps, AreInOrder, block_state_of, progress_after, RunsAs, StatementStopsAs}
 use Rattle.local_txn.proofs.LiteralWalk.{length-row_written}
 use Rattle.local_txn.proofs.SetWalk.{row_by-sets, takes_each-sets}
 use Rattle.local_txn.proofs.NamedSets.{fills_some-sets}
@@ -44,7 +44,7 @@ use Rattle.local_txn.proofs.StampedRows.{row_in_range-capped, made_with-capped}
 use Rattle.local_txn.proofs.StampedKeys.{new_row_steps-inserted}
 use Rattle.local_txn.proofs.NewRows.{row_steps-out, IsAccepted, accepted_row, RowFits-accepted, IsUniqueRow-accepted}
 use Rattle.local_txn.proofs.ModifiedRows.{length-row_with}
-use Rattle.local_txn.proofs.StatementRows.{IsKindly-written, IsKindly-set, key_of-set}
+use Rattle.local_txn.proofs.StatementRows.{FitsButForRange-written, FitsButForRange-set, key_of-set}
 
 or_then-last : (o : Option Refusal) → or_then o None ≡ o
 or_then-last None = refl
@@ -92,7 +92,7 @@ key_count-length (c ∷ cs) = go c.key (key_count-length cs)
     go false rest = omega (arith, rest)
 
 -- taking a row away by a key takes the row that has it
-pub made_in-found : (columns : List Column) (key before : Cells) (rows : Rows) → find_row columns key rows ≡ Some before → made_in columns (Some before) None rows ≡ take_row columns key rows
+pub made_in-found : (columns : List Column) (key before : Cells) (rows : Rows) → find_row columns key rows ≡ Some before → after_change_in columns (Some before) None rows ≡ take_row columns key rows
 made_in-found columns key before rows there = ap (λ k. take_row columns k rows) (key_of-found columns key before rows there)
 
 -- a table with a key has columns, and not too many
@@ -204,7 +204,7 @@ module _ (schema : Schema) (table : ℕ) (key : List Literal) (sets : List Set) 
       AreInOrder-found unfilled = record { are = are; fits = rw takes_are fits; unfilled = fills_are ∙ unfilled }
 
 -- such a step refuses the update
-pub update_order : (schema : Schema) (here : Here) (standing : Standing) (table : ℕ) (key : List Literal) (sets : List Set) (why : Refusal) → first_refusal (order_steps schema table key sets) ≡ Some why
+pub update_order : (schema : Schema) (here : Here) (standing : BlockState) (table : ℕ) (key : List Literal) (sets : List Set) (why : Refusal) → first_refusal (order_steps schema table key sets) ≡ Some why
     → first_refusal (update_steps schema here standing table key sets) ≡ Some why
 update_order schema here standing table key sets why refuses =
     go (refused (not (names_columns (columns_of schema table) sets)) refusal.UnknownName) (refused (not (key_literals_fit schema (columns_of schema table) key && sets_fit (columns_of schema table) sets)) refusal.RowShape)
@@ -217,12 +217,12 @@ update_order schema here standing table key sets why refuses =
     go None None (Some z) e = e
     go None None None e = cc
 
-module _ (schema : Schema) (footing : Footing) (tables : List Rows) (table : ℕ) (able : CanRun schema tables table) where
+module _ (schema : Schema) (footing : BlockProgress) (tables : List Rows) (table : ℕ) (able : CanRun schema tables table) where
   abbrev columns : List Column
   columns = columns_of schema table
 
-  abbrev standing : Standing
-  standing = standing_of footing tables
+  abbrev standing : BlockState
+  standing = block_state_of footing tables
 
   -- an insert whose literals fit
   module _ (values : List Literal) (shape : literals_fit schema (written_columns columns) values ≡ true) where
@@ -235,8 +235,8 @@ module _ (schema : Schema) (footing : Footing) (tables : List Rows) (table : ℕ
     pub length-written : length columns ≡ length written
     length-written = sym (length-row_written columns values (length-literals_fit schema (written_columns columns) values shape))
 
-    pub IsKindly-inserted : IsKindly schema table made_new.row
-    IsKindly-inserted = IsKindly-written schema table values (record { stamp = capped (next_stamp footing.stamps 0); site = footing.here.site }) everywhere shape
+    pub IsKindly-inserted : FitsButForRange schema table made_new.row
+    IsKindly-inserted = FitsButForRange-written schema table values (record { stamp = capped (next_stamp footing.stamps 0); site = footing.here.site }) everywhere shape
 
     -- its new row is refused as it is
     pub insert_refusal : first_refusal (new_row_steps schema footing.here standing table made_new.row) ≡ first_refusal (insert_steps schema footing.here standing table values)
@@ -261,11 +261,11 @@ module _ (schema : Schema) (footing : Footing) (tables : List Rows) (table : ℕ
       same = made_with-capped columns footing.here.site footing.stamps.last everywhere (next_stamp footing.stamps 0) written length-written parts.1.range
 
       pub RunsAs-inserted : (change : Change) → change ≡ record { table = table; before = row_like columns made_new.row (rows_of tables table); after = Some made_new.row }
-          → RunsAs schema table (first_refusal (insert_steps schema footing.here standing table values)) (insert_in schema footing.here standing table values) (change ∷ []) footing (footing_after schema table made_new.last footing)
+          → RunsAs schema table (first_refusal (insert_steps schema footing.here standing table values)) (insert_in schema footing.here standing table values) (change ∷ []) footing (progress_after schema table made_new.last footing)
       RunsAs-inserted change is = record {
         accepted = sym insert_refusal ∙ none;
         changes = subst (λ (made : RowMade). change ∷ [] ≡ changes_between table (row_at schema tables table (key_of columns made.row)) (Some made.row)) same (rw parts.0 (ap (λ c. c ∷ []) (is ∙ rw parts.0 refl)));
-        footing = ap (λ (made : RowMade). footing_after schema table made.last footing) same;
+        footing = ap (λ (made : RowMade). progress_after schema table made.last footing) same;
       }
 
   -- an update whose key and sets are in order
@@ -299,8 +299,8 @@ module _ (schema : Schema) (footing : Footing) (tables : List Rows) (table : ℕ
       update_changed = update_there ∙ rw is_there refl
 
       -- a step up to the ranges of what is set refuses
-      pub update_refused : (stop : Stop) → StopsAs (first_refusal (change_steps schema footing.side table before (row_by found before))) stop
-          → StopsAs (first_refusal (update_steps schema footing.here standing table key sets)) stop
+      pub update_refused : (stop : Stop) → StatementStopsAs (first_refusal (change_steps schema footing.side table before (row_by found before))) stop
+          → StatementStopsAs (first_refusal (update_steps schema footing.here standing table key sets)) stop
       update_refused Memory free = tt
       update_refused (Refused why) refuses =
           update_changed ∙ go (barred schema footing.side table false) (rule_step schema table before (row_with sets columns before)) (row_in_range (row_with sets columns before)) refl (rw by_sets at refuses)
@@ -339,8 +339,8 @@ module _ (schema : Schema) (footing : Footing) (tables : List Rows) (table : ℕ
         is_made : made ≡ made_with columns footing.here.site footing.stamps.last modified (capped stamp) (row_with sets columns before)
         is_made = rw by_sets at change_to.gives
 
-        pub IsKindly-made : IsKindly schema table made.row
-        IsKindly-made = rw is_made (IsKindly-set schema table sets before (record { stamp = capped stamp; site = footing.here.site }) modified
+        pub IsKindly-made : FitsButForRange schema table made.row
+        IsKindly-made = rw is_made (FitsButForRange-set schema table sets before (record { stamp = capped stamp; site = footing.here.site }) modified
             (and_parts (key_literals_fit schema columns key) (sets_fit columns sets) order.fits).1 before_fits)
 
         update_row_steps : first_refusal (update_steps schema footing.here standing table key sets) ≡ first_refusal (row_steps schema tables table made.row)
@@ -373,11 +373,11 @@ module _ (schema : Schema) (footing : Footing) (tables : List Rows) (table : ℕ
           same_made = is_made ∙ made_with-capped columns footing.here.site footing.stamps.last modified stamp (row_with sets columns before) long (rw is_made at accepted.range)
 
           pub RunsAs-updated : (changes : List Change) → changes ≡ changes_between table (Some before) (Some made.row)
-              → RunsAs schema table (first_refusal (update_steps schema footing.here standing table key sets)) (update_in schema footing.here standing table key sets) changes footing (footing_after schema table made.last footing)
+              → RunsAs schema table (first_refusal (update_steps schema footing.here standing table key sets)) (update_in schema footing.here standing table key sets) changes footing (progress_after schema table made.last footing)
           RunsAs-updated changes are = record {
             accepted = update_row_steps ∙ none;
             changes = rw is_there (subst (λ (one : RowMade). changes ≡ changes_between table (Some before) (Some one.row)) same_made are);
-            footing = rw is_there (ap (λ (one : RowMade). footing_after schema table one.last footing) same_made);
+            footing = rw is_there (ap (λ (one : RowMade). progress_after schema table one.last footing) same_made);
           }
 
   -- a delete whose key fits
@@ -390,7 +390,7 @@ module _ (schema : Schema) (footing : Footing) (tables : List Rows) (table : ℕ
       delete_refusal = rw (fits, is_there) (or_then-last (barred schema footing.side table true))
 
       pub RunsAs-deleted : barred schema footing.side table true ≡ None → (change : Change) → change ≡ record { table = table; before = Some row; after = None }
-          → RunsAs schema table (first_refusal (delete_steps schema standing table key)) (delete_in schema standing table key) (change ∷ []) footing (footing_after schema table footing.stamps.last footing)
+          → RunsAs schema table (first_refusal (delete_steps schema standing table key)) (delete_in schema standing table key) (change ∷ []) footing (progress_after schema table footing.stamps.last footing)
       RunsAs-deleted none change is = record {
         accepted = delete_refusal ∙ none;
         changes = rw is_there (ap (λ c. c ∷ []) is);

@@ -12,7 +12,7 @@ use Rattle.rep_schema.specs.Tables.{Cells, Rows, columns_of, constraint_columns_
 use Rattle.rep_schema.specs.Kinds.{is_filled}
 use Rattle.rep_schema.specs.Fitting.{is_keyed}
 use Rattle.rep_schema.specs.Named.{table_place}
-use Rattle.rep_schema.specs.Putting.{made_all}
+use Rattle.rep_schema.specs.Putting.{after_changes}
 use Rattle.std.specs.List.{AllByRecursion}
 use Rattle.local_txn.specs.Literals.{literals_fit, values_of}
 use Rattle.local_txn.specs.Filled.{Filling, filled_row, written_columns, row_written}
@@ -35,7 +35,7 @@ base_refusal schema tables name values = first_refusal (known (table_place schem
 
 abbrev pub tables_with : Schema → List Rows → Option ℕ → List Literal → List Rows
 tables_with schema tables None values = tables
-tables_with schema tables (Some table) values = made_all schema (record { table = table; before = None; after = Some (base_row schema table values) } ∷ []) tables
+tables_with schema tables (Some table) values = after_changes schema (record { table = table; before = None; after = Some (base_row schema table values) } ∷ []) tables
 
 -- the tables with one more row
 abbrev pub tables_with_row : Schema → List Rows → TableName → List Literal → List Rows

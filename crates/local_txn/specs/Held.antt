@@ -9,10 +9,10 @@ use Rattle.rep_schema.specs.Sites.{has_table}
 use Rattle.local_txn.specs.declared.local.Here.{Here}
 
 -- the name of the table that a statement is about
-abbrev pub table_name : Statement → TableName
-table_name (Insert table values) = table
-table_name (Update table key sets) = table
-table_name (Delete table key) = table
+abbrev pub statement_table : Statement → TableName
+statement_table (Insert table values) = table
+statement_table (Update table key sets) = table
+statement_table (Delete table key) = table
 
 -- a site holds the table of a number
 abbrev pub holds : Here → ℕ → Bool
@@ -24,4 +24,4 @@ held_of here (Some table) = cond (holds here table) (Some table) None
 
 -- the number of the table that a statement names, where it is known and held here
 abbrev pub held_table : Schema → Here → Statement → Option ℕ
-held_table schema here statement = held_of here (table_place schema (table_name statement))
+held_table schema here statement = held_of here (table_place schema (statement_table statement))

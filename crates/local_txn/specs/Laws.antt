@@ -39,13 +39,13 @@ CarriesIn schema filling table (Some before) (Some after) = ((place : ℕ) → i
     × (bound_from (is_modified schema table before after) 0 (columns_of schema table) before ≤ filling.stamp)
 
 -- all that a change fills in is the stamp and the site's name, and the stamp is above those that were there
-abbrev pub Carries : Schema → Filling → Change → Type 0
-Carries schema filling change = CarriesIn schema filling change.table change.before change.after
+abbrev pub CarriesStamp : Schema → Filling → Change → Type 0
+CarriesStamp schema filling change = CarriesIn schema filling change.table change.before change.after
 
 -- the stamps of changes rise, from above one number to another: each change that fills a STAMP column in has a stamp of its own
 abbrev pub StampsRise : Schema → SiteName → ℕ → ℕ → List Change → Type 0
 StampsRise schema site low high [] = low ≡ high
-StampsRise schema site low high (change ∷ changes) = (stamp : ℕ) × Carries schema (record { stamp = stamp; site = site }) change
+StampsRise schema site low high (change ∷ changes) = (stamp : ℕ) × CarriesStamp schema (record { stamp = stamp; site = site }) change
     × MatchBool (gives_stamp schema change) ((low < stamp) × StampsRise schema site stamp high changes) (StampsRise schema site low high changes)
 
 -- the stamps of a block rise from the site's last one to the one that is its last afterwards, and the clock stands still

@@ -10,7 +10,7 @@ use Rattle.rep_calls.specs.declared.statement.Statement.{Statement}
 use Rattle.local_txn.specs.declared.local.Here.{Here}
 use Rattle.local_txn.specs.declared.local.Stamps.{Stamps}
 use Rattle.local_txn.specs.declared.local.LocalStop.{LocalStop}
-use Rattle.local_txn.specs.Statements.{Standing, statement_refusal, statement_changes, standing_after}
+use Rattle.local_txn.specs.Statements.{BlockState, statement_refusal, statement_changes, block_state_after}
 
 -- a block has at most so many statements
 abbrev pub most_statements : ℕ
@@ -30,24 +30,24 @@ unless_refused None number following = following
 unless_refused (Some why) number following = stop_at number why
 
 -- earlier changes before the later ones
-abbrev pub behind : List Change → Result BlockEffect LocalStop → Result BlockEffect LocalStop
-behind changes (Ok later) = Ok (record { changes = changes ++ later.changes; stamps = later.stamps })
-behind changes (Err stop) = Err stop
+abbrev pub block_effect_behind : List Change → Result BlockEffect LocalStop → Result BlockEffect LocalStop
+block_effect_behind changes (Ok later) = Ok (record { changes = changes ++ later.changes; stamps = later.stamps })
+block_effect_behind changes (Err stop) = Err stop
 
 -- what statements do one after the other, the first of them having a number, from where the block stands
-abbrev pub statements_effect : Schema → Here → ℕ → List Statement → Standing → Result BlockEffect LocalStop
+abbrev pub statements_effect : Schema → Here → ℕ → List Statement → BlockState → Result BlockEffect LocalStop
 statements_effect schema here number [] standing = Ok (record { changes = []; stamps = standing.stamps })
 statements_effect schema here number (statement ∷ statements) standing = unless_refused (statement_refusal schema here standing statement) number
-    (behind (statement_changes schema here standing statement)
-    (statements_effect schema here (number + 1) statements (standing_after schema here standing statement)))
+    (block_effect_behind (statement_changes schema here standing statement)
+    (statements_effect schema here (number + 1) statements (block_state_after schema here standing statement)))
 
 -- where a block begins
-abbrev pub beginning : Stamps → List Rows → Standing
-beginning stamps tables = record { tables = tables; stamps = stamps; side = None }
+abbrev pub block_beginning : Stamps → List Rows → BlockState
+block_beginning stamps tables = record { tables = tables; stamps = stamps; side = None }
 
 -- what a block does at a site; else the first statement that is refused, and why. where there are too many statements, the
 -- first that is too many
 abbrev pub local_effect : Schema → Here → Stamps → List Statement → List Rows → Result BlockEffect LocalStop
 local_effect schema here stamps statements tables = cond (nat_le (length statements) most_statements)
-    (statements_effect schema here 1 statements (beginning stamps tables))
+    (statements_effect schema here 1 statements (block_beginning stamps tables))
     (stop_at (most_statements + 1) (refusal.LimitReached limit.Statements))

@@ -14,7 +14,7 @@ use Rattle.rep_schema.specs.Kinds.{row_in_range}
 use Rattle.local_txn.specs.declared.stop.Stop.{Stop}
 use Rattle.local_txn.specs.declared.stop.Stop.TheVariants.{Refused, Memory}
 use Rattle.local_txn.specs.declared.local.LocalStop.{LocalStop}
-use Rattle.local_txn.specs.declared.footing.Footing.{Footing}
+use Rattle.local_txn.specs.declared.progress.BlockProgress.{BlockProgress}
 use Rattle.rep_calls.specs.declared.statement.Set.{Set}
 use Rattle.rep_calls.specs.declared.statement.Statement.{Statement}
 use Rattle.local_txn.specs.declared.local.Stamps.{Stamps}
@@ -25,7 +25,7 @@ use Rattle.local_txn.specs.ByColumn.{AreSets}
 use Rattle.local_txn.specs.Filled.{RowMade, everywhere, is_modified, bound_from, next_stamp, made_with}
 use Rattle.txn_effects.specs.Stamps.{capped}
 use Rattle.local_txn.specs.Convergent.{side_of, barred, rule_step}
-use Rattle.local_txn.specs.Statements.{Standing, Outcome, outcome_changes, statement_refusal, statement_changes, standing_after}
+use Rattle.local_txn.specs.Statements.{BlockState, StatementOutcome, outcome_changes, statement_refusal, statement_changes, block_state_after}
 use Rattle.local_txn.specs.Locals.{BlockEffect}
 
 -- rows can be put into a table of a schema
@@ -36,7 +36,7 @@ pub record CanRun (schema : Schema) (tables : List Rows) (table : ℕ) : Type 0 
   pub of_table : table < length schema.tables
 
 -- a row that fits a table where its numbers are in range
-pub record IsKindly (schema : Schema) (table : ℕ) (row : Cells) : Type 0 where
+pub record FitsButForRange (schema : Schema) (table : ℕ) (row : Cells) : Type 0 where
   pub long : length (columns_of schema table) ≡ length row
   pub fits : row_in_range row ≡ true → RowFits (columns_of schema table) row
 
@@ -55,7 +55,7 @@ change_steps schema side table before row =
     barred schema side table false ∷ rule_step schema table before row ∷ refused (not (row_in_range row)) refusal.ValueRange ∷ []
 
 -- none of them refuses, and the row with the modified groups filled in is this one
-pub record ChangesTo (schema : Schema) (footing : Footing) (table : ℕ) (before row : Cells) (made : RowMade) : Type 0 where
+pub record ChangesTo (schema : Schema) (footing : BlockProgress) (table : ℕ) (before row : Cells) (made : RowMade) : Type 0 where
   pub accepted : first_refusal (change_steps schema footing.side table before row) ≡ None
   pub gives : made ≡ updated_capped schema table footing.here.site footing.stamps before row
 
@@ -73,44 +73,44 @@ order_steps schema table key sets =
     refused (sets_filled (columns_of schema table) sets) refusal.FilledBySite ∷ []
 
 -- where a block stands, with the tables
-abbrev pub standing_of : Footing → List Rows → Standing
-standing_of footing tables = record { tables = tables; stamps = footing.stamps; side = footing.side }
+abbrev pub block_state_of : BlockProgress → List Rows → BlockState
+block_state_of footing tables = record { tables = tables; stamps = footing.stamps; side = footing.side }
 
 -- where it stands behind a statement on a table that leaves this last stamp
-abbrev pub footing_after : Schema → ℕ → ℕ → Footing → Footing
-footing_after schema table last footing = record {
+abbrev pub progress_after : Schema → ℕ → ℕ → BlockProgress → BlockProgress
+progress_after schema table last footing = record {
   here = footing.here;
   stamps = record { clock = footing.stamps.clock; last = last };
   side = Some (side_of schema table);
 }
 
 -- nothing refuses, these are the changes, and the block stands behind the statement
-pub record RunsAs (schema : Schema) (table : ℕ) (refused : Option Refusal) (outcome : Outcome) (made : List Change) (old new : Footing) : Type 0 where
+pub record RunsAs (schema : Schema) (table : ℕ) (refused : Option Refusal) (outcome : StatementOutcome) (made : List Change) (old new : BlockProgress) : Type 0 where
   pub accepted : refused ≡ None
   pub changes : made ≡ outcome_changes table outcome
-  pub footing : new ≡ footing_after schema table outcome.last old
+  pub footing : new ≡ progress_after schema table outcome.last old
 
 -- nothing refuses a statement of a block, these are its changes, and the block stands behind it
-pub record GoesOn (schema : Schema) (statement : Statement) (tables later : List Rows) (made : List Change) (old new : Footing) : Type 0 where
-  pub accepted : statement_refusal schema old.here (standing_of old tables) statement ≡ None
-  pub changes : made ≡ statement_changes schema old.here (standing_of old tables) statement
+pub record StatementGoesOn (schema : Schema) (statement : Statement) (tables later : List Rows) (made : List Change) (old new : BlockProgress) : Type 0 where
+  pub accepted : statement_refusal schema old.here (block_state_of old tables) statement ≡ None
+  pub changes : made ≡ statement_changes schema old.here (block_state_of old tables) statement
   pub here : new.here ≡ old.here
-  pub standing : standing_of new later ≡ standing_after schema old.here (standing_of old tables) statement
+  pub standing : block_state_of new later ≡ block_state_after schema old.here (block_state_of old tables) statement
 
 -- with the refusal that there is; want of memory needs no cause
-abbrev pub StopsAs : Option Refusal → Stop → Type 0
-StopsAs refused (Refused why) = refused ≡ Some why
-StopsAs refused Memory = Unit {0}
+abbrev pub StatementStopsAs : Option Refusal → Stop → Type 0
+StatementStopsAs refused (Refused why) = refused ≡ Some why
+StatementStopsAs refused Memory = Unit {0}
 
 -- the refusal that this is answered as
-abbrev pub refusal_of : Stop → Refusal
-refusal_of (Refused why) = why
-refusal_of Memory = refusal.Memory
+abbrev pub stop_refusal : Stop → Refusal
+stop_refusal (Refused why) = why
+stop_refusal Memory = refusal.Memory
 
 -- why the block stops at this statement
-abbrev pub stop_of : ℕ → Stop → LocalStop
-stop_of statement (Refused why) = record { statement = statement; refusal = why }
-stop_of statement Memory = record { statement = 0; refusal = refusal.Memory }
+abbrev pub local_stop_of : ℕ → Stop → LocalStop
+local_stop_of statement (Refused why) = record { statement = statement; refusal = why }
+local_stop_of statement Memory = record { statement = 0; refusal = refusal.Memory }
 
 -- with the statement that is refused, and why; want of memory has statement 0 and needs no cause
 abbrev pub EndsAs : Result BlockEffect LocalStop → LocalStop → Type 0

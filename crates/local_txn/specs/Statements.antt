@@ -12,7 +12,7 @@ use Rattle.rep_schema.specs.Tables.{Cells, Rows, columns_of, constraints_of, key
 use Rattle.rep_schema.specs.Kinds.{row_in_range}
 use Rattle.rep_schema.specs.Checks.{failed_check}
 use Rattle.rep_schema.specs.Named.{table_place}
-use Rattle.rep_schema.specs.Putting.{changes_between, made_all}
+use Rattle.rep_schema.specs.Putting.{changes_between, after_changes}
 use Rattle.rep_calls.specs.declared.statement.Statement.{Statement}
 use Rattle.rep_calls.specs.declared.statement.Statement.TheVariants.{Insert, Update, Delete}
 use Rattle.rep_calls.specs.declared.statement.Set.{Set}
@@ -20,14 +20,14 @@ use Rattle.unique_resolve.specs.Settling.{is_held}
 use Rattle.local_txn.specs.declared.local.Here.{Here}
 use Rattle.local_txn.specs.declared.local.Stamps.{Stamps}
 use Rattle.local_txn.specs.declared.side.Side.{Side}
-use Rattle.local_txn.specs.Held.{table_name, held_table}
+use Rattle.local_txn.specs.Held.{statement_table, held_table}
 use Rattle.local_txn.specs.Literals.{literals_fit, key_literals_fit, values_of}
 use Rattle.local_txn.specs.Sets.{names_columns, sets_fit, sets_filled, row_with}
 use Rattle.local_txn.specs.Filled.{written_columns, row_written, RowMade, inserted, updated}
 use Rattle.local_txn.specs.Convergent.{side_of, barred, own_key_step, rule_step}
 
 -- where a block stands: the tables, the site's stamps, and which tables its statements are on, None before the first
-pub record Standing : Type 0 where
+pub record BlockState : Type 0 where
   pub tables : List Rows
   pub stamps : Stamps
   pub side : Option Side
@@ -45,67 +45,67 @@ abbrev pub update_made : Schema → Here → Stamps → ℕ → List Set → Cel
 update_made schema here stamps table sets before = updated schema table here.site stamps before (row_with sets (columns_of schema table) before)
 
 -- the row that a statement is about, where it is there, the row after it, and the site's last stamp then
-pub record Outcome : Type 0 where
+pub record StatementOutcome : Type 0 where
   pub before : Option Cells
   pub after : Option Cells
   pub last : ℕ
 
-abbrev pub insert_outcome : Option Cells → RowMade → Outcome
+abbrev pub insert_outcome : Option Cells → RowMade → StatementOutcome
 insert_outcome before made = record { before = before; after = Some made.row; last = made.last }
 
-abbrev pub update_outcome : ℕ → (Cells → RowMade) → Option Cells → Outcome
+abbrev pub update_outcome : ℕ → (Cells → RowMade) → Option Cells → StatementOutcome
 update_outcome last make None = record { before = None; after = None; last = last }
 update_outcome last make (Some row) = record { before = Some row; after = Some (make row).row; last = (make row).last }
 
 -- an insert makes a row
-abbrev pub insert_in : Schema → Here → Standing → ℕ → List Literal → Outcome
+abbrev pub insert_in : Schema → Here → BlockState → ℕ → List Literal → StatementOutcome
 insert_in schema here standing table values = insert_outcome
     (row_at schema standing.tables table (key_of (columns_of schema table) (insert_made schema here standing.stamps table values).row))
     (insert_made schema here standing.stamps table values)
 
 -- an update makes another row of one
-abbrev pub update_in : Schema → Here → Standing → ℕ → List Literal → List Set → Outcome
+abbrev pub update_in : Schema → Here → BlockState → ℕ → List Literal → List Set → StatementOutcome
 update_in schema here standing table key sets = update_outcome standing.stamps.last (update_made schema here standing.stamps table sets)
     (row_at schema standing.tables table (values_of key))
 
 -- a delete takes one
-abbrev pub delete_in : Schema → Standing → ℕ → List Literal → Outcome
+abbrev pub delete_in : Schema → BlockState → ℕ → List Literal → StatementOutcome
 delete_in schema standing table key = record { before = row_at schema standing.tables table (values_of key); after = None; last = standing.stamps.last }
 
 -- what a statement does in a table
-abbrev pub outcome_in : Schema → Here → Standing → ℕ → Statement → Outcome
+abbrev pub outcome_in : Schema → Here → BlockState → ℕ → Statement → StatementOutcome
 outcome_in schema here standing table (Insert name values) = insert_in schema here standing table values
 outcome_in schema here standing table (Update name key sets) = update_in schema here standing table key sets
 outcome_in schema here standing table (Delete name key) = delete_in schema standing table key
 
 -- the change of a row that has an outcome, where it changed
-abbrev pub outcome_changes : ℕ → Outcome → List Change
+abbrev pub outcome_changes : ℕ → StatementOutcome → List Change
 outcome_changes table outcome = changes_between table outcome.before outcome.after
 
 -- where a block stands after changes in a table
-abbrev pub standing_with : Schema → ℕ → List Change → ℕ → Standing → Standing
-standing_with schema table changes last standing = record {
-  tables = made_all schema changes standing.tables;
+abbrev pub block_state_with : Schema → ℕ → List Change → ℕ → BlockState → BlockState
+block_state_with schema table changes last standing = record {
+  tables = after_changes schema changes standing.tables;
   stamps = record { clock = standing.stamps.clock; last = last };
   side = Some (side_of schema table);
 }
 
-abbrev pub changes_at : Schema → Here → Standing → Option ℕ → Statement → List Change
+abbrev pub changes_at : Schema → Here → BlockState → Option ℕ → Statement → List Change
 changes_at schema here standing None statement = []
 changes_at schema here standing (Some table) statement = outcome_changes table (outcome_in schema here standing table statement)
 
 -- the change that a statement makes
-abbrev pub statement_changes : Schema → Here → Standing → Statement → List Change
-statement_changes schema here standing statement = changes_at schema here standing (table_place schema (table_name statement)) statement
+abbrev pub statement_changes : Schema → Here → BlockState → Statement → List Change
+statement_changes schema here standing statement = changes_at schema here standing (table_place schema (statement_table statement)) statement
 
-abbrev pub standing_at : Schema → Here → Standing → Option ℕ → Statement → Standing
-standing_at schema here standing None statement = standing
-standing_at schema here standing (Some table) statement = standing_with schema table
+abbrev pub block_state_at : Schema → Here → BlockState → Option ℕ → Statement → BlockState
+block_state_at schema here standing None statement = standing
+block_state_at schema here standing (Some table) statement = block_state_with schema table
     (outcome_changes table (outcome_in schema here standing table statement)) (outcome_in schema here standing table statement).last standing
 
 -- where a block stands after a statement
-abbrev pub standing_after : Schema → Here → Standing → Statement → Standing
-standing_after schema here standing statement = standing_at schema here standing (table_place schema (table_name statement)) statement
+abbrev pub block_state_after : Schema → Here → BlockState → Statement → BlockState
+block_state_after schema here standing statement = block_state_at schema here standing (table_place schema (statement_table statement)) statement
 
 -- another row has a new row's values in a secondary constraint
 abbrev pub taken_step : Schema → List Rows → ℕ → Cells → Constraint → Option Refusal
@@ -129,43 +129,43 @@ abbrev pub there : Option Cells → (Cells → List (Option Refusal)) → List (
 there None steps = Some refusal.NoRow ∷ []
 there (Some row) steps = steps row
 
-abbrev pub new_row_steps : Schema → Here → Standing → ℕ → Cells → List (Option Refusal)
+abbrev pub new_row_steps : Schema → Here → BlockState → ℕ → Cells → List (Option Refusal)
 new_row_steps schema here standing table row =
     refused (is_some (row_at schema standing.tables table (key_of (columns_of schema table) row))) refusal.KeyTaken ∷
     barred schema standing.side table (not here.is_master) ∷
     own_key_step schema here table row ∷
     row_steps schema standing.tables table row
 
-abbrev pub insert_steps : Schema → Here → Standing → ℕ → List Literal → List (Option Refusal)
+abbrev pub insert_steps : Schema → Here → BlockState → ℕ → List Literal → List (Option Refusal)
 insert_steps schema here standing table values =
     refused (not (literals_fit schema (written_columns (columns_of schema table)) values)) refusal.RowShape ∷
     new_row_steps schema here standing table (insert_made schema here standing.stamps table values).row
 
 -- a row that an update sets, and the one that it was
-abbrev pub changed_row_steps : Schema → Here → Standing → ℕ → List Set → Cells → List (Option Refusal)
+abbrev pub changed_row_steps : Schema → Here → BlockState → ℕ → List Set → Cells → List (Option Refusal)
 changed_row_steps schema here standing table sets before =
     barred schema standing.side table false ∷
     rule_step schema table before (row_with sets (columns_of schema table) before) ∷
     row_steps schema standing.tables table (update_made schema here standing.stamps table sets before).row
 
-abbrev pub update_steps : Schema → Here → Standing → ℕ → List Literal → List Set → List (Option Refusal)
+abbrev pub update_steps : Schema → Here → BlockState → ℕ → List Literal → List Set → List (Option Refusal)
 update_steps schema here standing table key sets =
     refused (not (names_columns (columns_of schema table) sets)) refusal.UnknownName ∷
     refused (not (key_literals_fit schema (columns_of schema table) key && sets_fit (columns_of schema table) sets)) refusal.RowShape ∷
     refused (sets_filled (columns_of schema table) sets) refusal.FilledBySite ∷
     there (row_at schema standing.tables table (values_of key)) (changed_row_steps schema here standing table sets)
 
-abbrev pub delete_steps : Schema → Standing → ℕ → List Literal → List (Option Refusal)
+abbrev pub delete_steps : Schema → BlockState → ℕ → List Literal → List (Option Refusal)
 delete_steps schema standing table key =
     refused (not (key_literals_fit schema (columns_of schema table) key)) refusal.RowShape ∷
     there (row_at schema standing.tables table (values_of key)) (λ row. barred schema standing.side table true ∷ [])
 
 -- the steps that can refuse a statement on a table, in their order
-abbrev pub steps_in : Schema → Here → Standing → ℕ → Statement → List (Option Refusal)
+abbrev pub steps_in : Schema → Here → BlockState → ℕ → Statement → List (Option Refusal)
 steps_in schema here standing table (Insert name values) = insert_steps schema here standing table values
 steps_in schema here standing table (Update name key sets) = update_steps schema here standing table key sets
 steps_in schema here standing table (Delete name key) = delete_steps schema standing table key
 
 -- why a statement is refused, if it is: its table is not known or not held here, or the first of its steps
-abbrev pub statement_refusal : Schema → Here → Standing → Statement → Option Refusal
+abbrev pub statement_refusal : Schema → Here → BlockState → Statement → Option Refusal
 statement_refusal schema here standing statement = first_refusal (known (held_table schema here statement) (λ table. steps_in schema here standing table statement))

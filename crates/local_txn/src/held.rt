@@ -1,7 +1,7 @@
 //! The table that a statement names.
 ghost use Rattle.std.specs.Prelude.{◌≡◌, ◌<◌, length, IfSome};
 ghost use Rattle.rep_schema.specs.Shape.{HasShape};
-ghost use Rattle.local_txn.specs.Held.{table_name, held_of, held_table};
+ghost use Rattle.local_txn.specs.Held.{statement_table, held_of, held_table};
 
 use crate::Here;
 use rep_calls::Statement;
@@ -10,7 +10,7 @@ use rep_values::TableName;
 use schema_names::table_place;
 
 fn table_name(statement: &Statement) -> TableName
-    ensures { result ≡ table_name statement.now }
+    ensures { result ≡ statement_table statement.now }
 {
     match statement {
         Statement::Insert { table, .. }

@@ -4,7 +4,7 @@
 mod base;
 mod convergent;
 mod filled;
-mod footing;
+mod progress;
 mod held;
 mod laws;
 mod literals;

@@ -5,7 +5,7 @@ ghost use Rattle.rep_schema.specs.Tables.{columns_of, constraints_of, key_of, Ro
 ghost use Rattle.rep_values.specs.RefusalSteps.{first_refusal};
 ghost use Rattle.unique_resolve.specs.Trying.{IsTestable, HasBefore};
 ghost use Rattle.local_txn.specs.Statements.{taken_step, unique_steps, check_step, row_steps, row_at};
-ghost use Rattle.local_txn.specs.Running.{CanRun, IsKindly};
+ghost use Rattle.local_txn.specs.Running.{CanRun, FitsButForRange};
 ghost use Rattle.local_txn.specs.Literals.{values_of};
 ghost use Rattle.rep_values.specs.Number.{IsKeyLen};
 
@@ -127,7 +127,7 @@ pub(crate) fn row_refusal<R: RowStore>(
     row: &Row,
 ) -> Option<Refusal>
     requires able { CanRun (R.schema store.now) (R.tables store.now) table }
-    requires kindly { IsKindly (R.schema store.now) table row.now }
+    requires kindly { FitsButForRange (R.schema store.now) table row.now }
     requires before { HasBefore (R.schema store.now) (R.tables store.now) table (option_copied before) row.now }
     ensures { result ≡ first_refusal (row_steps (R.schema store.now) (R.tables store.now) table row.now) }
 {

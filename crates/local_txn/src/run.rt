@@ -5,7 +5,7 @@ ghost use Rattle.rep_values.specs.declared.name.SiteName.{SiteName as SiteNameVa
 ghost use Rattle.rep_schema.specs.Shape.{HasShape};
 ghost use Rattle.rep_schema.specs.Tables.{AreTables};
 ghost use Rattle.rep_schema.specs.Changes.{LeadsTo, room_for};
-ghost use Rattle.rep_schema.specs.Putting.{made_all, changes_of};
+ghost use Rattle.rep_schema.specs.Putting.{after_changes, changes_of};
 ghost use Rattle.conflict_detect.specs.Fits.{TxnFits};
 ghost use Rattle.conflict_detect.specs.ChangeCalls.{call_of};
 ghost use Rattle.unique_resolve.specs.Numbers.{Numbers};
@@ -14,9 +14,9 @@ ghost use Rattle.txn_effects.specs.Transactions.{txn_effect};
 ghost use Rattle.txn_effects.specs.Laws.{IsChecked};
 ghost use Rattle.local_txn.specs.Statements.{statement_refusal};
 ghost use Rattle.local_txn.specs.Locals.{statements_effect, local_effect, BlockEffect};
-ghost use Rattle.local_txn.specs.Running.{GoesOn, standing_of, StopsAs, EndsAs};
+ghost use Rattle.local_txn.specs.Running.{StatementGoesOn, block_state_of, StatementStopsAs, EndsAs};
 
-use crate::footing::Footing;
+use crate::progress::BlockProgress;
 use crate::held::held_table;
 use crate::statement::run_in;
 use crate::stop::{Stop, stop_at};
@@ -32,7 +32,7 @@ use std::alloc::Global;
 fn run_in_room<R: RowStore>(
     alloc: Global,
     store: &mut R,
-    footing: &mut Footing,
+    footing: &mut BlockProgress,
     statement: &Statement,
     rows: usize,
 ) -> Result<Option<Change>, Stop>
@@ -41,9 +41,9 @@ fn run_in_room<R: RowStore>(
     requires apart { KeysStandAlone (R.schema store.old) }
     requires are { AreTables (R.schema store.old) (R.tables store.old) }
     requires few { rows < 2 ^ 32 }
-    ensures ok { IfOk result (λ change. GoesOn (R.schema store.old) statement.now (R.tables store.old) (R.tables store.new) (changes_of change) footing.old footing.new) }
-    ensures err { IfErr result (StopsAs (statement_refusal (R.schema store.old) footing.old.here (standing_of footing.old (R.tables store.old)) statement.now)) }
-    ensures tables { IfOk result (λ change. R.tables store.new ≡ made_all (R.schema store.old) (changes_of change) (R.tables store.old)) }
+    ensures ok { IfOk result (λ change. StatementGoesOn (R.schema store.old) statement.now (R.tables store.old) (R.tables store.new) (changes_of change) footing.old footing.new) }
+    ensures err { IfErr result (StatementStopsAs (statement_refusal (R.schema store.old) footing.old.here (block_state_of footing.old (R.tables store.old)) statement.now)) }
+    ensures tables { IfOk result (λ change. R.tables store.new ≡ after_changes (R.schema store.old) (changes_of change) (R.tables store.old)) }
     ensures same { OnErr result (R.tables store.new ≡ R.tables store.old) }
     ensures schema { R.schema store.new ≡ R.schema store.old }
     ensures room { IfOk result (λ change. (t : ℕ) → (rows ≤ slice_index (R.spare store.new) t)
@@ -62,23 +62,23 @@ fn run_in_room<R: RowStore>(
 fn run_statements<R: RowStore>(
     alloc: Global,
     store: &mut R,
-    footing: &mut Footing,
+    footing: &mut BlockProgress,
     statements: &[Statement],
 ) -> Result<Changes, LocalStop>
     requires shape { HasShape (R.schema store.old) }
     requires keys { HasKeys (R.schema store.old) }
     requires apart { KeysStandAlone (R.schema store.old) }
     requires few { length statements.now ≤ 1000 }
-    ensures ok { IfOk result (λ changes. statements_effect (R.schema store.old) footing.old.here 1 statements.now (standing_of footing.old (R.tables store.old))
+    ensures ok { IfOk result (λ changes. statements_effect (R.schema store.old) footing.old.here 1 statements.now (block_state_of footing.old (R.tables store.old))
         ≡ Ok (record { changes = changes.rows; stamps = footing.new.stamps })) }
-    ensures tables { IfOk result (λ changes. R.tables store.new ≡ made_all (R.schema store.old) changes.rows (R.tables store.old)) }
+    ensures tables { IfOk result (λ changes. R.tables store.new ≡ after_changes (R.schema store.old) changes.rows (R.tables store.old)) }
     ensures leads { IfOk result (λ changes. LeadsTo (R.schema store.old) changes.rows (R.tables store.old) (R.tables store.new)) }
     ensures differ { IfOk result (λ changes. AllByRecursion (λ change. change.before ≢ change.after) changes.rows) }
     ensures checked { IfOk result (λ changes. AllByRecursion (IsChecked (R.schema store.old)) changes.rows) }
     ensures few { IfOk result (λ changes. length changes.rows ≤ length statements.now) }
     ensures were { AreTables (R.schema store.old) (R.tables store.old) }
     ensures room { IfOk result (λ changes. (t : ℕ) → room_for t changes.rows ≤ slice_index (R.spare store.new) t) }
-    ensures err { IfErr result (EndsAs (statements_effect (R.schema store.old) footing.old.here 1 statements.now (standing_of footing.old (R.tables store.old)))) }
+    ensures err { IfErr result (EndsAs (statements_effect (R.schema store.old) footing.old.here 1 statements.now (block_state_of footing.old (R.tables store.old)))) }
     ensures kept { OnErr result (R.tables store.new ≡ R.tables store.old) }
     ensures schema { R.schema store.new ≡ R.schema store.old }
 {
@@ -119,7 +119,7 @@ pub fn run_local<R: RowStore>(
     ensures ok { IfOk result (λ local. local_effect (R.schema store.old) here.now stamps.old statements.now (R.tables store.old)
         ≡ Ok (record { changes = local.changes.rows; stamps = stamps.new })) }
     ensures txn { IfOk result (λ local. local.txn.calls ≡ map (call_of (R.schema store.old)) local.changes.rows) }
-    ensures tables { IfOk result (λ local. R.tables store.new ≡ made_all (R.schema store.old) local.changes.rows (R.tables store.old)) }
+    ensures tables { IfOk result (λ local. R.tables store.new ≡ after_changes (R.schema store.old) local.changes.rows (R.tables store.old)) }
     ensures leads { IfOk result (λ local. LeadsTo (R.schema store.old) local.changes.rows (R.tables store.old) (R.tables store.new)) }
     ensures room { IfOk result (λ local. (t : ℕ) → room_for t local.changes.rows ≤ slice_index (R.spare store.new) t) }
     ensures fits { IfOk result (λ local. TxnFits (R.schema store.old) local.txn) }
@@ -141,7 +141,7 @@ pub fn run_local<R: RowStore>(
             refusal: Refusal::LimitReached(Limit::Statements),
         });
     }
-    let mut footing = Footing {
+    let mut footing = BlockProgress {
         here: *here,
         stamps: *stamps,
         side: None,

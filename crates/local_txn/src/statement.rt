@@ -7,11 +7,11 @@ ghost use Rattle.rep_schema.specs.Putting.{changes_of, StepsIn};
 ghost use Rattle.txn_effects.specs.Calls.{KeysStandAlone};
 ghost use Rattle.local_txn.specs.ByColumn.{row_by};
 ghost use Rattle.local_txn.specs.Statements.{insert_in, update_in, delete_in, outcome_in, new_row_steps, insert_steps, update_steps, delete_steps, steps_in};
-ghost use Rattle.local_txn.specs.Running.{CanRun, IsKindly, ChangesTo, AreInOrder, change_steps, order_steps, standing_of, RunsAs, StopsAs};
+ghost use Rattle.local_txn.specs.Running.{CanRun, FitsButForRange, ChangesTo, AreInOrder, change_steps, order_steps, block_state_of, RunsAs, StatementStopsAs};
 
 use crate::convergent::{bar_refusal, own_key_refusal, rule_refusal};
 use crate::filled::{RowMade, inserted, updated};
-use crate::footing::Footing;
+use crate::progress::BlockProgress;
 use crate::literals::{key_literals_fit, key_of_literals, row_written, written_fit};
 use crate::rows::{has_row, key_in, row_of_literals, row_refusal};
 use crate::sets::{SetsByColumn, fills_some, set_row, takes_each};
@@ -25,13 +25,13 @@ use std::alloc::Global;
 /// Why a new row can't be put, if it can't.
 fn new_row_refusal<R: RowStore>(
     store: &R,
-    footing: &Footing,
+    footing: &BlockProgress,
     table: u32,
     row: &Row,
 ) -> Option<Refusal>
     requires able { CanRun (R.schema store.now) (R.tables store.now) table }
-    requires kindly { IsKindly (R.schema store.now) table row.now }
-    ensures { result ≡ first_refusal (new_row_steps (R.schema store.now) footing.now.here (standing_of footing.now (R.tables store.now)) table row.now) }
+    requires kindly { FitsButForRange (R.schema store.now) table row.now }
+    ensures { result ≡ first_refusal (new_row_steps (R.schema store.now) footing.now.here (block_state_of footing.now (R.tables store.now)) table row.now) }
 {
     let key = key_in(store, table, row);
     if has_row(store, table, &key) {
@@ -59,17 +59,17 @@ fn new_row_refusal<R: RowStore>(
 fn insert_row<R: RowStore>(
     alloc: Global,
     store: &mut R,
-    footing: &mut Footing,
+    footing: &mut BlockProgress,
     table: u32,
     values: &[Literal],
 ) -> Result<Option<Change>, Stop>
     requires able { CanRun (R.schema store.old) (R.tables store.old) table }
     requires room { 1 ≤ slice_index (R.spare store.old) table }
     ensures ok { IfOk result (λ change. RunsAs (R.schema store.old) table
-        (first_refusal (insert_steps (R.schema store.old) footing.old.here (standing_of footing.old (R.tables store.old)) table values.now))
-        (insert_in (R.schema store.old) footing.old.here (standing_of footing.old (R.tables store.old)) table values.now) (changes_of change) footing.old footing.new) }
-    ensures err { IfErr result (StopsAs (first_refusal (insert_steps (R.schema store.old) footing.old.here
-        (standing_of footing.old (R.tables store.old)) table values.now))) }
+        (first_refusal (insert_steps (R.schema store.old) footing.old.here (block_state_of footing.old (R.tables store.old)) table values.now))
+        (insert_in (R.schema store.old) footing.old.here (block_state_of footing.old (R.tables store.old)) table values.now) (changes_of change) footing.old footing.new) }
+    ensures err { IfErr result (StatementStopsAs (first_refusal (insert_steps (R.schema store.old) footing.old.here
+        (block_state_of footing.old (R.tables store.old)) table values.now))) }
     ensures step { StepsIn table (record { schema = R.schema store.old; tables = R.tables store.old; spare = R.spare store.old })
         (record { schema = R.schema store.new; tables = R.tables store.new; spare = R.spare store.new }) result }
 {
@@ -114,7 +114,7 @@ fn sets_in_order<'a>(
 fn changed_row(
     alloc: Global,
     schema: &Schema,
-    footing: &Footing,
+    footing: &BlockProgress,
     table: u32,
     before: &Row,
     sets: &SetsByColumn,
@@ -123,7 +123,7 @@ fn changed_row(
     requires shape { HasShape schema.now }
     requires fits { RowFits (columns_of schema.now table) before.now }
     ensures ok { IfOk result (ChangesTo schema.now footing.now table before.now (row_by sets.now before.now)) }
-    ensures err { IfErr result (StopsAs (first_refusal (change_steps schema.now footing.now.side table before.now (row_by sets.now before.now)))) }
+    ensures err { IfErr result (StatementStopsAs (first_refusal (change_steps schema.now footing.now.side table before.now (row_by sets.now before.now)))) }
 {
     if let Some(refusal) = bar_refusal(schema, footing.side, table, false) {
         return Err(Stop::Refused(refusal));
@@ -141,7 +141,7 @@ fn changed_row(
 fn update_row<R: RowStore>(
     alloc: Global,
     store: &mut R,
-    footing: &mut Footing,
+    footing: &mut BlockProgress,
     table: u32,
     key: &[Literal],
     sets: &[Set],
@@ -150,11 +150,11 @@ fn update_row<R: RowStore>(
     requires apart { KeysStandAlone (R.schema store.old) }
     requires room { 1 ≤ slice_index (R.spare store.old) table }
     ensures ok { IfOk result (λ change. RunsAs (R.schema store.old) table
-        (first_refusal (update_steps (R.schema store.old) footing.old.here (standing_of footing.old (R.tables store.old)) table key.now sets.now))
-        (update_in (R.schema store.old) footing.old.here (standing_of footing.old (R.tables store.old)) table key.now sets.now)
+        (first_refusal (update_steps (R.schema store.old) footing.old.here (block_state_of footing.old (R.tables store.old)) table key.now sets.now))
+        (update_in (R.schema store.old) footing.old.here (block_state_of footing.old (R.tables store.old)) table key.now sets.now)
         (changes_of change) footing.old footing.new) }
-    ensures err { IfErr result (StopsAs (first_refusal (update_steps (R.schema store.old) footing.old.here
-        (standing_of footing.old (R.tables store.old)) table key.now sets.now))) }
+    ensures err { IfErr result (StatementStopsAs (first_refusal (update_steps (R.schema store.old) footing.old.here
+        (block_state_of footing.old (R.tables store.old)) table key.now sets.now))) }
     ensures step { StepsIn table (record { schema = R.schema store.old; tables = R.tables store.old; spare = R.spare store.old })
         (record { schema = R.schema store.new; tables = R.tables store.new; spare = R.spare store.new }) result }
 {
@@ -176,15 +176,15 @@ fn update_row<R: RowStore>(
 
 fn delete_row<R: RowStore>(
     store: &mut R,
-    footing: &mut Footing,
+    footing: &mut BlockProgress,
     table: u32,
     key: &[Literal],
 ) -> Result<Option<Change>, Stop>
     requires able { CanRun (R.schema store.old) (R.tables store.old) table }
     ensures ok { IfOk result (λ change. RunsAs (R.schema store.old) table
-        (first_refusal (delete_steps (R.schema store.old) (standing_of footing.old (R.tables store.old)) table key.now))
-        (delete_in (R.schema store.old) (standing_of footing.old (R.tables store.old)) table key.now) (changes_of change) footing.old footing.new) }
-    ensures err { IfErr result (StopsAs (first_refusal (delete_steps (R.schema store.old) (standing_of footing.old (R.tables store.old)) table key.now))) }
+        (first_refusal (delete_steps (R.schema store.old) (block_state_of footing.old (R.tables store.old)) table key.now))
+        (delete_in (R.schema store.old) (block_state_of footing.old (R.tables store.old)) table key.now) (changes_of change) footing.old footing.new) }
+    ensures err { IfErr result (StatementStopsAs (first_refusal (delete_steps (R.schema store.old) (block_state_of footing.old (R.tables store.old)) table key.now))) }
     ensures step { StepsIn table (record { schema = R.schema store.old; tables = R.tables store.old; spare = R.spare store.old })
         (record { schema = R.schema store.new; tables = R.tables store.new; spare = R.spare store.new }) result }
 {
@@ -212,7 +212,7 @@ fn delete_row<R: RowStore>(
 pub(crate) fn run_in<R: RowStore>(
     alloc: Global,
     store: &mut R,
-    footing: &mut Footing,
+    footing: &mut BlockProgress,
     table: u32,
     statement: &Statement,
 ) -> Result<Option<Change>, Stop>
@@ -220,11 +220,11 @@ pub(crate) fn run_in<R: RowStore>(
     requires apart { KeysStandAlone (R.schema store.old) }
     requires room { 1 ≤ slice_index (R.spare store.old) table }
     ensures ok { IfOk result (λ change. RunsAs (R.schema store.old) table
-        (first_refusal (steps_in (R.schema store.old) footing.old.here (standing_of footing.old (R.tables store.old)) table statement.now))
-        (outcome_in (R.schema store.old) footing.old.here (standing_of footing.old (R.tables store.old)) table statement.now)
+        (first_refusal (steps_in (R.schema store.old) footing.old.here (block_state_of footing.old (R.tables store.old)) table statement.now))
+        (outcome_in (R.schema store.old) footing.old.here (block_state_of footing.old (R.tables store.old)) table statement.now)
         (changes_of change) footing.old footing.new) }
-    ensures err { IfErr result (StopsAs (first_refusal (steps_in (R.schema store.old) footing.old.here
-        (standing_of footing.old (R.tables store.old)) table statement.now))) }
+    ensures err { IfErr result (StatementStopsAs (first_refusal (steps_in (R.schema store.old) footing.old.here
+        (block_state_of footing.old (R.tables store.old)) table statement.now))) }
     ensures step { StepsIn table (record { schema = R.schema store.old; tables = R.tables store.old; spare = R.spare store.old })
         (record { schema = R.schema store.new; tables = R.tables store.new; spare = R.spare store.new }) result }
 {

@@ -1,6 +1,6 @@
 //! Why a statement doesn't run.
 ghost use Rattle.std.specs.Prelude.{◌≡◌};
-ghost use Rattle.local_txn.specs.Running.{refusal_of, stop_of};
+ghost use Rattle.local_txn.specs.Running.{stop_refusal, local_stop_of};
 
 use crate::LocalStop;
 use rep_lists::NoMemory;
@@ -39,7 +39,7 @@ impl From<Refusal> for Stop {
 impl Stop {
     /// The refusal that it is answered as.
     pub(crate) fn refusal(self) -> Refusal
-        ensures { result ≡ refusal_of self }
+        ensures { result ≡ stop_refusal self }
     {
         match self {
             Stop::Refused(refusal) => refusal,
@@ -50,7 +50,7 @@ impl Stop {
 
 /// Why the block stops at this statement.
 pub(crate) fn stop_at(statement: u32, stop: Stop) -> LocalStop
-    ensures { result ≡ stop_of statement stop }
+    ensures { result ≡ local_stop_of statement stop }
 {
     match stop {
         Stop::Refused(refusal) => LocalStop { statement, refusal },

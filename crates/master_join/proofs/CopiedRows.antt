@@ -8,7 +8,7 @@ use Rattle.std.proofs.lemmas.List.{get_or-set_same, set-set}
 use Rattle.rep_lists.specs.Rising.{IsRising, put_at}
 use Rattle.rep_schema.specs.declared.schema.Schema.{Schema}
 use Rattle.rep_schema.specs.Tables.{Cells, Rows, columns_of, constraint_columns_of, key_of, row_cmp, put_row, rows_of, picked, IsUniqueRow, IsTable}
-use Rattle.rep_schema.proofs.KeptTables.{any_from_none}
+use Rattle.rep_schema.proofs.TableSteps.{any_from_none}
 use Rattle.rep_schema.proofs.FilteredRows.{none_from_any}
 
 -- what holds of all values holds of the one at a place

@@ -5,7 +5,7 @@ use mathlib.Core.Bool.{true≢false}
 use Rattle.rep_values.specs.declared.name.SiteName.{SiteName}
 use Rattle.rep_schema.specs.Shape.{HasShape}
 use Rattle.rep_schema.specs.Sites.{senders_of}
-use Rattle.rep_calls.specs.declared.past.Past.{Past}
+use Rattle.rep_calls.specs.declared.past.PastEntry.{PastEntry}
 use Rattle.deferred_queue.specs.Streams.{is_same_site}
 use Rattle.deferred_queue.proofs.Sites.{is_same_site-true, is_same_site-refl}
 use Rattle.local_txn.specs.declared.local.Here.{Here}
@@ -28,13 +28,13 @@ turned_other one other differ = off (is_same_site other one) refl
     off false is = refl
 
 -- a number that is given for another site changes nothing
-others_stay : (given : Past) (more : List Past) (names : List SiteName) → AllByRecursion (λ (m : SiteName). is_same_site m given.origin ≡ false) names
+others_stay : (given : PastEntry) (more : List PastEntry) (names : List SiteName) → AllByRecursion (λ (m : SiteName). is_same_site m given.origin ≡ false) names
     → map (sender_from more) names ≡ map (sender_from (given ∷ more)) names
 others_stay given more [] other = refl
 others_stay given more (n ∷ ns) other = rw (turned_other n given.origin other.0) (ap (λ (ss : List SenderState). sender_from more n ∷ ss) (others_stay given more ns other.1))
 
 -- one more number is set
-one_set : (given : Past) (more : List Past) (names : List SiteName) → NamesApart names → at_sender given.origin (with_first given.number) (map (sender_from more) names) ≡ map (sender_from (given ∷ more)) names
+one_set : (given : PastEntry) (more : List PastEntry) (names : List SiteName) → NamesApart names → at_sender given.origin (with_first given.number) (map (sender_from more) names) ≡ map (sender_from (given ∷ more)) names
 one_set given more [] apart = refl
 one_set given more (n ∷ ns) apart = go (is_same_site n given.origin) refl (one_set given more ns apart.1)
   where
@@ -46,13 +46,13 @@ one_set given more (n ∷ ns) apart = go (is_same_site n given.origin) refl (one
         rw (turned_same n given.origin same) (ap (λ (ss : List SenderState). with_first given.number (sender_from more n) ∷ ss) (others_stay given more ns others))
     go false differ later = rw (turned_other n given.origin differ) (ap (λ (ss : List SenderState). sender_from more n ∷ ss) later)
 
-all_set : (x : SiteState) (names : List SiteName) → NamesApart names → (firsts : List Past)
+all_set : (x : SiteState) (names : List SiteName) → NamesApart names → (firsts : List PastEntry)
     → with_firsts firsts (record x { senders = map (sender_from []) names }) ≡ record x { senders = map (sender_from firsts) names }
 all_set x names apart [] = refl
 all_set x names apart (given ∷ more) =
     ap (site_first given.origin given.number) (all_set x names apart more) ∙ ap (λ (ss : List SenderState). record x { senders = ss }) (one_set given more names apart)
 
 -- a new site with the rows of another one, whose first numbers are set, is its copy
-pub site_copy-made : (source : SiteState) (here : Here) (firsts : List Past) → HasShape source.schema
+pub site_copy-made : (source : SiteState) (here : Here) (firsts : List PastEntry) → HasShape source.schema
     → with_firsts firsts (new_site source.schema here [] [] (tables_of source)) ≡ site_copy source here firsts
 site_copy-made source here firsts shape = all_set (new_site source.schema here [] [] (tables_of source)) (senders_of source.schema here.site) (senders_apart source.schema shape here.site) firsts

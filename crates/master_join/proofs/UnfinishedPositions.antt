@@ -5,13 +5,13 @@ use Rattle.std.specs.List.{range_with_len}
 use Rattle.std.proofs.lemmas.Bool.{cases_lt}
 use Rattle.std.proofs.lemmas.List.Sums.{sum_by-cons}
 use Rattle.rep_lists.proofs.Places.{drop_from_found}
-use Rattle.rep_calls.specs.declared.past.Past.{Past}
+use Rattle.rep_calls.specs.declared.past.PastEntry.{PastEntry}
 use Rattle.error_queue.specs.declared.entry.ErrorEntry.{ErrorEntry}
 use Rattle.site_state.specs.State.{SiteState, is_master_site}
 use Rattle.site_state.specs.Journal.{finished}
 
 -- a position of an origin isn't finished at a site
-abbrev pub is_unfinished : SiteState → Past → ℕ → Bool
+abbrev pub is_unfinished : SiteState → PastEntry → ℕ → Bool
 is_unfinished x last p = not (finished last.origin x.journal p)
 
 -- an error is of a master's transaction

@@ -3,7 +3,7 @@ use Rattle.std.specs.Prelude.{◌≡◌, refl, ℕ, List, [], ◌∷◌, Some}
 use Rattle.rep_values.specs.declared.name.SiteName.{SiteName}
 use Rattle.rep_schema.specs.declared.schema.Schema.{Schema}
 use Rattle.rep_schema.specs.Groups.{group_columns_of}
-use Rattle.rep_calls.specs.declared.past.Past.{Past}
+use Rattle.rep_calls.specs.declared.past.PastEntry.{PastEntry}
 use Rattle.packet_code.specs.declared.packet.Packet.TheVariants.{Carry}
 use Rattle.site_state.specs.State.{SiteState, opened_of, first_number}
 use Rattle.site_state.specs.Contents.{tables_of}
@@ -19,7 +19,7 @@ use Rattle.master_join.specs.Firsts.{with_firsts}
 abbrev schema : Schema
 schema = additive (master a ∷ master b ∷ master c ∷ late_master d ∷ snapshot_of s a ∷ [])
 
-abbrev told : SiteName → ℕ → Past
+abbrev told : SiteName → ℕ → PastEntry
 told site number = record { origin = site; number = number }
 
 -- ---- the copy of a site that has changed its one row
@@ -28,7 +28,7 @@ abbrev source : SiteState
 source = site_commit (add 1 5 ∷ []) (at_first schema (row 1 10 ∷ []) a)
 
 -- b is told twice, and the first one counts; c isn't told; s is no sender of d
-abbrev firsts : List Past
+abbrev firsts : List PastEntry
 firsts = told a 1 ∷ told b 7 ∷ told s 4 ∷ told b 9 ∷ []
 
 abbrev copied : SiteState

@@ -7,7 +7,7 @@ ghost use Rattle.site_state.specs.Joining.{site_copy};
 use crate::firsts::set_firsts;
 use crate::rows::copy_tables;
 use local_txn::Here;
-use rep_calls::Past;
+use rep_calls::PastEntry;
 use rep_lists::{Items, NoMemory};
 use rep_schema::{RowStore, TableSet};
 use rep_values::SiteName;
@@ -25,7 +25,7 @@ pub fn copy_site<R: RowStore, S: RowStore>(
     here: Here,
     senders: &[SiteName],
     destinations: &[SiteName],
-    firsts: &[Past],
+    firsts: &[PastEntry],
 ) -> Result<Site<S>, NoMemory>
     requires schema { S.schema store ≡ source.now.schema }
     requires empty { S.tables store ≡ replicate (length (S.schema store).tables) [] }

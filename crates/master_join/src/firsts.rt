@@ -2,12 +2,12 @@
 ghost use Rattle.std.specs.Prelude.{◌≡◌, []};
 ghost use Rattle.master_join.specs.Firsts.{with_firsts};
 
-use rep_calls::Past;
+use rep_calls::PastEntry;
 use rep_schema::RowStore;
 use site_core::Site;
 
 /// Sets the first numbers of senders, the last one given first, so that of two for one sender the first one stays.
-pub(crate) fn set_firsts<R: RowStore>(site: &mut Site<R>, firsts: &[Past])
+pub(crate) fn set_firsts<R: RowStore>(site: &mut Site<R>, firsts: &[PastEntry])
     requires { site.old.journal ≡ [] }
     ensures { site.new ≡ with_firsts firsts.now site.old }
 {

@@ -2,13 +2,13 @@
 ghost use Rattle.std.specs.Prelude.{◌≡◌, ◌-◌, ◌^◌, min};
 ghost use Rattle.site_state.specs.Joining.{unfinished_of, master_errors, unfinished};
 
-use rep_calls::Past;
+use rep_calls::PastEntry;
 use rep_schema::RowStore;
 use schema_sites::is_master_site;
 use site_core::Site;
 
 /// How many of the positions 1 to a last one of an origin aren't finished at a site. It takes no memory.
-pub fn unfinished_of<R: RowStore>(site: &Site<R>, last: &Past) -> u64
+pub fn unfinished_of<R: RowStore>(site: &Site<R>, last: &PastEntry) -> u64
     ensures { result ≡ unfinished_of site.now last.now }
 {
     // Each position up to the mark is finished.
@@ -43,7 +43,7 @@ pub fn master_errors<R: RowStore>(site: &Site<R>) -> u64
 /// How much hinders a join at a site, of each origin its last position for that site given: the positions up to it that aren't
 /// finished, and the errors of masters' transactions that stand. It takes no memory. The count stands still at the end of its
 /// type.
-pub fn unfinished<R: RowStore>(site: &Site<R>, last: &[Past]) -> u64
+pub fn unfinished<R: RowStore>(site: &Site<R>, last: &[PastEntry]) -> u64
     ensures { result ≡ min (2 ^ 64 - 1) (unfinished last.now site.now) }
 {
     let mut count = master_errors(site);

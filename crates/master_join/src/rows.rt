@@ -1,7 +1,7 @@
 //! The rows of a store in another one.
 ghost use Rattle.std.specs.Prelude.{◌≡◌, ◌<◌, [], length, replicate, slice_set, OnOk};
 ghost use Rattle.rep_schema.specs.Tables.{rows_of};
-ghost use Rattle.site_state.specs.Fits.{IsKeyed};
+ghost use Rattle.site_state.specs.Fits.{SchemaIsKeyed};
 
 use rep_lists::{Copies, NoMemory};
 use rep_schema::{RowStore, holds_tables};
@@ -15,7 +15,7 @@ fn copy_rows<R: RowStore, S: RowStore>(
     store: &mut S,
     table: u32,
 ) -> Result<(), NoMemory>
-    requires keyed { IsKeyed (R.schema source.now) }
+    requires keyed { SchemaIsKeyed (R.schema source.now) }
     requires schema { S.schema store.old ≡ R.schema source.now }
     requires table { table < length (R.schema source.now).tables }
     requires empty { rows_of (S.tables store.old) table ≡ [] }
@@ -42,7 +42,7 @@ pub(crate) fn copy_tables<R: RowStore, S: RowStore>(
     source: &R,
     store: &mut S,
 ) -> Result<(), NoMemory>
-    requires keyed { IsKeyed (R.schema source.now) }
+    requires keyed { SchemaIsKeyed (R.schema source.now) }
     requires schema { S.schema store.old ≡ R.schema source.now }
     requires empty { S.tables store.old ≡ replicate (length (R.schema source.now).tables) [] }
     ensures tables { OnOk result (S.tables store.new ≡ R.tables source.now) }

@@ -11,11 +11,11 @@ use Rattle.deferred_queue.specs.Streams.{is_same_site}
 use Rattle.deferred_queue.proofs.Sites.{is_same_site-true}
 use Rattle.site_state.specs.declared.answers.Why.TheVariants as why
 use Rattle.site_state.specs.declared.arrival.Arrival.{Arrival}
-use Rattle.site_state.specs.State.{SenderState, SiteState, sender_of, beside, arrived_at, arrivals}
+use Rattle.site_state.specs.State.{SenderState, SiteState, sender_of, arrival_beside, arrived_at, arrivals}
 use Rattle.site_state.specs.Journal.{finished}
 use Rattle.site_state.specs.Ready.{is_ready, first_ready, first_ready_in}
 use Rattle.site_state.proofs.Stepping.{arrived_has}
-use Rattle.office.specs.Working.{IsQuiet}
+use Rattle.office.specs.Working.{SiteIsQuiet}
 
 -- no position of a sender is ready
 abbrev pub IsQuietFrom : SiteState → SiteName → Type 0
@@ -33,14 +33,14 @@ none_where (Some v) is = absurd (cc is)
 module _ (origin : SiteName) (x : SiteState) where
   -- where there is no least ready position, no arrival that is found is ready
   none_found : (arrived : List Arrival) (position : ℕ) (a : Arrival) → AllByRecursion (λ (b : Arrival). 1 ≤ b.position) arrived → first_ready_in origin 0 x arrived ≡ None
-      → find_at (beside position) arrived ≡ Some a → is_ready origin a.position x ≡ false
+      → find_at (arrival_beside position) arrived ≡ Some a → is_ready origin a.position x ≡ false
   none_found [] position a from_one none found = absurd (cc found)
   none_found (b ∷ arrived) position a from_one none found =
-      go (nat_lt 0 b.position) (grind (arith, nat_tests, from_one.0)) (is_ready origin b.position x) refl (beside position b) none found (none_found arrived position a from_one.1)
+      go (nat_lt 0 b.position) (grind (arith, nat_tests, from_one.0)) (is_ready origin b.position x) refl (arrival_beside position b) none found (none_found arrived position a from_one.1)
     where
       go : (above : Bool) → above ≡ true → (ready : Bool) → is_ready origin b.position x ≡ ready → (o : Ordering)
-          → cond (above && ready) (Some b.position) (first_ready_in origin 0 x arrived) ≡ None → found_here o b (find_at (beside position) arrived) ≡ Some a
-          → (first_ready_in origin 0 x arrived ≡ None → find_at (beside position) arrived ≡ Some a → is_ready origin a.position x ≡ false) → is_ready origin a.position x ≡ false
+          → cond (above && ready) (Some b.position) (first_ready_in origin 0 x arrived) ≡ None → found_here o b (find_at (arrival_beside position) arrived) ≡ Some a
+          → (first_ready_in origin 0 x arrived ≡ None → find_at (arrival_beside position) arrived ≡ Some a → is_ready origin a.position x ≡ false) → is_ready origin a.position x ≡ false
       go false is ready here o none found later = absurd (cc is)
       go true is true here o none found later = absurd (cc none)
       go true is false here Less none found later = later none found
@@ -74,7 +74,7 @@ module _ (origin : SiteName) (x : SiteState) where
       go false other found later = later found
 
 -- where all senders are quiet, the site is
-pub all_quiet : (x : SiteState) (place : ℕ) → length x.senders ≤ place → AreQuietBefore place x → IsQuiet x
+pub all_quiet : (x : SiteState) (place : ℕ) → length x.senders ≤ place → AreQuietBefore place x → SiteIsQuiet x
 all_quiet x place past quiet origin position = go (sender_of origin x.senders) refl
   where
     go : (found : Option SenderState) → sender_of origin x.senders ≡ found → is_ready origin position x ≡ false

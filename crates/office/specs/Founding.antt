@@ -13,7 +13,7 @@ use Rattle.rep_schema.specs.Named.{table_place}
 use Rattle.rep_schema.specs.Sites.{first_master}
 use Rattle.rep_declare.specs.declared.declaration.Declare.{Declare}
 use Rattle.rep_declare.specs.declared.declaration.Declare.TheVariants as declare
-use Rattle.rep_declare.specs.Refusals.{refusal_of}
+use Rattle.rep_declare.specs.Refusals.{declare_refusal}
 use Rattle.rep_declare.specs.Additions.{declared}
 use Rattle.rep_declare.specs.Shaping.{table_shaped, rows_with}
 use Rattle.local_txn.specs.BaseRows.{base_refusal, tables_with_row, filled_tables}
@@ -61,7 +61,7 @@ has_rows f (Some table) = not (is_empty (rows_at f (table_place f.schema table))
 
 -- why a declaration is refused: it shapes a table that has rows, or what is declared so far hinders it
 abbrev pub declaration_refusal : Declare → Founded → Option Refusal
-declaration_refusal declaration f = or_then (refused (has_rows f (table_shaped declaration)) refusal.WrongPhase) (refusal_of f.schema declaration)
+declaration_refusal declaration f = or_then (refused (has_rows f (table_shaped declaration)) refusal.WrongPhase) (declare_refusal f.schema declaration)
 
 -- why a line is refused, if it is
 abbrev pub line_refusal : Command → Founded → Option Refusal

@@ -10,9 +10,9 @@ use Rattle.office.specs.declared.error.OfficeError.{OfficeError}
 use Rattle.office.specs.declared.error.OfficeError.TheVariants as error
 
 -- the position of the transaction that a packet carries, 0 of a mark
-abbrev pub position_of : Packet → ℕ
-position_of (Carry from to number position dep past txn) = position
-position_of (Mark from to mark) = 0
+abbrev pub letter_position : Packet → ℕ
+letter_position (Carry from to number position dep past txn) = position
+letter_position (Mark from to mark) = 0
 
 -- the bytes are those of a packet, and it is taken in with this answer
 abbrev pub Takes : List ℕ → SiteState → SiteState → Accepted → Type 0

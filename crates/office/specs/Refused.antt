@@ -20,6 +20,6 @@ abbrev pub statement_refused : LocalStop → OfficeError
 statement_refused stop = block_refused stop stop.refusal
 
 -- of an error that is to be settled
-abbrev pub unsettled : Refusal → OfficeError
-unsettled refusal.Memory = error.Memory
-unsettled why = error.Unsettled why
+abbrev pub uncleared : Refusal → OfficeError
+uncleared refusal.Memory = error.Memory
+uncleared why = error.Uncleared why

@@ -96,8 +96,8 @@ WriteTextStops why text x = BlockTextStops why text
 -- ---- errors that stand
 
 -- an error isn't settled for its refusal, or no moment is left
-abbrev pub SettleStops : OfficeError → Option Refusal → SiteState → Type 0
-SettleStops (error.Unsettled why) refused x = refused ≡ Some why
-SettleStops error.Exhausted refused x = IsExhausted x
-SettleStops error.Memory refused x = Unit {0}
-SettleStops _ refused x = ⊥
+abbrev pub ClearStops : OfficeError → Option Refusal → SiteState → Type 0
+ClearStops (error.Uncleared why) refused x = refused ≡ Some why
+ClearStops error.Exhausted refused x = IsExhausted x
+ClearStops error.Memory refused x = Unit {0}
+ClearStops _ refused x = ⊥

@@ -15,13 +15,13 @@ passes [] x = x
 passes (origin ∷ origins) x = passes origins (site_pass origin x)
 
 -- no position of any sender is ready
-abbrev pub IsQuiet : SiteState → Type 0
-IsQuiet x = (origin : SiteName) (position : ℕ) → is_ready origin position x ≡ false
+abbrev pub SiteIsQuiet : SiteState → Type 0
+SiteIsQuiet x = (origin : SiteName) (position : ℕ) → is_ready origin position x ≡ false
 
 -- passes were made until nothing is ready, and a count has what they finished
 pub record Works (x y : SiteState) (count : PassCount) : Type 0 where
   pub made : (origins : List SiteName) × (y ≡ passes origins x)
-  pub quiet : IsQuiet y
+  pub quiet : SiteIsQuiet y
   pub done : count.done ≡ added_count is_done x y
   pub errors : count.errors ≡ added_count is_error x y
 

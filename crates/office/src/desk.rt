@@ -5,7 +5,7 @@ ghost use Rattle.site_state.specs.State.{is_master_site};
 ghost use Rattle.site_state.specs.Fits.{SiteFits};
 ghost use Rattle.site_state.specs.Commits.{site_clock};
 ghost use Rattle.site_state.specs.Journal.{low_water};
-ghost use Rattle.journal_order.specs.Settling.{IsFinishedOnce};
+ghost use Rattle.journal_order.specs.Sorting.{IsFinishedOnce};
 ghost use Rattle.journal_order.specs.Waited.{FinishesEarlierFirst};
 ghost use Rattle.office.specs.Founding.{Opens, founded_office};
 ghost use Rattle.office.specs.Stops.{OpenStops, FoundingStops};

@@ -1,7 +1,7 @@
 //! Why a call of an office is refused.
 ghost use Rattle.std.specs.Prelude.{◌≡◌};
 ghost use Rattle.office.specs.declared.error.OfficeError.TheVariants.{Memory};
-ghost use Rattle.office.specs.Refused.{refused_at, statement_refused, unsettled};
+ghost use Rattle.office.specs.Refused.{refused_at, statement_refused, uncleared};
 
 use local_txn::LocalStop;
 use rep_lists::NoMemory;
@@ -32,7 +32,7 @@ pub enum OfficeError {
     Statement(LocalStop),
     /// An error isn't executed, or isn't dropped.
     #[error("{0}")]
-    Unsettled(Refusal),
+    Uncleared(Refusal),
     /// These bytes are no letter.
     #[error("these bytes are no letter")]
     NoLetter,
@@ -89,11 +89,11 @@ pub(crate) fn statement_refused(stop: LocalStop) -> OfficeError
 }
 
 /// An error isn't settled, for this reason.
-pub(crate) fn unsettled(refusal: Refusal) -> OfficeError
-    ensures { result ≡ unsettled refusal }
+pub(crate) fn uncleared(refusal: Refusal) -> OfficeError
+    ensures { result ≡ uncleared refusal }
 {
     if let Refusal::Memory = refusal {
         return OfficeError::Memory;
     }
-    OfficeError::Unsettled(refusal)
+    OfficeError::Uncleared(refusal)
 }

@@ -2,10 +2,10 @@
 ghost use Rattle.std.specs.Prelude.{◌≡◌, None, IfErr, OnOk, OnErr};
 ghost use Rattle.error_queue.specs.ErrorLists.{in_order};
 ghost use Rattle.site_state.specs.Errors.{errors_of, site_execute, execute_refusal, site_drop, drop_refusal};
-ghost use Rattle.office.specs.Stops.{SettleStops};
+ghost use Rattle.office.specs.Stops.{ClearStops};
 
 use crate::desk::Office;
-use crate::error::{OfficeError, unsettled};
+use crate::error::{OfficeError, uncleared};
 use error_queue::Errors;
 use rep_values::SiteName;
 use std::alloc::Global;
@@ -27,7 +27,7 @@ impl Office {
     ) -> Result<(), OfficeError>
         ensures ok { OnOk result (self.new ≡ site_execute origin.now position self.old) }
         ensures executes { OnOk result (execute_refusal origin.now position self.old ≡ None) }
-        ensures err { IfErr result (λ why. SettleStops why (execute_refusal origin.now position self.old) self.old) }
+        ensures err { IfErr result (λ why. ClearStops why (execute_refusal origin.now position self.old) self.old) }
         ensures kept { OnErr result (self.new ≡ self.old) }
     {
         if self.site.moment() == u64::MAX {
@@ -35,7 +35,7 @@ impl Office {
         }
         match self.site.execute_error(alloc, origin, position) {
             Ok(()) => Ok(()),
-            Err(refusal) => Err(unsettled(refusal)),
+            Err(refusal) => Err(uncleared(refusal)),
         }
     }
 
@@ -43,7 +43,7 @@ impl Office {
     pub fn drop_error(&mut self, origin: &SiteName, position: u64) -> Result<(), OfficeError>
         ensures ok { OnOk result (self.new ≡ site_drop origin.now position self.old) }
         ensures drops { OnOk result (drop_refusal origin.now position self.old ≡ None) }
-        ensures err { IfErr result (λ why. SettleStops why (drop_refusal origin.now position self.old) self.old) }
+        ensures err { IfErr result (λ why. ClearStops why (drop_refusal origin.now position self.old) self.old) }
         ensures kept { OnErr result (self.new ≡ self.old) }
     {
         if self.site.moment() == u64::MAX {
@@ -51,7 +51,7 @@ impl Office {
         }
         match self.site.delete_error(origin, position) {
             Ok(()) => Ok(()),
-            Err(refusal) => Err(unsettled(refusal)),
+            Err(refusal) => Err(uncleared(refusal)),
         }
     }
 }

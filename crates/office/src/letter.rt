@@ -1,7 +1,7 @@
 //! What offices send each other.
 ghost use Rattle.std.specs.Prelude.{◌≡◌};
 ghost use Rattle.packet_code.specs.Spelling.{packet_bytes};
-ghost use Rattle.office.specs.Letters.{position_of};
+ghost use Rattle.office.specs.Letters.{letter_position};
 
 use packet_code::Sealed;
 use std::marker::Model;
@@ -30,7 +30,7 @@ impl Letter {
 
     /// The position of the transaction among those to its receiver, from 1; 0 of a receipt.
     pub fn position(&self) -> u64
-        ensures { result ≡ position_of self.now }
+        ensures { result ≡ letter_position self.now }
     {
         match self.sealed.stream_position() {
             Some(stream) => stream.position,

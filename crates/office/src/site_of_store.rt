@@ -4,7 +4,7 @@ ghost use Rattle.rep_laws.specs.Commuting.{IsSound};
 ghost use Rattle.schema_rules.specs.Rules.{broken_rule};
 ghost use Rattle.site_state.specs.State.{is_master_site};
 ghost use Rattle.site_state.specs.Making.{master_here, new_site};
-ghost use Rattle.site_state.specs.Fits.{IsKeyed};
+ghost use Rattle.site_state.specs.Fits.{SchemaIsKeyed};
 ghost use Rattle.office.specs.Founding.{filled_rows};
 
 use local_txn::{Here, fill_base_rows, sound_schemas_fill_freely};
@@ -22,7 +22,7 @@ pub(crate) fn filled(mut store: PageTables) -> Result<PageTables, NoMemory>
     requires { IsSound store.schema }
     ensures rows { IfOk result (λ filled. filled.tables ≡ filled_rows store.schema store.tables) }
     ensures schema { IfOk result (λ filled. filled.schema ≡ store.schema) }
-    ensures keyed { IsKeyed store.schema }
+    ensures keyed { SchemaIsKeyed store.schema }
 {
     sound_schemas_have_keys();
     sound_schemas_fill_freely();
@@ -49,7 +49,7 @@ pub(crate) fn new_master(
     store: PageTables,
     name: &SiteName,
 ) -> Result<Site<PageTables>, NoMemory>
-    requires keyed { IsKeyed store.schema }
+    requires keyed { SchemaIsKeyed store.schema }
     requires master { is_master_site store.schema name.now ≡ true }
     ensures { IfOk result (λ made. made ≡ new_site store.schema (master_here store.schema name.now) [] [] store.tables) }
 {

@@ -4,7 +4,7 @@ ghost use Rattle.site_state.specs.declared.entry.Entry.{Entry as EntryValue};
 ghost use Rattle.site_state.specs.Steps.{count_where};
 ghost use Rattle.site_state.specs.Passes.{site_pass, pass_answer};
 ghost use Rattle.std.specs.Prelude.{Bool};
-ghost use Rattle.office.specs.Working.{IsQuiet, IsPassInPart, Works, WorksInPart, WorkStops};
+ghost use Rattle.office.specs.Working.{SiteIsQuiet, IsPassInPart, Works, WorksInPart, WorkStops};
 
 use crate::desk::Office;
 use crate::error::OfficeError;
@@ -28,7 +28,7 @@ fn added(count: PassCount, more: PassCount) -> PassCount
 impl Office {
     /// The first sender of which some letter is ready.
     fn ready_sender(&self) -> Option<SiteName>
-        ensures { IfNone result (IsQuiet self.now) }
+        ensures { IfNone result (SiteIsQuiet self.now) }
     {
         for place in 0..self.site.sender_count() {
             let Some(origin) = self.site.sender(place) else {

@@ -5,7 +5,7 @@ use crate::shown::{no_packet, push_kept};
 use crate::unpacked::is_kept;
 use case_lines::{CaseStop, Words, read_past};
 use packet_code::{Packet, Route, Sealed, encode, is_packet};
-use rep_calls::{Call, Past, Txn};
+use rep_calls::{Call, PastEntry, Txn};
 use rep_lists::{Items, NoMemory};
 use rep_values::SiteName;
 use std::alloc::Global;
@@ -87,7 +87,7 @@ fn read_route(words: &mut Words) -> Result<Route, CaseStop> {
 }
 
 /// The packet that carries a transaction on its route.
-fn carry(route: &Route, past: Items<Past>, txn: Txn) -> Packet {
+fn carry(route: &Route, past: Items<PastEntry>, txn: Txn) -> Packet {
     Packet::Carry {
         from: route.from,
         to: route.to,
@@ -100,7 +100,7 @@ fn carry(route: &Route, past: Items<Past>, txn: Txn) -> Packet {
 }
 
 /// The route, and what was seen, up to the end of the line.
-fn read_head(alloc: Global, words: &mut Words) -> Result<(Route, Items<Past>), CaseStop> {
+fn read_head(alloc: Global, words: &mut Words) -> Result<(Route, Items<PastEntry>), CaseStop> {
     Ok((read_route(words)?, read_past(alloc, words)?))
 }
 

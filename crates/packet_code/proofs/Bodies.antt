@@ -2,7 +2,7 @@
 use Rattle.std.proofs.Common.{◌≡◌, ℕ, List, ◌∷◌, ◌++◌, refl, ◌∙◌, ap, append_assoc}
 use Rattle.std.specs.Int.{w64, to_be_bytes}
 use Rattle.rep_calls.specs.declared.call.Txn.{Txn}
-use Rattle.rep_calls.specs.declared.past.Past.{Past}
+use Rattle.rep_calls.specs.declared.past.PastEntry.{PastEntry}
 use Rattle.packet_code.specs.declared.route.Route.{Route}
 use Rattle.packet_code.specs.Limits.{IsSiteName, IsPlace}
 use Rattle.packet_code.specs.Spelling.{name_bytes, past_bytes, txn_bytes, IsEncoding}
@@ -19,7 +19,7 @@ carry_split : (from to number position dep told sent : List ℕ)
 carry_split from to number position dep told sent = simp append_assoc refl
 
 -- names that have the form of one, a place, and what can go
-pub IsEncoding-body : (route : Route) (past : List Past) (txn : Txn) (body : List ℕ) → IsSiteName route.from → IsSiteName route.to
+pub IsEncoding-body : (route : Route) (past : List PastEntry) (txn : Txn) (body : List ℕ) → IsSiteName route.from → IsSiteName route.to
     → IsPlace route.number route.position route.dep → CanSeal route past txn body → IsEncoding (head_bytes route ++ body) (carried route past txn)
 IsEncoding-body route past txn body sender receiver place can =
     let seen = can.seen can.body.seen in

@@ -9,7 +9,7 @@ use Rattle.packet_code.specs.Limits.{IsSiteName}
 use Rattle.packet_code.specs.Spelling.{name_bytes, past_bytes, txn_bytes, IsEncoding}
 use Rattle.packet_code.specs.Reading.{◌>>=◌, byte}
 use Rattle.packet_code.specs.Route.{stream_position}
-use Rattle.packet_code.specs.Heads.{position_of, carry_position, position_in}
+use Rattle.packet_code.specs.Heads.{head_position, carry_position, position_in}
 use Rattle.packet_code.proofs.Exact.{pair-exact}
 use Rattle.packet_code.proofs.Numbers.{u64-exact}
 use Rattle.packet_code.proofs.FormsExact.{sized-exact, name_fits, site-exact}
@@ -27,7 +27,7 @@ carry_position-complete : (from to : SiteName) (number position : ℕ) (rest : L
     → carry_position (head_bytes from to number position ++ rest) ≡ Some (Some (record { from = from; position = position }), rest)
 carry_position-complete from to number position rest sender receiver number_fits position_fits =
     let head-exact = pair-exact site-exact (λ from is. pair-exact sized-exact (λ to is. pair-exact u64-exact (λ number fits. u64-exact))) in
-    ap (λ (read : Option ((SiteName × (List ℕ × (ℕ × ℕ))) × List ℕ)). read >>= λ x. Some (position_of x.0, x.1))
+    ap (λ (read : Option ((SiteName × (List ℕ × (ℕ × ℕ))) × List ℕ)). read >>= λ x. Some (head_position x.0, x.1))
     (head-exact.complete (from, (to.0, (number, position))) rest (sender, (name_fits to.0 receiver, (number_fits, position_fits))))
 
 -- what the first two bytes tell

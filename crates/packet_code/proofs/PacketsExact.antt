@@ -5,15 +5,15 @@ use Rattle.std.specs.Int.{w64, to_be_bytes}
 use Rattle.std.proofs.lemmas.Bool.{leb-true, le-leb, eqb-true}
 use Rattle.rep_values.specs.declared.name.SiteName.{SiteName}
 use Rattle.rep_calls.specs.declared.call.Txn.{Txn}
-use Rattle.rep_calls.specs.declared.past.Past.{Past}
+use Rattle.rep_calls.specs.declared.past.PastEntry.{PastEntry}
 use Rattle.packet_code.specs.declared.packet.Packet.{Packet}
 use Rattle.packet_code.specs.declared.packet.Packet.TheVariants.{Carry, Mark}
 use Rattle.packet_code.specs.declared.version.Version.{Version}
 use Rattle.packet_code.specs.declared.version.Version.TheVariants.{First, Second}
-use Rattle.packet_code.specs.Limits.{IsSiteName, IsPlainTxn, IsPlace, IsPast, IsPacket}
+use Rattle.packet_code.specs.Limits.{IsSiteName, IsPlainTxn, IsPlace, IsCausalPast, IsPacket}
 use Rattle.packet_code.specs.Spelling.{name_bytes, txn_bytes, past_bytes, packet_bytes, older_packet_bytes, HasNoPast, IsAccepted}
 use Rattle.packet_code.specs.Reading.{nothing, byte, behind, either}
-use Rattle.packet_code.specs.Forms.{is_place, place, past_of_version, carry_of, carry, mark_of, mark, packet_of_kind, packet}
+use Rattle.packet_code.specs.Forms.{is_place, place, past_of_version, carry_of, carry, mark_packet_of, mark, packet_of_kind, packet}
 use Rattle.packet_code.proofs.Exact.{IsExact, AreBytes, left_bytes, both_true, said_so, tested-exact, made-exact, pair-exact, behind-exact, either-exact, nothing-exact, given-exact, byte-exact, bound}
 use Rattle.packet_code.proofs.Numbers.{u64-exact}
 use Rattle.packet_code.proofs.FormsExact.{site-exact}
@@ -39,19 +39,19 @@ place-exact = said_so
     lt-trans below above = omega (arith, below, above)
 
 -- the bytes of a past in a version
-abbrev told_bytes : Version → List Past → List ℕ
+abbrev told_bytes : Version → List PastEntry → List ℕ
 told_bytes First past = []
 told_bytes Second past = past_bytes past
 
 -- a past that a version can tell
-abbrev CanTell : Version → List Past → Type 0
+abbrev CanTell : Version → List PastEntry → Type 0
 CanTell First past = past ≡ []
 CanTell Second past = Unit {0}
 
-no_past : (from : SiteName) → IsPast from []
+no_past : (from : SiteName) → IsCausalPast from []
 no_past from = record { most = omega arith; each = tt; rise = tt }
 
-past_of_version-exact : (version : Version) (from : SiteName) → IsExact (λ past. IsPast from past × CanTell version past) (told_bytes version) (past_of_version version from)
+past_of_version-exact : (version : Version) (from : SiteName) → IsExact (λ past. IsCausalPast from past × CanTell version past) (told_bytes version) (past_of_version version from)
 past_of_version-exact First from = said_so (given-exact []) (λ past. (λ e. (rw e (no_past from), e), λ is. is.1))
 past_of_version-exact Second from = said_so (past-exact from) (λ past. (λ is. (is, tt), λ is. is.0))
 
@@ -75,7 +75,7 @@ IsPacketIn Second packet = IsPacket packet × Unit {0}
 abbrev IsPacketOfKind : Version → ℕ → Packet → Type 0
 IsPacketOfKind version kind packet = IsPacketIn version packet × (packet_kind packet ≡ kind)
 
-carries : (version : Version) (from to : SiteName) (number position dep : ℕ) (past : List Past) (sent : Txn)
+carries : (version : Version) (from to : SiteName) (number position dep : ℕ) (past : List PastEntry) (sent : Txn)
     → IsPacketIn version (Carry from to number position dep past sent) ↔ (IsPacket (Carry from to number position dep past sent) × CanTell version past)
 carries First from to number position dep past sent = (λ is. is, λ is. is)
 carries Second from to number position dep past sent = (λ is. is, λ is. is)
@@ -102,8 +102,8 @@ carry-exact version = made-exact (IsPacketOfKind version 1) (packet_rest version
     back
   where
     back : (packet : Packet) → IsPacketOfKind version 1 packet
-        → (p : SiteName × (SiteName × ((ℕ × (ℕ × ℕ)) × (List Past × Txn))))
-        × (IsSiteName p.0 × (IsSiteName p.1.0 × (IsPlace p.1.1.0.0 p.1.1.0.1.0 p.1.1.0.1.1 × ((IsPast p.0 p.1.1.1.0 × CanTell version p.1.1.1.0) × IsPlainTxn p.1.1.1.1)))) × (carry_of p ≡ packet)
+        → (p : SiteName × (SiteName × ((ℕ × (ℕ × ℕ)) × (List PastEntry × Txn))))
+        × (IsSiteName p.0 × (IsSiteName p.1.0 × (IsPlace p.1.1.0.0 p.1.1.0.1.0 p.1.1.0.1.1 × ((IsCausalPast p.0 p.1.1.1.0 × CanTell version p.1.1.1.0) × IsPlainTxn p.1.1.1.1)))) × (carry_of p ≡ packet)
     back (Carry from to number position dep past sent) is =
         let in_version = (carries version from to number position dep past sent).0 is.0 in
         let whole = in_version.0 in
@@ -111,13 +111,13 @@ carry-exact version = made-exact (IsPacketOfKind version 1) (packet_rest version
     back (Mark from to finished) is = cc
 
 mark-exact : (version : Version) → IsExact (IsPacketOfKind version 2) (packet_rest version) mark
-mark-exact version = made-exact (IsPacketOfKind version 2) (packet_rest version) mark_of
+mark-exact version = made-exact (IsPacketOfKind version 2) (packet_rest version) mark_packet_of
     (pair-exact site-exact (λ from is. pair-exact site-exact (λ to is. u64-exact)))
     (λ p is. (((marks version p.0 p.1.0 p.1.1).1 (record { sender = is.0; receiver = is.1.0; mark_fits = is.1.1 }), refl), append_assoc (name_bytes p.0) (name_bytes p.1.0) (to_be_bytes w64 p.1.1)))
     back
   where
     back : (packet : Packet) → IsPacketOfKind version 2 packet
-        → (p : SiteName × (SiteName × ℕ)) × (IsSiteName p.0 × (IsSiteName p.1.0 × (p.1.1 < 2 ^ 64))) × (mark_of p ≡ packet)
+        → (p : SiteName × (SiteName × ℕ)) × (IsSiteName p.0 × (IsSiteName p.1.0 × (p.1.1 < 2 ^ 64))) × (mark_packet_of p ≡ packet)
     back (Carry from to number position dep past sent) is = cc
     back (Mark from to finished) is = let whole = (marks version from to finished).0 is.0 in ((from, (to, finished)), (whole.sender, (whole.receiver, whole.mark_fits)), refl)
 

@@ -15,25 +15,25 @@ use Rattle.rep_lists.proofs.Each.{each_then}
 use Rattle.rep_values.specs.declared.name.SiteName.{SiteName}
 use Rattle.rep_values.specs.Name.{same_bytes}
 use Rattle.rep_values.specs.Order.{name_cmp}
-use Rattle.rep_calls.specs.declared.past.Past.{Past}
-use Rattle.packet_code.specs.Limits.{IsSiteName, IsSeen, IsPast}
-use Rattle.packet_code.specs.Spelling.{seen_bytes, past_bytes}
-use Rattle.packet_code.specs.Forms.{seen_of, is_from_one, seen, are_others, names_rise, is_past, past}
+use Rattle.rep_calls.specs.declared.past.PastEntry.{PastEntry}
+use Rattle.packet_code.specs.Limits.{IsSiteName, IsPastEntry, IsCausalPast}
+use Rattle.packet_code.specs.Spelling.{past_entry_bytes, past_bytes}
+use Rattle.packet_code.specs.Forms.{past_entry_of, is_from_one, seen, are_others, names_rise, is_past, past}
 use Rattle.packet_code.proofs.Exact.{IsExact, both_true, said_so, tested-exact, made-exact, pair-exact, byte-exact, counted_up_to-exact}
 use Rattle.packet_code.proofs.Numbers.{u64-exact}
 use Rattle.packet_code.proofs.FormsExact.{site-exact}
 
 -- a name, and a number of eight bytes from 1
-abbrev IsOfSomeSite : Past → Type 0
+abbrev IsOfSomeSite : PastEntry → Type 0
 IsOfSomeSite seen = (IsSiteName seen.origin × (seen.number < 2 ^ 64)) × (1 ≤ seen.number)
 
-seen-exact : IsExact IsOfSomeSite seen_bytes seen
+seen-exact : IsExact IsOfSomeSite past_entry_bytes seen
 unfolding seen
 seen-exact = tested-exact
-    (made-exact (λ (one : Past). IsSiteName one.origin × (one.number < 2 ^ 64)) seen_bytes seen_of (pair-exact site-exact (λ origin is. u64-exact))
+    (made-exact (λ (one : PastEntry). IsSiteName one.origin × (one.number < 2 ^ 64)) past_entry_bytes past_entry_of (pair-exact site-exact (λ origin is. u64-exact))
     (λ p is. (is, refl))
     (λ one is. ((one.origin, one.number), is, refl)))
-    is_from_one (λ (one : Past). 1 ≤ one.number) (λ one is. (λ e. leb-true 1 one.number e, λ h. le-leb 1 one.number h))
+    is_from_one (λ (one : PastEntry). 1 ≤ one.number) (λ one is. (λ e. leb-true 1 one.number e, λ h. le-leb 1 one.number h))
 
 -- the test of two sites
 not_same_site : (a b : SiteName) → (not (same_bytes a.0 b.0) ≡ true) ↔ (a ≢ b)
@@ -47,7 +47,7 @@ not_same_site a b = go (same_bytes a.0 b.0) refl
     go false same = (λ e equal. let is = decides.1 (ap (λ (s : SiteName). s.0) equal) in cc, λ differ. refl)
 
 -- the test that the sender isn't among them
-others_test : (from : SiteName) (past : List Past) → (are_others from past ≡ true) ↔ AllByRecursion (λ (one : Past). one.origin ≢ from) past
+others_test : (from : SiteName) (past : List PastEntry) → (are_others from past ≡ true) ↔ AllByRecursion (λ (one : PastEntry). one.origin ≢ from) past
 others_test from [] = (λ e. tt, λ h. refl)
 others_test from (one ∷ past) =
     let later = others_test from past in
@@ -62,7 +62,7 @@ less_is Equal e = cc
 less_is Greater e = cc
 
 -- where each name is below the next, each is below all later ones
-pub names_rise_test : (past : List Past) → (names_rise past ≡ true) ↔ RisesBy (λ (one : Past). one.origin.0) name_cmp past
+pub names_rise_test : (past : List PastEntry) → (names_rise past ≡ true) ↔ RisesBy (λ (one : PastEntry). one.origin.0) name_cmp past
 names_rise_test [] = (λ e. tt, λ h. refl)
 names_rise_test (first ∷ []) = (λ e. (tt, tt), λ h. refl)
 names_rise_test (first ∷ next ∷ past) =
@@ -73,7 +73,7 @@ names_rise_test (first ∷ next ∷ past) =
           let rest = later.0 b.1 in (
             (
               below,
-              each_then (λ (one : Past). name_cmp next.origin.0 one.origin.0 ≡ Less) (λ (one : Past). name_cmp first.origin.0 one.origin.0 ≡ Less)
+              each_then (λ (one : PastEntry). name_cmp next.origin.0 one.origin.0 ≡ Less) (λ (one : PastEntry). name_cmp first.origin.0 one.origin.0 ≡ Less)
                   (λ one above. nat_list_cmp_total.trans first.origin.0 next.origin.0 one.origin.0 below above) past rest.0,
             ),
             rest,
@@ -81,14 +81,14 @@ names_rise_test (first ∷ next ∷ past) =
       λ h. rw (h.0.0, later.1 h.1) refl,
     )
 
-past_test : (from : SiteName) (past : List Past) → (is_past from past ≡ true) ↔ (AllByRecursion (λ (one : Past). one.origin ≢ from) past × RisesBy (λ (one : Past). one.origin.0) name_cmp past)
+past_test : (from : SiteName) (past : List PastEntry) → (is_past from past ≡ true) ↔ (AllByRecursion (λ (one : PastEntry). one.origin ≢ from) past × RisesBy (λ (one : PastEntry). one.origin.0) name_cmp past)
 past_test from past = (
   λ e. let b = both_true (are_others from past) (names_rise past) e in ((others_test from past).0 b.0, (names_rise_test past).0 b.1),
   λ h. rw ((others_test from past).1 h.0, (names_rise_test past).1 h.1) refl,
 )
 
 -- masters that aren't the sender
-each_seen : (from : SiteName) (past : List Past) → (AllByRecursion IsOfSomeSite past × AllByRecursion (λ (one : Past). one.origin ≢ from) past) ↔ AllByRecursion (IsSeen from) past
+each_seen : (from : SiteName) (past : List PastEntry) → (AllByRecursion IsOfSomeSite past × AllByRecursion (λ (one : PastEntry). one.origin ≢ from) past) ↔ AllByRecursion (IsPastEntry from) past
 each_seen from [] = (λ h. tt, λ h. (tt, tt))
 each_seen from (one ∷ past) =
     let later = each_seen from past in (
@@ -97,11 +97,11 @@ each_seen from (one ∷ past) =
     )
 
 -- a past
-pub past-exact : (from : SiteName) → IsExact (IsPast from) past_bytes (past from)
+pub past-exact : (from : SiteName) → IsExact (IsCausalPast from) past_bytes (past from)
 unfolding past
 past-exact from = said_so
     (tested-exact (counted_up_to-exact byte-exact 7 (λ n le. omega (arith, le)) seen-exact) (is_past from)
-    (λ (past : List Past). AllByRecursion (λ (one : Past). one.origin ≢ from) past × RisesBy (λ (one : Past). one.origin.0) name_cmp past) (λ past is. past_test from past))
+    (λ (past : List PastEntry). AllByRecursion (λ (one : PastEntry). one.origin ≢ from) past × RisesBy (λ (one : PastEntry). one.origin.0) name_cmp past) (λ past is. past_test from past))
     (λ past. (
       λ h. record { most = h.0.0; each = (each_seen from past).0 (h.0.1, h.1.0); rise = h.1.1 },
       λ is. let each = (each_seen from past).1 is.each in ((is.most, each.0), (each.1, is.rise)),

@@ -16,7 +16,7 @@ use Rattle.rep_calls.specs.declared.call.Call.{Call}
 use Rattle.rep_calls.specs.declared.call.Call.TheVariants.{Insert, Update, Delete}
 use Rattle.rep_calls.specs.declared.call.Part.{Part}
 use Rattle.rep_calls.specs.declared.call.Txn.{Txn}
-use Rattle.rep_calls.specs.declared.past.Past.{Past}
+use Rattle.rep_calls.specs.declared.past.PastEntry.{PastEntry}
 use Rattle.packet_code.specs.declared.packet.Packet.{Packet}
 use Rattle.packet_code.specs.declared.packet.Packet.TheVariants.{Carry, Mark}
 use Rattle.packet_code.specs.declared.version.Version.{Version}
@@ -135,42 +135,42 @@ unfoldable pub place : Reading (ℕ × (ℕ × ℕ))
 place = tested is_place (u64_number ▸ λ number. u64_number ▸ λ position. u64_number)
 
 -- a master, and how far it was seen
-abbrev pub seen_of : SiteName × ℕ → Past
-seen_of p = record { origin = p.0; number = p.1 }
+abbrev pub past_entry_of : SiteName × ℕ → PastEntry
+past_entry_of p = record { origin = p.0; number = p.1 }
 
 -- a number from 1
-abbrev pub is_from_one : Past → Bool
+abbrev pub is_from_one : PastEntry → Bool
 is_from_one seen = nat_le 1 seen.number
 
 -- a master, and a number from 1
-unfoldable pub seen : Reading Past
-seen = tested is_from_one (made seen_of (site ▸ λ origin. u64_number))
+unfoldable pub seen : Reading PastEntry
+seen = tested is_from_one (made past_entry_of (site ▸ λ origin. u64_number))
 
 -- none of them is this site
-abbrev pub are_others : SiteName → List Past → Bool
-are_others from past = list_all (λ (seen : Past). not (same_bytes seen.origin.0 from.0)) past
+abbrev pub are_others : SiteName → List PastEntry → Bool
+are_others from past = list_all (λ (seen : PastEntry). not (same_bytes seen.origin.0 from.0)) past
 
 -- the first name is below the next, and so on
-abbrev pub names_rise : List Past → Bool
+abbrev pub names_rise : List PastEntry → Bool
 names_rise [] = true
 names_rise (first ∷ []) = true
 names_rise (first ∷ next ∷ past) = is_lt (name_cmp first.origin.0 next.origin.0) && names_rise (next ∷ past)
 
 -- the masters of a past aren't the sender, and stand in order
-abbrev pub is_past : SiteName → List Past → Bool
+abbrev pub is_past : SiteName → List PastEntry → Bool
 is_past from past = are_others from past && names_rise past
 
 -- a count up to 7, and so many masters
-unfoldable pub past : SiteName → Reading (List Past)
+unfoldable pub past : SiteName → Reading (List PastEntry)
 past from = tested (is_past from) (behind byte (up_to 7 seen))
 
 -- the past of a packet, where its version tells one
-abbrev pub past_of_version : Version → SiteName → Reading (List Past)
+abbrev pub past_of_version : Version → SiteName → Reading (List PastEntry)
 past_of_version First from = given []
 past_of_version Second from = past from
 
 -- a transaction on its way, of both sites, its place, its past and itself
-abbrev pub carry_of : SiteName × (SiteName × ((ℕ × (ℕ × ℕ)) × (List Past × Txn))) → Packet
+abbrev pub carry_of : SiteName × (SiteName × ((ℕ × (ℕ × ℕ)) × (List PastEntry × Txn))) → Packet
 carry_of p = Carry p.0 p.1.0 p.1.1.0.0 p.1.1.0.1.0 p.1.1.0.1.1 p.1.1.1.0 p.1.1.1.1
 
 -- both sites, a place, a past and a transaction
@@ -178,12 +178,12 @@ abbrev pub carry : Version → Reading Packet
 carry version = made carry_of (site ▸ λ from. site ▸ λ to. place ▸ λ at. past_of_version version from ▸ λ seen. txn)
 
 -- a mark of both sites and a position
-abbrev pub mark_of : SiteName × (SiteName × ℕ) → Packet
-mark_of p = Mark p.0 p.1.0 p.1.1
+abbrev pub mark_packet_of : SiteName × (SiteName × ℕ) → Packet
+mark_packet_of p = Mark p.0 p.1.0 p.1.1
 
 -- both sites and a position
 abbrev pub mark : Reading Packet
-mark = made mark_of (site ▸ λ from. site ▸ λ to. u64_number)
+mark = made mark_packet_of (site ▸ λ from. site ▸ λ to. u64_number)
 
 -- what stands behind the byte that tells the kind of a packet
 abbrev pub packet_of_kind : Version → ℕ → Reading Packet

@@ -6,12 +6,12 @@ use Rattle.packet_code.specs.Reading.{Reading, ◌>>=◌, given, byte, sized, ma
 use Rattle.packet_code.specs.Forms.{site}
 
 -- the sender and the position, of both sites, the number and the position
-abbrev pub position_of : SiteName × (List ℕ × (ℕ × ℕ)) → Option StreamPosition
-position_of p = Some (record { from = p.0; position = p.1.1.1 })
+abbrev pub head_position : SiteName × (List ℕ × (ℕ × ℕ)) → Option StreamPosition
+head_position p = Some (record { from = p.0; position = p.1.1.1 })
 
 -- who sent a transaction, and its position
 abbrev pub carry_position : Reading (Option StreamPosition)
-carry_position = made position_of (site ▸ λ from. sized ▸ λ to. u64_number ▸ λ number. u64_number)
+carry_position = made head_position (site ▸ λ from. sized ▸ λ to. u64_number ▸ λ number. u64_number)
 
 -- what stands behind the byte that tells the kind of a packet
 abbrev pub position_of_kind : ℕ → Reading (Option StreamPosition)

@@ -16,7 +16,7 @@ use Rattle.rep_calls.specs.declared.call.Call.{Call}
 use Rattle.rep_calls.specs.declared.call.Call.TheVariants.{Insert, Update, Delete}
 use Rattle.rep_calls.specs.declared.call.Part.{Part}
 use Rattle.rep_calls.specs.declared.call.Txn.{Txn}
-use Rattle.rep_calls.specs.declared.past.Past.{Past}
+use Rattle.rep_calls.specs.declared.past.PastEntry.{PastEntry}
 use Rattle.packet_code.specs.declared.packet.Packet.{Packet}
 use Rattle.packet_code.specs.declared.packet.Packet.TheVariants.{Carry, Mark}
 
@@ -83,24 +83,24 @@ abbrev pub IsSiteName : SiteName → Type 0
 IsSiteName site = is_name site.0 ≡ true
 
 -- what was seen of a master: another site than the sender, and a number of eight bytes from 1
-pub record IsSeen (from : SiteName) (seen : Past) : Type 0 where
+pub record IsPastEntry (from : SiteName) (seen : PastEntry) : Type 0 where
   pub origin : IsSiteName seen.origin
   pub another : seen.origin ≢ from
   pub from_one : 1 ≤ seen.number
   pub number_fits : seen.number < 2 ^ 64
 
 -- what a sender had seen of at most 7 masters, whose names rise by their bytes
-pub record IsPast (from : SiteName) (past : List Past) : Type 0 where
+pub record IsCausalPast (from : SiteName) (past : List PastEntry) : Type 0 where
   pub most : length past ≤ 7
-  pub each : AllByRecursion (IsSeen from) past
-  pub rise : RisesBy (λ (seen : Past). seen.origin.0) name_cmp past
+  pub each : AllByRecursion (IsPastEntry from) past
+  pub rise : RisesBy (λ (seen : PastEntry). seen.origin.0) name_cmp past
 
 -- a transaction on its way within all limits
-pub record IsCarry (from to : SiteName) (number position dep : ℕ) (past : List Past) (txn : Txn) : Type 0 where
+pub record IsCarry (from to : SiteName) (number position dep : ℕ) (past : List PastEntry) (txn : Txn) : Type 0 where
   pub sender : IsSiteName from
   pub receiver : IsSiteName to
   pub at : IsPlace number position dep
-  pub seen : IsPast from past
+  pub seen : IsCausalPast from past
   pub sent : IsPlainTxn txn
 
 -- a mark within all limits

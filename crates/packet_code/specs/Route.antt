@@ -1,14 +1,14 @@
 -- A transaction on its route, and in its stream.
 use Rattle.std.specs.Prelude.{List, Option, Some, None}
 use Rattle.rep_calls.specs.declared.call.Txn.{Txn}
-use Rattle.rep_calls.specs.declared.past.Past.{Past}
+use Rattle.rep_calls.specs.declared.past.PastEntry.{PastEntry}
 use Rattle.packet_code.specs.declared.packet.Packet.{Packet}
 use Rattle.packet_code.specs.declared.packet.Packet.TheVariants.{Carry, Mark}
 use Rattle.packet_code.specs.declared.route.Route.{Route}
 use Rattle.packet_code.specs.declared.stream_position.StreamPosition.{StreamPosition}
 
 -- the packet that carries a transaction
-abbrev pub carried : Route → List Past → Txn → Packet
+abbrev pub carried : Route → List PastEntry → Txn → Packet
 carried route past txn = Carry route.from route.to route.number route.position route.dep past txn
 
 -- who sent the transaction of a packet, and its position in the stream; none for a mark

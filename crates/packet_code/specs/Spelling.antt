@@ -10,7 +10,7 @@ use Rattle.rep_calls.specs.declared.call.Call.{Call}
 use Rattle.rep_calls.specs.declared.call.Call.TheVariants.{Insert, Update, Delete}
 use Rattle.rep_calls.specs.declared.call.Part.{Part}
 use Rattle.rep_calls.specs.declared.call.Txn.{Txn}
-use Rattle.rep_calls.specs.declared.past.Past.{Past}
+use Rattle.rep_calls.specs.declared.past.PastEntry.{PastEntry}
 use Rattle.packet_code.specs.declared.packet.Packet.{Packet}
 use Rattle.packet_code.specs.declared.packet.Packet.TheVariants.{Carry, Mark}
 use Rattle.packet_code.specs.Limits.{IsPacket}
@@ -47,12 +47,12 @@ abbrev pub txn_bytes : Txn → List ℕ
 txn_bytes txn = to_be_bytes w32 (length txn.calls) ++ flat_map call_bytes txn.calls
 
 -- a master, and how far it was seen
-abbrev pub seen_bytes : Past → List ℕ
-seen_bytes seen = name_bytes seen.origin ++ to_be_bytes w64 seen.number
+abbrev pub past_entry_bytes : PastEntry → List ℕ
+past_entry_bytes seen = name_bytes seen.origin ++ to_be_bytes w64 seen.number
 
 -- how many masters, and then each
-abbrev pub past_bytes : List Past → List ℕ
-past_bytes past = length past ∷ flat_map seen_bytes past
+abbrev pub past_bytes : List PastEntry → List ℕ
+past_bytes past = length past ∷ flat_map past_entry_bytes past
 
 -- the version, 1 for a transaction or 2 for a mark, both sites, and then what is sent
 abbrev pub packet_bytes : Packet → List ℕ

@@ -10,7 +10,7 @@ use Rattle.rep_calls.specs.declared.call.Call.{Call}
 use Rattle.rep_calls.specs.declared.call.Call.TheVariants.{Insert, Update, Delete}
 use Rattle.rep_calls.specs.declared.call.Part.{Part}
 use Rattle.rep_calls.specs.declared.call.Txn.{Txn}
-use Rattle.rep_calls.specs.declared.past.Past.{Past}
+use Rattle.rep_calls.specs.declared.past.PastEntry.{PastEntry}
 use Rattle.packet_code.specs.Limits.{IsSiteName}
 
 -- a number, or bytes that have the form of a text
@@ -38,10 +38,10 @@ abbrev pub TxnHasTextForm : Txn → Type 0
 TxnHasTextForm txn = AllByRecursion CallHasTextForm txn.calls
 
 -- bytes that have the form of a name, and a number of eight bytes
-pub record SeenHasForm (seen : Past) : Type 0 where
+pub record PastEntryHasForm (seen : PastEntry) : Type 0 where
   pub origin : IsSiteName seen.origin
   pub number : seen.number < 2 ^ 64
 
 -- each name and number of a past
-abbrev pub PastHasForm : List Past → Type 0
-PastHasForm past = AllByRecursion SeenHasForm past
+abbrev pub PastHasForm : List PastEntry → Type 0
+PastHasForm past = AllByRecursion PastEntryHasForm past

@@ -3,7 +3,7 @@ ghost use Rattle.std.specs.Prelude.{◌≡◌, IfOk};
 ghost use Rattle.packet_code.specs.Bodies.{IsBody};
 
 use crate::encoding::body_bytes;
-use rep_calls::{Past, Txn};
+use rep_calls::{PastEntry, Txn};
 use rep_lists::NoMemory;
 use std::alloc::Global;
 use std::marker::Model;
@@ -24,7 +24,7 @@ impl Model for Body {
 
 impl Body {
     /// The bytes of both. A text and a name have the form of one, whatever they are.
-    pub fn of(alloc: Global, past: &[Past], txn: &Txn) -> Result<Body, NoMemory>
+    pub fn of(alloc: Global, past: &[PastEntry], txn: &Txn) -> Result<Body, NoMemory>
         ensures { IfOk result (λ body. IsBody past.now txn.now body) }
     {
         Ok(Body {

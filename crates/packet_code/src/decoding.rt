@@ -12,7 +12,7 @@ use crate::reader::Reader;
 use crate::stop::Stop;
 use crate::value_reading::site;
 use crate::version::Version;
-use rep_calls::Past;
+use rep_calls::PastEntry;
 use rep_lists::{Items, NoMemory};
 use rep_values::SiteName;
 use std::alloc::Global;
@@ -23,7 +23,7 @@ fn past_of_version(
     bytes: &mut Reader<'_>,
     version: Version,
     from: &SiteName,
-) -> Result<Items<Past>, Stop>
+) -> Result<Items<PastEntry>, Stop>
     ensures { Reads (past_of_version version from.now) result bytes.old bytes.new }
 {
     match version {

@@ -2,13 +2,13 @@
 ghost use Rattle.std.specs.Prelude.{◌≡◌, ◌≤◌, ◌<◌, ◌∷◌, ◌++◌, List, length, IfOk, OnOk};
 ghost use Rattle.std.specs.Int.{w16, w32, w64, to_be_bytes};
 ghost use Rattle.std.specs.List.{AllByRecursion, flat_map};
-ghost use Rattle.packet_code.specs.Limits.{IsPlainPart, ArePlainParts, IsPlainTable, IsPlainCall, IsPlainTxn, IsSiteName, IsPast, IsPacket};
+ghost use Rattle.packet_code.specs.Limits.{IsPlainPart, ArePlainParts, IsPlainTable, IsPlainCall, IsPlainTxn, IsSiteName, IsCausalPast, IsPacket};
 ghost use Rattle.rep_values.specs.declared.value.Value.TheVariants.{Num};
 ghost use Rattle.rep_calls.specs.declared.call.Txn.{Txn as TxnValue};
-ghost use Rattle.rep_calls.specs.declared.past.Past.{Past as PastValue};
+ghost use Rattle.rep_calls.specs.declared.past.PastEntry.{PastEntry as PastValue};
 ghost use Rattle.packet_code.specs.declared.packet.Packet.TheVariants.{Mark};
 ghost use Rattle.packet_code.specs.Texts.{TxnHasTextForm, PastHasForm};
-ghost use Rattle.packet_code.specs.Spelling.{name_bytes, value_bytes, values_bytes, part_bytes, parts_bytes, call_bytes, txn_bytes, seen_bytes, past_bytes, packet_bytes, IsEncoding};
+ghost use Rattle.packet_code.specs.Spelling.{name_bytes, value_bytes, values_bytes, part_bytes, parts_bytes, call_bytes, txn_bytes, past_entry_bytes, past_bytes, packet_bytes, IsEncoding};
 ghost use Rattle.packet_code.specs.Route.{carried};
 ghost use Rattle.packet_code.specs.Bodies.{IsBody, CanSeal};
 ghost use Rattle.rep_values.specs.Number.{IsRowLen};
@@ -16,7 +16,7 @@ ghost use Rattle.rep_values.specs.Number.{IsRowLen};
 use crate::limits::is_plain_txn;
 use crate::room::{past_room, txn_room};
 use crate::{Packet, Route};
-use rep_calls::{Call, Part, Past, Txn};
+use rep_calls::{Call, Part, PastEntry, Txn};
 use rep_lists::NoMemory;
 use rep_values::{SiteName, Value};
 use std::alloc::Global;
@@ -176,40 +176,40 @@ fn push_head(out: &mut Vec<u8>, kind: u8, from: &SiteName, to: &SiteName) -> Res
     push_name(out, to)
 }
 
-fn push_seen(out: &mut Vec<u8>, seen: &Past) -> Result<(), NoMemory>
-    ensures { OnOk result (out.new.items ≡ out.old.items ++ seen_bytes seen.now) }
+fn push_past_entry(out: &mut Vec<u8>, seen: &PastEntry) -> Result<(), NoMemory>
+    ensures { OnOk result (out.new.items ≡ out.old.items ++ past_entry_bytes seen.now) }
 {
     push_name(out, &seen.origin)?;
     push_number(out, seen.number)
 }
 
-fn push_each_seen(out: &mut Vec<u8>, past: &[Past]) -> Result<(), NoMemory>
-    ensures { OnOk result (out.new.items ≡ out.old.items ++ flat_map seen_bytes past.now) }
+fn push_each_past_entry(out: &mut Vec<u8>, past: &[PastEntry]) -> Result<(), NoMemory>
+    ensures { OnOk result (out.new.items ≡ out.old.items ++ flat_map past_entry_bytes past.now) }
 {
     for seen in past {
-        push_seen(out, seen)?;
+        push_past_entry(out, seen)?;
     }
     Ok(())
 }
 
-fn push_past(out: &mut Vec<u8>, past: &[Past]) -> Result<(), NoMemory>
+fn push_past(out: &mut Vec<u8>, past: &[PastEntry]) -> Result<(), NoMemory>
     requires { length past.now ≤ 7 }
     ensures { OnOk result (out.new.items ≡ out.old.items ++ past_bytes past.now) }
 {
     out.push(past.len() as u8)?;
-    push_each_seen(out, past)
+    push_each_past_entry(out, past)
 }
 
 /// The bytes of a packet that carries a transaction.
 pub(crate) fn carry_bytes(
     alloc: Global,
     route: &Route,
-    past: &[Past],
+    past: &[PastEntry],
     txn: &Txn,
 ) -> Result<Vec<u8>, NoMemory>
     requires from_one { 1 ≤ route.now.number }
     requires earlier { route.now.dep < route.now.position }
-    requires seen { PastHasForm past.now → IsPast route.now.from past.now }
+    requires seen { PastHasForm past.now → IsCausalPast route.now.from past.now }
     requires plain { TxnHasTextForm txn.now → IsPlainTxn txn.now }
     ensures { IfOk result (λ bytes. IsEncoding bytes.items (carried route.now past.now txn.now)) }
 {
@@ -227,7 +227,7 @@ pub(crate) fn carry_bytes(
 }
 
 /// A past and a transaction, where they are within their limits.
-fn push_body(out: &mut Vec<u8>, past: &[Past], txn: &Txn) -> Result<(), NoMemory>
+fn push_body(out: &mut Vec<u8>, past: &[PastEntry], txn: &Txn) -> Result<(), NoMemory>
     ensures { OnOk result (IsPlainTxn txn.now → length past.now ≤ 7 → out.new.items ≡ out.old.items ++ past_bytes past.now ++ txn_bytes txn.now) }
 {
     if past.len() > 7 || !is_plain_txn(txn) {
@@ -238,7 +238,7 @@ fn push_body(out: &mut Vec<u8>, past: &[Past], txn: &Txn) -> Result<(), NoMemory
 }
 
 /// The bytes of what a packet carries behind its head.
-pub(crate) fn body_bytes(alloc: Global, past: &[Past], txn: &Txn) -> Result<Vec<u8>, NoMemory>
+pub(crate) fn body_bytes(alloc: Global, past: &[PastEntry], txn: &Txn) -> Result<Vec<u8>, NoMemory>
     ensures { IfOk result (λ bytes. IsBody past.now txn.now bytes.items) }
 {
     let room = txn_room(txn)

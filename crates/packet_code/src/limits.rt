@@ -2,10 +2,10 @@
 ghost use Rattle.std.specs.Prelude.{◌≡◌, ◌↔◌, true, IsTrue};
 ghost use Rattle.std.specs.List.{AllByRecursion};
 ghost use Rattle.packet_code.specs.Forms.{groups_rise, are_others, names_rise};
-ghost use Rattle.packet_code.specs.Limits.{IsPlainValue, IsPlainRow, IsPlainKey, is_group_number, IsPlainPart, ArePlainParts, IsPlainTable, IsPlainCall, IsPlainTxn, IsPlace, IsSiteName, IsSeen, IsPast, IsPacket};
+ghost use Rattle.packet_code.specs.Limits.{IsPlainValue, IsPlainRow, IsPlainKey, is_group_number, IsPlainPart, ArePlainParts, IsPlainTable, IsPlainCall, IsPlainTxn, IsPlace, IsSiteName, IsPastEntry, IsCausalPast, IsPacket};
 
 use crate::Packet;
-use rep_calls::{Call, Part, Past, Txn};
+use rep_calls::{Call, Part, PastEntry, Txn};
 use rep_schema::{SHADOW, is_in_range};
 use rep_values::{SiteName, Value, compare_names, same_values};
 
@@ -142,24 +142,24 @@ fn is_place(number: u64, position: u64, dep: u64) -> bool
 }
 
 /// The name of a site has the form of one, whatever it is.
-fn is_site_name(site: &SiteName) -> bool
+fn is_named(site: &SiteName) -> bool
     ensures { IsTrue result ↔ IsSiteName site.now }
 {
     !site.0.bytes().is_empty()
 }
 
 /// Another site than the sender, and a number from 1.
-fn is_seen(from: &SiteName, seen: &Past) -> bool
-    ensures { IsTrue result ↔ IsSeen from.now seen.now }
+fn is_past_entry(from: &SiteName, seen: &PastEntry) -> bool
+    ensures { IsTrue result ↔ IsPastEntry from.now seen.now }
 {
-    is_site_name(&seen.origin) && !seen.origin.is_same(from) && 1 <= seen.number
+    is_named(&seen.origin) && !seen.origin.is_same(from) && 1 <= seen.number
 }
 
-fn is_each_seen(from: &SiteName, past: &[Past]) -> bool
-    ensures { IsTrue result ↔ AllByRecursion (IsSeen from.now) past.now }
+fn is_each_past_entry(from: &SiteName, past: &[PastEntry]) -> bool
+    ensures { IsTrue result ↔ AllByRecursion (IsPastEntry from.now) past.now }
 {
     for seen in past {
-        if !is_seen(from, seen) {
+        if !is_past_entry(from, seen) {
             return false;
         }
     }
@@ -167,14 +167,14 @@ fn is_each_seen(from: &SiteName, past: &[Past]) -> bool
 }
 
 /// Whether none of them is this site.
-pub(crate) fn are_others(from: &SiteName, past: &[Past]) -> bool
+pub(crate) fn are_others(from: &SiteName, past: &[PastEntry]) -> bool
     ensures { result ≡ are_others from.now past.now }
 {
     past.iter().all(|seen| !seen.origin.is_same(from))
 }
 
 /// Whether each name is above the one before it.
-pub(crate) fn names_rise(past: &[Past]) -> bool
+pub(crate) fn names_rise(past: &[PastEntry]) -> bool
     ensures { result ≡ names_rise past.now }
 {
     let Some((first, rest)) = past.split_first() else {
@@ -191,10 +191,10 @@ pub(crate) fn names_rise(past: &[Past]) -> bool
 }
 
 #[tactic(auto, using(crate::proofs::PastsExact::names_rise_test))]
-fn is_past(from: &SiteName, past: &[Past]) -> bool
-    ensures { IsTrue result ↔ IsPast from.now past.now }
+fn is_past(from: &SiteName, past: &[PastEntry]) -> bool
+    ensures { IsTrue result ↔ IsCausalPast from.now past.now }
 {
-    past.len() <= 7 && is_each_seen(from, past) && names_rise(past)
+    past.len() <= 7 && is_each_past_entry(from, past) && names_rise(past)
 }
 
 /// Whether a packet is within all limits, so that it has bytes. It takes no memory.
@@ -211,14 +211,14 @@ pub fn is_packet(packet: &Packet) -> bool
             past,
             txn,
         } => {
-            is_site_name(from)
-                && is_site_name(to)
+            is_named(from)
+                && is_named(to)
                 && is_place(*number, *position, *dep)
                 && is_past(from, past.as_slice())
                 && is_plain_txn(txn)
         }
         Packet::Mark { from, to, mark } => {
-            is_site_name(from) && is_site_name(to) && *mark <= u64::MAX
+            is_named(from) && is_named(to) && *mark <= u64::MAX
         }
     }
 }

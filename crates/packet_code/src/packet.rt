@@ -1,6 +1,6 @@
 //! What sites send each other.
 
-use rep_calls::{Past, Txn};
+use rep_calls::{PastEntry, Txn};
 use rep_lists::{Copies, Items, NoMemory};
 use rep_values::SiteName;
 use std::alloc::Global;
@@ -16,7 +16,7 @@ pub enum Packet {
         number: u64,
         position: u64,
         dep: u64,
-        past: Items<Past>,
+        past: Items<PastEntry>,
         txn: Txn,
     },
     /// The sender has finished all positions of the receiver's stream up to the mark.

@@ -7,14 +7,14 @@ use crate::reader::Reader;
 use crate::repeated::{Piece, up_to};
 use crate::stop::Stop;
 use crate::value_reading::site;
-use rep_calls::Past;
+use rep_calls::PastEntry;
 use rep_lists::Items;
 use rep_values::SiteName;
 use std::alloc::Global;
 
 /// A master, and a number from 1.
 #[tactic(auto, unfolding(crate::specs::Forms::seen))]
-fn seen(bytes: &mut Reader<'_>) -> Result<Past, Stop>
+fn past_entry(bytes: &mut Reader<'_>) -> Result<PastEntry, Stop>
     ensures { Reads seen result bytes.old bytes.new }
 {
     let origin = site(bytes)?;
@@ -22,25 +22,25 @@ fn seen(bytes: &mut Reader<'_>) -> Result<Past, Stop>
     if number < 1 {
         return Err(Stop::Form);
     }
-    Ok(Past { origin, number })
+    Ok(PastEntry { origin, number })
 }
 
-impl Piece for Past {
+impl Piece for PastEntry {
     ghost reading = { seen };
 
-    fn add(_alloc: Global, bytes: &mut Reader<'_>, found: &mut Vec<Past>) -> Result<(), Stop> {
-        found.push_reserved(seen(bytes)?);
+    fn add(_alloc: Global, bytes: &mut Reader<'_>, found: &mut Vec<PastEntry>) -> Result<(), Stop> {
+        found.push_reserved(past_entry(bytes)?);
         Ok(())
     }
 }
 
 /// A count, and so many masters.
 #[tactic(auto, unfolding(crate::specs::Forms::past))]
-pub fn past(alloc: Global, bytes: &mut Reader<'_>, from: &SiteName) -> Result<Items<Past>, Stop>
+pub fn past(alloc: Global, bytes: &mut Reader<'_>, from: &SiteName) -> Result<Items<PastEntry>, Stop>
     ensures { Reads (past from.now) result bytes.old bytes.new }
 {
     let count = bytes.byte()?;
-    let past = up_to::<Past>(alloc, bytes, 7, count as usize)?;
+    let past = up_to::<PastEntry>(alloc, bytes, 7, count as usize)?;
     if !are_others(from, past.as_slice()) {
         return Err(Stop::Form);
     }

@@ -1,9 +1,9 @@
 //! How many bytes a transaction and a past take. A wrong number would cost time and nothing else; what is looked through
 //! on the way tells that each text and each name has the form of one.
 ghost use Rattle.std.specs.List.{AllByRecursion};
-ghost use Rattle.packet_code.specs.Texts.{HasTextForm, HaveTextForm, PartHasTextForm, CallHasTextForm, TxnHasTextForm, SeenHasForm, PastHasForm};
+ghost use Rattle.packet_code.specs.Texts.{HasTextForm, HaveTextForm, PartHasTextForm, CallHasTextForm, TxnHasTextForm, PastEntryHasForm, PastHasForm};
 
-use rep_calls::{Call, Part, Past, Txn};
+use rep_calls::{Call, Part, PastEntry, Txn};
 use rep_values::Value;
 
 /// The kind, and the number or the length and the text.
@@ -75,8 +75,8 @@ pub(crate) fn txn_room(txn: &Txn) -> usize
 }
 
 /// The length and the name, and a number of eight bytes.
-fn seen_room(seen: &Past) -> usize
-    ensures { SeenHasForm seen.now }
+fn past_entry_room(seen: &PastEntry) -> usize
+    ensures { PastEntryHasForm seen.now }
 {
     // What is read is known to have eight bytes.
     let _number = seen.number;
@@ -84,12 +84,12 @@ fn seen_room(seen: &Past) -> usize
 }
 
 /// The bytes of all that was seen, without its count.
-pub(crate) fn past_room(past: &[Past]) -> usize
+pub(crate) fn past_room(past: &[PastEntry]) -> usize
     ensures { PastHasForm past.now }
 {
     let mut room: usize = 0;
     for seen in past {
-        room = room.saturating_add(seen_room(seen));
+        room = room.saturating_add(past_entry_room(seen));
     }
     room
 }

@@ -1,9 +1,9 @@
 //! Packets kept as their bytes.
 ghost use Rattle.std.specs.Prelude.{◌≡◌, ◌≤◌, ◌<◌, List, IfOk};
 ghost use Rattle.rep_calls.specs.declared.call.Txn.{Txn as TxnValue};
-ghost use Rattle.rep_calls.specs.declared.past.Past.{Past as PastValue};
+ghost use Rattle.rep_calls.specs.declared.past.PastEntry.{PastEntry as PastValue};
 ghost use Rattle.packet_code.specs.declared.packet.Packet.TheVariants.{Mark};
-ghost use Rattle.packet_code.specs.Limits.{IsPlainTxn, IsPast, IsPacket};
+ghost use Rattle.packet_code.specs.Limits.{IsPlainTxn, IsCausalPast, IsPacket};
 ghost use Rattle.packet_code.specs.Texts.{TxnHasTextForm, PastHasForm};
 ghost use Rattle.packet_code.specs.Spelling.{packet_bytes};
 ghost use Rattle.packet_code.specs.Route.{carried, stream_position};
@@ -14,7 +14,7 @@ use crate::encoding::{carry_bytes, loaded_bytes, mark_bytes};
 use crate::head_reading::position_in;
 use crate::stop::Stop;
 use crate::{Body, Packet, Route, StreamPosition, encode};
-use rep_calls::{Past, Txn};
+use rep_calls::{PastEntry, Txn};
 use rep_lists::{Copies, NoMemory};
 use rep_values::SiteName;
 use std::alloc::Global;
@@ -54,12 +54,12 @@ impl Sealed {
     pub fn seal_carry(
         alloc: Global,
         route: &Route,
-        past: &[Past],
+        past: &[PastEntry],
         txn: &Txn,
     ) -> Result<Sealed, NoMemory>
         requires from_one { 1 ≤ route.now.number }
         requires earlier { route.now.dep < route.now.position }
-        requires seen { PastHasForm past.now → IsPast route.now.from past.now }
+        requires seen { PastHasForm past.now → IsCausalPast route.now.from past.now }
         requires plain { TxnHasTextForm txn.now → IsPlainTxn txn.now }
         ensures { IfOk result (λ sealed. sealed ≡ carried route.now past.now txn.now) }
     {

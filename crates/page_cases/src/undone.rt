@@ -1,6 +1,6 @@
 //! Changes of all kinds in the first table, taken back.
 ghost use Rattle.std.specs.Prelude.{◌≡◌, ◌+◌, ◌<◌, ◌≤◌, [], ◌∷◌, length, slice_index, IfOk, OnOk};
-ghost use Rattle.rep_schema.specs.Changes.{IsChange, LeadsTo, made};
+ghost use Rattle.rep_schema.specs.Changes.{IsChange, LeadsTo, after_change};
 
 use crate::calls::{last_key, test_put, text};
 use case_lines::{CaseStop, Words};
@@ -16,7 +16,7 @@ fn put_row<R: RowStore>(alloc: Global, store: &mut R, row: Row) -> Result<Change
     requires room { 1 ≤ slice_index (R.spare store.old) 0 }
     ensures table { IfOk result (λ change. change.table ≡ 0) }
     ensures is { IfOk result (λ change. IsChange (R.schema store.old) change (R.tables store.old)) }
-    ensures made { IfOk result (λ change. R.tables store.new ≡ made (R.schema store.old) change (R.tables store.old)) }
+    ensures made { IfOk result (λ change. R.tables store.new ≡ after_change (R.schema store.old) change (R.tables store.old)) }
     ensures schema { R.schema store.new ≡ R.schema store.old }
     ensures room { slice_index (R.spare store.old) 0 ≤ slice_index (R.spare store.new) 0 + 1 }
 {
@@ -37,7 +37,7 @@ fn take_row<R: RowStore>(store: &mut R, key: &Key) -> Result<Change, CaseStop>
     requires { 0 < length (R.schema store.old).tables }
     ensures table { IfOk result (λ change. change.table ≡ 0) }
     ensures is { IfOk result (λ change. IsChange (R.schema store.old) change (R.tables store.old)) }
-    ensures made { IfOk result (λ change. R.tables store.new ≡ made (R.schema store.old) change (R.tables store.old)) }
+    ensures made { IfOk result (λ change. R.tables store.new ≡ after_change (R.schema store.old) change (R.tables store.old)) }
     ensures schema { R.schema store.new ≡ R.schema store.old }
     ensures room { slice_index (R.spare store.old) 0 ≤ slice_index (R.spare store.new) 0 }
 {

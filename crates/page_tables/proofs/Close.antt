@@ -2,7 +2,7 @@
 use Rattle.std.proofs.Common.{◌≡◌, ℕ, zero, suc, ◌+◌, ◌*◌, ◌<◌, ◌≤◌, List, [], ◌∷◌, length, get_or, set, refl, ap, arith}
 use Rattle.std.specs.List.{AllByRecursion, insert, remove}
 use Rattle.std.proofs.lemmas.List.{length-append}
-use Rattle.page_tables.specs.Pages.{joined, most_in, IsPage, IsCloseTo, AreClose}
+use Rattle.page_tables.specs.Pages.{page_values, most_in, IsPage, IsCloseTo, AreClose}
 
 module _ {X : Type 0} where
   -- a page that is longer than another one
@@ -62,18 +62,18 @@ module _ {X : Type 0} where
   close-join (q ∷ r ∷ s ∷ ss) (suc (suc i)) page within here next close = (close.0, close-join (r ∷ s ∷ ss) (suc i) page (omega (arith, within)) here next close.1)
 
   -- so there are not many pages
-  twice_count : (page : List X) (pages : List (List X)) → AreClose (page ∷ pages) → 32 * length pages + length page ≤ 2 * length (joined (page ∷ pages))
+  twice_count : (page : List X) (pages : List (List X)) → AreClose (page ∷ pages) → 32 * length pages + length page ≤ 2 * length (page_values (page ∷ pages))
   twice_count page [] close = let both = length-append page [] in omega (arith, both)
   twice_count page (next ∷ pages) close =
       let rest = twice_count next pages close.1 in
-      let both = length-append page (joined (next ∷ pages)) in
+      let both = length-append page (page_values (next ∷ pages)) in
       let near = close.0 in
       omega (arith, rest, both, near)
 
-  pub close_count : (pages : List (List X)) → AreClose pages → most_in (length pages) ≤ length (joined pages)
+  pub close_count : (pages : List (List X)) → AreClose pages → most_in (length pages) ≤ length (page_values pages)
   close_count [] close = omega arith
   close_count (page ∷ pages) close = let twice = twice_count page pages close in omega (arith, twice)
 
   -- and where there is room for one more value, a page waits
-  pub page_waits : (pages waiting : List (List X)) → AreClose pages → length (joined pages) < most_in (length pages + length waiting) → 1 ≤ length waiting
+  pub page_waits : (pages waiting : List (List X)) → AreClose pages → length (page_values pages) < most_in (length pages + length waiting) → 1 ≤ length waiting
   page_waits pages waiting close room = let few = close_count pages close in omega (arith, few, room)

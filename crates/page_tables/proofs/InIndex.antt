@@ -15,7 +15,7 @@ use Rattle.rep_lists.proofs.Rising.{rising_put, rising_take}
 use Rattle.rep_values.specs.Order.{TellsApart, value_cmp}
 use Rattle.rep_values.specs.OrderLaws.{value_cmp_total, exact_values, exact_lists}
 use Rattle.page_tables.specs.Pages.{entered}
-use Rattle.page_tables.specs.Index.{IsIn, IsIndex, picked_cmp}
+use Rattle.page_tables.specs.Index.{IsIn, IsUniqueIndex, picked_cmp}
 
 module _ {X : Type 0} (at : X → Ordering) where
   pub length-put_new : (y : X) (xs : List X) → is_some (find_at at xs) ≡ false → length (put_at at y xs) ≡ length xs + 1
@@ -154,8 +154,8 @@ module _ {X K : Type 0} (values : X → K) (R : K → K → Ordering) (total : I
         λ kept. take.1 (kept.0, λ tied. kept.1 (one_of index t s rising kept.0 s_in tied)),
       )
 
-  module _ (Has : X → Type 0) (number : ℕ) (index : List X) (is : IsIndex values R Has number index) where
-    pub index_take : (s : X) (rest : ℕ) → Has s → suc rest ≡ number → IsIndex values R (λ t. Has t × (t ≢ s)) rest (take_at (at_key values R (values s)) index)
+  module _ (Has : X → Type 0) (number : ℕ) (index : List X) (is : IsUniqueIndex values R Has number index) where
+    pub index_take : (s : X) (rest : ℕ) → Has s → suc rest ≡ number → IsUniqueIndex values R (λ t. Has t × (t ≢ s)) rest (take_at (at_key values R (values s)) index)
     index_take s rest has counted =
         let there = (is.same s).1 has in
         let found = ap is_some (in_found (values s) index s is.rising there (tied_itself total (values s))) in
@@ -170,7 +170,7 @@ module _ {X K : Type 0} (values : X → K) (R : K → K → Ordering) (total : I
     pub index_none : (k : K) → ((t : X) → Has t → R (values t) k ≢ Equal) → find_at (at_key values R k) index ≡ None
     index_none k free = none_found (at_key values R k) index (λ t there. free t ((is.same t).0 there))
 
-    pub index_put : (s : X) → ((t : X) → Has t → R (values t) (values s) ≢ Equal) → IsIndex values R (λ t. (t ≡ s) ⊎ Has t) (suc number) (put_at (at_key values R (values s)) s index)
+    pub index_put : (s : X) → ((t : X) → Has t → R (values t) (values s) ≢ Equal) → IsUniqueIndex values R (λ t. (t ≡ s) ⊎ Has t) (suc number) (put_at (at_key values R (values s)) s index)
     index_put s free =
         let none = index_none (values s) free in
         let longer = length-put_new (at_key values R (values s)) s index (ap is_some none) in
@@ -205,7 +205,7 @@ module _ {X K : Type 0} (values others : X → K) (R : K → K → Ordering) whe
   rises_same [] same rising = tt
   rises_same (x ∷ xs) same rising = (all_same x xs (same x (inl refl)) (λ t there. same t (inr there)) rising.0, rises_same xs (λ t there. same t (inr there)) rising.1)
 
-  pub index_change : (Has Now : X → Type 0) (number now : ℕ) (index : List X) → ((t : X) → Has t ↔ Now t) → number ≡ now → ((t : X) → Has t → values t ≡ others t) → IsIndex values R Has number index → IsIndex others R Now now index
+  pub index_change : (Has Now : X → Type 0) (number now : ℕ) (index : List X) → ((t : X) → Has t ↔ Now t) → number ≡ now → ((t : X) → Has t → values t ≡ others t) → IsUniqueIndex values R Has number index → IsUniqueIndex others R Now now index
   index_change Has Now number now index as_many counted same is = record {
     rising = rises_same index (λ t there. same t ((is.same t).0 there)) is.rising;
     same = λ t. (λ there. (as_many t).0 ((is.same t).0 there), λ has. (is.same t).1 ((as_many t).1 has));

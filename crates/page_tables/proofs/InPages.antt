@@ -7,7 +7,7 @@ use Rattle.std.specs.declared.cmp.Ordering.{Ordering}
 use Rattle.std.specs.declared.cmp.Ordering.TheVariants.{Less, Equal, Greater}
 use Rattle.rep_lists.specs.Rising.{find_at, put_at, take_at, found_here, put_here, taken_here}
 use Rattle.rep_lists.proofs.Each.{each_at}
-use Rattle.page_tables.specs.Pages.{joined, at_first, IsParted, IsPage, IsPageFor}
+use Rattle.page_tables.specs.Pages.{page_values, at_first, IsParted, IsPage, IsPageFor}
 use Rattle.std.proofs.lemmas.Option.{get_or_from_slice_get, slice_get_within}
 use Rattle.rep_lists.proofs.Rising.{find_there}
 use Rattle.page_tables.proofs.Parted.{all_right, parted_right, parted_left, all_before, stands_there}
@@ -62,44 +62,44 @@ module _ {X : Type 0} (at : X → Ordering) where
       go Greater later = refl
 
 -- the values of all pages, around one of them
-pub joined-append : {X : Type 0} (ps qs : List (List X)) → joined (ps ++ qs) ≡ joined ps ++ joined qs
-joined-append [] qs = refl
-joined-append (p ∷ ps) qs = ap (λ t. p ++ t) (joined-append ps qs) ∙ sym (append_assoc p (joined ps) (joined qs))
+pub page_values-append : {X : Type 0} (ps qs : List (List X)) → page_values (ps ++ qs) ≡ page_values ps ++ page_values qs
+page_values-append [] qs = refl
+page_values-append (p ∷ ps) qs = ap (λ t. p ++ t) (page_values-append ps qs) ∙ sym (append_assoc p (page_values ps) (page_values qs))
 
-pub joined_around : {X : Type 0} (pages : List (List X)) (p : ℕ) → p < length pages → joined pages ≡ joined (take p pages) ++ (get_or pages p [] ++ joined (drop (suc p) pages))
-joined_around [] p within = absurd (omega arith)
-joined_around (q ∷ qs) zero within = refl
-joined_around (q ∷ qs) (suc p) within = ap (λ t. q ++ t) (joined_around qs p (omega arith)) ∙ sym (append_assoc q (joined (take p qs)) _)
+pub page_values_around : {X : Type 0} (pages : List (List X)) (p : ℕ) → p < length pages → page_values pages ≡ page_values (take p pages) ++ (get_or pages p [] ++ page_values (drop (suc p) pages))
+page_values_around [] p within = absurd (omega arith)
+page_values_around (q ∷ qs) zero within = refl
+page_values_around (q ∷ qs) (suc p) within = ap (λ t. q ++ t) (page_values_around qs p (omega arith)) ∙ sym (append_assoc q (page_values (take p qs)) _)
 
-pub joined-set : {X : Type 0} (pages : List (List X)) (p : ℕ) (page : List X) → p < length pages → joined (set pages p page) ≡ joined (take p pages) ++ (page ++ joined (drop (suc p) pages))
-joined-set [] p page within = absurd (omega arith)
-joined-set (q ∷ qs) zero page within = refl
-joined-set (q ∷ qs) (suc p) page within = ap (λ t. q ++ t) (joined-set qs p page (omega arith)) ∙ sym (append_assoc q (joined (take p qs)) _)
+pub page_values-set : {X : Type 0} (pages : List (List X)) (p : ℕ) (page : List X) → p < length pages → page_values (set pages p page) ≡ page_values (take p pages) ++ (page ++ page_values (drop (suc p) pages))
+page_values-set [] p page within = absurd (omega arith)
+page_values-set (q ∷ qs) zero page within = refl
+page_values-set (q ∷ qs) (suc p) page within = ap (λ t. q ++ t) (page_values-set qs p page (omega arith)) ∙ sym (append_assoc q (page_values (take p qs)) _)
 
 -- a page in two
-pub joined-split : {X : Type 0} (pages : List (List X)) (p : ℕ) (a b : List X) → p < length pages → joined (insert (set pages p a) (suc p) b) ≡ joined (set pages p (a ++ b))
-joined-split [] p a b within = absurd (omega arith)
-joined-split (q ∷ qs) zero a b within = sym (append_assoc a b (joined qs))
-joined-split (q ∷ qs) (suc p) a b within = ap (λ t. q ++ t) (joined-split qs p a b (omega arith))
+pub page_values-split : {X : Type 0} (pages : List (List X)) (p : ℕ) (a b : List X) → p < length pages → page_values (insert (set pages p a) (suc p) b) ≡ page_values (set pages p (a ++ b))
+page_values-split [] p a b within = absurd (omega arith)
+page_values-split (q ∷ qs) zero a b within = sym (append_assoc a b (page_values qs))
+page_values-split (q ∷ qs) (suc p) a b within = ap (λ t. q ++ t) (page_values-split qs p a b (omega arith))
 
-pub joined-split_at : {X : Type 0} (pages : List (List X)) (p : ℕ) (a b : List X) → p < length pages → joined (insert (set pages p a) (p + 1) b) ≡ joined (set pages p (a ++ b))
-joined-split_at pages p a b within = let next : p + 1 ≡ suc p = omega arith in rw next (joined-split pages p a b within)
+pub page_values-split_at : {X : Type 0} (pages : List (List X)) (p : ℕ) (a b : List X) → p < length pages → page_values (insert (set pages p a) (p + 1) b) ≡ page_values (set pages p (a ++ b))
+page_values-split_at pages p a b within = let next : p + 1 ≡ suc p = omega arith in rw next (page_values-split pages p a b within)
 
 -- a page that is left out has no values
-pub joined-remove : {X : Type 0} (pages : List (List X)) (p : ℕ) → p < length pages → get_or pages p [] ≡ [] → joined (remove pages p) ≡ joined pages
-joined-remove [] p within none = absurd (omega arith)
-joined-remove (q ∷ qs) zero within none = rw none
-joined-remove (q ∷ qs) (suc p) within none = ap (λ t. q ++ t) (joined-remove qs p (omega arith) none)
+pub page_values-remove : {X : Type 0} (pages : List (List X)) (p : ℕ) → p < length pages → get_or pages p [] ≡ [] → page_values (remove pages p) ≡ page_values pages
+page_values-remove [] p within none = absurd (omega arith)
+page_values-remove (q ∷ qs) zero within none = rw none
+page_values-remove (q ∷ qs) (suc p) within none = ap (λ t. q ++ t) (page_values-remove qs p (omega arith) none)
 
 module _ {X : Type 0} (at : X → Ordering) (pages : List (List X)) (p : ℕ) (for : IsPageFor at pages p) where
-  pub find_paged : find_at at (joined pages) ≡ find_at at (get_or pages p [])
-  find_paged = ap (find_at at) (joined_around pages p for.in_range) ∙ (find_past at _ _ for.before ∙ find_before at _ _ for.behind)
+  pub find_paged : find_at at (page_values pages) ≡ find_at at (get_or pages p [])
+  find_paged = ap (find_at at) (page_values_around pages p for.in_range) ∙ (find_past at _ _ for.before ∙ find_before at _ _ for.behind)
 
-  pub put_paged : (y : X) → put_at at y (joined pages) ≡ joined (set pages p (put_at at y (get_or pages p [])))
-  put_paged y = ap (put_at at y) (joined_around pages p for.in_range) ∙ (put_past at y _ _ for.before ∙ (ap (λ t. joined (take p pages) ++ t) (put_before at y _ _ for.behind) ∙ sym (joined-set pages p _ for.in_range)))
+  pub put_paged : (y : X) → put_at at y (page_values pages) ≡ page_values (set pages p (put_at at y (get_or pages p [])))
+  put_paged y = ap (put_at at y) (page_values_around pages p for.in_range) ∙ (put_past at y _ _ for.before ∙ (ap (λ t. page_values (take p pages) ++ t) (put_before at y _ _ for.behind) ∙ sym (page_values-set pages p _ for.in_range)))
 
-  pub take_paged : take_at at (joined pages) ≡ joined (set pages p (take_at at (get_or pages p [])))
-  take_paged = ap (take_at at) (joined_around pages p for.in_range) ∙ (take_past at _ _ for.before ∙ (ap (λ t. joined (take p pages) ++ t) (take_before at _ _ for.behind) ∙ sym (joined-set pages p _ for.in_range)))
+  pub take_paged : take_at at (page_values pages) ≡ page_values (set pages p (take_at at (get_or pages p [])))
+  take_paged = ap (take_at at) (page_values_around pages p for.in_range) ∙ (take_past at _ _ for.before ∙ (ap (λ t. page_values (take p pages) ++ t) (take_before at _ _ for.behind) ∙ sym (page_values-set pages p _ for.in_range)))
 
 -- the value at a place lies in the first page or behind it
 pub get_in_page : {X : Type 0} (page rest : List X) (i : ℕ) → i < length page → slice_get (page ++ rest) i ≡ slice_get page i
@@ -112,36 +112,36 @@ get_behind_page [] rest i past = let same : i - 0 ≡ i = omega arith in rw same
 get_behind_page (x ∷ xs) rest zero past = absurd (omega arith)
 get_behind_page (x ∷ xs) rest (suc i) past = let less : suc i - suc (length xs) ≡ i - length xs = omega arith in rw less (get_behind_page xs rest i (omega arith))
 
-pub joined-drop : {X : Type 0} (pages : List (List X)) (i : ℕ) (d : List X) → i < length pages → joined (drop i pages) ≡ get_or pages i d ++ joined (drop (i + 1) pages)
-joined-drop pages i d within = ap joined (drop_more pages i d within)
+pub page_values-drop : {X : Type 0} (pages : List (List X)) (i : ℕ) (d : List X) → i < length pages → page_values (drop i pages) ≡ get_or pages i d ++ page_values (drop (i + 1) pages)
+page_values-drop pages i d within = ap page_values (drop_more pages i d within)
 
 -- the page of a place, from where the first values of the pages stand
 module _ {X : Type 0} (at : X → Ordering) where
   -- the values of the pages from one on
-  parted_from : (pages : List (List X)) (p : ℕ) → p < length pages → IsParted at (joined pages) → IsParted at (get_or pages p [] ++ joined (drop (suc p) pages))
-  parted_from pages p within parted = parted_right at (joined (take p pages)) _ (subst (IsParted at) (joined_around pages p within) parted)
+  parted_from : (pages : List (List X)) (p : ℕ) → p < length pages → IsParted at (page_values pages) → IsParted at (get_or pages p [] ++ page_values (drop (suc p) pages))
+  parted_from pages p within parted = parted_right at (page_values (take p pages)) _ (subst (IsParted at) (page_values_around pages p within) parted)
 
   -- the pages before one whose first value isn't behind the place
-  pub pages_before : (pages : List (List X)) (p : ℕ) → p < length pages → AllByRecursion IsPage pages → IsParted at (joined pages) → at_first at (get_or pages p []) ≢ Greater
-      → AllByRecursion (λ x. at x ≡ Less) (joined (take p pages))
-  pages_before pages p within filled parted past = go (get_or pages p []) (each_at IsPage pages p [] within filled) past (subst (IsParted at) (joined_around pages p within) parted)
+  pub pages_before : (pages : List (List X)) (p : ℕ) → p < length pages → AllByRecursion IsPage pages → IsParted at (page_values pages) → at_first at (get_or pages p []) ≢ Greater
+      → AllByRecursion (λ x. at x ≡ Less) (page_values (take p pages))
+  pages_before pages p within filled parted past = go (get_or pages p []) (each_at IsPage pages p [] within filled) past (subst (IsParted at) (page_values_around pages p within) parted)
     where
-      go : (page : List X) → IsPage page → at_first at page ≢ Greater → IsParted at (joined (take p pages) ++ (page ++ joined (drop (suc p) pages))) → AllByRecursion (λ x. at x ≡ Less) (joined (take p pages))
+      go : (page : List X) → IsPage page → at_first at page ≢ Greater → IsParted at (page_values (take p pages) ++ (page ++ page_values (drop (suc p) pages))) → AllByRecursion (λ x. at x ≡ Less) (page_values (take p pages))
       go [] is past parted = absurd (omega (arith, is.some))
-      go (z ∷ zs) is past parted = all_before at (joined (take p pages)) z (zs ++ joined (drop (suc p) pages)) past parted
+      go (z ∷ zs) is past parted = all_before at (page_values (take p pages)) z (zs ++ page_values (drop (suc p) pages)) past parted
 
   -- the pages from one on whose first value is behind the place
-  pub pages_from : (pages : List (List X)) (p : ℕ) → p < length pages → IsParted at (joined pages) → at_first at (get_or pages p []) ≡ Greater → AllByRecursion (λ x. at x ≡ Greater) (joined (drop p pages))
+  pub pages_from : (pages : List (List X)) (p : ℕ) → p < length pages → IsParted at (page_values pages) → at_first at (get_or pages p []) ≡ Greater → AllByRecursion (λ x. at x ≡ Greater) (page_values (drop p pages))
   pages_from pages p within parted here =
       let next : p + 1 ≡ suc p = omega arith in
-      subst (AllByRecursion (λ x. at x ≡ Greater)) (sym (rw next at (joined-drop pages p [] within))) (go (get_or pages p []) here (parted_from pages p within parted))
+      subst (AllByRecursion (λ x. at x ≡ Greater)) (sym (rw next at (page_values-drop pages p [] within))) (go (get_or pages p []) here (parted_from pages p within parted))
     where
-      go : (page : List X) → at_first at page ≡ Greater → IsParted at (page ++ joined (drop (suc p) pages)) → AllByRecursion (λ x. at x ≡ Greater) (page ++ joined (drop (suc p) pages))
+      go : (page : List X) → at_first at page ≡ Greater → IsParted at (page ++ page_values (drop (suc p) pages)) → AllByRecursion (λ x. at x ≡ Greater) (page ++ page_values (drop (suc p) pages))
       go [] here parted = cc
       go (z ∷ zs) here parted = (here, parted.0 (λ less. cc))
 
   -- the values of a page are parted
-  pub page_parted : (pages : List (List X)) (p : ℕ) → p < length pages → IsParted at (joined pages) → IsParted at (get_or pages p [])
+  pub page_parted : (pages : List (List X)) (p : ℕ) → p < length pages → IsParted at (page_values pages) → IsParted at (get_or pages p [])
   page_parted pages p within parted = parted_left at (get_or pages p []) _ (parted_from pages p within parted)
 
 -- a value that is found in a part of the values is found in them
@@ -167,12 +167,12 @@ module _ {X : Type 0} (at : X → Ordering) where
       go Equal e later = absurd (past (λ less. cc (e, less)))
       go Greater e later = absurd (past (λ less. cc (e, less)))
 
-  pub found_in_page : (pages : List (List X)) (p i : ℕ) (s : X) → IsParted at (joined pages) → p < length pages → slice_get (get_or pages p []) i ≡ Some s → at s ≡ Equal → find_at at (joined pages) ≡ Some s
+  pub found_in_page : (pages : List (List X)) (p i : ℕ) (s : X) → IsParted at (page_values pages) → p < length pages → slice_get (get_or pages p []) i ≡ Some s → at s ≡ Equal → find_at at (page_values pages) ≡ Some s
   found_in_page pages p i s parted within there equal =
       let within_page : i < length (get_or pages p []) = slice_get_within (get_or pages p []) i s there in
       let read : get_or (get_or pages p []) i s ≡ s = get_or_from_slice_get (get_or pages p []) i s s there in
       let stands = stands_there at (get_or pages p []) i s within_page (ap at read ∙ equal) (page_parted at pages p within parted) in
       let here : find_at at (get_or pages p []) ≡ Some s = find_there at (get_or pages p []) i s stands ∙ ap Some read in
-      ap (find_at at) (joined_around pages p within)
-      ∙ find_right (joined (take p pages)) (get_or pages p [] ++ joined (drop (suc p) pages)) s (subst (IsParted at) (joined_around pages p within) parted)
-      (find_left (get_or pages p []) (joined (drop (suc p) pages)) s here)
+      ap (find_at at) (page_values_around pages p within)
+      ∙ find_right (page_values (take p pages)) (get_or pages p [] ++ page_values (drop (suc p) pages)) s (subst (IsParted at) (page_values_around pages p within) parted)
+      (find_left (get_or pages p []) (page_values (drop (suc p) pages)) s here)

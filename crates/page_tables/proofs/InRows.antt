@@ -14,8 +14,8 @@ use Rattle.rep_values.specs.OrderLaws.{key_cmp_total, exact_keys}
 use Rattle.rep_schema.specs.declared.schema.Column.{Column}
 use Rattle.rep_schema.specs.Tables.{Cells, key_of, row_cmp, find_row, put_row, take_row, picked, IsHeldElsewhere}
 use Rattle.page_tables.specs.Pages.{IsParted}
-use Rattle.page_tables.specs.Slots.{Slotted, row_at, row_in, values_or_none, Holds}
-use Rattle.page_tables.specs.Index.{UniqueSlots, IsIn, IsIndex, picked_cmp, values_in, is_alike, with_slot, without_slot, listed, unlisted, IsFreeBeside}
+use Rattle.page_tables.specs.Slots.{Slotted, slot_row, row_in, values_or_none, SlotHolds}
+use Rattle.page_tables.specs.Index.{UniqueSlots, IsIn, IsUniqueIndex, picked_cmp, values_in, is_alike, with_slot, without_slot, listed, unlisted, IsFreeBeside}
 use Rattle.page_tables.specs.Stored.{least_most}
 use Rattle.page_tables.proofs.Parted.{parted_rising}
 use Rattle.page_tables.proofs.InSlots.{held_row}
@@ -126,7 +126,7 @@ put_at_same at by y [] same = refl
 put_at_same at by y (x ∷ xs) same = rw (same x (inl refl)) (ap (put_here (by x) y x xs) (put_at_same at by y xs (λ z there. same z (inr there))))
 
 -- the row at a place is the row of the slot there
-pub at_some : (rows : List (Option Cells)) (slots : List ℕ) → ((t : ℕ) → IsIn t slots → IsSome (row_at rows t)) → (place s : ℕ) → slice_get slots place ≡ Some s → slice_get (map (row_in rows) slots) place ≡ row_at rows s
+pub at_some : (rows : List (Option Cells)) (slots : List ℕ) → ((t : ℕ) → IsIn t slots → IsSome (slot_row rows t)) → (place s : ℕ) → slice_get slots place ≡ Some s → slice_get (map (row_in rows) slots) place ≡ slot_row rows s
 at_some rows slots held place s found = slice_get-map (row_in rows) slots place ∙ (ap (option_map (row_in rows)) found ∙ sym (held_row rows s (held s (in_at slots place s found))))
 
 pub at_none : (rows : List (Option Cells)) (slots : List ℕ) (place : ℕ) → slice_get slots place ≡ None → slice_get (map (row_in rows) slots) place ≡ None
@@ -192,8 +192,8 @@ module _ (columns : List Column) (rows : List (Option Cells)) (slots : List ℕ)
   pub found_none : (key : Cells) → find_at (at_key (key_at columns rows) key_cmp key) slots ≡ None → find_row columns key (map (row_in rows) slots) ≡ None
   found_none key none = found_row key ∙ ap (option_map (row_in rows)) none
 
-  module _ (held : (t : ℕ) → IsIn t slots → IsSome (row_at rows t)) where
-    pub found_some : (key : Cells) (s : ℕ) → find_at (at_key (key_at columns rows) key_cmp key) slots ≡ Some s → find_row columns key (map (row_in rows) slots) ≡ row_at rows s
+  module _ (held : (t : ℕ) → IsIn t slots → IsSome (slot_row rows t)) where
+    pub found_some : (key : Cells) (s : ℕ) → find_at (at_key (key_at columns rows) key_cmp key) slots ≡ Some s → find_row columns key (map (row_in rows) slots) ≡ slot_row rows s
     found_some key s found =
         let there = (found_in (at_key (key_at columns rows) key_cmp key) slots s found).0 in
         found_row key ∙ (ap (option_map (row_in rows)) found ∙ sym (held_row rows s (held s there)))
@@ -208,7 +208,7 @@ module _ (columns : List Column) (rows : List (Option Cells)) (slots : List ℕ)
       ∙ (ap (λ r. put_at place r (map (row_in now) slots)) here ∙ ap (put_at place row) (map_same (row_in now) (row_in rows) slots others)))
 
   -- a look into an index tells whether another row has a row's values
-  module _ (places : List ℕ) (number : ℕ) (index : List ℕ) (is : IsIndex (values_in rows places) picked_cmp (λ t. IsIn t slots) number index) (row : Cells) where
+  module _ (places : List ℕ) (number : ℕ) (index : List ℕ) (is : IsUniqueIndex (values_in rows places) picked_cmp (λ t. IsIn t slots) number index) (row : Cells) where
     pub none_held : find_at (at_key (values_in rows places) picked_cmp (picked places row)) index ≡ None → ¬ IsHeldElsewhere columns places row (map (row_in rows) slots)
     none_held none any =
         let one = any_map_to (λ r. (key_of columns r ≢ key_of columns row) × (picked places r ≡ picked places row)) (row_in rows) slots any.0 any.1 any.2 any.3 any.4 in
@@ -252,20 +252,20 @@ module _ (rows : List (Option Cells)) (slot : ℕ) (other : Option Cells) where
   chosen f false a b same = same
 
   pub listed-columns : (index : UniqueSlots) → (listed rows slot other index).columns ≡ index.columns
-  listed-columns index = chosen (λ i. i.columns) (is_alike index.columns other (row_at rows slot)) index (with_slot rows slot index) refl
+  listed-columns index = chosen (λ i. i.columns) (is_alike index.columns other (slot_row rows slot)) index (with_slot rows slot index) refl
 
   pub listed-most : (index : UniqueSlots) → (listed rows slot other index).most ≡ index.most
-  listed-most index = chosen (λ i. i.most) (is_alike index.columns other (row_at rows slot)) index (with_slot rows slot index) refl
+  listed-most index = chosen (λ i. i.most) (is_alike index.columns other (slot_row rows slot)) index (with_slot rows slot index) refl
 
   pub unlisted-columns : (index : UniqueSlots) → (unlisted rows slot other index).columns ≡ index.columns
-  unlisted-columns index = chosen (λ i. i.columns) (is_alike index.columns (row_at rows slot) other) index (without_slot rows slot index) refl
+  unlisted-columns index = chosen (λ i. i.columns) (is_alike index.columns (slot_row rows slot) other) index (without_slot rows slot index) refl
 
   pub unlisted-most : (index : UniqueSlots) → (unlisted rows slot other index).most ≡ index.most
-  unlisted-most index = chosen (λ i. i.most) (is_alike index.columns (row_at rows slot) other) index (without_slot rows slot index) refl
+  unlisted-most index = chosen (λ i. i.most) (is_alike index.columns (slot_row rows slot) other) index (without_slot rows slot index) refl
 
 pub is_alike-none : (columns : List ℕ) (row : Option Cells) → is_alike columns row None ≡ false
 is_alike-none columns None = refl
 is_alike-none columns (Some row) = refl
 
-pub values_other : (slots now : Slotted) (slot : ℕ) (row : Option Cells) → Holds slots now slot row → (places : List ℕ) (t : ℕ) → t ≢ slot → values_in slots.rows places t ≡ values_in now.rows places t
+pub values_other : (slots now : Slotted) (slot : ℕ) (row : Option Cells) → SlotHolds slots now slot row → (places : List ℕ) (t : ℕ) → t ≢ slot → values_in slots.rows places t ≡ values_in now.rows places t
 values_other slots now slot row holds places t differ = ap (λ r. picked places (values_or_none r)) (sym (holds.others t differ))

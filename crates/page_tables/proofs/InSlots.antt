@@ -6,7 +6,7 @@ use Rattle.std.specs.List.{AllByRecursion}
 use Rattle.std.proofs.lemmas.Option.{slice_get-get_or, get_or_from_slice_get}
 use Rattle.rep_lists.proofs.Each.{each_at}
 use Rattle.rep_schema.specs.Tables.{Cells}
-use Rattle.page_tables.specs.Slots.{in_slot, row_at, row_in, values_or_none, next_slot, AreDistinct, AreFree, Holds}
+use Rattle.page_tables.specs.Slots.{in_slot, slot_row, row_in, values_or_none, next_slot, AreDistinct, AreFree, SlotHolds}
 
 -- what a place has after a change of one place
 get-set_same : {X : Type 0} (xs : List X) (i : ℕ) (y : X) → i < length xs → slice_get (set xs i y) i ≡ Some y
@@ -41,40 +41,40 @@ get-within [] k x found = cc
 get-within (x ∷ xs) zero y found = omega arith
 get-within (x ∷ xs) (suc k) y found = let rest = get-within xs k y found in omega (arith, rest)
 
-pub row_at-set_same : (rows : List (Option Cells)) (slot : ℕ) (row : Option Cells) → slot < length rows → row_at (set rows slot row) slot ≡ row
+pub row_at-set_same : (rows : List (Option Cells)) (slot : ℕ) (row : Option Cells) → slot < length rows → slot_row (set rows slot row) slot ≡ row
 row_at-set_same rows slot row within = ap in_slot (get-set_same rows slot row within)
 
-pub row_at-set_other : (rows : List (Option Cells)) (slot other : ℕ) (row : Option Cells) → other ≢ slot → row_at (set rows slot row) other ≡ row_at rows other
+pub row_at-set_other : (rows : List (Option Cells)) (slot other : ℕ) (row : Option Cells) → other ≢ slot → slot_row (set rows slot row) other ≡ slot_row rows other
 row_at-set_other rows slot other row differ = ap in_slot (get-set_other rows slot other row differ)
 
 -- the row of a slot is what stands there
-pub row_at-get_or : (rows : List (Option Cells)) (slot : ℕ) (d : Option Cells) → slot < length rows → row_at rows slot ≡ get_or rows slot d
+pub row_at-get_or : (rows : List (Option Cells)) (slot : ℕ) (d : Option Cells) → slot < length rows → slot_row rows slot ≡ get_or rows slot d
 row_at-get_or rows slot d within = ap in_slot (slice_get-get_or rows slot d within)
 
-pub row_at-push_last : (rows : List (Option Cells)) (row : Option Cells) → row_at (rows ++ row ∷ []) (length rows) ≡ row
+pub row_at-push_last : (rows : List (Option Cells)) (row : Option Cells) → slot_row (rows ++ row ∷ []) (length rows) ≡ row
 row_at-push_last rows row = ap in_slot (get-push_last rows row)
 
-pub row_at-push_other : (rows : List (Option Cells)) (other : ℕ) (row : Option Cells) → other ≢ length rows → row_at (rows ++ row ∷ []) other ≡ row_at rows other
+pub row_at-push_other : (rows : List (Option Cells)) (other : ℕ) (row : Option Cells) → other ≢ length rows → slot_row (rows ++ row ∷ []) other ≡ slot_row rows other
 row_at-push_other rows other row differ = ap in_slot (get-push_other rows other row differ)
 
 -- a slot with a row is one of the slots
-pub held_within : (rows : List (Option Cells)) (slot : ℕ) → IsSome (row_at rows slot) → slot < length rows
+pub held_within : (rows : List (Option Cells)) (slot : ℕ) → IsSome (slot_row rows slot) → slot < length rows
 held_within [] slot held = absurd (false≢true held)
 held_within (row ∷ rows) zero held = omega arith
 held_within (row ∷ rows) (suc slot) held = let rest = held_within rows slot held in omega (arith, rest)
 
 -- and its values are those of its row
-pub held_row : (rows : List (Option Cells)) (slot : ℕ) → IsSome (row_at rows slot) → row_at rows slot ≡ Some (row_in rows slot)
-held_row rows slot held = go (row_at rows slot) held
+pub held_row : (rows : List (Option Cells)) (slot : ℕ) → IsSome (slot_row rows slot) → slot_row rows slot ≡ Some (row_in rows slot)
+held_row rows slot held = go (slot_row rows slot) held
   where
     go : (row : Option Cells) → IsSome row → row ≡ Some (values_or_none row)
     go None held = absurd (false≢true held)
     go (Some row) held = refl
 
 -- a slot with a row is not one without
-free_unheld : (rows : List (Option Cells)) (slot other : ℕ) → IsSome (row_at rows slot) → slice_get rows other ≡ Some None → other ≢ slot
+free_unheld : (rows : List (Option Cells)) (slot other : ℕ) → IsSome (slot_row rows slot) → slice_get rows other ≡ Some None → other ≢ slot
 free_unheld rows slot other held free same =
-    let none : row_at rows slot ≡ None = ap (λ s. row_at rows s) (sym same) ∙ ap in_slot free in
+    let none : slot_row rows slot ≡ None = ap (λ s. slot_row rows s) (sym same) ∙ ap in_slot free in
     false≢true (rw none at held)
 
 distinct_pop : (free : List ℕ) (slot : ℕ) → AreDistinct (free ++ slot ∷ []) → AreDistinct free × AllByRecursion (λ other. other ≢ slot) free
@@ -113,7 +113,7 @@ empty_push : (rows : List (Option Cells)) (free : List ℕ) (slot : ℕ) → All
 empty_push rows [] slot empty here = (here, tt)
 empty_push rows (x ∷ xs) slot empty here = (empty.0, empty_push rows xs slot empty.1 here)
 
-others_held : (rows : List (Option Cells)) (slot : ℕ) (free : List ℕ) → IsSome (row_at rows slot) → AllByRecursion (λ other. slice_get rows other ≡ Some None) free → AllByRecursion (λ other. other ≢ slot) free
+others_held : (rows : List (Option Cells)) (slot : ℕ) (free : List ℕ) → IsSome (slot_row rows slot) → AllByRecursion (λ other. slice_get rows other ≡ Some None) free → AllByRecursion (λ other. other ≢ slot) free
 others_held rows slot [] held empty = tt
 others_held rows slot (x ∷ xs) held empty = (free_unheld rows slot x held empty.0, others_held rows slot xs held empty.1)
 
@@ -127,11 +127,11 @@ AreFree-hold rows free slot row are =
     record { empty = empty_set rows slot row free parts.1 (empty_front rows free slot are.empty).0; distinct = parts.0 }
 
 -- a slot with a row gets another one
-pub AreFree-replace : (rows : List (Option Cells)) (free : List ℕ) (slot : ℕ) (row : Option Cells) → IsSome (row_at rows slot) → AreFree rows free → AreFree (set rows slot row) free
+pub AreFree-replace : (rows : List (Option Cells)) (free : List ℕ) (slot : ℕ) (row : Option Cells) → IsSome (slot_row rows slot) → AreFree rows free → AreFree (set rows slot row) free
 AreFree-replace rows free slot row held are = record { empty = empty_set rows slot row free (others_held rows slot free held are.empty) are.empty; distinct = are.distinct }
 
 -- or none, and is free then
-pub AreFree-release : (rows : List (Option Cells)) (free : List ℕ) (slot : ℕ) → IsSome (row_at rows slot) → AreFree rows free → AreFree (set rows slot None) (free ++ slot ∷ [])
+pub AreFree-release : (rows : List (Option Cells)) (free : List ℕ) (slot : ℕ) → IsSome (slot_row rows slot) → AreFree rows free → AreFree (set rows slot None) (free ++ slot ∷ [])
 AreFree-release rows free slot held are =
     let others = others_held rows slot free held are.empty in
     record {
@@ -140,7 +140,7 @@ AreFree-release rows free slot held are =
     }
 
 -- the next slot has no row
-pub next_unheld : (rows : List (Option Cells)) (free : List ℕ) → AreFree rows free → row_at rows (next_slot rows free) ≡ None
+pub next_unheld : (rows : List (Option Cells)) (free : List ℕ) → AreFree rows free → slot_row rows (next_slot rows free) ≡ None
 next_unheld rows [] are = ap in_slot (get-past rows)
 next_unheld rows (x ∷ xs) are =
     let last : length (x ∷ xs) - 1 < length (x ∷ xs) = omega arith in
@@ -168,7 +168,7 @@ free_none rows free slot d are = get_or_from_slice_get rows slot None d (empty_f
 
 -- and gets one
 pub holds_last : (rows : List (Option Cells)) (all free : List ℕ) (slot : ℕ) (row : Option Cells) (most now : ℕ) → all ≡ free ++ slot ∷ [] → AreFree rows all → now ≡ most
-    → Holds (record { rows = rows; free = all; most = most }) (record { rows = set rows slot row; free = free; most = now }) (next_slot rows all) row
+    → SlotHolds (record { rows = rows; free = all; most = most }) (record { rows = set rows slot row; free = free; most = now }) (next_slot rows all) row
 holds_last rows all free slot row most now is are same =
     let last : next_slot rows all ≡ slot = ap (next_slot rows) is ∙ next_slot-last rows free slot in
     let within = free_last rows free slot (subst (AreFree rows) is are) in
@@ -176,12 +176,12 @@ holds_last rows all free slot row most now is are same =
 
 -- or a new one, where none is free
 pub holds_new : (rows : List (Option Cells)) (all free : List ℕ) (row : Option Cells) (most now : ℕ) → all ≡ [] → now ≡ most
-    → Holds (record { rows = rows; free = all; most = most }) (record { rows = rows ++ row ∷ []; free = free; most = now }) (next_slot rows all) row
+    → SlotHolds (record { rows = rows; free = all; most = most }) (record { rows = rows ++ row ∷ []; free = free; most = now }) (next_slot rows all) row
 holds_new rows all free row most now none same = rw none (record { here = row_at-push_last rows row; others = λ other differ. row_at-push_other rows other row differ; most = same })
 
 -- a slot with a row gets another one, or none
-pub holds_there : (rows : List (Option Cells)) (all free : List ℕ) (slot : ℕ) (row : Option Cells) (most now : ℕ) → IsSome (row_at rows slot) → now ≡ most
-    → Holds (record { rows = rows; free = all; most = most }) (record { rows = set rows slot row; free = free; most = now }) slot row
+pub holds_there : (rows : List (Option Cells)) (all free : List ℕ) (slot : ℕ) (row : Option Cells) (most now : ℕ) → IsSome (slot_row rows slot) → now ≡ most
+    → SlotHolds (record { rows = rows; free = all; most = most }) (record { rows = set rows slot row; free = free; most = now }) slot row
 holds_there rows all free slot row most now held same = record {
   here = row_at-set_same rows slot row (held_within rows slot held);
   others = λ other differ. row_at-set_other rows slot other row differ;

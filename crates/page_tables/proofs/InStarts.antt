@@ -5,7 +5,7 @@ use Rattle.std.specs.List.Sorted.{IsNonDecreasingBy, IsPartitionPoint}
 use Rattle.std.specs.Prelude.{slice_get}
 use Rattle.std.proofs.lemmas.List.{length-append, append-nil}
 use Rattle.rep_lists.proofs.Each.{each_at, each_drop}
-use Rattle.page_tables.specs.Pages.{joined, starts_from, starts_of}
+use Rattle.page_tables.specs.Pages.{page_values, starts_from, starts_of}
 use Rattle.page_tables.proofs.InPages.{get_in_page, get_behind_page}
 
 module _ {X : Type 0} where
@@ -35,21 +35,21 @@ module _ {X : Type 0} where
   -- the value at a place lies in the last page that starts there or before it
   started_from : (pages : List (List X)) (n p t : ℕ) → p < length pages → get_or (starts_from n pages) p 0 ≤ t
       → (suc p < length pages → t < get_or (starts_from n pages) (suc p) 0)
-      → slice_get (joined pages) (t - n) ≡ slice_get (get_or pages p []) (t - get_or (starts_from n pages) p 0)
+      → slice_get (page_values pages) (t - n) ≡ slice_get (get_or pages p []) (t - get_or (starts_from n pages) p 0)
   started_from [] n p t within past next = absurd (omega (arith, within))
   started_from (q ∷ []) n zero t within past next = ap (λ xs. slice_get xs (t - n)) (append-nil q)
-  started_from (q ∷ r ∷ rs) n zero t within past next = let far = next (omega arith) in get_in_page q (joined (r ∷ rs)) (t - n) (omega (arith, past, far))
+  started_from (q ∷ r ∷ rs) n zero t within past next = let far = next (omega arith) in get_in_page q (page_values (r ∷ rs)) (t - n) (omega (arith, past, far))
   started_from (q ∷ qs) n (suc p) t within past next =
       let least = start_least qs (n + length q) p 0 (omega (arith, within)) in
       let behind : t - n - length q ≡ t - (n + length q) = omega arith in
-      get_behind_page q (joined qs) (t - n) (omega (arith, least, past))
-      ∙ (ap (λ i. slice_get (joined qs) i) behind ∙ started_from qs (n + length q) p t (omega (arith, within)) past (λ more. next (omega (arith, more))))
+      get_behind_page q (page_values qs) (t - n) (omega (arith, least, past))
+      ∙ (ap (λ i. slice_get (page_values qs) i) behind ∙ started_from qs (n + length q) p t (omega (arith, within)) past (λ more. next (omega (arith, more))))
 
   pub started_in : (pages : List (List X)) (p place : ℕ) → p < length pages → get_or (starts_of pages) p 0 ≤ place
       → (suc p < length pages → place < get_or (starts_of pages) (suc p) 0)
-      → slice_get (joined pages) place ≡ slice_get (get_or pages p []) (place - get_or (starts_of pages) p 0)
+      → slice_get (page_values pages) place ≡ slice_get (get_or pages p []) (place - get_or (starts_of pages) p 0)
   started_in pages p place within past next = let same : place - 0 ≡ place = omega arith in
-      subst (λ t. slice_get (joined pages) t ≡ slice_get (get_or pages p []) (place - get_or (starts_of pages) p 0)) same (started_from pages 0 p place within past next)
+      subst (λ t. slice_get (page_values pages) t ≡ slice_get (get_or pages p []) (place - get_or (starts_of pages) p 0)) same (started_from pages 0 p place within past next)
 
   -- one value more before all pages
   starts-more : (pages : List (List X)) (n : ℕ) → starts_from (n + 1) pages ≡ map (λ start. start + 1) (starts_from n pages)
@@ -99,9 +99,9 @@ module _ {X : Type 0} where
   starts-split_from (q ∷ qs) n (suc i) a b within = ap (λ t. n ∷ t) (starts-split_from qs (n + length q) i a b (omega (arith, within)))
 
   -- no start is behind all values
-  starts_most : (pages : List (List X)) (n limit : ℕ) → n + length (joined pages) < limit → AllByRecursion (λ start. start < limit) (starts_from n pages)
+  starts_most : (pages : List (List X)) (n limit : ℕ) → n + length (page_values pages) < limit → AllByRecursion (λ start. start < limit) (starts_from n pages)
   starts_most [] n limit few = tt
-  starts_most (q ∷ qs) n limit few = let both = length-append q (joined qs) in (omega (arith, few), starts_most qs (n + length q) limit (omega (arith, both, few)))
+  starts_most (q ∷ qs) n limit few = let both = length-append q (page_values qs) in (omega (arith, few), starts_most qs (n + length q) limit (omega (arith, both, few)))
 
   starts_past : (pages : List (List X)) (n least : ℕ) → least ≤ n → AllByRecursion (λ start. least ≤ start) (starts_from n pages)
   starts_past [] n least past = tt
@@ -120,7 +120,7 @@ module _ {X : Type 0} where
 
   -- and else the value at the place lies in the last page that does
   pub slot_there : (pages : List (List X)) (starts : List ℕ) (place count : ℕ) → starts ≡ starts_of pages → IsPartitionPoint (λ start. start ≤ place) (λ start. place < start) starts count → count ≤ length starts → 0 < count
-      → slice_get (joined pages) place ≡ slice_get (get_or pages (count - 1) []) (place - get_or starts (count - 1) 0)
+      → slice_get (page_values pages) place ≡ slice_get (get_or pages (count - 1) []) (place - get_or starts (count - 1) 0)
   slot_there pages starts place count sums point bound some =
       let same = ap length sums ∙ length-starts pages 0 in
       let there = point.0 (count - 1) 0 (omega arith) (omega (arith, some)) in
@@ -132,10 +132,10 @@ module _ {X : Type 0} where
     next = omega arith
 
     -- there is room for one more
-    pub raise_few : length (joined pages) < 9223372036854775808 → AllByRecursion (λ start. start < 9223372036854775808) (drop (at + 1) starts)
+    pub raise_few : length (page_values pages) < 9223372036854775808 → AllByRecursion (λ start. start < 9223372036854775808) (drop (at + 1) starts)
     raise_few few = rw sums (each_drop (λ start. start < 9223372036854775808) (at + 1) (starts_of pages) (starts_most pages 0 9223372036854775808 (omega (arith, few))))
 
-    pub start_few : length (joined pages) < 9223372036854775808 → get_or starts at 0 < 9223372036854775808
+    pub start_few : length (page_values pages) < 9223372036854775808 → get_or starts at 0 < 9223372036854775808
     start_few few = rw sums (each_at (λ start. start < 9223372036854775808) (starts_of pages) at 0 (let same = length-starts pages 0 in omega (arith, same, within)) (starts_most pages 0 9223372036854775808 (omega (arith, few))))
 
     -- and one to take

@@ -2,12 +2,12 @@
 mod Parted
 mod InPages
 mod Close
-mod KeptPages
+mod PageSteps
 mod InStarts
 mod InIndex
 mod InSlots
 mod InRows
-mod KeptRows
+mod RowSteps
 mod RoomyIndexes
 mod PutRows
 mod OneTable

@@ -8,7 +8,7 @@ use Rattle.rep_schema.specs.declared.schema.Schema.{Schema}
 use Rattle.rep_schema.specs.declared.schema.TableEntry.{TableEntry}
 use Rattle.rep_schema.specs.declared.schema.Constraint.{Constraint}
 use Rattle.rep_schema.specs.Tables.{Cells, Rows, rows_of, columns_of, constraints_in, constraints_of, constraint_columns_of, places_in, IsTable, AreTables, IsUniqueRow, IsHeldElsewhere}
-use Rattle.rep_schema.proofs.KeptTables.{AreTables-set}
+use Rattle.rep_schema.proofs.TableSteps.{AreTables-set}
 use Rattle.page_tables.specs.Stored.{StoredTable, rows_in, spare_in, columns_of_each, AreIndexed}
 
 module _ (stored : List StoredTable) (table : ℕ) (in_range : table < length stored) where

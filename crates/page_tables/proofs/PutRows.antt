@@ -13,12 +13,12 @@ use Rattle.rep_values.specs.Order.{key_cmp}
 use Rattle.rep_schema.specs.declared.schema.Column.{Column}
 use Rattle.rep_schema.specs.Tables.{Cells, key_of, row_cmp, find_row, put_row, take_row, IsHeldElsewhere}
 use Rattle.page_tables.specs.Pages.{Paged}
-use Rattle.page_tables.specs.Slots.{Slotted, row_at, row_in, values_or_none, Holds}
+use Rattle.page_tables.specs.Slots.{Slotted, slot_row, row_in, values_or_none, SlotHolds}
 use Rattle.page_tables.specs.Index.{UniqueSlots, IsIn, listed, unlisted, RisesIn, CanList, IsFreeBeside}
 use Rattle.page_tables.specs.Stored.{room_of, rows_kept, IsIndexOf, IsStored}
 use Rattle.page_tables.proofs.InIndex.{found_in, length-take_found}
 use Rattle.page_tables.proofs.InRows.{key_at, in_some, in_after, each_free_beside, found_none, rows_put, rows_taken, least_each, least_most-map, columns_map, listed-columns, listed-most, unlisted-columns, unlisted-most}
-use Rattle.page_tables.proofs.KeptRows.{unheld_out, can_new, stored_new, can_move, stored_taken}
+use Rattle.page_tables.proofs.RowSteps.{unheld_out, can_new, stored_new, can_move, stored_taken}
 use Rattle.page_tables.proofs.RoomyIndexes.{roomier_self, stored_roomier}
 
 -- the indexes rise
@@ -30,10 +30,10 @@ pub stored_same : (slots : Slotted) (order after : Paged) (indexes : List Unique
 stored_same slots order after indexes items most is = stored_roomier slots slots order after refl refl (omega arith) items (omega (arith, most)) indexes indexes (roomier_self indexes) is.few is
 
 -- what a slot's row is after a change of a slot
-pub row_in_here : (slots now : Slotted) (slot : ℕ) (row : Cells) → Holds slots now slot (Some row) → row_in now.rows slot ≡ row
+pub row_in_here : (slots now : Slotted) (slot : ℕ) (row : Cells) → SlotHolds slots now slot (Some row) → row_in now.rows slot ≡ row
 row_in_here slots now slot row holds = ap values_or_none holds.here
 
-pub row_in_others : (slots now : Slotted) (slot : ℕ) (row : Option Cells) → Holds slots now slot row → (other : ℕ) → other ≢ slot → row_in now.rows other ≡ row_in slots.rows other
+pub row_in_others : (slots now : Slotted) (slot : ℕ) (row : Option Cells) → SlotHolds slots now slot row → (other : ℕ) → other ≢ slot → row_in now.rows other ≡ row_in slots.rows other
 row_in_others slots now slot row holds other differ = ap values_or_none (holds.others other differ)
 
 -- the room and the columns stay where slots are put in the indexes and taken
@@ -96,7 +96,7 @@ module _ (columns : List Column) (slots : Slotted) (order : Paged) (indexes : Li
       free_new : (slot : ℕ) → AllByRecursion (IsFreeBeside slots.rows order.items slot row) indexes
       free_new slot = each_free_beside columns slots.rows order.items rising row slot indexes (λ t differ other. (let both : Some t ≡ None = sym other ∙ none in cc)) unique
 
-      module _ (now : Slotted) (slot : ℕ) (unheld : row_at slots.rows slot ≡ None) (holds : Holds slots now slot (Some row)) where
+      module _ (now : Slotted) (slot : ℕ) (unheld : slot_row slots.rows slot ≡ None) (holds : SlotHolds slots now slot (Some row)) where
         pub can_list : AllByRecursion (CanList now.rows slot None) indexes
         can_list =
             let each = least_each (suc (length order.items)) (min slots.most order.most) indexes (let more = room_new none in omega (arith, more)) in
@@ -122,7 +122,7 @@ module _ (columns : List Column) (slots : Slotted) (order : Paged) (indexes : Li
     pub can_release : length slots.free < length slots.rows
     can_release = let some = in_some slot order.items taken_there in let number = stored.number in omega (arith, some, number)
 
-    module _ (now : Slotted) (after : Paged) (holds : Holds slots now slot None) (taken : after.items ≡ take_at (at_key (key_at columns slots.rows) key_cmp key) order.items) where
+    module _ (now : Slotted) (after : Paged) (holds : SlotHolds slots now slot None) (taken : after.items ≡ take_at (at_key (key_at columns slots.rows) key_cmp key) order.items) where
       pub rows_without : rows_kept now after ≡ take_row columns key (rows_kept slots order)
       rows_without = ap (map (row_in now.rows)) taken ∙ rows_taken columns slots.rows order.items rising now.rows slot key found (row_in_others slots now slot None holds)
 
@@ -135,7 +135,7 @@ module _ (columns : List Column) (slots : Slotted) (order : Paged) (indexes : Li
           (omega (arith, less, long)) most indexes stored number free
 
 -- another row in a slot
-pub can_move_in : (slots now : Slotted) (order : Paged) (indexes : List UniqueSlots) (slot : ℕ) (row before : Cells) → IsStored slots order indexes → Holds slots now slot (Some row) → IsIn slot order.items → row_at slots.rows slot ≡ Some before
+pub can_move_in : (slots now : Slotted) (order : Paged) (indexes : List UniqueSlots) (slot : ℕ) (row before : Cells) → IsStored slots order indexes → SlotHolds slots now slot (Some row) → IsIn slot order.items → slot_row slots.rows slot ≡ Some before
     → AllByRecursion (IsFreeBeside slots.rows order.items slot row) indexes → AllByRecursion (CanList now.rows slot (Some before)) (map (unlisted slots.rows slot (Some row)) indexes)
 can_move_in slots now order indexes slot row before stored holds there was free =
     can_move slots now order slot before row holds there was indexes stored.indexed free (least_each (length order.items) (min slots.most order.most) indexes stored.fits).1

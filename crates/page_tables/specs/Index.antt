@@ -9,7 +9,7 @@ use Rattle.rep_values.specs.declared.value.Value.{Value}
 use Rattle.rep_lists.specs.Rising.{find_at, put_at, take_at}
 use Rattle.rep_lists.specs.RisingLaws.{at_key, RisesBy}
 use Rattle.rep_schema.specs.Tables.{Cells, picked}
-use Rattle.page_tables.specs.Slots.{row_at, row_in}
+use Rattle.page_tables.specs.Slots.{slot_row, row_in}
 
 -- values beside values, place by place, with none before any
 abbrev pub picked_cmp : List (Option Value) → List (Option Value) → Ordering
@@ -21,7 +21,7 @@ IsIn s [] = ⊥
 IsIn s (x ∷ xs) = (s ≡ x) ⊎ IsIn s xs
 
 -- a list of so many things, each once, in rising order of their values
-pub record IsIndex {X K : Type 0} (values : X → K) (R : K → K → Ordering) (Has : X → Type 0) (number : ℕ) (index : List X) : Type 0 where
+pub record IsUniqueIndex {X K : Type 0} (values : X → K) (R : K → K → Ordering) (Has : X → Type 0) (number : ℕ) (index : List X) : Type 0 where
   pub rising : RisesBy values R index
   pub same : (s : X) → IsIn s index ↔ Has s
   pub count : length index ≡ number
@@ -59,10 +59,10 @@ without_slot rows slot index = record {
 
 -- the same, where the row that was there before has the values of the slot's row, or the one that comes
 abbrev pub listed : List (Option Cells) → ℕ → Option Cells → UniqueSlots → UniqueSlots
-listed rows slot other index = cond (is_alike index.columns other (row_at rows slot)) index (with_slot rows slot index)
+listed rows slot other index = cond (is_alike index.columns other (slot_row rows slot)) index (with_slot rows slot index)
 
 abbrev pub unlisted : List (Option Cells) → ℕ → Option Cells → UniqueSlots → UniqueSlots
-unlisted rows slot other index = cond (is_alike index.columns (row_at rows slot) other) index (without_slot rows slot index)
+unlisted rows slot other index = cond (is_alike index.columns (slot_row rows slot) other) index (without_slot rows slot index)
 
 -- the slots rise by the values that their rows have in the constraint
 abbrev pub RisesIn : List (Option Cells) → UniqueSlots → Type 0
@@ -76,7 +76,7 @@ pub record CanEnter (rows : List (Option Cells)) (slot : ℕ) (index : UniqueSlo
 
 -- and so it is unless the row that was there before has these values
 abbrev pub CanList : List (Option Cells) → ℕ → Option Cells → UniqueSlots → Type 0
-CanList rows slot other index = is_alike index.columns other (row_at rows slot) ≡ false → CanEnter rows slot index
+CanList rows slot other index = is_alike index.columns other (slot_row rows slot) ≡ false → CanEnter rows slot index
 
 -- no other slot of an order has a row with a row's values
 pub record IsFreeBeside (rows : List (Option Cells)) (order : List ℕ) (slot : ℕ) (row : Cells) (index : UniqueSlots) : Type 0 where

@@ -6,9 +6,9 @@ use Rattle.std.specs.declared.cmp.Ordering.TheVariants.{Less, Greater}
 use Rattle.rep_lists.specs.Rising.{put_at}
 
 -- the values of all pages, in their order
-abbrev pub joined : {X : Type 0} → List (List X) → List X
-joined [] = []
-joined (page ∷ pages) = page ++ joined pages
+abbrev pub page_values : {X : Type 0} → List (List X) → List X
+page_values [] = []
+page_values (page ∷ pages) = page ++ page_values pages
 
 -- values that stand before the place, then at most one that stands at it, then values that stand behind it
 abbrev pub IsParted : {X : Type 0} → (X → Ordering) → List X → Type 0
@@ -41,8 +41,8 @@ AreClose (page ∷ pages) = IsCloseTo page pages × AreClose pages
 -- the page in which a value stands or would stand: what lies in the pages before it is before the place, and what lies in the pages behind it is behind the place
 pub record IsPageFor {X : Type 0} (at : X → Ordering) (pages : List (List X)) (p : ℕ) : Type 0 where
   pub in_range : p < length pages
-  pub before : AllByRecursion (λ x. at x ≡ Less) (joined (take p pages))
-  pub behind : AllByRecursion (λ x. at x ≡ Greater) (joined (drop (suc p) pages))
+  pub before : AllByRecursion (λ x. at x ≡ Less) (page_values (take p pages))
+  pub behind : AllByRecursion (λ x. at x ≡ Greater) (page_values (drop (suc p) pages))
 
 -- so many pages have room for so many values, however they come and go
 abbrev pub most_in : ℕ → ℕ
@@ -56,7 +56,7 @@ pub record ArePages {X : Type 0} (pages waiting : List (List X)) (places backs :
   pub room : length pages + length waiting ≤ places
   pub back : length pages + length waiting ≤ backs
   pub few : length pages + length waiting ≤ 4294967296
-  pub fits : length (joined pages) ≤ most_in (length pages + length waiting)
+  pub fits : length (page_values pages) ≤ most_in (length pages + length waiting)
 
 -- for each page the number of values in the pages before it, where before the first there are so many
 abbrev pub starts_from : {X : Type 0} → ℕ → List (List X) → List ℕ

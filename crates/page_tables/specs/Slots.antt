@@ -8,8 +8,8 @@ in_slot None = None
 in_slot (Some row) = row
 
 -- the row of a slot, if it has one
-abbrev pub row_at : List (Option Cells) → ℕ → Option Cells
-row_at rows slot = in_slot (slice_get rows slot)
+abbrev pub slot_row : List (Option Cells) → ℕ → Option Cells
+slot_row rows slot = in_slot (slice_get rows slot)
 
 abbrev pub values_or_none : Option Cells → Cells
 values_or_none None = []
@@ -17,7 +17,7 @@ values_or_none (Some row) = row
 
 -- the values of the row of a slot; none where it has no row
 abbrev pub row_in : List (Option Cells) → ℕ → Cells
-row_in rows slot = values_or_none (row_at rows slot)
+row_in rows slot = values_or_none (slot_row rows slot)
 
 -- the slot that the next row gets: one that is free, or else a new one
 abbrev pub next_slot : List (Option Cells) → List ℕ → ℕ
@@ -40,7 +40,7 @@ pub record Slotted : Type 0 where
   pub most : ℕ
 
 -- a slot has another row, or none, and no other slot is changed
-pub record Holds (old new : Slotted) (slot : ℕ) (row : Option Cells) : Type 0 where
-  pub here : row_at new.rows slot ≡ row
-  pub others : (other : ℕ) → other ≢ slot → row_at new.rows other ≡ row_at old.rows other
+pub record SlotHolds (old new : Slotted) (slot : ℕ) (row : Option Cells) : Type 0 where
+  pub here : slot_row new.rows slot ≡ row
+  pub others : (other : ℕ) → other ≢ slot → slot_row new.rows other ≡ slot_row old.rows other
   pub most : new.most ≡ old.most

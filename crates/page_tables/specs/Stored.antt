@@ -6,8 +6,8 @@ use Rattle.rep_schema.specs.declared.schema.TableEntry.{TableEntry}
 use Rattle.rep_schema.specs.declared.schema.Constraint.{Constraint}
 use Rattle.rep_schema.specs.Tables.{Rows}
 use Rattle.page_tables.specs.Pages.{Paged}
-use Rattle.page_tables.specs.Slots.{Slotted, row_at, row_in}
-use Rattle.page_tables.specs.Index.{UniqueSlots, IsIn, IsIndex, picked_cmp, values_in}
+use Rattle.page_tables.specs.Slots.{Slotted, slot_row, row_in}
+use Rattle.page_tables.specs.Index.{UniqueSlots, IsIn, IsUniqueIndex, picked_cmp, values_in}
 
 -- the rows of one table, the columns of each of its constraints, and for how many more rows there is room
 pub record StoredTable : Type 0 where
@@ -30,11 +30,11 @@ rows_kept slots order = map (row_in slots.rows) order.items
 
 -- the slots of an index are those of the order
 abbrev pub IsIndexOf : Slotted → Paged → UniqueSlots → Type 0
-IsIndexOf slots order index = IsIndex (values_in slots.rows index.columns) picked_cmp (λ slot. IsIn slot order.items) (length order.items) index.items
+IsIndexOf slots order index = IsUniqueIndex (values_in slots.rows index.columns) picked_cmp (λ slot. IsIn slot order.items) (length order.items) index.items
 
 -- the slots in order all hold rows, each index has them, and there is room for each
 pub record IsStored (slots : Slotted) (order : Paged) (indexes : List UniqueSlots) : Type 0 where
-  pub held : (slot : ℕ) → IsIn slot order.items → IsSome (row_at slots.rows slot)
+  pub held : (slot : ℕ) → IsIn slot order.items → IsSome (slot_row slots.rows slot)
   pub indexed : AllByRecursion (IsIndexOf slots order) indexes
   pub number : length order.items + length slots.free ≡ length slots.rows
   pub fits : length order.items ≤ room_of slots order indexes

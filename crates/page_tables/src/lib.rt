@@ -2,7 +2,7 @@
 #![tactic(auto)]
 
 mod change;
-mod kept;
+mod indexed_rows;
 mod page;
 mod paged_rows;
 mod pages;

@@ -5,7 +5,7 @@ ghost use Rattle.rep_lists.specs.Rising.{IsRising};
 ghost use Rattle.rep_schema.specs.Tables.{row_cmp, key_of, find_row, put_row, take_row, IsHeldElsewhere};
 ghost use Rattle.page_tables.specs.Stored.{columns_of_each};
 
-use crate::kept::Kept;
+use crate::indexed_rows::IndexedRows;
 use rep_lists::{Items, NoMemory};
 use rep_schema::{Column, Constraint};
 use rep_values::{Row, Value};
@@ -16,7 +16,7 @@ use std::marker::Model;
 /// each call.
 #[derive(Drop)]
 pub(crate) struct PagedRows {
-    kept: Kept,
+    kept: IndexedRows,
 }
 
 impl Model for PagedRows {
@@ -41,7 +41,7 @@ impl PagedRows {
         ensures uniques { IfOk result (λ s. s.uniques ≡ columns_of_each constraints.now) }
     {
         Ok(PagedRows {
-            kept: Kept::of(alloc, constraints)?,
+            kept: IndexedRows::of(alloc, constraints)?,
         })
     }
 

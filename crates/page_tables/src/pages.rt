@@ -3,7 +3,7 @@ ghost use Rattle.std.specs.Prelude.{◌≡◌, ℕ, ◌+◌, ◌-◌, ◌*◌, �
 ghost use Rattle.std.specs.List.{AllByRecursion};
 ghost use Rattle.std.specs.declared.cmp.Ordering.TheVariants.{Greater};
 ghost use Rattle.rep_lists.specs.Rising.{IsThere, IsGap, find_at, take_at};
-ghost use Rattle.page_tables.specs.Pages.{joined, at_first, entered, most_in, starts_of, IsParted, IsPage, IsPageFor, ArePages, AreStarts};
+ghost use Rattle.page_tables.specs.Pages.{page_values, at_first, entered, most_in, starts_of, IsParted, IsPage, IsPageFor, ArePages, AreStarts};
 
 use crate::page::{HALF, PAGE, Page};
 use crate::sought::Sought;
@@ -34,7 +34,7 @@ fn begins_behind<S: Sought>(page: &Page, sought: &S) -> bool
 fn page_for<S: Sought>(pages: &[Page], sought: &S) -> usize
     requires some { 0 < length pages.now }
     requires filled { AllByRecursion IsPage pages.now }
-    requires parted { IsParted (S.at sought.now) (joined pages.now) }
+    requires parted { IsParted (S.at sought.now) (page_values pages.now) }
     ensures { IsPageFor (S.at sought.now) pages.now result }
 {
     let mut low = 0;
@@ -79,8 +79,8 @@ fn slot_in(slots: &[u32], place: usize) -> Option<u32>
 /// The slot at a page and a place, where it is the one that is sought.
 #[inline(always)]
 fn found_near<S: Sought>(pages: &[Page], sought: &S, near: (usize, usize)) -> Option<u32>
-    requires { IsParted (S.at sought.now) (joined pages.now) }
-    ensures { IfSome result (λ slot. find_at (S.at sought.now) (joined pages.now) ≡ Some slot) }
+    requires { IsParted (S.at sought.now) (page_values pages.now) }
+    ensures { IfSome result (λ slot. find_at (S.at sought.now) (page_values pages.now) ≡ Some slot) }
 {
     let (at, place) = near;
     if at >= pages.len() {
@@ -96,8 +96,8 @@ fn found_near<S: Sought>(pages: &[Page], sought: &S, near: (usize, usize)) -> Op
 /// The slot that is sought. Where it was found is noted.
 fn find<S: Sought>(pages: &[Page], sought: &S, last: &Cell<(usize, usize)>) -> Option<u32>
     requires filled { AllByRecursion IsPage pages.now }
-    requires parted { IsParted (S.at sought.now) (joined pages.now) }
-    ensures { result ≡ find_at (S.at sought.now) (joined pages.now) }
+    requires parted { IsParted (S.at sought.now) (page_values pages.now) }
+    ensures { result ≡ find_at (S.at sought.now) (page_values pages.now) }
 {
     if pages.is_empty() {
         return None;
@@ -124,7 +124,7 @@ fn slot_of(pages: &[Page], at: usize, place: usize) -> Option<u32>
 /// The slot at a place. It lies in the last page that starts there or before it.
 fn slot_at(pages: &[Page], starts: &[usize], place: usize) -> Option<u32>
     requires { starts.now ≡ starts_of pages.now }
-    ensures { result ≡ slice_get (joined pages.now) place }
+    ensures { result ≡ slice_get (page_values pages.now) place }
 {
     match started(starts, place) {
         0 => None,
@@ -221,7 +221,7 @@ fn take_from(
     requires are { ArePages pages.old.items waiting.old.items (vec_capacity pages.old) (vec_capacity waiting.old) }
     requires starts { AreStarts pages.old.items waiting.old.items starts.old.items (vec_capacity starts.old) }
     ensures value { result ≡ slice_index_or (slice_index_or pages.old.items at []) place result }
-    ensures slots { joined pages.new.items ≡ joined (slice_set pages.old.items at (remove (slice_index_or pages.old.items at []) place)) }
+    ensures slots { page_values pages.new.items ≡ page_values (slice_set pages.old.items at (remove (slice_index_or pages.old.items at []) place)) }
     ensures are { ArePages pages.new.items waiting.new.items (vec_capacity pages.new) (vec_capacity waiting.new) }
     ensures starts { AreStarts pages.new.items waiting.new.items starts.new.items (vec_capacity starts.new) }
     ensures all { length pages.new.items + length waiting.new.items ≡ length pages.old.items + length waiting.old.items }
@@ -244,11 +244,11 @@ fn take_out<S: Sought>(
     waiting: &mut Vec<Page>,
     sought: &S,
 ) -> Option<u32>
-    requires parted { IsParted (S.at sought.now) (joined pages.old.items) }
+    requires parted { IsParted (S.at sought.now) (page_values pages.old.items) }
     requires are { ArePages pages.old.items waiting.old.items (vec_capacity pages.old) (vec_capacity waiting.old) }
     requires starts { AreStarts pages.old.items waiting.old.items starts.old.items (vec_capacity starts.old) }
-    ensures taken { result ≡ find_at (S.at sought.now) (joined pages.old.items) }
-    ensures slots { joined pages.new.items ≡ take_at (S.at sought.now) (joined pages.old.items) }
+    ensures taken { result ≡ find_at (S.at sought.now) (page_values pages.old.items) }
+    ensures slots { page_values pages.new.items ≡ take_at (S.at sought.now) (page_values pages.old.items) }
     ensures are { ArePages pages.new.items waiting.new.items (vec_capacity pages.new) (vec_capacity waiting.new) }
     ensures starts { AreStarts pages.new.items waiting.new.items starts.new.items (vec_capacity starts.new) }
     ensures all { length pages.new.items + length waiting.new.items ≡ length pages.old.items + length waiting.old.items }
@@ -267,10 +267,10 @@ fn take_out<S: Sought>(
 fn start(pages: &mut Vec<Page>, starts: &mut Vec<usize>, waiting: &mut Vec<Page>, slot: u32)
     requires none { pages.old.items ≡ [] }
     requires waits { 1 ≤ vec_len waiting.old }
-    requires room { length (joined pages.old.items) < most_in (length pages.old.items + length waiting.old.items) }
+    requires room { length (page_values pages.old.items) < most_in (length pages.old.items + length waiting.old.items) }
     requires are { ArePages pages.old.items waiting.old.items (vec_capacity pages.old) (vec_capacity waiting.old) }
     requires starts { AreStarts pages.old.items waiting.old.items starts.old.items (vec_capacity starts.old) }
-    ensures slots { joined pages.new.items ≡ slot ∷ [] }
+    ensures slots { page_values pages.new.items ≡ slot ∷ [] }
     ensures are { ArePages pages.new.items waiting.new.items (vec_capacity pages.new) (vec_capacity waiting.new) }
     ensures starts { AreStarts pages.new.items waiting.new.items starts.new.items (vec_capacity starts.new) }
     ensures all { length pages.new.items + length waiting.new.items ≡ length pages.old.items + length waiting.old.items }
@@ -294,10 +294,10 @@ fn insert_into(
     requires at { at < length pages.old.items }
     requires place { place ≤ length (slice_index_or pages.old.items at []) }
     requires waits { 1 ≤ vec_len waiting.old }
-    requires room { length (joined pages.old.items) < most_in (length pages.old.items + length waiting.old.items) }
+    requires room { length (page_values pages.old.items) < most_in (length pages.old.items + length waiting.old.items) }
     requires are { ArePages pages.old.items waiting.old.items (vec_capacity pages.old) (vec_capacity waiting.old) }
     requires starts { AreStarts pages.old.items waiting.old.items starts.old.items (vec_capacity starts.old) }
-    ensures slots { joined pages.new.items ≡ joined (slice_set pages.old.items at (insert (slice_index_or pages.old.items at []) place slot)) }
+    ensures slots { page_values pages.new.items ≡ page_values (slice_set pages.old.items at (insert (slice_index_or pages.old.items at []) place slot)) }
     ensures are { ArePages pages.new.items waiting.new.items (vec_capacity pages.new) (vec_capacity waiting.new) }
     ensures starts { AreStarts pages.new.items waiting.new.items starts.new.items (vec_capacity starts.new) }
     ensures all { length pages.new.items + length waiting.new.items ≡ length pages.old.items + length waiting.old.items }
@@ -323,13 +323,13 @@ fn enter_in<S: Sought>(
     slot: u32,
     last: (usize, usize),
 ) -> Option<u32>
-    requires parted { IsParted (S.at sought.now) (joined pages.old.items) }
-    requires room { IsSome (find_at (S.at sought.now) (joined pages.old.items))
-        ⊎ (length (joined pages.old.items) < most_in (length pages.old.items + length waiting.old.items)) }
+    requires parted { IsParted (S.at sought.now) (page_values pages.old.items) }
+    requires room { IsSome (find_at (S.at sought.now) (page_values pages.old.items))
+        ⊎ (length (page_values pages.old.items) < most_in (length pages.old.items + length waiting.old.items)) }
     requires are { ArePages pages.old.items waiting.old.items (vec_capacity pages.old) (vec_capacity waiting.old) }
     requires starts { AreStarts pages.old.items waiting.old.items starts.old.items (vec_capacity starts.old) }
-    ensures found { result ≡ find_at (S.at sought.now) (joined pages.old.items) }
-    ensures slots { joined pages.new.items ≡ entered result (S.at sought.now) slot (joined pages.old.items) }
+    ensures found { result ≡ find_at (S.at sought.now) (page_values pages.old.items) }
+    ensures slots { page_values pages.new.items ≡ entered result (S.at sought.now) slot (page_values pages.old.items) }
     ensures are { ArePages pages.new.items waiting.new.items (vec_capacity pages.new) (vec_capacity waiting.new) }
     ensures starts { AreStarts pages.new.items waiting.new.items starts.new.items (vec_capacity starts.new) }
     ensures all { length pages.new.items + length waiting.new.items ≡ length pages.old.items + length waiting.old.items }
@@ -422,13 +422,13 @@ pub(crate) struct Pages {
 
 impl Model for Pages {
     ghost use Rattle.std.specs.Prelude.{◌≡◌, ◌+◌, length, vec_capacity};
-    ghost use Rattle.page_tables.specs.Pages.{joined, most_in, ArePages, AreStarts, Paged};
+    ghost use Rattle.page_tables.specs.Pages.{page_values, most_in, ArePages, AreStarts, Paged};
 
     ghost Value = { Paged };
 
-    ghost view = { λ s. record { items = joined s.pages.items; most = most_in (length s.pages.items + length s.waiting.items) } };
+    ghost view = { λ s. record { items = page_values s.pages.items; most = most_in (length s.pages.items + length s.waiting.items) } };
 
-    ghost invariant = { λ s. ArePages s.pages.items s.waiting.items (vec_capacity s.pages) (vec_capacity s.waiting) × ((s.count ≡ length (joined s.pages.items)) × AreStarts s.pages.items s.waiting.items s.starts.items (vec_capacity s.starts)) };
+    ghost invariant = { λ s. ArePages s.pages.items s.waiting.items (vec_capacity s.pages) (vec_capacity s.waiting) × ((s.count ≡ length (page_values s.pages.items)) × AreStarts s.pages.items s.waiting.items s.starts.items (vec_capacity s.starts)) };
 }
 
 impl Pages {

@@ -1,6 +1,6 @@
 //! Rows that keep their slot until they are taken.
 ghost use Rattle.std.specs.Prelude.{◌≡◌, ◌+◌, ◌<◌, ◌≤◌, [], Some, None, length, vec_capacity, option_copied, IsSome, IsOk, IfOk, OnOk};
-ghost use Rattle.page_tables.specs.Slots.{row_at, next_slot, Holds};
+ghost use Rattle.page_tables.specs.Slots.{slot_row, next_slot, SlotHolds};
 
 use rep_lists::{Copies, NoMemory};
 use rep_values::Row;
@@ -106,7 +106,7 @@ impl Slots {
     /// The slot that the next row gets.
     pub(crate) fn next(&self) -> u32
         ensures slot { result ≡ next_slot self.now.rows self.now.free }
-        ensures free { row_at self.now.rows result ≡ None }
+        ensures free { slot_row self.now.rows result ≡ None }
     {
         match self.free.last() {
             Some(slot) => *slot,
@@ -138,7 +138,7 @@ impl Slots {
     pub(crate) fn hold(&mut self, row: Row) -> Option<Row>
         requires { length self.old.rows < self.old.most + length self.old.free }
         ensures none { result ≡ None }
-        ensures here { Holds self.old self.new (next_slot self.old.rows self.old.free) (Some row) }
+        ensures here { SlotHolds self.old self.new (next_slot self.old.rows self.old.free) (Some row) }
         ensures one { length self.new.rows + length self.old.free ≡ length self.old.rows + length self.new.free + 1 }
     {
         match self.free.pop() {
@@ -152,9 +152,9 @@ impl Slots {
 
     /// Puts a row in the place of another one, which it hands back.
     pub(crate) fn replace(&mut self, slot: u32, row: Row) -> Option<Row>
-        requires { IsSome (row_at self.old.rows slot) }
-        ensures before { result ≡ row_at self.old.rows slot }
-        ensures here { Holds self.old self.new slot (Some row) }
+        requires { IsSome (slot_row self.old.rows slot) }
+        ensures before { result ≡ slot_row self.old.rows slot }
+        ensures here { SlotHolds self.old self.new slot (Some row) }
         ensures number { length self.new.rows ≡ length self.old.rows }
         ensures free { self.new.free ≡ self.old.free }
     {
@@ -163,10 +163,10 @@ impl Slots {
 
     /// Takes a row out of its slot, which is free then.
     pub(crate) fn release(&mut self, slot: u32) -> Option<Row>
-        requires held { IsSome (row_at self.old.rows slot) }
+        requires held { IsSome (slot_row self.old.rows slot) }
         requires room { length self.old.free < length self.old.rows }
-        ensures row { result ≡ row_at self.old.rows slot }
-        ensures here { Holds self.old self.new slot None }
+        ensures row { result ≡ slot_row self.old.rows slot }
+        ensures here { SlotHolds self.old self.new slot None }
         ensures number { length self.new.rows ≡ length self.old.rows }
         ensures free { length self.new.free ≡ length self.old.free + 1 }
     {

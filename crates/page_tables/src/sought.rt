@@ -5,8 +5,8 @@ ghost use Rattle.std.specs.Option.{option_cmp};
 ghost use Rattle.std.specs.Ordering.{nat_cmp};
 ghost use Rattle.std.specs.Cmp.Lexicographic.{slice_cmp};
 ghost use Rattle.rep_values.specs.Order.{value_cmp};
-ghost use Rattle.rep_schema.specs.Tables.{beside, row_cmp, picked};
-ghost use Rattle.page_tables.specs.Slots.{row_at, row_in};
+ghost use Rattle.rep_schema.specs.Tables.{row_beside, row_cmp, picked};
+ghost use Rattle.page_tables.specs.Slots.{slot_row, row_in};
 ghost use Rattle.page_tables.specs.Index.{picked_cmp};
 
 use rep_schema::{Column, compare_rows};
@@ -27,7 +27,7 @@ pub(crate) trait Sought {
 
 /// The row of a slot.
 pub(crate) fn row_at(rows: &[Option<Row>], slot: u32) -> Option<&Row>
-    ensures { option_copied result ≡ row_at rows.now slot }
+    ensures { option_copied result ≡ slot_row rows.now slot }
 {
     match rows.get(slot as usize) {
         Some(Some(row)) => Some(row),
@@ -99,7 +99,7 @@ fn compare_in_place(a: &Value, b: &Value) -> Ordering
 /// Where a row stands beside a key. It is `compare_row`, in place, since a search makes it at each step.
 #[inline(always)]
 fn compare_key(columns: &[Column], key: &[Value], row: &[Value]) -> Ordering
-    ensures { result ≡ beside columns.now key.now row.now }
+    ensures { result ≡ row_beside columns.now key.now row.now }
 {
     let mut columns_left = columns;
     let mut key_left = key;
@@ -191,7 +191,7 @@ pub(crate) struct ByKey<'a> {
 }
 
 impl<'a> Sought for ByKey<'a> {
-    ghost at = { λ s slot. beside s.columns.now s.key.now (row_in s.rows.now slot) };
+    ghost at = { λ s slot. row_beside s.columns.now s.key.now (row_in s.rows.now slot) };
 
     #[inline(always)]
     fn beside(&self, slot: u32) -> Ordering {

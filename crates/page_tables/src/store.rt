@@ -3,7 +3,7 @@ ghost use Rattle.std.specs.Prelude.{◌≡◌, ◌≢◌, ℕ, ◌+◌, ◌<◌,
 ghost use Rattle.rep_values.specs.declared.refusal.Refusal.TheVariants.{Memory};
 ghost use Rattle.rep_schema.specs.Shape.{HasShape};
 ghost use Rattle.rep_schema.specs.Tables.{columns_of, constraints_of, constraint_columns_of, key_of, find_row, put_row, take_row, rows_of, IsKeyed, RowFits, IsUniqueRow, IsHeldElsewhere, AreTables};
-ghost use Rattle.rep_declare.specs.Refusals.{refusal_of};
+ghost use Rattle.rep_declare.specs.Refusals.{declare_refusal};
 ghost use Rattle.rep_declare.specs.Additions.{ColumnNamed, declared};
 ghost use Rattle.rep_declare.specs.Shaping.{ShapesNoRows, rows_with};
 ghost use Rattle.page_tables.specs.Stored.{rows_in, uniques_in, AreIndexed};
@@ -97,10 +97,10 @@ impl PageTables {
         requires shape { HasShape self.old.schema }
         requires columns { ColumnNamed declaration.now }
         requires free { ShapesNoRows self.old.schema self.old.tables declaration.now }
-        ensures ok { OnOk result (refusal_of self.old.schema declaration.now ≡ None) }
+        ensures ok { OnOk result (declare_refusal self.old.schema declaration.now ≡ None) }
         ensures schema { OnOk result (self.new.schema ≡ declared declaration.now self.old.schema) }
         ensures tables { OnOk result (self.new.tables ≡ rows_with declaration.now self.old.tables) }
-        ensures err { IfErr result (λ why. (refusal_of self.old.schema declaration.now ≡ Some why) ⊎ ((refusal_of self.old.schema declaration.now ≡ None) × (why ≡ Memory))) }
+        ensures err { IfErr result (λ why. (declare_refusal self.old.schema declaration.now ≡ Some why) ⊎ ((declare_refusal self.old.schema declaration.now ≡ None) × (why ≡ Memory))) }
         ensures kept { OnErr result ((self.new.schema ≡ self.old.schema) × (self.new.tables ≡ self.old.tables)) }
         ensures shape { HasShape self.new.schema }
     {

@@ -14,11 +14,11 @@ use Rattle.site_state.specs.Steps.{begun}
 use Rattle.site_state.specs.Passes.{effect_here, finished_by, applied_unless, site_apply, apply_each, site_pass}
 use Rattle.event_laws.specs.Confluence.{applied_in_turn, AreReadyInTurn, CanPassInAnyOrder}
 use Rattle.event_laws.proofs.PassLaws.{passes_leave_nothing_ready}
-use Rattle.journal_order.specs.Settling.{IsSettleable}
-use Rattle.site_core.specs.Ordering.{IsSettledSite}
+use Rattle.journal_order.specs.Sorting.{CanBeSorted}
+use Rattle.site_core.specs.Ordering.{IsSortedSite}
 use Rattle.parallel_apply.specs.Crews.{IsPartlyApplied}
 use Rattle.parallel_apply.proofs.InTurn.{applied-append, ready-append, ready_among, each_applied, stays_in_turn}
-use Rattle.parallel_apply.proofs.SettledPass.{can_be_settled, settled_is_passed}
+use Rattle.parallel_apply.proofs.SortedPass.{can_be_sorted, sorted_is_passed}
 
 module _ (origin : SiteName) where
   -- ---- the moment stays
@@ -81,12 +81,12 @@ module _ (origin : SiteName) where
     pub sound_then : IsSound z.schema
     sound_then = subst IsSound (sym (ap (λ (v : SiteState). v.schema) all.2 ∙ (stays_in_turn origin all.0 (begun x)).schema)) is.sound
 
-    pub settleable_then : (from : ℕ) → from ≡ length x.journal → IsSettleable z.schema origin from z.journal
-    settleable_then from same = rw same (subst (λ (v : SiteState). IsSettleable v.schema origin (length x.journal) v.journal) (sym all.2) (can_be_settled origin x is all.0 all.1))
+    pub sortable_then : (from : ℕ) → from ≡ length x.journal → CanBeSorted z.schema origin from z.journal
+    sortable_then from same = rw same (subst (λ (v : SiteState). CanBeSorted v.schema origin (length x.journal) v.journal) (sym all.2) (can_be_sorted origin x is all.0 all.1))
 
     -- where its entries are settled, it is the site after a pass
-    pub passed_then : (from : ℕ) (settled : SiteState) → from ≡ length x.journal → IsSettledSite from z settled → settled ≡ site_pass origin x
+    pub passed_then : (from : ℕ) (settled : SiteState) → from ≡ length x.journal → IsSortedSite from z settled → settled ≡ site_pass origin x
     passed_then from settled same done =
         sym done.kept ∙ ap (λ (v : SiteState). record v { journal = settled.journal }) all.2
-        ∙ settled_is_passed origin x is all.0 all.1 none settled.journal
-        (subst (λ (v : SiteState). Rattle.journal_order.specs.Settling.IsSettled (length x.journal) v.journal settled.journal) all.2 (rw (← same) done.journal))
+        ∙ sorted_is_passed origin x is all.0 all.1 none settled.journal
+        (subst (λ (v : SiteState). Rattle.journal_order.specs.Sorting.IsSorted (length x.journal) v.journal settled.journal) all.2 (rw (← same) done.journal))

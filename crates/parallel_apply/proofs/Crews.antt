@@ -17,7 +17,7 @@ use Rattle.txn_work.specs.Works.{WorkState}
 use Rattle.txn_work.specs.Laws.{SupportOutlastsIndependentTransactions}
 use Rattle.site_core.specs.Working.{IsWorkOf, EndsHere, HoldsWhereAlike}
 use Rattle.site_core.proofs.Beginning.{outcomes_hold}
-use Rattle.parallel_apply.specs.Turns.{positions_of, site_after}
+use Rattle.parallel_apply.specs.Turns.{positions_of, site_after_crew}
 use Rattle.parallel_apply.specs.Crews.{is_stale, CrewState, IsCrew, IsClaimAt, IsOutcomeOf, IsOfEarlierClaim, IsPartlyApplied}
 use Rattle.parallel_apply.specs.declared.claim.Claim.{Claim}
 use Rattle.parallel_apply.specs.declared.claim.Evaluated.{Evaluated}
@@ -77,7 +77,7 @@ told_alike x y same = cc
 
 -- what was claimed in one turn and evaluated is put in in a later one
 pub earlier_claim : (then now : CrewState) (later : List (Option ℕ)) → now.turns ≡ then.turns ++ later → now.opened ≡ then.opened → now.origin ≡ then.origin
-    → (claim : Claim) → IsClaimAt then.origin (site_after then.origin then.turns then.opened) claim
+    → (claim : Claim) → IsClaimAt then.origin (site_after_crew then.origin then.turns then.opened) claim
     → (done : Evaluated) → done.position ≡ claim.position → IsOutcomeOf claim.work done.outcome → IsOfEarlierClaim now done
 earlier_claim then now later more opened origin claim is done position outcome =
     record { turns = then.turns; later = later; began = more; claim = claim; is = rw (opened, origin) is; position = position; outcome = outcome }
@@ -121,7 +121,7 @@ module _ (opened : SiteState) (origin : SiteName) (turns : List (Option ℕ)) (s
   -- what was evaluated for an earlier claim, of a position that is ready still
   module _ (outlasts : SupportOutlastsIndependentTransactions) (done : Evaluated) (earlier : IsOfEarlierClaim (record { opened = opened; origin = origin; turns = turns; site = site }) done) where
     abbrev before : SiteState
-    before = site_after origin earlier.turns opened
+    before = site_after_crew origin earlier.turns opened
 
     since : List ℕ
     since = positions_of earlier.later

@@ -18,7 +18,7 @@ use Rattle.rep_values.specs.contracts.key.Key as key
 use Rattle.rep_calls.specs.contracts.call.Part as part
 use Rattle.rep_calls.specs.contracts.call.Call as call
 use Rattle.rep_calls.specs.contracts.call.Txn as txn
-use Rattle.rep_calls.specs.contracts.past.Past as past
+use Rattle.rep_calls.specs.contracts.past.PastEntry as past
 use Rattle.rep_values.specs.contracts.name.SiteName as site_name
 use Rattle.rep_values.specs.contracts.refusal.ApplyError as apply_error
 use Rattle.site_state.specs.contracts.entry.Entry as entry

@@ -3,7 +3,7 @@ mod Sharing
 mod InTurn
 mod Outlasting
 mod MadeEntries
-mod SettledPass
+mod SortedPass
 mod TurnLogs
 mod Crews
 mod CrewPass

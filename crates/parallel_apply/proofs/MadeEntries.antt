@@ -19,7 +19,7 @@ use Rattle.site_state.specs.Passes.{effect_here, site_apply}
 use Rattle.site_state.proofs.Stepping.{arrived_has}
 use Rattle.event_laws.specs.Confluence.{applied_in_turn, AreReadyInTurn, CanPassInAnyOrder}
 use Rattle.event_laws.proofs.MasterArrivals.{entry_by, IsReadyAt, ready_at, finished_by-master}
-use Rattle.journal_order.specs.Settling.{position_of, IsFinishOf, StandsFirst, AreInOrder}
+use Rattle.journal_order.specs.Sorting.{finish_position, IsFinishOf, StandsFirst, AreInOrder}
 use Rattle.journal_order.proofs.Selecting.{AllByRecursion-weaker}
 use Rattle.parallel_apply.proofs.InTurn.{Stays, stays_one, stays_then, applied_becomes, applied_finished}
 use Rattle.parallel_apply.proofs.Outlasting.{three_ways, off_and_on, there_at_start, from_one, depends_finished}
@@ -36,7 +36,7 @@ has_then P Q then (Refreshed moment) has = tt
 pub record ComesBehind (origin : SiteName) (x : SiteState) (e : Entry) : Type 0 where
   pub later : SiteState
   pub stays : Stays origin x later
-  pub at : IsReadyAt origin (position_of e) later
+  pub at : IsReadyAt origin (finish_position e) later
   pub carries : EntryHas (λ (txn : Txn). txn ≡ at.arrival.txn) e
 
 -- the entries, the oldest first
@@ -44,7 +44,7 @@ pub record AreMade (origin : SiteName) (ps : List ℕ) (x : SiteState) : Type 0 
   pub entries : List Entry
   pub journal : (applied_in_turn origin ps x).journal ≡ reverse entries ++ x.journal
   pub finishes : AllByRecursion (IsFinishOf origin) entries
-  pub positions : map position_of entries ≡ ps
+  pub positions : map finish_position entries ≡ ps
   pub behind : AllByRecursion (ComesBehind origin x) entries
   pub order : AreInOrder x.schema entries
 
@@ -64,14 +64,14 @@ module _ (origin : SiteName) (start : SiteState) (is : CanPassInAnyOrder origin 
     finish_one : IsFinishOf origin one
     finish_one = by_result (IsFinishOf origin) refl (λ failure. refl) (effect_here origin at.arrival x)
 
-    position_one : position_of one ≡ p
-    position_one = by_result (λ e. position_of e ≡ p) (arrived_has origin p x at.arrival at.there) (λ failure. arrived_has origin p x at.arrival at.there) (effect_here origin at.arrival x)
+    position_one : finish_position one ≡ p
+    position_one = by_result (λ e. finish_position e ≡ p) (arrived_has origin p x at.arrival at.there) (λ failure. arrived_has origin p x at.arrival at.there) (effect_here origin at.arrival x)
 
     carries_one : EntryHas (λ (txn : Txn). txn ≡ at.arrival.txn) one
     carries_one = by_result (EntryHas (λ (txn : Txn). txn ≡ at.arrival.txn)) refl (λ failure. refl) (effect_here origin at.arrival x)
 
     behind_one : ComesBehind origin x one
-    behind_one = subst (λ (q : ℕ). (e : Entry) → position_of e ≡ q → EntryHas (λ (txn : Txn). txn ≡ at.arrival.txn) e → ComesBehind origin x e) refl
+    behind_one = subst (λ (q : ℕ). (e : Entry) → finish_position e ≡ q → EntryHas (λ (txn : Txn). txn ≡ at.arrival.txn) e → ComesBehind origin x e) refl
         (λ e same carries. record {
           later = x;
           stays = record { schema = refl; senders = refl; finished_stay = λ q on. on };
@@ -82,9 +82,9 @@ module _ (origin : SiteName) (start : SiteState) (is : CanPassInAnyOrder origin 
     -- it stands first of those that come behind it and share a token
     stands_first : (f : Entry) → ComesBehind origin (site_apply origin p x) f → StandsFirst x.schema one f
     stands_first f behind =
-        has_then (λ (txn : Txn). txn ≡ at.arrival.txn) (λ (txn : Txn). EntryHas (λ (other : Txn). shares x.schema txn other ≡ true → position_of one < position_of f) f)
-        (λ txn own. has_then (λ (other : Txn). other ≡ behind.at.arrival.txn) (λ (other : Txn). shares x.schema txn other ≡ true → position_of one < position_of f)
-        (λ other own_other shared. subst (λ (n : ℕ). n < position_of f) (sym position_one) (lower (three_ways p (position_of f)) (rw (stays.schema, own, own_other) at shared))) f behind.carries) one carries_one
+        has_then (λ (txn : Txn). txn ≡ at.arrival.txn) (λ (txn : Txn). EntryHas (λ (other : Txn). shares x.schema txn other ≡ true → finish_position one < finish_position f) f)
+        (λ txn own. has_then (λ (other : Txn). other ≡ behind.at.arrival.txn) (λ (other : Txn). shares x.schema txn other ≡ true → finish_position one < finish_position f)
+        (λ other own_other shared. subst (λ (n : ℕ). n < finish_position f) (sym position_one) (lower (three_ways p (finish_position f)) (rw (stays.schema, own, own_other) at shared))) f behind.carries) one carries_one
       where
         whole : Stays origin x behind.later
         whole = stays_then origin x (site_apply origin p x) behind.later (stays_one origin p x) behind.stays
@@ -92,16 +92,16 @@ module _ (origin : SiteName) (start : SiteState) (is : CanPassInAnyOrder origin 
         there_p : arrived_at origin p start.senders ≡ Some at.arrival
         there_p = there_at_start origin start is p x at.arrival stays at.there
 
-        there_q : arrived_at origin (position_of f) start.senders ≡ Some behind.at.arrival
-        there_q = there_at_start origin start is (position_of f) behind.later behind.at.arrival (stays_then origin start x behind.later stays whole) behind.at.there
+        there_q : arrived_at origin (finish_position f) start.senders ≡ Some behind.at.arrival
+        there_q = there_at_start origin start is (finish_position f) behind.later behind.at.arrival (stays_then origin start x behind.later stays whole) behind.at.there
 
-        lower : (s : (p < position_of f) ⊎ ((position_of f < p) ⊎ (p ≡ position_of f))) → shares start.schema at.arrival.txn behind.at.arrival.txn ≡ true → p < position_of f
+        lower : (s : (p < finish_position f) ⊎ ((finish_position f < p) ⊎ (p ≡ finish_position f))) → shares start.schema at.arrival.txn behind.at.arrival.txn ≡ true → p < finish_position f
         lower (inl less) shared = less
         lower (inr (inl more)) shared =
-            let above = is.numbered (position_of f) p behind.at.arrival at.arrival there_q there_p more shared in
-            absurd (off_and_on _ (whole.finished_stay (position_of f) (depends_finished origin start is p (position_of f) x (from_one origin start is (position_of f) behind.at.arrival there_q) at above)) behind.at.unfinished)
+            let above = is.numbered (finish_position f) p behind.at.arrival at.arrival there_q there_p more shared in
+            absurd (off_and_on _ (whole.finished_stay (finish_position f) (depends_finished origin start is p (finish_position f) x (from_one origin start is (finish_position f) behind.at.arrival there_q) at above)) behind.at.unfinished)
         lower (inr (inr same)) shared =
-            absurd (off_and_on _ (behind.stays.finished_stay (position_of f) (subst (λ (q : ℕ). Rattle.site_state.specs.Journal.finished origin (site_apply origin p x).journal q ≡ true) same (applied_finished origin p x at))) behind.at.unfinished)
+            absurd (off_and_on _ (behind.stays.finished_stay (finish_position f) (subst (λ (q : ℕ). Rattle.site_state.specs.Journal.finished origin (site_apply origin p x).journal q ≡ true) same (applied_finished origin p x at))) behind.at.unfinished)
 
     with_one : (ps : List ℕ) → AreMade origin ps (site_apply origin p x) → AreMade origin (p ∷ ps) x
     with_one ps rest = record {

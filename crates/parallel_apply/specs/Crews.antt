@@ -14,7 +14,7 @@ use Rattle.event_laws.specs.Confluence.{applied_in_turn, AreReadyInTurn, CanPass
 use Rattle.txn_work.specs.declared.outcome.Outcome.{Outcome}
 use Rattle.txn_work.specs.Works.{WorkState}
 use Rattle.site_core.specs.Working.{IsWorkOf, HoldsWhereAlike}
-use Rattle.parallel_apply.specs.Turns.{positions_of, site_after}
+use Rattle.parallel_apply.specs.Turns.{positions_of, site_after_crew}
 use Rattle.parallel_apply.specs.declared.claim.Claim.{Claim}
 use Rattle.parallel_apply.specs.declared.claim.Evaluated.{Evaluated}
 
@@ -35,7 +35,7 @@ pub record CrewState : Type 0 where
 pub record IsCrew (c : CrewState) : Type 0 where
   pub passes : CanPassInAnyOrder c.origin c.opened
   pub ready : AreReadyInTurn c.origin (positions_of c.turns) c.opened
-  pub led : c.site ≡ site_after c.origin c.turns c.opened
+  pub led : c.site ≡ site_after_crew c.origin c.turns c.opened
 
 -- a position is claimed at a site where it is ready, and its work is that of what arrived there
 pub record IsClaimAt (origin : SiteName) (x : SiteState) (claim : Claim) : Type 0 where
@@ -55,7 +55,7 @@ pub record IsOfEarlierClaim (c : CrewState) (done : Evaluated) : Type 0 where
   pub later : List (Option ℕ)
   pub began : c.turns ≡ Rattle.std.specs.Prelude.◌++◌ turns later
   pub claim : Claim
-  pub is : IsClaimAt c.origin (site_after c.origin turns c.opened) claim
+  pub is : IsClaimAt c.origin (site_after_crew c.origin turns c.opened) claim
   pub position : done.position ≡ claim.position
   pub outcome : IsOutcomeOf claim.work done.outcome
 

@@ -13,8 +13,8 @@ positions_of (None ∷ turns) = positions_of turns
 positions_of (Some position ∷ turns) = position ∷ positions_of turns
 
 -- a site after turns that applied positions of a sender
-abbrev pub site_after : SiteName → List (Option ℕ) → SiteState → SiteState
-site_after origin turns x = applied_in_turn origin (positions_of turns) x
+abbrev pub site_after_crew : SiteName → List (Option ℕ) → SiteState → SiteState
+site_after_crew origin turns x = applied_in_turn origin (positions_of turns) x
 
 -- so many turns that applied nothing
 abbrev pub quiet_turns : ℕ → List (Option ℕ)

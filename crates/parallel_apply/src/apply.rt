@@ -32,7 +32,7 @@ pub(crate) fn can_pass_in_any_order<R: RowStore>(site: &Site<R>, origin: &SiteNa
 }
 
 /// Ends a pass of which a crew made a part: what is still ready is applied, and the journal's order is that of a pass of one.
-pub(crate) fn settled<R: RowStore>(
+pub(crate) fn end_pass<R: RowStore>(
     site: Site<R>,
     alloc: Global,
     origin: &SiteName,
@@ -50,7 +50,7 @@ pub(crate) fn settled<R: RowStore>(
     if let Err(refused) = site.finish_pass(alloc, origin) {
         return Err((site, refused));
     }
-    if let Err(refused) = site.settle_pass(alloc, from) {
+    if let Err(refused) = site.sort_new_entries(alloc, from) {
         return Err((site, refused));
     }
     Ok(site)

@@ -4,7 +4,7 @@ ghost use Rattle.site_state.specs.Ready.{stale_of, is_ready};
 ghost use Rattle.site_state.specs.Passes.{site_apply};
 ghost use Rattle.site_core.specs.Working.{EndsHere};
 ghost use Rattle.event_laws.specs.Confluence.{CanPassInAnyOrder};
-ghost use Rattle.parallel_apply.specs.Turns.{site_after};
+ghost use Rattle.parallel_apply.specs.Turns.{site_after_crew};
 ghost use Rattle.parallel_apply.specs.Crews.{is_stale, IsCrew, IsClaimAt, IsOfEarlierClaim};
 
 use crate::claim::{Claim, Evaluated, claimed};
@@ -143,7 +143,7 @@ impl<R: RowStore> Crew<R> {
         ensures opened { self.new.opened ≡ self.old.opened }
         ensures origin { self.new.origin ≡ self.old.origin }
         ensures turn { self.new.turns ≡ self.old.turns ++ None ∷ [] }
-        ensures claim { IfSome result (IsClaimAt self.new.origin (site_after self.new.origin self.new.turns self.new.opened)) }
+        ensures claim { IfSome result (IsClaimAt self.new.origin (site_after_crew self.new.origin self.new.turns self.new.opened)) }
     {
         self.turns.pass();
         let position = self.claims.next(&self.site, &self.origin, applier)?;

@@ -11,7 +11,7 @@ ghost use Rattle.site_gate.specs.Passes.{IsPassOf, opening_of};
 ghost use Rattle.parallel_apply.specs.Crews.{IsPartlyApplied};
 
 use crate::applier::{Applier, work};
-use crate::apply::{can_pass_in_any_order, settled};
+use crate::apply::{can_pass_in_any_order, end_pass};
 use crate::claim::appliers_for;
 use crate::crew::Crew;
 use crate::seat::{Job, Seat};
@@ -195,7 +195,7 @@ impl<R: RowStore> Workers<R> {
         site.begin_pass();
         let from = site.journal_len();
         let site = self.apply_together(rt, alloc, site, origin, appliers, watch);
-        settled(site, alloc, origin, opened, from)
+        end_pass(site, alloc, origin, opened, from)
     }
 }
 

@@ -7,8 +7,8 @@ use Rattle.std.proofs.lemmas.Bool.{and_parts}
 use Rattle.rep_lists.specs.Rising.{IsRising}
 use Rattle.rep_values.specs.Order.{key_cmp}
 use Rattle.rep_schema.specs.declared.schema.Column.{Column}
-use Rattle.rep_schema.specs.Tables.{Cells, Rows, key_of, beside, row_cmp, put_row, take_row}
-use Rattle.rep_schema.proofs.SameValues.{beside-own}
+use Rattle.rep_schema.specs.Tables.{Cells, Rows, key_of, row_beside, row_cmp, put_row, take_row}
+use Rattle.rep_schema.proofs.SameValues.{row_beside-own}
 
 -- what holds of all values holds of the one at a place
 pub all_at : {X : Type 0} (P : X → Type 0) (xs : List X) (i : ℕ) (x : X) → AllByRecursion P xs → slice_get xs i ≡ Some x → P x
@@ -30,10 +30,10 @@ module _ (columns : List Column) where
   put_row-place (x ∷ xs) zero row other rising there own =
       let same : x ≡ row = cc there in
       let key : key_of columns x ≡ key_of columns other = ap (key_of columns) same ∙ sym own in
-      rw (beside-own columns (key_of columns other) x key) refl
+      rw (row_beside-own columns (key_of columns other) x key) refl
   put_row-place (x ∷ xs) (suc i) row other rising there own =
       let below : row_cmp columns x row ≡ Less = all_at (λ y. row_cmp columns x y ≡ Less) xs i row rising.0 there in
-      let before : beside columns (key_of columns other) x ≡ Less = ap (key_cmp (key_of columns x)) own ∙ below in
+      let before : row_beside columns (key_of columns other) x ≡ Less = ap (key_cmp (key_of columns x)) own ∙ below in
       rw before (ap (λ ys. x ∷ ys) (put_row-place xs i row other rising.1 there own))
 
   -- the row at a place is taken by its key
@@ -41,7 +41,7 @@ module _ (columns : List Column) where
   take_row-place [] i row rising there = absurd (cc there)
   take_row-place (x ∷ xs) zero row rising there =
       let same : x ≡ row = cc there in
-      rw (beside-own columns (key_of columns row) x (ap (key_of columns) same)) refl
+      rw (row_beside-own columns (key_of columns row) x (ap (key_of columns) same)) refl
   take_row-place (x ∷ xs) (suc i) row rising there =
       let below : row_cmp columns x row ≡ Less = all_at (λ y. row_cmp columns x y ≡ Less) xs i row rising.0 there in
       rw below (ap (λ ys. x ∷ ys) (take_row-place xs i row rising.1 there))

@@ -19,7 +19,7 @@ use Rattle.rep_calls.specs.declared.call.Call.{Call}
 use Rattle.rep_calls.specs.declared.call.Call.TheVariants.{Insert}
 use Rattle.txn_effects.specs.Parts.{result_then}
 use Rattle.txn_effects.specs.Transactions.{failing_at}
-use Rattle.site_state.specs.Fits.{IsKeyed}
+use Rattle.site_state.specs.Fits.{SchemaIsKeyed}
 use Rattle.proc_state.specs.declared.procedure.Procedure.{Procedure}
 use Rattle.proc_state.specs.declared.call.ProcCall.{ProcCall}
 use Rattle.proc_state.specs.Calls.{TakesAmounts, IsProcedure, AreProcedures, values_fit, call_fits, procedure_after, calls_after}
@@ -166,7 +166,7 @@ some_keyed [] some = absurd (omega (arith, some))
 some_keyed (c ∷ cs) some = omega arith
 
 -- a row that fits a table has as many values as a row may have
-pub IsRowLen-fits : (schema : Schema) (table : ℕ) (row : Cells) → IsKeyed schema → table < length schema.tables → RowFits (columns_of schema table) row → IsRowLen (length row)
+pub IsRowLen-fits : (schema : Schema) (table : ℕ) (row : Cells) → SchemaIsKeyed schema → table < length schema.tables → RowFits (columns_of schema table) row → IsRowLen (length row)
 IsRowLen-fits schema table row keyed there fits =
     let long = length-fits (columns_of schema table) row fits in
     (omega (arith, long, some_keyed (columns_of schema table) (keyed.keys table there).0), omega (arith, long, length-columns_of schema keyed.shape table))

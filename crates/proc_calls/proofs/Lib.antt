@@ -10,6 +10,6 @@ pub mod Noting
 pub mod Queued
 pub mod Reading
 pub mod Sending
-pub mod Holding
+pub mod ProcSiteSteps
 pub mod Passing
 pub mod NewSite

@@ -10,7 +10,7 @@ use Rattle.rep_calls.specs.declared.call.Txn.{Txn}
 use Rattle.origin_marks.specs.Marks as marks
 use Rattle.error_queue.specs.ErrorLists.{ErrorList, no_errors}
 use Rattle.site_state.specs.Making.{new_sender}
-use Rattle.site_state.specs.Fits.{IsKeyed, SendersHave}
+use Rattle.site_state.specs.Fits.{SchemaIsKeyed, SendersHave}
 use Rattle.sender_inbox.specs.Incoming.{Incoming}
 use Rattle.journal_steps.specs.Inboxes.{senders_in, Follows}
 use Rattle.journal_steps.proofs.StandingErrors.{lists_by}
@@ -22,7 +22,7 @@ use Rattle.proc_state.proofs.Fitting.{ProcFits-new_proc}
 use Rattle.proc_state.proofs.Names.{new_masters, new_origins}
 use Rattle.proc_calls.specs.Carrying.{CanBeCarried}
 use Rattle.proc_calls.specs.Outgoing.{CallsOut, NamesApart, Keeps}
-use Rattle.proc_calls.specs.Keeping.{state_of, Holds}
+use Rattle.proc_calls.specs.ProcSiteInvariant.{state_of, ProcSiteHolds}
 use Rattle.proc_calls.proofs.Apart.{names_apart}
 
 none_arrived : (P : Txn → Type 0) (names : List SiteName) → SendersHave P (map new_sender names)
@@ -43,9 +43,9 @@ module _ (schema schema' : Schema) (procedures : List Procedure) (me : SiteName)
   pub new_state : state_of schema' procedures me [] inboxes out ≡ new_proc schema procedures me masters
   new_state = rw (schema_is, senders, deferred, acked) refl
 
-  pub new_holds : (rows : List Rows) (lists : List ErrorList) → IsKeyed schema → AreProcedures schema procedures → AreDistinct masters → rows ≡ replicate (length schema.tables) []
+  pub new_holds : (rows : List Rows) (lists : List ErrorList) → SchemaIsKeyed schema → AreProcedures schema procedures → AreDistinct masters → rows ≡ replicate (length schema.tables) []
       → AllByRecursion (λ (i : Incoming). (p : ℕ) → marks.finished i.marked p ≡ false) inboxes → Keeps [] [] out → lists ≡ map no_errors masters
-      → Holds (state_of schema' procedures me [] inboxes out) rows inboxes out lists
+      → ProcSiteHolds (state_of schema' procedures me [] inboxes out) rows inboxes out lists
   new_holds rows lists keyed are distinct empty unfinished keeps none = record {
     fits = subst ProcFits (sym new_state) (ProcFits-new_proc schema procedures me masters keyed are);
     journal = tt;

@@ -7,7 +7,7 @@ use Rattle.std.proofs.lemmas.List.Folds.{list_any-append}
 use Rattle.rep_values.specs.declared.name.SiteName.{SiteName}
 use Rattle.dependency_index.specs.declared.token.Token.{Token}
 use Rattle.dependency_index.specs.Dependencies.{NotedStream, IsNoted, noted_count, room_for, dependency_number}
-use Rattle.dependency_index.proofs.KeptStreams.{sites_of}
+use Rattle.dependency_index.proofs.FoundStreams.{sites_of}
 use Rattle.dependency_index.proofs.Destinations.{IsIndexed-same}
 use Rattle.deferred_queue.specs.declared.destination.Destination.{Destination}
 use Rattle.deferred_queue.specs.Streams.{is_same_site}

@@ -16,7 +16,7 @@ use Rattle.rep_calls.specs.declared.call.Call.TheVariants.{Insert}
 use Rattle.rep_calls.specs.declared.call.Txn.{Txn}
 use Rattle.packet_code.specs.Limits.{IsPlainValue, IsPlainRow, IsPlainCall}
 use Rattle.packet_code.specs.Texts.{HasTextForm, HaveTextForm, CallHasTextForm}
-use Rattle.site_state.specs.Fits.{IsKeyed}
+use Rattle.site_state.specs.Fits.{SchemaIsKeyed}
 use Rattle.proc_state.specs.declared.procedure.Procedure.{Procedure}
 use Rattle.proc_state.specs.Calls.{IsProcedure, values_fit}
 use Rattle.proc_state.specs.Carriers.{carried_values, carrier_row}
@@ -50,7 +50,7 @@ plain_row columns place values below width fits form =
       values = (place_in_range 0 (omega arith), (place_in_range place below, plain_values columns values fits form.1.1));
     }
 
-module _ (schema : Schema) (keyed : IsKeyed schema) (p : Procedure) (is : IsProcedure schema p) (values : Cells) (fits : values_fit (columns_of schema p.table) p.action values ≡ true) where
+module _ (schema : Schema) (keyed : SchemaIsKeyed schema) (p : Procedure) (is : IsProcedure schema p) (values : Cells) (fits : values_fit (columns_of schema p.table) p.action values ≡ true) where
   -- what is carried fits the columns of the table
   pub carried_fits : RowFits (columns_of schema p.table) (carried_values (columns_of schema p.table) p.action values)
   carried_fits = (row_test (columns_of schema p.table) (carried_values (columns_of schema p.table) p.action values)).0 (row_fits-carried (columns_of schema p.table) p.action values is.acts fits)

@@ -8,12 +8,12 @@ use Rattle.rep_calls.specs.declared.call.Txn.{Txn}
 use Rattle.dependency_index.specs.declared.token.Token.{Token}
 use Rattle.dependency_index.specs.Tokens.{share_token}
 use Rattle.dependency_index.specs.Dependencies.{NotedStream, IsNoted, IsIndexed, room_for}
-use Rattle.dependency_index.proofs.KeptStreams.{sites_of}
+use Rattle.dependency_index.proofs.FoundStreams.{sites_of}
 use Rattle.dependency_index.proofs.Destinations.{IsIndexed-Contains, IsIndexed-same}
 use Rattle.dependency_index.proofs.NotedTokens.{last_where-bound}
-use Rattle.deferred_queue.specs.declared.cargo.Cargo.{Cargo}
+use Rattle.deferred_queue.specs.declared.queued_txn.QueuedTxn.{QueuedTxn}
 use Rattle.deferred_queue.specs.declared.destination.Destination.{Destination}
-use Rattle.deferred_queue.specs.Streams.{Deferred, InStream, Mark, Deferrals, CanBeSent, IsDestination, AreApart, is_same_site, destination_to, stream_to, in_order, last_position, raised_mark}
+use Rattle.deferred_queue.specs.Streams.{Deferred, InStream, Mark, Deferrals, CanBeSent, IsDestination, DestinationsApart, is_same_site, destination_to, queue_stream_to, in_order, last_position, raised_mark}
 use Rattle.deferred_queue.specs.Streams as queue
 use Rattle.deferred_queue.proofs.Sites.{is_same_site-true, is_same_site-refl}
 use Rattle.site_state.specs.State.{is_among}
@@ -86,7 +86,7 @@ stream_within : (site : SiteName) (deferred : List Deferred) → last_position s
 stream_within site [] = omega arith
 stream_within site (d ∷ older) = go (destination_to site d.to) (stream_within site older)
   where
-    go : (o : Option Destination) → length (stream_to site older) ≤ length older → length (queue.with_one o (length older + 1) d.cargo (stream_to site older)) ≤ suc (length older)
+    go : (o : Option Destination) → length (queue_stream_to site older) ≤ length older → length (queue.with_one o (length older + 1) d.cargo (queue_stream_to site older)) ≤ suc (length older)
     go None within = omega (arith, within)
     go (Some to) within = omega (arith, within)
 
@@ -116,7 +116,7 @@ module _ (tokens : List Token) (streams : TokenStreams) where
       go false is later = later
 
   -- of names apart no two destinations are the same site
-  pub apart_placed : (sites : List SiteName) → NamesApart sites → AreApart (map (placed tokens streams) sites)
+  pub apart_placed : (sites : List SiteName) → NamesApart sites → DestinationsApart (map (placed tokens streams) sites)
   apart_placed [] apart = tt
   apart_placed (s ∷ ss) apart = (found_placed s ss ∙ ap (λ (b : Bool). cond b (Some (placed tokens streams s)) None) apart.0, apart_placed ss apart.1)
 
@@ -221,7 +221,7 @@ module _ (masters : List SiteName) (marks : List Mark) (deferred : List Deferred
       subst (λ (names : List SiteName). AllByRecursion (CanBeSent state) (map (placed tokens (streams_in is)) names)) (ap (λ (ms : List Mark). filter (is_among to) (map (λ (m : Mark). m.site) ms)) marks_are ∙ same_sites)
       (can_be_sent tokens (streams_in is) (is_among to) state (λ site. (is.streams site).long ∙ ap (last_position site) (sym deferred_is)))
 
-  module _ (tokens : List Token) (sites_same : sites_of new ≡ sites_of old) (noted : AreNoted new (with_tokens sites tokens (streams_in is))) (cargo : Option Cargo) where
+  module _ (tokens : List Token) (sites_same : sites_of new ≡ sites_of old) (noted : AreNoted new (with_tokens sites tokens (streams_in is))) (cargo : Option QueuedTxn) where
     abbrev queued : Deferred
     queued = record { cargo = cargo; to = map (placed tokens (streams_in is)) sites }
 
@@ -237,7 +237,7 @@ module _ (masters : List SiteName) (marks : List Mark) (deferred : List Deferred
         one_more : (site : SiteName) → length (with_tokens sites tokens (streams_in is) site) ≡ last_position site (queued ∷ deferred)
         one_more site = rw (found_placed tokens (streams_in is) site sites) (go (is_among sites site))
           where
-            go : (b : Bool) → length (with_one b tokens (streams_in is site)) ≡ length (queue.with_one (cond b (Some (placed tokens (streams_in is) site)) None) (length deferred + 1) cargo (stream_to site deferred))
+            go : (b : Bool) → length (with_one b tokens (streams_in is site)) ≡ length (queue.with_one (cond b (Some (placed tokens (streams_in is) site)) None) (length deferred + 1) cargo (queue_stream_to site deferred))
             go true = ap suc (is.streams site).long
             go false = (is.streams site).long
 
@@ -246,7 +246,7 @@ sites_placed : (tokens : List Token) (streams : TokenStreams) (sites : List Site
 sites_placed tokens streams [] = refl
 sites_placed tokens streams (s ∷ ss) = ap (λ (names : List SiteName). s ∷ names) (sites_placed tokens streams ss)
 
-pub lists_in-pushed : (cargo : Option Cargo) (tokens : List Token) (streams : TokenStreams) (sites : List SiteName) (deferred : List Deferred)
+pub lists_in-pushed : (cargo : Option QueuedTxn) (tokens : List Token) (streams : TokenStreams) (sites : List SiteName) (deferred : List Deferred)
     → lists_in (record { cargo = cargo; to = map (placed tokens streams) sites } ∷ deferred) ≡ sites ∷ lists_in deferred
 lists_in-pushed cargo tokens streams sites deferred = ap (λ (names : List SiteName). names ∷ lists_in deferred) (sites_placed tokens streams sites)
 

@@ -18,7 +18,7 @@ use Rattle.rep_schema.proofs.PartFit.{RowFits-with_values, key_of-with_values}
 use Rattle.rep_schema.proofs.RowFit.{length-fits}
 use Rattle.snapshot_query.specs.declared.query.Query.{Query}
 use Rattle.snapshot_query.specs.Queries.{matches}
-use Rattle.proc_state.specs.Actions.{sum_at, can_rise, can_rise_where, raised, raised_where, after_add}
+use Rattle.proc_state.specs.Actions.{sum_at, can_rise, can_rise_where, row_raised, row_raised_where, after_add}
 use Rattle.proc_state.specs.Calls.{TakesAmounts}
 use Rattle.proc_calls.specs.Raising.{with_rows}
 use Rattle.proc_calls.proofs.AtPlace.{put_row-place}
@@ -54,13 +54,13 @@ module _ (columns : List Column) (column : ℕ) (takes : TakesAmounts (slice_get
   column_within fits = let t = taking (slice_get columns column) takes in omega (arith, slice_get_within columns column t.0 t.1, length-fits columns row fits)
 
   -- a raised row fits, where the sum is in range
-  pub RowFits-raised : can_rise column amount row ≡ true → RowFits columns row → RowFits columns (raised column amount row)
+  pub RowFits-raised : can_rise column amount row ≡ true → RowFits columns row → RowFits columns (row_raised column amount row)
   RowFits-raised range fits =
       let t = taking (slice_get columns column) takes in
       RowFits-with_values columns (column ∷ []) (Num (sum_at column amount row) ∷ []) row (slice_get_within columns column t.0 t.1, tt) (rw t.1 (fits_number t.0 (sum_at column amount row) t.2 range, tt)) fits
 
   -- and has its key
-  pub key_of-raised : key_of columns (raised column amount row) ≡ key_of columns row
+  pub key_of-raised : key_of columns (row_raised column amount row) ≡ key_of columns row
   key_of-raised =
       let t = taking (slice_get columns column) takes in
       key_of-with_values columns (column ∷ []) (Num (sum_at column amount row) ∷ []) row (rw t.1 t.3, tt)
@@ -71,17 +71,17 @@ same_row rows i row there = ap (set rows i) (sym (get_or_from_slice_get rows i r
 
 module _ (tests : Query) (column : ℕ) (amount : ℤ) (tables : List Rows) (table i : ℕ) (row : Cells) (there : slice_get (rows_of tables table) i ≡ Some row) where
   -- a row that doesn't pass the tests stays
-  pub raise_passed_over : matches tests row ≡ false → tables ≡ set tables table (set (rows_of tables table) i (raised_where tests column amount row))
+  pub raise_passed_over : matches tests row ≡ false → tables ≡ set tables table (set (rows_of tables table) i (row_raised_where tests column amount row))
   raise_passed_over other =
-      let own : raised_where tests column amount row ≡ row = rw other refl in
+      let own : row_raised_where tests column amount row ≡ row = rw other refl in
       sym (ap (set tables table) (ap (set (rows_of tables table) i) own ∙ same_row (rows_of tables table) i row there) ∙ set-get_or tables table [])
 
   -- one that does is put in its own place
   pub raise_there : (columns : List Column) (new : List Rows) → TakesAmounts (slice_get columns column) → IsRising (row_cmp columns) (rows_of tables table) → matches tests row ≡ true
-      → (risen : Cells) → risen ≡ raised column amount row → new ≡ set tables table (put_row columns risen (rows_of tables table))
-      → new ≡ set tables table (set (rows_of tables table) i (raised_where tests column amount row))
+      → (risen : Cells) → risen ≡ row_raised column amount row → new ≡ set tables table (put_row columns risen (rows_of tables table))
+      → new ≡ set tables table (set (rows_of tables table) i (row_raised_where tests column amount row))
   raise_there columns new takes rising passes risen is put =
-      let own : raised_where tests column amount row ≡ raised column amount row = rw passes refl in
+      let own : row_raised_where tests column amount row ≡ row_raised column amount row = rw passes refl in
       let key : key_of columns risen ≡ key_of columns row = ap (key_of columns) is ∙ key_of-raised columns column takes amount row in
       put ∙ ap (set tables table) (put_row-place columns (rows_of tables table) i row risen rising there key ∙ ap (set (rows_of tables table) i) (is ∙ sym own))
 
@@ -138,6 +138,6 @@ module _ (tests : Query) (column : ℕ) (amount : ℤ) (tables : List Rows) (tab
   pub add_fails : list_all (can_rise_where tests column amount) (rows_of tables table) ≡ false → with_rows table tables (after_add column tests amount (rows_of tables table)) ≡ Err ValueRange
   add_fails one = rw one refl
 
-  pub add_done : list_all (can_rise_where tests column amount) (rows_of tables table) ≡ true → (new : List Rows) → new ≡ set tables table (map (raised_where tests column amount) (rows_of tables table))
+  pub add_done : list_all (can_rise_where tests column amount) (rows_of tables table) ≡ true → (new : List Rows) → new ≡ set tables table (map (row_raised_where tests column amount) (rows_of tables table))
       → with_rows table tables (after_add column tests amount (rows_of tables table)) ≡ Ok new
   add_done all new is = rw all (ap Ok (sym is))

@@ -11,7 +11,7 @@ use Rattle.origin_marks.specs.Marks as marks
 use Rattle.error_queue.specs.ErrorLists.{ErrorList}
 use Rattle.site_state.specs.declared.arrival.Arrival.{Arrival}
 use Rattle.site_state.specs.declared.answers.Why.TheVariants as why
-use Rattle.site_state.specs.State.{SenderState, sender_of, beside, arrived_in, arrived_at, arrivals}
+use Rattle.site_state.specs.State.{SenderState, sender_of, arrival_beside, arrived_in, arrived_at, arrivals}
 use Rattle.site_state.specs.Journal.{finished, low_water}
 use Rattle.site_state.specs.Ready.{is_due, stale_of}
 use Rattle.site_state.proofs.FittingSites.{arrival_has}
@@ -21,18 +21,18 @@ use Rattle.journal_steps.proofs.SenderInboxes.{sender_of-inboxes, finished_found
 use Rattle.proc_state.specs.State.{ProcState, as_site}
 use Rattle.proc_state.specs.Fits.{SendersPass}
 use Rattle.proc_calls.specs.Outgoing.{CallsOut}
-use Rattle.proc_calls.specs.Keeping.{Holds}
+use Rattle.proc_calls.specs.ProcSiteInvariant.{ProcSiteHolds}
 
 -- nothing that arrived at a position has a past
 pub past_at : (origin : SiteName) (position : ℕ) (ss : List SenderState) (a : Arrival) → SendersPass ss → arrived_at origin position ss ≡ Some a → a.past ≡ []
 past_at origin position [] a none found = absurd (cc found)
 past_at origin position (s ∷ ss) a none found = go (is_same_site s.origin origin) (past_at origin position ss a none.1) found
   where
-    go : (b : Bool) → (arrived_at origin position ss ≡ Some a → a.past ≡ []) → find_at (beside position) (arrived_in (cond b (Some s) (sender_of origin ss))) ≡ Some a → a.past ≡ []
-    go true later found = arrival_has (λ (a : Arrival). a.past ≡ []) (beside position) s.arrived a none.0.pasts found
+    go : (b : Bool) → (arrived_at origin position ss ≡ Some a → a.past ≡ []) → find_at (arrival_beside position) (arrived_in (cond b (Some s) (sender_of origin ss))) ≡ Some a → a.past ≡ []
+    go true later found = arrival_has (λ (a : Arrival). a.past ≡ []) (arrival_beside position) s.arrived a none.0.pasts found
     go false later found = later found
 
-module _ (x : ProcState) (rows : List Rows) (inboxes : List Incoming) (out : CallsOut) (lists : List ErrorList) (h : Holds x rows inboxes out lists) (senders : x.senders ≡ senders_in inboxes) (origin : SiteName) where
+module _ (x : ProcState) (rows : List Rows) (inboxes : List Incoming) (out : CallsOut) (lists : List ErrorList) (h : ProcSiteHolds x rows inboxes out lists) (senders : x.senders ≡ senders_in inboxes) (origin : SiteName) where
   -- ---- a site that is no other master
 
   module _ (none : inbox_of origin inboxes ≡ None) where
@@ -67,7 +67,7 @@ module _ (x : ProcState) (rows : List Rows) (inboxes : List Incoming) (out : Cal
     pub arrivals_are : arrivals origin (as_site x) ≡ i.sender.arrived
     arrivals_are = rw sender_is refl
 
-    pub arrived_is : (position : ℕ) → find_at (beside position) i.sender.arrived ≡ arrived_at origin position x.senders
+    pub arrived_is : (position : ℕ) → find_at (arrival_beside position) i.sender.arrived ≡ arrived_at origin position x.senders
     arrived_is position = rw sender_is refl
 
     pub mark_is : (n : ℕ) → IsLowWater (marks.finished i.marked) n → n ≡ low_water origin x.journal
@@ -84,10 +84,10 @@ module _ (x : ProcState) (rows : List Rows) (inboxes : List Incoming) (out : Cal
         not_yet : finished origin x.journal position ≡ false
         not_yet = sym (finished_is position) ∙ open'
 
-        pub stale_absent : find_at (beside position) i.sender.arrived ≡ None → Some why.NotArrived ≡ stale_of origin position (as_site x)
+        pub stale_absent : find_at (arrival_beside position) i.sender.arrived ≡ None → Some why.NotArrived ≡ stale_of origin position (as_site x)
         stale_absent none = rw (not_yet, sender_is, none) refl
 
-        module _ (a : Arrival) (there : find_at (beside position) i.sender.arrived ≡ Some a) where
+        module _ (a : Arrival) (there : find_at (arrival_beside position) i.sender.arrived ≡ Some a) where
           no_past : a.past ≡ []
           no_past = past_at origin position x.senders a h.fits.passable (rw sender_is there)
 

@@ -4,11 +4,11 @@ use Rattle.std.specs.Prelude.{Option, option_map}
 use Rattle.std.specs.List.{AllByRecursion}
 use Rattle.rep_values.specs.declared.name.SiteName.{SiteName}
 use Rattle.rep_calls.specs.declared.call.Txn.{Txn}
-use Rattle.rep_calls.specs.declared.past.Past.{Past}
-use Rattle.deferred_queue.specs.declared.cargo.Cargo.{Cargo}
-use Rattle.deferred_queue.specs.Streams.{Deferred, InStream, stream_to, at_position, unpurged}
+use Rattle.rep_calls.specs.declared.past.PastEntry.{PastEntry}
+use Rattle.deferred_queue.specs.declared.queued_txn.QueuedTxn.{QueuedTxn}
+use Rattle.deferred_queue.specs.Streams.{Deferred, InStream, queue_stream_to, at_position, unpurged}
 use Rattle.packet_code.specs.declared.packet.Packet.TheVariants.{Carry}
-use Rattle.packet_code.specs.Limits.{IsPast}
+use Rattle.packet_code.specs.Limits.{IsCausalPast}
 use Rattle.packet_code.specs.Texts.{PastHasForm}
 use Rattle.site_state.specs.Fits.{EntryHas}
 use Rattle.proc_state.specs.State.{ProcState, own_txns, stream_in, proc_queue}
@@ -21,7 +21,7 @@ unpurged_is : (found : Option InStream) (a : InStream) → unpurged found ≡ So
 unpurged_is None a is = absurd (cc is)
 unpurged_is (Some b) a is = go b.cargo is
   where
-    go : (cargo : Option Cargo) → option_map (λ (c : Cargo). b) cargo ≡ Some a → Some b ≡ Some a
+    go : (cargo : Option QueuedTxn) → option_map (λ (c : QueuedTxn). b) cargo ≡ Some a → Some b ≡ Some a
     go None is = absurd (cc is)
     go (Some c) is = is
 
@@ -29,12 +29,12 @@ none_is : (me to : SiteName) (p : ℕ) (found : Option InStream) → unpurged fo
 none_is me to p None is = refl
 none_is me to p (Some b) is = go b.cargo refl is
   where
-    go : (cargo : Option Cargo) → b.cargo ≡ cargo → option_map (λ (c : Cargo). b) cargo ≡ None → carry_found me to p (Some b) ≡ None
+    go : (cargo : Option QueuedTxn) → b.cargo ≡ cargo → option_map (λ (c : QueuedTxn). b) cargo ≡ None → carry_found me to p (Some b) ≡ None
     go None carries is = rw carries refl
     go (Some c) carries is = absurd (cc is)
 
 -- nothing in the queue has a past
-pastless : (ss : List InStream) (txns : List Txn) (p : ℕ) (s : InStream) (cargo : Cargo) → Numbers ss txns → at_position p ss ≡ Some s → s.cargo ≡ Some cargo → cargo.past ≡ []
+pastless : (ss : List InStream) (txns : List Txn) (p : ℕ) (s : InStream) (cargo : QueuedTxn) → Numbers ss txns → at_position p ss ≡ Some s → s.cargo ≡ Some cargo → cargo.past ≡ []
 pastless [] txns p s cargo numbers there carries = absurd (cc there)
 pastless (x ∷ ss) [] p s cargo numbers there carries = absurd numbers
 pastless (x ∷ ss) (t ∷ txns) p s cargo numbers there carries = go (p == length ss + 1) there (λ later. pastless ss txns p s cargo numbers.2 later carries)
@@ -44,17 +44,17 @@ pastless (x ∷ ss) (t ∷ txns) p s cargo numbers there carries = go (p == leng
         let same : x ≡ s = cc found in
         let is : Some (record { txn = t; past = [] }) ≡ Some cargo = sym numbers.0 ∙ ap (λ (y : InStream). y.cargo) same ∙ carries in
         let one : record { txn = t; past = [] } ≡ cargo = cc is in
-        subst (λ (c : Cargo). c.past ≡ []) one refl
+        subst (λ (c : QueuedTxn). c.past ≡ []) one refl
     go false found later = later found
 
 module _ (x : ProcState) (deferred : List Deferred) (queue : deferred ≡ proc_queue x) (to : SiteName) (p : ℕ) where
   -- nothing is found: there is no packet
-  pub no_packet : None ≡ unpurged (at_position p (stream_to to deferred)) → None ≡ proc_packet to p x
-  no_packet none = sym (none_is x.me to p (at_position p (stream_to to (proc_queue x))) (rw queue at (sym none)))
+  pub no_packet : None ≡ unpurged (at_position p (queue_stream_to to deferred)) → None ≡ proc_packet to p x
+  no_packet none = sym (none_is x.me to p (at_position p (queue_stream_to to (proc_queue x))) (rw queue at (sym none)))
 
-  module _ (number dep : ℕ) (past : List Past) (txn : Txn) (found : Some (record { number = number; dep = dep; cargo = Some (record { txn = txn; past = past }) }) ≡ unpurged (at_position p (stream_to to deferred))) where
-    here : at_position p (stream_to to (proc_queue x)) ≡ Some (record { number = number; dep = dep; cargo = Some (record { txn = txn; past = past }) })
-    here = unpurged_is (at_position p (stream_to to (proc_queue x))) _ (rw queue at (sym found))
+  module _ (number dep : ℕ) (past : List PastEntry) (txn : Txn) (found : Some (record { number = number; dep = dep; cargo = Some (record { txn = txn; past = past }) }) ≡ unpurged (at_position p (queue_stream_to to deferred))) where
+    here : at_position p (queue_stream_to to (proc_queue x)) ≡ Some (record { number = number; dep = dep; cargo = Some (record { txn = txn; past = past }) })
+    here = unpurged_is (at_position p (queue_stream_to to (proc_queue x))) _ (rw queue at (sym found))
 
     -- what is found is the packet
     pub packet_is : Some (Carry x.me to number p dep past txn) ≡ proc_packet to p x
@@ -64,7 +64,7 @@ module _ (x : ProcState) (deferred : List Deferred) (queue : deferred ≡ proc_q
     pub can_be_carried : AllByRecursion (EntryHas CanBeCarried) x.journal → CanBeCarried txn
     can_be_carried all = sent_has CanBeCarried x to p _ (record { txn = txn; past = past }) all here refl
 
-    pub is_past : PastHasForm past → IsPast x.me past
+    pub is_past : PastHasForm past → IsCausalPast x.me past
     is_past form =
-        let none : past ≡ [] = pastless (stream_to to (proc_queue x)) (stream_in to x.lists (own_txns x.journal)) p _ (record { txn = txn; past = past }) (Numbers-deferred_in to x.lists (own_txns x.journal)) here refl in
+        let none : past ≡ [] = pastless (queue_stream_to to (proc_queue x)) (stream_in to x.lists (own_txns x.journal)) p _ (record { txn = txn; past = past }) (Numbers-deferred_in to x.lists (own_txns x.journal)) here refl in
         rw none (record { most = omega arith; each = tt; rise = tt })

@@ -5,7 +5,7 @@ use Rattle.std.proofs.lemmas.Bool.{cases_eq, ne_eqb}
 use Rattle.rep_schema.specs.declared.schema.Schema.{Schema}
 use Rattle.rep_schema.specs.declared.change.Change.{Change}
 use Rattle.rep_schema.specs.Tables.{Cells, Rows, columns_of, constraints_of, find_row, take_row, rows_of, RowFits, IsKeyed, IsUniqueRow}
-use Rattle.rep_schema.specs.Changes.{made, row_like, IsChange, LeadsTo, is_taken_from, room_for}
+use Rattle.rep_schema.specs.Changes.{after_change, row_like, IsChange, LeadsTo, is_taken_from, room_for}
 use Rattle.rep_schema.specs.Putting.{StoreState}
 use Rattle.rep_schema.proofs.Leading.{LeadsTo-append, room_for-append, IsChange-put, IsChange-take, made-take}
 use Rattle.proc_calls.specs.Trails.{IsCounted, KeepsTrail}
@@ -72,7 +72,7 @@ module _ (old mid new : StoreState) (changes : List Change) (table : ℕ) (below
     (schema : new.schema ≡ mid.schema) where
   -- room was taken, and then a row was put
   pub keeps_put : (row : Cells) (change : Change) → RowFits (columns_of old.schema table) row → IsUniqueRow old.schema table row (rows_of old.tables table)
-      → change ≡ record { table = table; before = row_like (columns_of mid.schema table) row (rows_of mid.tables table); after = Some row } → new.tables ≡ made mid.schema change mid.tables
+      → change ≡ record { table = table; before = row_like (columns_of mid.schema table) row (rows_of mid.tables table); after = Some row } → new.tables ≡ after_change mid.schema change mid.tables
       → ((t : ℕ) → slice_index mid.spare t ≤ slice_index new.spare t + cond (t == table) 1 0) → KeepsTrail old new changes (changes ++ change ∷ [])
   keeps_put row change fits unique change_is tables room = record {
     schema = schema ∙ same;
@@ -89,7 +89,7 @@ module _ (old mid new : StoreState) (changes : List Change) (table : ℕ) (below
       is : IsChange old.schema change old.tables
       is = rw before_is (IsChange-put old.schema table old.tables below keyed row (row_like (columns_of old.schema table) row (rows_of old.tables table)) fits unique refl)
 
-      made_is : new.tables ≡ made old.schema change old.tables
+      made_is : new.tables ≡ after_change old.schema change old.tables
       made_is = tables ∙ rw (same, still) refl
 
       enough : (t : ℕ) → room_for t changes ≤ slice_index old.spare t → room_for t changes ≤ slice_index new.spare t
@@ -118,7 +118,7 @@ module _ (old mid new : StoreState) (changes : List Change) (table : ℕ) (below
       is : IsChange old.schema change old.tables
       is = rw change_is (IsChange-take old.schema table old.tables below keyed key before was_old)
 
-      made_is : new.tables ≡ made old.schema change old.tables
+      made_is : new.tables ≡ after_change old.schema change old.tables
       made_is = tables ∙ rw (same, still, change_is) (sym (made-take old.schema table old.tables below keyed key before was_old))
 
       enough : (t : ℕ) → room_for t changes ≤ slice_index old.spare t → room_for t (changes ++ change ∷ []) ≤ slice_index new.spare t

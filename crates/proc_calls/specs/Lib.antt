@@ -3,6 +3,6 @@ pub mod Trails
 pub mod Raising
 pub mod Stops
 pub mod Carrying
-pub mod Settled
+pub mod Outcomes
 pub mod Outgoing
-pub mod Keeping
+pub mod ProcSiteInvariant

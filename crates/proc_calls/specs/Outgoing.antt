@@ -9,7 +9,7 @@ use Rattle.deferred_queue.specs.Streams.{Deferred, Mark, last_position}
 use Rattle.site_state.specs.State.{is_among}
 use Rattle.site_state.specs.Streams.{with_one}
 use Rattle.site_outbox.specs.Noting.{TokenStreams}
-use Rattle.site_outbox.specs.Kept.{IsNotedTo}
+use Rattle.site_outbox.specs.OutboxInvariant.{IsNotedTo}
 use Rattle.proc_state.specs.Carriers.{proc_tokens}
 use Rattle.proc_state.specs.State.{stream_in, deferred_in}
 

@@ -24,6 +24,6 @@ stop_of number (of_call.Failed error) = Failed number error
 stop_of number of_call.Memory = Memory
 
 -- why an error isn't executed whose calls stop so
-abbrev pub refusal_of : ProcStop → Refusal
-refusal_of (Failed call error) = refusal.StillFails error
-refusal_of Memory = refusal.Memory
+abbrev pub execute_stop_refusal : ProcStop → Refusal
+execute_stop_refusal (Failed call error) = refusal.StillFails error
+execute_stop_refusal Memory = refusal.Memory

@@ -4,7 +4,7 @@ ghost use Rattle.std.specs.List.{list_all};
 ghost use Rattle.rep_schema.specs.Tables.{columns_of, constraints_of, put_row, rows_of, RowFits, IsKeyed as IsKeyedTable};
 ghost use Rattle.rep_schema.specs.Changes.{LeadsTo, room_for};
 ghost use Rattle.txn_effects.specs.Transactions.{failing_at};
-ghost use Rattle.site_state.specs.Fits.{IsKeyed};
+ghost use Rattle.site_state.specs.Fits.{SchemaIsKeyed};
 ghost use Rattle.proc_state.specs.Actions.{after_drop};
 ghost use Rattle.proc_state.specs.Calls.{IsProcedure, AreProcedures, procedure_after};
 ghost use Rattle.proc_state.specs.Carriers.{has_form, values_in, call_in, txn_after};
@@ -34,7 +34,7 @@ fn put_values<R: RowStore>(
     trail: &mut Trail,
 ) -> Result<(), CallStop>
     requires table { table < length (R.schema store.old).tables }
-    requires keyed { IsKeyed (R.schema store.old) }
+    requires keyed { SchemaIsKeyed (R.schema store.old) }
     requires unconstrained { constraints_of (R.schema store.old) table ≡ [] }
     requires fits { RowFits (columns_of (R.schema store.old) table) values.now }
     ensures ok { OnOk result (R.tables store.new ≡ slice_set (R.tables store.old) table (put_row (columns_of (R.schema store.old) table) values.now (rows_of (R.tables store.old) table))) }
@@ -57,7 +57,7 @@ fn drop_rows<R: RowStore>(
     trail: &mut Trail,
 ) -> Result<(), CallStop>
     requires table { table < length (R.schema store.old).tables }
-    requires keyed { IsKeyed (R.schema store.old) }
+    requires keyed { SchemaIsKeyed (R.schema store.old) }
     ensures ok { OnOk result (R.tables store.new ≡ slice_set (R.tables store.old) table (after_drop tests.now (rows_of (R.tables store.old) table))) }
     ensures err { IfErr result (λ stop. stop ≡ CallStop.Memory) }
     ensures trail { KeepsTrail (record { schema = R.schema store.old; tables = R.tables store.old; spare = R.spare store.old })
@@ -75,7 +75,7 @@ fn act<R: RowStore>(
     values: &[Value],
     trail: &mut Trail,
 ) -> Result<(), CallStop>
-    requires keyed { IsKeyed (R.schema store.old) }
+    requires keyed { SchemaIsKeyed (R.schema store.old) }
     requires procedure { IsProcedure (R.schema store.old) procedure.now }
     requires form { has_form (columns_of (R.schema store.old) procedure.now.table) procedure.now.action values.now ≡ true }
     ensures ok { OnOk result (procedure_after (R.schema store.old) procedure.now (values_in procedure.now.action values.now) (R.tables store.old) ≡ Ok (R.tables store.new)) }
@@ -101,7 +101,7 @@ fn apply_call<R: RowStore>(
     call: &Call,
     trail: &mut Trail,
 ) -> Result<(), CallStop>
-    requires keyed { IsKeyed (R.schema store.old) }
+    requires keyed { SchemaIsKeyed (R.schema store.old) }
     requires procedures { AreProcedures (R.schema store.old) procedures.now }
     requires form { is_some (call_in (R.schema store.old) procedures.now call.now) ≡ true }
     ensures ok { OnOk result (carried_after (R.schema store.old) procedures.now call.now (R.tables store.old) ≡ Ok (R.tables store.new)) }
@@ -127,7 +127,7 @@ fn apply_numbered<R: RowStore>(
     call: &Call,
     trail: &mut Trail,
 ) -> Result<(), ProcStop>
-    requires keyed { IsKeyed (R.schema store.old) }
+    requires keyed { SchemaIsKeyed (R.schema store.old) }
     requires procedures { AreProcedures (R.schema store.old) procedures.now }
     requires form { is_some (call_in (R.schema store.old) procedures.now call.now) ≡ true }
     ensures ok { OnOk result (carried_after (R.schema store.old) procedures.now call.now (R.tables store.old) ≡ Ok (R.tables store.new)) }
@@ -149,7 +149,7 @@ fn apply_each<R: RowStore>(
     calls: &[Call],
     trail: &mut Trail,
 ) -> Result<(), ProcStop>
-    requires keyed { IsKeyed (R.schema store.old) }
+    requires keyed { SchemaIsKeyed (R.schema store.old) }
     requires procedures { AreProcedures (R.schema store.old) procedures.now }
     requires form { list_all (λ call. is_some (call_in (R.schema store.old) procedures.now call)) calls.now ≡ true }
     requires few { length calls.now ≤ 1000 }
@@ -172,7 +172,7 @@ pub(crate) fn apply_txn<R: RowStore>(
     procedures: &[Procedure],
     txn: &Txn,
 ) -> Result<Changes, ProcStop>
-    requires keyed { IsKeyed (R.schema store.old) }
+    requires keyed { SchemaIsKeyed (R.schema store.old) }
     requires procedures { AreProcedures (R.schema store.old) procedures.now }
     requires fits { IsProcTxn (R.schema store.old) procedures.now txn.now }
     ensures ok { OnOk result (txn_after (R.schema store.old) procedures.now txn.now (R.tables store.old) ≡ Ok (R.tables store.new)) }

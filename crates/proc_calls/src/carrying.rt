@@ -3,7 +3,7 @@ ghost use Rattle.std.specs.Prelude.{◌≡◌, ◌<◌, ◌≤◌, [], ◌∷◌
 ghost use Rattle.rep_values.specs.Equality.{value_eq};
 ghost use Rattle.rep_values.specs.declared.value.Value.TheVariants.{Num};
 ghost use Rattle.rep_schema.specs.Groups.{with_values, are_same};
-ghost use Rattle.site_state.specs.Fits.{IsKeyed};
+ghost use Rattle.site_state.specs.Fits.{SchemaIsKeyed};
 ghost use Rattle.proc_state.specs.Calls.{TakesAmounts, ActsOn, IsProcedure, AreProcedures, call_fits, calls_fit};
 ghost use Rattle.proc_state.specs.Carriers.{blank, blanks, carried_values, carrier_row, carried, carried_txn, place_in, place_named, has_form, is_row_of, call_in, is_carried};
 ghost use Rattle.proc_calls.specs.Carrying.{CallCanBeCarried, CanBeCarried};
@@ -229,7 +229,7 @@ fn carried(
     procedures: &[Procedure],
     call: &ProcCall,
 ) -> Result<Call, NoMemory>
-    requires keyed { IsKeyed schema.now }
+    requires keyed { SchemaIsKeyed schema.now }
     requires procedures { AreProcedures schema.now procedures.now }
     requires fits { call_fits schema.now procedures.now call.now ≡ true }
     ensures call { IfOk result (λ carrier. carrier ≡ carried schema.now procedures.now call.now) }
@@ -258,7 +258,7 @@ pub(crate) fn carried_txn(
     procedures: &[Procedure],
     calls: &[ProcCall],
 ) -> Result<Txn, NoMemory>
-    requires keyed { IsKeyed schema.now }
+    requires keyed { SchemaIsKeyed schema.now }
     requires procedures { AreProcedures schema.now procedures.now }
     requires fit { calls_fit schema.now procedures.now calls.now ≡ true }
     requires some { 1 ≤ length calls.now }

@@ -4,7 +4,7 @@ ghost use Rattle.std.specs.Prelude.{◌≡◌, ◌<◌, [], map, true, is_some, 
 ghost use Rattle.std.specs.List.{list_all};
 ghost use Rattle.rep_schema.specs.Tables.{Cells, columns_of, constraints_of, put_row, rows_of, RowFits, IsKeyed};
 ghost use Rattle.proc_state.specs.Calls.{TakesAmounts};
-ghost use Rattle.proc_state.specs.Actions.{number_at, sum_at, can_rise, can_rise_where, raised, raised_where, after_add, after_drop};
+ghost use Rattle.proc_state.specs.Actions.{column_number, sum_at, can_rise, can_rise_where, row_raised, row_raised_where, after_add, after_drop};
 ghost use Rattle.proc_calls.specs.Trails.{KeepsTrail};
 ghost use Rattle.proc_calls.specs.Raising.{left_at, with_rows};
 ghost use Rattle.proc_calls.specs.Stops.{CallStopsAs};
@@ -41,7 +41,7 @@ pub(crate) fn put<R: RowStore>(
 
 /// The number at a place of values, 0 where there is none.
 pub(crate) fn number_at(values: &[Value], place: u32) -> i64
-    ensures { result ≡ number_at place values.now }
+    ensures { result ≡ column_number place values.now }
 {
     match values.get(place as usize) {
         Some(Value::Num(number)) => *number,
@@ -95,7 +95,7 @@ fn all_take_amount<R: RowStore>(
 fn raised_row(alloc: Global, row: &Row, column: u32, amount: i64) -> Result<Row, NoMemory>
     requires range { can_rise column amount row.now ≡ true }
     requires within { column < length row.now }
-    ensures { IfOk result (λ copied. copied ≡ raised column amount row.now) }
+    ensures { IfOk result (λ copied. copied ≡ row_raised column amount row.now) }
 {
     let Some(sum) = sum_at(row, column, amount) else {
         unreachable!()
@@ -124,7 +124,7 @@ fn raise_at<R: RowStore>(
     requires range { (row : Cells) → slice_get (rows_of (R.tables store.old) table) place ≡ Some row → can_rise_where tests.now column amount row ≡ true }
     ensures tables { OnOk result ((row : Cells) → slice_get (rows_of (R.tables store.old) table) place ≡ Some row
         → R.tables store.new ≡ slice_set (R.tables store.old) table
-        (slice_set (rows_of (R.tables store.old) table) place (raised_where tests.now column amount row))) }
+        (slice_set (rows_of (R.tables store.old) table) place (row_raised_where tests.now column amount row))) }
     ensures trail { KeepsTrail (record { schema = R.schema store.old; tables = R.tables store.old; spare = R.spare store.old })
         (record { schema = R.schema store.new; tables = R.tables store.new; spare = R.spare store.new }) trail.old.items trail.new.items }
 {
@@ -156,7 +156,7 @@ fn raise_each<R: RowStore>(
     requires takes { TakesAmounts (slice_get (columns_of (R.schema store.old) table) column) }
     requires range { list_all (can_rise_where tests.now column amount) (rows_of (R.tables store.old) table) ≡ true }
     ensures tables { OnOk result (R.tables store.new ≡ slice_set (R.tables store.old) table
-        (map (raised_where tests.now column amount) (rows_of (R.tables store.old) table))) }
+        (map (row_raised_where tests.now column amount) (rows_of (R.tables store.old) table))) }
     ensures trail { KeepsTrail (record { schema = R.schema store.old; tables = R.tables store.old; spare = R.spare store.old })
         (record { schema = R.schema store.new; tables = R.tables store.new; spare = R.spare store.new }) trail.old.items trail.new.items }
 {

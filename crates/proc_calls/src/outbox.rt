@@ -5,7 +5,7 @@ ghost use Rattle.std.specs.List.{AllByRecursion};
 ghost use Rattle.rep_values.specs.declared.name.SiteName.{SiteName};
 ghost use Rattle.rep_calls.specs.declared.call.Txn.{Txn};
 ghost use Rattle.packet_code.specs.Bodies.{IsBody};
-ghost use Rattle.deferred_queue.specs.Streams.{at_position, stream_to, unpurged, last_position, acked_by, raised_mark};
+ghost use Rattle.deferred_queue.specs.Streams.{at_position, queue_stream_to, unpurged, last_position, acked_by, raised_mark};
 ghost use Rattle.site_state.specs.State.{is_among};
 ghost use Rattle.site_outbox.specs.Noting.{TokenStreams, AreNoted};
 ghost use Rattle.proc_state.specs.Carriers.{call_token, proc_tokens};
@@ -164,7 +164,7 @@ impl CallOutbox {
           dep = sent.dep;
           cargo = Some (record { txn = sent.txn.now; past = sent.past.now });
         }) result
-            ≡ unpurged (at_position position (stream_to to.now self.now.deferred)) }
+            ≡ unpurged (at_position position (queue_stream_to to.now self.now.deferred)) }
         ensures earlier { IfSome result (λ sent. sent.dep < position) }
         ensures number { IfSome result (λ sent. 1 ≤ sent.number) }
         ensures body { IfSome result (λ sent. IsBody sent.past.now sent.txn.now sent.body.now) }

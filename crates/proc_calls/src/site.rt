@@ -5,8 +5,8 @@ ghost use Rattle.error_queue.specs.ErrorLists.{in_order};
 ghost use Rattle.rep_values.specs.declared.name.SiteName.{SiteName};
 ghost use Rattle.site_state.specs.State.{arrivals};
 ghost use Rattle.site_state.specs.Arrivals.{CanPass};
-ghost use Rattle.site_state.specs.Fits.{IsKeyed};
-ghost use Rattle.journal_order.specs.Settling.{IsFinishedOnce};
+ghost use Rattle.site_state.specs.Fits.{SchemaIsKeyed};
+ghost use Rattle.journal_order.specs.Sorting.{IsFinishedOnce};
 ghost use Rattle.proc_state.specs.Calls.{AreProcedures};
 ghost use Rattle.proc_state.specs.State.{new_proc, as_site, proc_tables, other_masters};
 ghost use Rattle.proc_state.specs.Errors.{proc_errors};
@@ -50,13 +50,13 @@ pub struct ProcSite {
 impl Model for ProcSite {
     ghost use Rattle.std.specs.Prelude.{reverse};
     ghost use Rattle.proc_state.specs.State.{ProcState};
-    ghost use Rattle.proc_calls.specs.Keeping.{state_of, Holds};
+    ghost use Rattle.proc_calls.specs.ProcSiteInvariant.{state_of, ProcSiteHolds};
 
     ghost Value = { ProcState };
 
     ghost view = { λ s. state_of s.store.schema s.procedures s.me (reverse s.journal.items) s.inboxes.items s.outbox };
 
-    ghost invariant = { λ s. Holds (state_of s.store.schema s.procedures s.me (reverse s.journal.items) s.inboxes.items s.outbox)
+    ghost invariant = { λ s. ProcSiteHolds (state_of s.store.schema s.procedures s.me (reverse s.journal.items) s.inboxes.items s.outbox)
         s.store.tables s.inboxes.items s.outbox s.errors.lists };
 }
 
@@ -77,7 +77,7 @@ impl ProcSite {
         me: SiteName,
         masters: &[SiteName],
     ) -> Result<ProcSite, NoMemory>
-        requires keyed { IsKeyed schema }
+        requires keyed { SchemaIsKeyed schema }
         requires procedures { AreProcedures schema procedures }
         requires distinct { AreDistinct masters.now }
         ensures { IfOk result (λ site. site ≡ new_proc schema procedures me masters.now) }

@@ -1,6 +1,6 @@
 //! Why calls are not made.
 ghost use Rattle.std.specs.Prelude.{◌≡◌};
-ghost use Rattle.proc_calls.specs.Stops.{stop_of, refusal_of};
+ghost use Rattle.proc_calls.specs.Stops.{stop_of, execute_stop_refusal};
 
 use rep_lists::NoMemory;
 use rep_values::{ApplyError, Refusal};
@@ -58,7 +58,7 @@ pub(crate) fn stop_at(call: u32, stop: CallStop) -> ProcStop
 
 /// Why an error isn't executed whose calls stop so.
 pub(crate) fn refusal_of(stop: ProcStop) -> Refusal
-    ensures { result ≡ refusal_of stop }
+    ensures { result ≡ execute_stop_refusal stop }
 {
     match stop {
         ProcStop::Failed { error, .. } => Refusal::StillFails(error),

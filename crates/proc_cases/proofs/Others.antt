@@ -6,8 +6,8 @@ use Rattle.rep_schema.specs.declared.schema.Schema.{Schema}
 use Rattle.rep_schema.specs.Shape.{AreDistinct}
 use Rattle.rep_schema.specs.Sites.{names_of}
 use Rattle.deferred_queue.specs.Streams.{is_same_site}
-use Rattle.site_state.specs.Fits.{IsKeyed}
+use Rattle.site_state.specs.Fits.{SchemaIsKeyed}
 
 -- no two of the sites but one have the same name
-pub others_are_distinct : (schema : Schema) (name : SiteName) → IsKeyed schema → AreDistinct (filter (λ (n : SiteName). not (is_same_site n name)) (names_of schema.sites))
+pub others_are_distinct : (schema : Schema) (name : SiteName) → SchemaIsKeyed schema → AreDistinct (filter (λ (n : SiteName). not (is_same_site n name)) (names_of schema.sites))
 others_are_distinct schema name keyed = AllPairs-filter (λ x y. x ≢ y) (λ (n : SiteName). not (is_same_site n name)) (names_of schema.sites) keyed.shape.site_names

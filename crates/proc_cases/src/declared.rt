@@ -3,7 +3,7 @@ ghost use Rattle.std.specs.Prelude.{◌≡◌, not, filter, IfOk, OnOk};
 ghost use Rattle.rep_schema.specs.Shape.{HasShape};
 ghost use Rattle.rep_schema.specs.Sites.{names_of};
 ghost use Rattle.deferred_queue.specs.Streams.{is_same_site};
-ghost use Rattle.site_state.specs.Fits.{IsKeyed};
+ghost use Rattle.site_state.specs.Fits.{SchemaIsKeyed};
 ghost use Rattle.proc_state.specs.Calls.{AreProcedures};
 
 use crate::fitting::are_procedures;
@@ -112,7 +112,7 @@ fn names_but(alloc: Global, sites: &[SiteEntry], name: &SiteName) -> Result<Vec<
 /// The schema breaks no rule, and has these procedures; else there is no case.
 fn sound(schema: &Schema, procedures: &[Procedure]) -> Result<(), CaseStop>
     requires { HasShape schema.now }
-    ensures keyed { OnOk result (IsKeyed schema.now) }
+    ensures keyed { OnOk result (SchemaIsKeyed schema.now) }
     ensures procedures { OnOk result (AreProcedures schema.now procedures.now) }
 {
     let Ok(()) = check(schema) else {
@@ -133,7 +133,7 @@ fn opened(
     procedures: &Items<Procedure>,
     name: SiteName,
 ) -> Result<ProcSite, NoMemory>
-    requires keyed { IsKeyed schema.now }
+    requires keyed { SchemaIsKeyed schema.now }
     requires procedures { AreProcedures schema.now procedures.now }
 {
     let others = names_but(alloc, schema.sites.as_slice(), &name)?;
@@ -153,7 +153,7 @@ fn open_all(
     procedures: &Items<Procedure>,
     sites: &mut Vec<ProcSite>,
 ) -> Result<(), NoMemory>
-    requires keyed { IsKeyed schema.now }
+    requires keyed { SchemaIsKeyed schema.now }
     requires procedures { AreProcedures schema.now procedures.now }
 {
     for entry in schema.sites.as_slice() {

@@ -4,7 +4,7 @@ use crate::told::{Told, told};
 use case_lines::{CaseStop, Words, push_values, read_past};
 use packet_code::{Packet, Route, Sealed, is_packet};
 use proc_calls::ProcSite;
-use rep_calls::{Call, Past, Txn};
+use rep_calls::{Call, PastEntry, Txn};
 use rep_lists::{Items, NoMemory};
 use rep_values::{SiteName, Value};
 use site_state::Accepted;
@@ -38,7 +38,7 @@ fn read_route(words: &mut Words) -> Result<Route, CaseStop> {
     read_numbers(words, from, to)
 }
 
-fn carry_of(route: &Route, past: Items<Past>, txn: Txn) -> Packet {
+fn carry_of(route: &Route, past: Items<PastEntry>, txn: Txn) -> Packet {
     Packet::Carry {
         from: route.from,
         to: route.to,

@@ -23,7 +23,7 @@ use Rattle.proc_state.specs.declared.procedure.Action.{Action}
 use Rattle.proc_state.specs.declared.procedure.Action.TheVariants.{Put, Add, Drop}
 use Rattle.proc_state.specs.declared.procedure.Procedure.{Procedure}
 use Rattle.proc_state.specs.declared.call.ProcCall.{ProcCall}
-use Rattle.proc_state.specs.Actions.{number_in, number_at}
+use Rattle.proc_state.specs.Actions.{number_or_zero, column_number}
 use Rattle.proc_state.specs.Calls.{TakesAmounts, ActsOn, IsProcedure, AreProcedures, is_amount, values_fit, found_fits, call_fits, calls_fit, calls_after}
 use Rattle.proc_state.specs.Carriers.{blank, blanks, carried_values, carrier_row, carried_by, carried, carried_txn, place_named, has_form, values_in, is_row_of, call_by, call_in, calls_in, is_carried}
 use Rattle.proc_state.specs.Laws.{CarriedCallsDoTheSame}
@@ -78,10 +78,10 @@ amount_there (c ∷ cs) zero v takes = refl
 amount_there (c ∷ cs) (suc i) v takes = amount_there cs i v takes
 
 -- the amount of an add is the number at its column of the values in which it is carried
-pub amount-carried : (column : ℕ) (values : Cells) → number_at 0 (values_at (column ∷ []) values) ≡ number_at column values
+pub amount-carried : (column : ℕ) (values : Cells) → column_number 0 (values_at (column ∷ []) values) ≡ column_number column values
 amount-carried column values = go (slice_get values column)
   where
-    go : (o : Option Value) → number_at 0 (cons_option o []) ≡ number_in o
+    go : (o : Option Value) → column_number 0 (cons_option o []) ≡ number_or_zero o
     go None = refl
     go (Some v) = refl
 

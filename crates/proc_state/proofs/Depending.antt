@@ -7,12 +7,12 @@ use Rattle.rep_values.specs.declared.name.SiteName.{SiteName}
 use Rattle.rep_calls.specs.declared.call.Txn.{Txn}
 use Rattle.dependency_index.specs.Tokens.{share_token}
 use Rattle.dependency_index.proofs.NotedTokens.{last_where-bound}
-use Rattle.deferred_queue.specs.declared.cargo.Cargo.{Cargo}
+use Rattle.deferred_queue.specs.declared.queued_txn.QueuedTxn.{QueuedTxn}
 use Rattle.deferred_queue.specs.declared.destination.Destination.{Destination}
-use Rattle.deferred_queue.specs.Streams.{InStream, is_same_site, destination_to, with_one, stream_to, at_position, last_position}
+use Rattle.deferred_queue.specs.Streams.{InStream, is_same_site, destination_to, with_one, queue_stream_to, at_position, last_position}
 use Rattle.deferred_queue.proofs.Positions.{found_position}
 use Rattle.deferred_queue.proofs.Sites.{is_same_site-true}
-use Rattle.site_state.specs.State.{beside, is_among}
+use Rattle.site_state.specs.State.{arrival_beside, is_among}
 use Rattle.site_state.specs.Streams.{with_one as with_txn}
 use Rattle.site_state.proofs.Stepping.{found_at}
 use Rattle.site_state.proofs.FittingSites.{arrival_has}
@@ -53,17 +53,17 @@ found_behind site lists txns txn (name ∷ names) = go (is_same_site name site) 
 -- ---- streams
 
 -- the stream to a site, as the queue has it
-pub Numbers-deferred_in : (site : SiteName) (lists : List (List SiteName)) (txns : List Txn) → Numbers (stream_to site (deferred_in lists txns)) (stream_in site lists txns)
+pub Numbers-deferred_in : (site : SiteName) (lists : List (List SiteName)) (txns : List Txn) → Numbers (queue_stream_to site (deferred_in lists txns)) (stream_in site lists txns)
 Numbers-deferred_in site [] txns = tt
 Numbers-deferred_in site (to ∷ lists) [] = tt
 Numbers-deferred_in site (to ∷ lists) (txn ∷ txns) =
     go (is_among to site) (destination_to site (map (destination_behind lists txns txn) to)) (found_behind site lists txns txn to) (Numbers-deferred_in site lists txns)
   where
-    cargo : Option Cargo
+    cargo : Option QueuedTxn
     cargo = Some (record { txn = txn; past = [] })
 
     older : List InStream
-    older = stream_to site (deferred_in lists txns)
+    older = queue_stream_to site (deferred_in lists txns)
 
     go : (b : Bool) (d : Option Destination) → IsFound site lists txns txn b d → Numbers older (stream_in site lists txns)
         → Numbers (with_one d (length (deferred_in lists txns) + 1) cargo older) (with_txn b txn (stream_in site lists txns))
@@ -80,14 +80,14 @@ length-Numbers (s ∷ ss) [] numbers = absurd numbers
 length-Numbers (s ∷ ss) (txn ∷ txns) numbers = ap suc (length-Numbers ss txns numbers.2)
 
 pub last_position-deferred_in : (site : SiteName) (lists : List (List SiteName)) (txns : List Txn) → last_position site (deferred_in lists txns) ≡ length (stream_in site lists txns)
-last_position-deferred_in site lists txns = length-Numbers (stream_to site (deferred_in lists txns)) (stream_in site lists txns) (Numbers-deferred_in site lists txns)
+last_position-deferred_in site lists txns = length-Numbers (queue_stream_to site (deferred_in lists txns)) (stream_in site lists txns) (Numbers-deferred_in site lists txns)
 
 -- a dependency number is at most the number of those before
 pub dependency_of-within : (txn : Txn) (txns : List Txn) → dependency_of txn txns ≤ length txns
 dependency_of-within txn txns = omega (arith, last_where-bound (share_token (proc_tokens txn)) (map proc_tokens txns), length-map txns proc_tokens)
 
 -- and at least the position of each that shares a token
-dependency_of-covers : (txn : Txn) (ss : List InStream) (txns : List Txn) (p : ℕ) (a : InStream) (other : Cargo) → Numbers ss txns → at_position p ss ≡ Some a → a.cargo ≡ Some other → shares txn other.txn ≡ true
+dependency_of-covers : (txn : Txn) (ss : List InStream) (txns : List Txn) (p : ℕ) (a : InStream) (other : QueuedTxn) → Numbers ss txns → at_position p ss ≡ Some a → a.cargo ≡ Some other → shares txn other.txn ≡ true
     → p ≤ dependency_of txn txns
 dependency_of-covers txn [] txns p a other numbers there is shared = absurd (cc there)
 dependency_of-covers txn (s ∷ ss) [] p a other numbers there is shared = absurd numbers
@@ -101,7 +101,7 @@ dependency_of-covers txn (s ∷ ss) (t ∷ txns) p a other numbers there is shar
     first same =
         let both : Some (record { txn = t; past = [] }) ≡ Some other = sym numbers.0 ∙ ap (λ (x : InStream). x.cargo) same ∙ is in
         let one : record { txn = t; past = [] } ≡ other = cc both in
-        ap (λ (x : Cargo). x.txn) one
+        ap (λ (x : QueuedTxn). x.txn) one
 
     go : (b : Bool) → (p == length ss + 1) ≡ b → cond b (Some s) (at_position p ss) ≡ Some a → (c : Bool) → shares txn t ≡ c → (at_position p ss ≡ Some a → p ≤ dependency_of txn txns)
         → p ≤ cond c (length (map proc_tokens txns) + 1) (dependency_of txn txns)
@@ -115,7 +115,7 @@ dependency_of-covers txn (s ∷ ss) (t ∷ txns) p a other numbers there is shar
 
 -- ---- the law
 
-depends_in : (ss : List InStream) (txns : List Txn) (position : ℕ) (s : InStream) (cargo : Cargo) → Numbers ss txns → at_position position ss ≡ Some s → s.cargo ≡ Some cargo → DependsOnSharers ss position s cargo
+depends_in : (ss : List InStream) (txns : List Txn) (position : ℕ) (s : InStream) (cargo : QueuedTxn) → Numbers ss txns → at_position position ss ≡ Some s → s.cargo ≡ Some cargo → DependsOnSharers ss position s cargo
 depends_in [] txns position s cargo numbers there is = absurd (cc there)
 depends_in (x ∷ ss) [] position s cargo numbers there is = absurd numbers
 depends_in (x ∷ ss) (t ∷ txns) position s cargo numbers there is = go (position == length ss + 1) refl there (λ later. depends_in ss txns position s cargo numbers.2 later is)
@@ -130,7 +130,7 @@ depends_in (x ∷ ss) (t ∷ txns) position s cargo numbers there is = go (posit
     newest same here =
         let carries : Some (record { txn = t; past = [] }) ≡ Some cargo = sym numbers.0 ∙ ap (λ (y : InStream). y.cargo) same ∙ is in
         let one : record { txn = t; past = [] } ≡ cargo = cc carries in
-        let mine : t ≡ cargo.txn = ap (λ (y : Cargo). y.txn) one in
+        let mine : t ≡ cargo.txn = ap (λ (y : QueuedTxn). y.txn) one in
         let dep : s.dep ≡ dependency_of t txns = sym (ap (λ (y : InStream). y.dep) same) ∙ numbers.1 in
         record {
           earlier = omega (arith, dep, here, dependency_of-within t txns, long);
@@ -151,13 +151,13 @@ depends_in (x ∷ ss) (t ∷ txns) position s cargo numbers there is = go (posit
 
 pub streams_depend_on_sharers : StreamsDependOnSharers
 streams_depend_on_sharers x site position s cargo there is =
-    depends_in (stream_to site (proc_queue x)) (stream_in site x.lists (own_txns x.journal)) position s cargo (Numbers-deferred_in site x.lists (own_txns x.journal)) there is
+    depends_in (queue_stream_to site (proc_queue x)) (stream_in site x.lists (own_txns x.journal)) position s cargo (Numbers-deferred_in site x.lists (own_txns x.journal)) there is
 
 -- what arrives of a stream is well numbered
 pub streams_arrive_well_numbered : StreamsArriveWellNumbered
 streams_arrive_well_numbered sender site arrived all p q a b there_p there_q less shared =
-    let early = arrival_has (IsOfStream sender site) (beside p) arrived a all there_p in
-    let late = arrival_has (IsOfStream sender site) (beside q) arrived b all there_q in
+    let early = arrival_has (IsOfStream sender site) (arrival_beside p) arrived a all there_p in
+    let late = arrival_has (IsOfStream sender site) (arrival_beside q) arrived b all there_q in
     let at_p : a.position ≡ p = found_at p arrived a there_p in
     let at_q : b.position ≡ q = found_at q arrived b there_q in
     let depends = streams_depend_on_sharers sender site b.position late.sent late.cargo late.there late.carries in

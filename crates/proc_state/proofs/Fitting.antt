@@ -12,7 +12,7 @@ use Rattle.rep_values.specs.declared.name.SiteName.{SiteName}
 use Rattle.rep_schema.specs.declared.schema.Schema.{Schema}
 use Rattle.rep_schema.specs.Tables.{Rows}
 use Rattle.rep_calls.specs.declared.call.Txn.{Txn}
-use Rattle.rep_calls.specs.declared.past.Past.{Past}
+use Rattle.rep_calls.specs.declared.past.PastEntry.{PastEntry}
 use Rattle.txn_effects.specs.Transactions.{Failure}
 use Rattle.deferred_queue.specs.Streams.{is_same_site}
 use Rattle.packet_code.specs.declared.packet.Packet.{Packet}
@@ -23,12 +23,12 @@ use Rattle.site_state.specs.declared.entry.Entry.{Entry}
 use Rattle.site_state.specs.declared.entry.Entry.TheVariants.{Local, Done, Error, Executed}
 use Rattle.site_state.specs.declared.answers.Why.{Why}
 use Rattle.site_state.specs.declared.arrival.Arrival.{Arrival}
-use Rattle.site_state.specs.State.{SenderState, sender_of, at_sender, beside, arrived_in, arrived_at, arrivals}
+use Rattle.site_state.specs.State.{SenderState, sender_of, at_sender, arrival_beside, arrived_in, arrived_at, arrivals}
 use Rattle.site_state.specs.Arrivals.{NamesOthers, CanPass}
 use Rattle.site_state.specs.Journal.{error_at}
 use Rattle.site_state.specs.Packets.{with_arrival, arrived_by}
 use Rattle.site_state.specs.Ready.{stale_of}
-use Rattle.site_state.specs.Fits.{EntryHas, SendersHave, IsKeyed}
+use Rattle.site_state.specs.Fits.{EntryHas, SendersHave, SchemaIsKeyed}
 use Rattle.site_state.specs.Making.{new_sender}
 use Rattle.site_state.specs.Steps.{is_empty}
 use Rattle.site_state.proofs.FittingSites.{arrived_has, error_has, senders_put}
@@ -45,7 +45,7 @@ use Rattle.proc_state.specs.Fits.{IsProcTxn, ArePassable, SendersPass, ProcFits}
 use Rattle.proc_state.specs.Events.{ProcEvent, Call, Accept, Apply, Pass, Execute, after_event, after_events, AreCalls, PacketFits, EventFits}
 use Rattle.proc_state.specs.Laws.{EverySiteCanPass, EverySiteFits}
 use Rattle.proc_state.proofs.Carrying.{neither, isnt_not, is_carried-carried}
-use Rattle.proc_state.proofs.KeptTables.{AreTables-journal_tables}
+use Rattle.proc_state.proofs.CallTables.{AreTables-journal_tables}
 use Rattle.proc_state.proofs.Names.{events_names}
 
 -- ---- what isn't foreign
@@ -55,11 +55,11 @@ none_in [] is = refl
 none_in (x ∷ xs) is = cc
 
 -- what a packet that isn't foreign carries is calls with an empty past
-record IsOurs (past : List Past) (txn : Txn) (x : ProcState) : Type 0 where
+record IsOurs (past : List PastEntry) (txn : Txn) (x : ProcState) : Type 0 where
   form : is_carried x.schema x.procedures txn ≡ true
   pastless : past ≡ []
 
-ours : (from to : SiteName) (number position dep : ℕ) (past : List Past) (txn : Txn) (x : ProcState) → is_foreign (Carry from to number position dep past txn) x ≡ false → IsOurs past txn x
+ours : (from to : SiteName) (number position dep : ℕ) (past : List PastEntry) (txn : Txn) (x : ProcState) → is_foreign (Carry from to number position dep past txn) x ≡ false → IsOurs past txn x
 ours from to number position dep past txn x is =
     let last = neither (not (is_same_site to x.me) || is_none (sender_of from x.senders) || not (is_carried x.schema x.procedures txn)) (not (is_empty past)) is in
     let third = neither (not (is_same_site to x.me) || is_none (sender_of from x.senders)) (not (is_carried x.schema x.procedures txn)) last.0 in
@@ -70,11 +70,11 @@ ours from to number position dep past txn x is =
 none_passable : ArePassable []
 none_passable = record { rising = tt; earlier = tt; pasts = tt }
 
-put_passable : (a : Arrival) (arrived : List Arrival) → a.dep < a.position → a.past ≡ [] → ArePassable arrived → ArePassable (put_at (beside a.position) a arrived)
+put_passable : (a : Arrival) (arrived : List Arrival) → a.dep < a.position → a.past ≡ [] → ArePassable arrived → ArePassable (put_at (arrival_beside a.position) a arrived)
 put_passable a arrived earlier none can = record {
   rising = rising_put (λ (a : Arrival). a.position) nat_cmp nat_cmp_total a arrived can.rising;
-  earlier = all_put (beside a.position) (λ (a : Arrival). a.dep < a.position) a arrived earlier can.earlier;
-  pasts = all_put (beside a.position) (λ (a : Arrival). a.past ≡ []) a arrived none can.pasts;
+  earlier = all_put (arrival_beside a.position) (λ (a : Arrival). a.dep < a.position) a arrived earlier can.earlier;
+  pasts = all_put (arrival_beside a.position) (λ (a : Arrival). a.past ≡ []) a arrived none can.pasts;
 }
 
 senders_pass : (from : SiteName) (a : Arrival) (ss : List SenderState) → a.dep < a.position → a.past ≡ [] → SendersPass ss → SendersPass (at_sender from (with_arrival a) ss)
@@ -164,7 +164,7 @@ ProcFits-proc_accept packet x is h = go packet is (is_foreign packet x) refl
     put_passes from a earlier none None = senders_pass from a x.senders earlier none h.passable
     put_passes from a earlier none (Some before) = h.passable
 
-    carried_in : (from to : SiteName) (number position dep : ℕ) (past : List Past) (txn : Txn) → PacketFits (Carry from to number position dep past txn) → IsOurs past txn x
+    carried_in : (from to : SiteName) (number position dep : ℕ) (past : List PastEntry) (txn : Txn) → PacketFits (Carry from to number position dep past txn) → IsOurs past txn x
         → ProcFits (taken (Carry from to number position dep past txn) x)
     carried_in from to number position dep past txn fits own =
         let a : Arrival = record { position = position; number = number; dep = dep; past = past; txn = txn } in
@@ -235,7 +235,7 @@ new_pass : (masters : List SiteName) → SendersPass (map new_sender masters)
 new_pass [] = tt
 new_pass (master ∷ masters) = (none_passable, new_pass masters)
 
-pub ProcFits-new_proc : (schema : Schema) (procedures : List Procedure) (me : SiteName) (masters : List SiteName) → IsKeyed schema → AreProcedures schema procedures → ProcFits (new_proc schema procedures me masters)
+pub ProcFits-new_proc : (schema : Schema) (procedures : List Procedure) (me : SiteName) (masters : List SiteName) → SchemaIsKeyed schema → AreProcedures schema procedures → ProcFits (new_proc schema procedures me masters)
 ProcFits-new_proc schema procedures me masters keyed are = record {
   keyed = keyed;
   procedures = are;

@@ -1,6 +1,6 @@
 -- The lemmas of this crate, from the bottom up.
 pub mod Carrying
-pub mod KeptTables
+pub mod CallTables
 pub mod Commuting
 pub mod Ordering
 pub mod Passing

@@ -4,7 +4,7 @@ use Rattle.std.specs.Prelude.{Option, Result}
 use Rattle.rep_values.specs.declared.name.SiteName.{SiteName}
 use Rattle.rep_schema.specs.declared.schema.Schema.{Schema}
 use Rattle.rep_schema.specs.Tables.{Rows}
-use Rattle.rep_calls.specs.declared.past.Past.{Past}
+use Rattle.rep_calls.specs.declared.past.PastEntry.{PastEntry}
 use Rattle.rep_calls.specs.declared.call.Txn.{Txn}
 use Rattle.txn_effects.specs.Transactions.{Failure}
 use Rattle.deferred_queue.specs.Streams.{Mark as Acked, is_same_site, raised_mark}
@@ -107,7 +107,7 @@ accept_names packet x = go packet (is_foreign packet x)
     by from a None = origins-at_sender (with_arrival a) (λ s. refl) from x.senders
     by from a (Some before) = refl
 
-    carried_in : (from to : SiteName) (number position dep : ℕ) (past : List Past) (txn : Txn) → KeepsNames x (taken (Carry from to number position dep past txn) x)
+    carried_in : (from to : SiteName) (number position dep : ℕ) (past : List PastEntry) (txn : Txn) → KeepsNames x (taken (Carry from to number position dep past txn) x)
     carried_in from to number position dep past txn = record {
       schema = refl;
       procedures = refl;

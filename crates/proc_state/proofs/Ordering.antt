@@ -6,7 +6,7 @@ use Rattle.rep_values.specs.declared.name.SiteName.{SiteName}
 use Rattle.rep_schema.specs.declared.schema.Schema.{Schema}
 use Rattle.rep_schema.specs.Tables.{Rows}
 use Rattle.rep_calls.specs.declared.call.Txn.{Txn}
-use Rattle.rep_calls.specs.declared.past.Past.{Past}
+use Rattle.rep_calls.specs.declared.past.PastEntry.{PastEntry}
 use Rattle.txn_effects.specs.Transactions.{Failure}
 use Rattle.packet_code.specs.declared.packet.Packet.{Packet}
 use Rattle.packet_code.specs.declared.packet.Packet.TheVariants.{Carry, Mark}
@@ -24,7 +24,7 @@ use Rattle.site_state.specs.Fits.{FinishedHaveArrived}
 use Rattle.site_state.specs.Steps.{count_where}
 use Rattle.site_state.proofs.Stepping.{IsTaken, MayFollow, with_entry, Journals, no_entry, one_entry, arrived_has, is_position-true, error_found}
 use Rattle.site_state.proofs.Pasts.{arrived_at-put, finished_have_arrived}
-use Rattle.journal_order.specs.Settling.{IsFinishedOnce}
+use Rattle.journal_order.specs.Sorting.{IsFinishedOnce}
 use Rattle.journal_order.specs.Waited.{EachBehind, HasWaited, HaveWaited}
 use Rattle.journal_order.proofs.Waited.{have_waited, HaveWaited-put}
 use Rattle.proc_state.specs.declared.procedure.Procedure.{Procedure}
@@ -196,7 +196,7 @@ accept_in_order packet x order = go packet (is_foreign packet x)
     put_waited from a None new = HaveWaited-put from a x.senders x.journal order.arrived new order.waited
     put_waited from a (Some before) new = order.waited
 
-    carried_in : (from to : SiteName) (number position dep : ℕ) (past : List Past) (txn : Txn) → IsInOrder (taken (Carry from to number position dep past txn) x)
+    carried_in : (from to : SiteName) (number position dep : ℕ) (past : List PastEntry) (txn : Txn) → IsInOrder (taken (Carry from to number position dep past txn) x)
     carried_in from to number position dep past txn =
         let a : Arrival = record { position = position; number = number; dep = dep; past = past; txn = txn } in
         changed_in_order x (taken (Carry from to number position dep past txn) x) refl (put_arrived from a (arrived_at from position x.senders))

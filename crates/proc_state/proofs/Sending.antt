@@ -4,8 +4,8 @@ use Rattle.std.specs.Prelude.{Option}
 use Rattle.std.specs.List.{AllByRecursion}
 use Rattle.rep_values.specs.declared.name.SiteName.{SiteName}
 use Rattle.rep_calls.specs.declared.call.Txn.{Txn}
-use Rattle.deferred_queue.specs.declared.cargo.Cargo.{Cargo}
-use Rattle.deferred_queue.specs.Streams.{InStream, stream_to, at_position}
+use Rattle.deferred_queue.specs.declared.queued_txn.QueuedTxn.{QueuedTxn}
+use Rattle.deferred_queue.specs.Streams.{InStream, queue_stream_to, at_position}
 use Rattle.packet_code.specs.declared.packet.Packet.{Packet}
 use Rattle.packet_code.specs.declared.packet.Packet.TheVariants.{Carry}
 use Rattle.site_state.specs.declared.entry.Entry.{Entry}
@@ -43,7 +43,7 @@ module _ (P : Txn → Type 0) where
       go true later = (all.0, later)
       go false later = later
 
-  cargo_has : (ss : List InStream) (txns : List Txn) (position : ℕ) (s : InStream) (cargo : Cargo) → Numbers ss txns → AllByRecursion P txns → at_position position ss ≡ Some s → s.cargo ≡ Some cargo → P cargo.txn
+  cargo_has : (ss : List InStream) (txns : List Txn) (position : ℕ) (s : InStream) (cargo : QueuedTxn) → Numbers ss txns → AllByRecursion P txns → at_position position ss ≡ Some s → s.cargo ≡ Some cargo → P cargo.txn
   cargo_has [] txns position s cargo numbers all there is = absurd (cc there)
   cargo_has (x ∷ ss) [] position s cargo numbers all there is = absurd numbers
   cargo_has (x ∷ ss) (t ∷ txns) position s cargo numbers all there is = go (position == length ss + 1) there (λ later. cargo_has ss txns position s cargo numbers.2 all.1 later is)
@@ -53,34 +53,34 @@ module _ (P : Txn → Type 0) where
           let same : x ≡ s = cc found in
           let carries : Some (record { txn = t; past = [] }) ≡ Some cargo = sym numbers.0 ∙ ap (λ (y : InStream). y.cargo) same ∙ is in
           let one : record { txn = t; past = [] } ≡ cargo = cc carries in
-          subst (λ (y : Cargo). P y.txn) one all.0
+          subst (λ (y : QueuedTxn). P y.txn) one all.0
       go false found later = later found
 
   -- so of what is sent
-  pub sent_has : (x : ProcState) (to : SiteName) (position : ℕ) (s : InStream) (cargo : Cargo) → AllByRecursion (EntryHas P) x.journal → at_position position (stream_to to (proc_queue x)) ≡ Some s
+  pub sent_has : (x : ProcState) (to : SiteName) (position : ℕ) (s : InStream) (cargo : QueuedTxn) → AllByRecursion (EntryHas P) x.journal → at_position position (queue_stream_to to (proc_queue x)) ≡ Some s
       → s.cargo ≡ Some cargo → P cargo.txn
   sent_has x to position s cargo all there is =
-      cargo_has (stream_to to (proc_queue x)) (stream_in to x.lists (own_txns x.journal)) position s cargo (Numbers-deferred_in to x.lists (own_txns x.journal))
+      cargo_has (queue_stream_to to (proc_queue x)) (stream_in to x.lists (own_txns x.journal)) position s cargo (Numbers-deferred_in to x.lists (own_txns x.journal))
       (stream_has to x.lists (own_txns x.journal) (own_have x.journal all)) there is
 
 -- a packet is of a transaction in the stream
 pub record IsSent (x : ProcState) (to : SiteName) (position : ℕ) (packet : Packet) : Type 0 where
   pub sent : InStream
-  pub cargo : Cargo
-  pub there : at_position position (stream_to to (proc_queue x)) ≡ Some sent
+  pub cargo : QueuedTxn
+  pub there : at_position position (queue_stream_to to (proc_queue x)) ≡ Some sent
   pub carries : sent.cargo ≡ Some cargo
   pub is : packet ≡ Carry x.me to sent.number position sent.dep cargo.past cargo.txn
 
 pub is_sent : (x : ProcState) (to : SiteName) (position : ℕ) (packet : Packet) → proc_packet to position x ≡ Some packet → IsSent x to position packet
-is_sent x to position packet found = go (at_position position (stream_to to (proc_queue x))) refl found
+is_sent x to position packet found = go (at_position position (queue_stream_to to (proc_queue x))) refl found
   where
-    by : (s : InStream) → at_position position (stream_to to (proc_queue x)) ≡ Some s → (o : Option Cargo) → s.cargo ≡ o → carry_by x.me to position s o ≡ Some packet → IsSent x to position packet
+    by : (s : InStream) → at_position position (queue_stream_to to (proc_queue x)) ≡ Some s → (o : Option QueuedTxn) → s.cargo ≡ o → carry_by x.me to position s o ≡ Some packet → IsSent x to position packet
     by s there None carries here = absurd (cc here)
     by s there (Some cargo) carries here =
         let same : Carry x.me to s.number position s.dep cargo.past cargo.txn ≡ packet = cc here in
         record { sent = s; cargo = cargo; there = there; carries = carries; is = sym same }
 
-    go : (o : Option InStream) → at_position position (stream_to to (proc_queue x)) ≡ o → carry_found x.me to position o ≡ Some packet → IsSent x to position packet
+    go : (o : Option InStream) → at_position position (queue_stream_to to (proc_queue x)) ≡ o → carry_found x.me to position o ≡ Some packet → IsSent x to position packet
     go None there here = absurd (cc here)
     go (Some s) there here = by s there s.cargo refl here
 

@@ -8,7 +8,7 @@ use Rattle.rep_schema.specs.Tables.{AreTables}
 use Rattle.rep_calls.specs.declared.call.Txn.{Txn}
 use Rattle.site_state.specs.declared.arrival.Arrival.{Arrival}
 use Rattle.site_state.specs.State.{SenderState}
-use Rattle.site_state.specs.Fits.{IsKeyed, EntryHas, SendersHave}
+use Rattle.site_state.specs.Fits.{SchemaIsKeyed, EntryHas, SendersHave}
 use Rattle.proc_state.specs.declared.procedure.Procedure.{Procedure}
 use Rattle.proc_state.specs.Calls.{AreProcedures}
 use Rattle.proc_state.specs.Carriers.{is_carried}
@@ -33,7 +33,7 @@ SendersPass senders = AllByRecursion (λ (s : SenderState). ArePassable s.arrive
 -- the tables are those of the schema, each transaction that was journalled or arrived is one of calls, and what arrived can be
 -- passed
 pub record ProcFits (x : ProcState) : Type 0 where
-  pub keyed : IsKeyed x.schema
+  pub keyed : SchemaIsKeyed x.schema
   pub procedures : AreProcedures x.schema x.procedures
   pub tables : AreTables x.schema (proc_tables x)
   pub journal : AllByRecursion (EntryHas (IsProcTxn x.schema x.procedures)) x.journal

@@ -11,18 +11,18 @@ use Rattle.rep_calls.specs.declared.call.Call.{Call}
 use Rattle.rep_calls.specs.declared.call.Txn.{Txn}
 use Rattle.conflict_detect.specs.Fits.{table_of}
 use Rattle.txn_effects.specs.Transactions.{Failure}
-use Rattle.deferred_queue.specs.declared.cargo.Cargo.{Cargo}
-use Rattle.deferred_queue.specs.Streams.{InStream, stream_to, at_position}
+use Rattle.deferred_queue.specs.declared.queued_txn.QueuedTxn.{QueuedTxn}
+use Rattle.deferred_queue.specs.Streams.{InStream, queue_stream_to, at_position}
 use Rattle.packet_code.specs.declared.packet.Packet.{Packet}
 use Rattle.error_queue.specs.declared.entry.ErrorEntry.{ErrorEntry}
 use Rattle.site_state.specs.declared.entry.Entry.{Entry}
 use Rattle.site_state.specs.declared.answers.Applied.TheVariants as applied
 use Rattle.site_state.specs.declared.arrival.Arrival.{Arrival}
-use Rattle.site_state.specs.State.{beside, arrived_at, arrivals}
+use Rattle.site_state.specs.State.{arrival_beside, arrived_at, arrivals}
 use Rattle.site_state.specs.Journal.{finishes, finished, error_at}
 use Rattle.site_state.specs.Ready.{is_ready}
-use Rattle.site_state.specs.Fits.{IsKeyed}
-use Rattle.journal_order.specs.Settling.{IsFinishedOnce}
+use Rattle.site_state.specs.Fits.{SchemaIsKeyed}
+use Rattle.journal_order.specs.Sorting.{IsFinishedOnce}
 use Rattle.journal_order.specs.Waited.{EachBehind}
 use Rattle.proc_state.specs.declared.procedure.Procedure.{Procedure}
 use Rattle.proc_state.specs.declared.call.ProcCall.{ProcCall}
@@ -117,7 +117,7 @@ AreFinishedOnce = AfterAll (λ (x : ProcState). IsFinishedOnce x.journal)
 -- arrivals are well numbered: of two whose transactions share a token, the later one's dependency number is at least the
 -- earlier position
 abbrev pub AreWellNumbered : List Arrival → Type 0
-AreWellNumbered arrived = (p q : ℕ) (a b : Arrival) → find_at (beside p) arrived ≡ Some a → find_at (beside q) arrived ≡ Some b → p < q → shares b.txn a.txn ≡ true → p ≤ b.dep
+AreWellNumbered arrived = (p q : ℕ) (a b : Arrival) → find_at (arrival_beside p) arrived ≡ Some a → find_at (arrival_beside q) arrived ≡ Some b → p < q → shares b.txn a.txn ≡ true → p ≤ b.dep
 
 -- where an entry finishes a position of a sender, the earlier ones whose transactions share a token with its own were
 -- finished before; positions are counted from 1
@@ -136,20 +136,20 @@ EarlierComesFirst = AfterAll FinishesEarlierFirst
 
 -- a transaction at a position of a stream depends on an earlier position, and on each earlier transaction with which it
 -- shares a token
-pub record DependsOnSharers (stream : List InStream) (position : ℕ) (s : InStream) (cargo : Cargo) : Type 0 where
+pub record DependsOnSharers (stream : List InStream) (position : ℕ) (s : InStream) (cargo : QueuedTxn) : Type 0 where
   pub earlier : s.dep < position
-  pub sharers : (p : ℕ) (a : InStream) (other : Cargo) → p < position → at_position p stream ≡ Some a → a.cargo ≡ Some other → shares cargo.txn other.txn ≡ true → p ≤ s.dep
+  pub sharers : (p : ℕ) (a : InStream) (other : QueuedTxn) → p < position → at_position p stream ≡ Some a → a.cargo ≡ Some other → shares cargo.txn other.txn ≡ true → p ≤ s.dep
 
 -- so it is with each transaction in the stream to a site
 abbrev pub StreamsDependOnSharers : Type 0
-StreamsDependOnSharers = (x : ProcState) (site : SiteName) (position : ℕ) (s : InStream) (cargo : Cargo) → at_position position (stream_to site (proc_queue x)) ≡ Some s → s.cargo ≡ Some cargo
-    → DependsOnSharers (stream_to site (proc_queue x)) position s cargo
+StreamsDependOnSharers = (x : ProcState) (site : SiteName) (position : ℕ) (s : InStream) (cargo : QueuedTxn) → at_position position (queue_stream_to site (proc_queue x)) ≡ Some s → s.cargo ≡ Some cargo
+    → DependsOnSharers (queue_stream_to site (proc_queue x)) position s cargo
 
 -- an arrival is what stands at its position in a site's stream to another
 pub record IsOfStream (sender : ProcState) (site : SiteName) (a : Arrival) : Type 0 where
   pub sent : InStream
-  pub cargo : Cargo
-  pub there : at_position a.position (stream_to site (proc_queue sender)) ≡ Some sent
+  pub cargo : QueuedTxn
+  pub there : at_position a.position (queue_stream_to site (proc_queue sender)) ≡ Some sent
   pub carries : sent.cargo ≡ Some cargo
   pub dep : a.dep ≡ sent.dep
   pub txn : a.txn ≡ cargo.txn
@@ -168,7 +168,7 @@ PassesLeaveNothingReady = (origin : SiteName) (x : ProcState) → ArePassable (a
 
 -- a site fits, of whose schema each table has a key, whatever calls that fit and packets that fit there are
 abbrev pub EverySiteFits : Type 0
-EverySiteFits = (schema : Schema) (procedures : List Procedure) (me : SiteName) (masters : List SiteName) (events : List ProcEvent) → IsKeyed schema → AreProcedures schema procedures
+EverySiteFits = (schema : Schema) (procedures : List Procedure) (me : SiteName) (masters : List SiteName) (events : List ProcEvent) → SchemaIsKeyed schema → AreProcedures schema procedures
     → AllByRecursion (EventFits schema procedures) events → ProcFits (reached schema procedures me masters events)
 
 -- what arrived at a site that fits can be passed

@@ -1,8 +1,8 @@
 -- What a site of procedures sends and takes in.
 use Rattle.std.specs.Prelude.{ℕ, ◌||◌, Bool, not, nat_lt, cond, List, map, Option, Some, None, is_none}
 use Rattle.rep_values.specs.declared.name.SiteName.{SiteName}
-use Rattle.deferred_queue.specs.declared.cargo.Cargo.{Cargo}
-use Rattle.deferred_queue.specs.Streams.{InStream, Mark as Acked, is_same_site, stream_to, at_position, last_position, raised_mark}
+use Rattle.deferred_queue.specs.declared.queued_txn.QueuedTxn.{QueuedTxn}
+use Rattle.deferred_queue.specs.Streams.{InStream, Mark as Acked, is_same_site, queue_stream_to, at_position, last_position, raised_mark}
 use Rattle.packet_code.specs.declared.packet.Packet.{Packet}
 use Rattle.packet_code.specs.declared.packet.Packet.TheVariants.{Carry, Mark}
 use Rattle.site_state.specs.declared.answers.Accepted.{Accepted}
@@ -15,7 +15,7 @@ use Rattle.proc_state.specs.State.{ProcState, as_site, proc_queue, other_masters
 
 -- ---- what is sent
 
-abbrev pub carry_by : SiteName → SiteName → ℕ → InStream → Option Cargo → Option Packet
+abbrev pub carry_by : SiteName → SiteName → ℕ → InStream → Option QueuedTxn → Option Packet
 carry_by me to position s None = None
 carry_by me to position s (Some cargo) = Some (Carry me to s.number position s.dep cargo.past cargo.txn)
 
@@ -25,7 +25,7 @@ carry_found me to position (Some s) = carry_by me to position s s.cargo
 
 -- the packet of a position of the stream to a site; none where the position wasn't given
 abbrev pub proc_packet : SiteName → ℕ → ProcState → Option Packet
-proc_packet to position x = carry_found x.me to position (at_position position (stream_to to (proc_queue x)))
+proc_packet to position x = carry_found x.me to position (at_position position (queue_stream_to to (proc_queue x)))
 
 -- the mark for a sender: how far all of its positions are finished here
 abbrev pub proc_mark : SiteName → ProcState → Packet

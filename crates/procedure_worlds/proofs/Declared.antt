@@ -26,14 +26,14 @@ use Rattle.rep_schema.specs.Entries.{plain_table}
 use Rattle.rep_schema.proofs.Shapes.{key_count-columns_of}
 use Rattle.rep_declare.specs.declared.declaration.Declare.TheVariants as declare
 use Rattle.rep_declare.specs.Additions.{column_number}
-use Rattle.rep_declare.specs.Refusals.{share_a_name, refusal_of}
+use Rattle.rep_declare.specs.Refusals.{share_a_name, declare_refusal}
 use Rattle.rep_declare.proofs.DeclaredShapes.{HasShape-declared}
 use Rattle.rep_laws.proofs.SoundSchemas.{both_hold, passes}
 use Rattle.schema_rules.specs.KeyRules.{is_well_keyed}
 use Rattle.conflict_detect.specs.KeysNamed.{HasKeys}
 use Rattle.txn_effects.specs.Calls.{KeysStandAlone}
 use Rattle.snapshot_query.specs.declared.query.Test.{Test}
-use Rattle.site_state.specs.Fits.{IsKeyed}
+use Rattle.site_state.specs.Fits.{SchemaIsKeyed}
 use Rattle.proc_state.specs.declared.procedure.Action.{Action}
 use Rattle.proc_state.specs.declared.procedure.Procedure.{Procedure}
 use Rattle.proc_state.specs.Calls.{AreTestsOf, TakesAmounts, ActsOn, IsProcedure, AreProcedures}
@@ -123,7 +123,7 @@ pub declared_table : (name : TableName) (columns : List Column) (w : WorldState)
 declared_table name columns w passes d =
     let new = new_table name columns w passes in
     let tables = w.procs.tables in
-    let none : refusal_of (tables_alone tables) (declare.Table name columns) ≡ None = five_pass
+    let none : declare_refusal (tables_alone tables) (declare.Table name columns) ≡ None = five_pass
     (taken (proc_table_named tables name)) (refused (share_a_name columns) refusal.NameTaken) (full most_tables (length tables) limit.Tables)
     (too_many most_columns (length columns) limit.Columns) (too_many most_keys (key_count columns) limit.Keys)
     new.free new.names (none_full most_tables (length tables) limit.Tables (omega (arith, new.number))) (none_too_many most_columns (length columns) limit.Columns (omega (arith, new.width)))
@@ -231,7 +231,7 @@ declared_procedure name table does p passes d = go (proc_table_named p.tables ta
 -- ---- Setup's end
 
 -- where each table has a key, the schema of procedure tables has what applying calls asks of it
-pub proc_keyed : (schema : Schema) (p : Procs) → HasShape schema → AreProcsDeclared p → list_all is_well_keyed p.tables ≡ true → IsKeyed (proc_schema schema p.tables)
+pub proc_keyed : (schema : Schema) (p : Procs) → HasShape schema → AreProcsDeclared p → list_all is_well_keyed p.tables ≡ true → SchemaIsKeyed (proc_schema schema p.tables)
 proc_keyed schema p shape d keyed = record { shape = whole; keys = keys; apart = apart }
   where
     whole : HasShape (proc_schema schema p.tables)

@@ -5,9 +5,9 @@ use Rattle.std.proofs.lemmas.Bool.Decides.{nat_tests}
 use Rattle.rep_values.specs.declared.name.SiteName.{SiteName}
 use Rattle.rep_schema.specs.Tables.{Rows}
 use Rattle.txn_effects.specs.Transactions.{Failure}
-use Rattle.deferred_queue.specs.declared.cargo.Cargo.{Cargo}
+use Rattle.deferred_queue.specs.declared.queued_txn.QueuedTxn.{QueuedTxn}
 use Rattle.deferred_queue.specs.declared.destination.Destination.{Destination}
-use Rattle.deferred_queue.specs.Streams.{Deferred, InStream, with_one, destination_to, stream_to, at_position}
+use Rattle.deferred_queue.specs.Streams.{Deferred, InStream, with_one, destination_to, queue_stream_to, at_position}
 use Rattle.deferred_queue.proofs.Positions.{found_position}
 use Rattle.packet_code.specs.declared.packet.Packet.{Packet}
 use Rattle.error_queue.specs.declared.entry.ErrorEntry.{ErrorEntry}
@@ -54,7 +54,7 @@ other_more : (e : Entry) (x : ProcState) → own_txn e ≡ None → Grows x (rec
 other_more e x other = entry_more e x (record x { journal = e ∷ x.journal }) refl refl (λ to position packet is. rw other is)
 
 -- what stands at a position of a stream stands there when the stream goes on
-stands_with : (d : Option Destination) (number position : ℕ) (cargo : Option Cargo) (ss : List InStream) (s : InStream) → at_position position ss ≡ Some s → at_position position (with_one d number cargo ss) ≡ Some s
+stands_with : (d : Option Destination) (number position : ℕ) (cargo : Option QueuedTxn) (ss : List InStream) (s : InStream) → at_position position ss ≡ Some s → at_position position (with_one d number cargo ss) ≡ Some s
 stands_with None number position cargo ss s there = there
 stands_with (Some d) number position cargo ss s there =
     let within = (found_position position ss s there).1 in
@@ -62,13 +62,13 @@ stands_with (Some d) number position cargo ss s there =
     rw off there
 
 -- a packet is there still when the queue has one transaction more
-packet_with : (to me : SiteName) (position : ℕ) (d : Deferred) (queue : List Deferred) (packet : Packet) → carry_found me to position (at_position position (stream_to to queue)) ≡ Some packet
-    → carry_found me to position (at_position position (stream_to to (d ∷ queue))) ≡ Some packet
-packet_with to me position d queue packet is = go (at_position position (stream_to to queue)) refl is
+packet_with : (to me : SiteName) (position : ℕ) (d : Deferred) (queue : List Deferred) (packet : Packet) → carry_found me to position (at_position position (queue_stream_to to queue)) ≡ Some packet
+    → carry_found me to position (at_position position (queue_stream_to to (d ∷ queue))) ≡ Some packet
+packet_with to me position d queue packet is = go (at_position position (queue_stream_to to queue)) refl is
   where
-    go : (o : Option InStream) → at_position position (stream_to to queue) ≡ o → carry_found me to position o ≡ Some packet → carry_found me to position (at_position position (stream_to to (d ∷ queue))) ≡ Some packet
+    go : (o : Option InStream) → at_position position (queue_stream_to to queue) ≡ o → carry_found me to position o ≡ Some packet → carry_found me to position (at_position position (queue_stream_to to (d ∷ queue))) ≡ Some packet
     go None there is = absurd (cc is)
-    go (Some s) there is = rw (stands_with (destination_to to d.to) (length queue + 1) position d.cargo (stream_to to queue) s there) is
+    go (Some s) there is = rw (stands_with (destination_to to d.to) (length queue + 1) position d.cargo (queue_stream_to to queue) s there) is
 
 -- ---- each event
 

@@ -6,6 +6,6 @@ pub mod SiteStreams
 pub mod Made
 pub mod Sending
 pub mod Declared
-pub mod Kept
+pub mod ProceduresStay
 pub mod QuietPushes
-pub mod HoldingProcedures
+pub mod ProceduresHold

@@ -24,8 +24,8 @@ use Rattle.event_laws.specs.Events.{without}
 use Rattle.world_state.specs.Procs.{Procs, proc_schema, early_masters, proc_made, proc_of, at_proc}
 use Rattle.world_state.specs.Pushes.{sent_on, emptied}
 use Rattle.world_state.specs.Rounds.{sender_names}
-use Rattle.world_state.specs.CallPushes.{calls_release, calls_from, calls_send, calls_send_each, calls_positions, calls_send_above, calls_taken_each, calls_deliver, calls_taken_one, calls_take, proc_passes, proc_settle, calls_settle, calls_mark_from, calls_send_mark, calls_answer, calls_pushed_in, calls_push}
-use Rattle.procedure_worlds.specs.Streams.{low_at, IsOfStreams, Carries, ArrivedOfStreams, MarksAreLow, JournalOfStreams}
+use Rattle.world_state.specs.CallPushes.{calls_release, calls_from, calls_send, calls_send_each, calls_positions, calls_send_above, calls_taken_each, calls_deliver, calls_taken_one, calls_deliver_one, proc_passes, proc_until_quiet, calls_until_quiet, calls_mark_from, calls_send_mark, calls_return_mark, calls_pushed_in, calls_push}
+use Rattle.procedure_worlds.specs.Streams.{low_at, IsOfStreams, NetCarries, ArrivedOfStreams, MarksAreLow, JournalOfStreams}
 use Rattle.procedure_worlds.specs.Built.{ComesFromCalls, AreMade}
 use Rattle.procedure_worlds.proofs.Growing.{Grows, events_grow}
 use Rattle.procedure_worlds.proofs.Sites.{AllGrow, name-proc_of, all-proc_of, all-at_proc, names-at_proc, grow-at_proc, of_streams-grow}
@@ -123,7 +123,7 @@ module _ (schema : Schema) where
 
   -- ---- the net changes
 
-  net_changes : (p : Procs) (net : List Direction) → AllByRecursion (Carries PacketFits) net → AllByRecursion (Carries (IsOfStreams p.sites)) net → AreMade schema p → AreMade schema (record p { net = net })
+  net_changes : (p : Procs) (net : List Direction) → AllByRecursion (NetCarries PacketFits) net → AllByRecursion (NetCarries (IsOfStreams p.sites)) net → AreMade schema p → AreMade schema (record p { net = net })
   net_changes p net fit of_streams m = record {
     keyed = m.keyed;
     procedures = m.procedures;
@@ -134,7 +134,7 @@ module _ (schema : Schema) where
   }
 
   -- one direction does, and gets no packet more
-  direction_changes : (p : Procs) (from to : SiteName) (change : Direction → Direction) → ((P : Packet → Type 0) (d : Direction) → Carries P d → Carries P (change d)) → AreMade schema p
+  direction_changes : (p : Procs) (from to : SiteName) (change : Direction → Direction) → ((P : Packet → Type 0) (d : Direction) → NetCarries P d → NetCarries P (change d)) → AreMade schema p
       → AreMade schema (record p { net = at_direction from to change p.net })
   direction_changes p from to change keeps m =
       net_changes p (at_direction from to change p.net) (at_keeps PacketFits from to change p.net (keeps PacketFits) m.packets)
@@ -214,7 +214,7 @@ module _ (schema : Schema) where
       empty_made from to (record p { sites = calls_taken_each to (on_way_between from to p.net) p.sites })
       (taken_each_made to (on_way_between from to p.net) p (way_has PacketFits from to p.net m.packets) (way_has (IsOfStreams p.sites) from to p.net m.streams.carried) m)
 
-  pub take_made : (from to : SiteName) (p : Procs) → AreMade schema p → AreMade schema (calls_take from to p)
+  pub take_made : (from to : SiteName) (p : Procs) → AreMade schema p → AreMade schema (calls_deliver_one from to p)
   take_made from to p m = lose_made from to (record p { sites = calls_taken_one to (first_between from to p.net) p.sites }) (go (first_between from to p.net) refl)
     where
       go : (o : Option Packet) → first_between from to p.net ≡ o → AreMade schema (record p { sites = calls_taken_one to o p.sites })
@@ -239,9 +239,9 @@ module _ (schema : Schema) where
   passes_keep sites (origin ∷ origins) x =
       keeps_then sites x (proc_pass origin x) (proc_passes origins (proc_pass origin x)) (pass_keeps sites origin x) (passes_keep sites origins (proc_pass origin x))
 
-  pub settle_made : (from to : SiteName) (p : Procs) → AreMade schema p → AreMade schema (calls_settle from to p)
+  pub settle_made : (from to : SiteName) (p : Procs) → AreMade schema p → AreMade schema (calls_until_quiet from to p)
   settle_made from to p m =
-      site_works p to (proc_settle from) (λ x found. passes_happen p.procedures (proc_schema schema p.tables) (from ∷ sender_names x.senders) x) (λ sites x. passes_keep sites (from ∷ sender_names x.senders) x) m
+      site_works p to (proc_until_quiet from) (λ x found. passes_happen p.procedures (proc_schema schema p.tables) (from ∷ sender_names x.senders) x) (λ sites x. passes_keep sites (from ∷ sender_names x.senders) x) m
 
   -- ---- a push
 
@@ -254,10 +254,10 @@ module _ (schema : Schema) where
       deliver_made from to (calls_send_above from to (calls_release from to p))
       (send_each_made from to (calls_positions from to (calls_release from to p)) (calls_release from to p) (release_made from to p m))
 
-  answer_made : (up : Bool) (from to : SiteName) (p : Procs) → AreMade schema p → AreMade schema (calls_answer up from to p)
+  answer_made : (up : Bool) (from to : SiteName) (p : Procs) → AreMade schema p → AreMade schema (calls_return_mark up from to p)
   answer_made true from to p m = deliver_made from to (calls_send_mark from to (calls_release from to p)) (mark_made from to (calls_release from to p) (release_made from to p m))
   answer_made false from to p m = m
 
   pub push_made : (up : Bool) (from to : SiteName) (p : Procs) → AreMade schema p → AreMade schema (calls_push up from to p)
   push_made up from to p m =
-      answer_made up to from (calls_settle from to (calls_pushed_in from to p)) (settle_made from to (calls_pushed_in from to p) (pushed_in_made from to p m))
+      answer_made up to from (calls_until_quiet from to (calls_pushed_in from to p)) (settle_made from to (calls_pushed_in from to p) (pushed_in_made from to p m))

@@ -37,14 +37,14 @@ use Rattle.world_state.specs.World.{WorldState}
 use Rattle.world_state.specs.Phases.{behind_setup_step}
 use Rattle.world_state.specs.Procs.{Procs, early_masters, proc_of, at_proc}
 use Rattle.world_state.specs.Rounds.{sender_names}
-use Rattle.world_state.specs.CallPushes.{calls_release, calls_taken_each, calls_send_mark, proc_passes, proc_settle, calls_settle, calls_answer, calls_pushed_in, calls_push}
+use Rattle.world_state.specs.CallPushes.{calls_release, calls_taken_each, calls_send_mark, proc_passes, proc_until_quiet, calls_until_quiet, calls_return_mark, calls_pushed_in, calls_push}
 use Rattle.world_state.specs.ProcRefusals.{is_other, are_two_masters, proc_steps}
 use Rattle.world_state.specs.Steps.{step_by}
 use Rattle.procedure_worlds.specs.Worlds.{NoCallsReady, PushesLeaveNoCallsReady}
 use Rattle.procedure_worlds.specs.Built.{AreMade, AreProcsBuilt}
 use Rattle.procedure_worlds.proofs.Sites.{name-proc_of, found-at_proc}
 use Rattle.procedure_worlds.proofs.Made.{site_is, site_fits, pushed_in_made}
-use Rattle.procedure_worlds.proofs.Kept.{is_behind}
+use Rattle.procedure_worlds.proofs.ProceduresStay.{is_behind}
 
 -- ---- another sender's pass
 
@@ -157,8 +157,8 @@ quiet_stranger x origin none position = go (finished origin x.journal position) 
     go false is = rw (is, absent) refl
 
 -- a site that settled what came has nothing ready
-pub settle_quiet : (from : SiteName) (x : ProcState) → ProcFits x → NoCallsReady (proc_settle from x)
-settle_quiet from x fits origin = passes_quiet (from ∷ sender_names x.senders) x fits origin (known (is_same_site from origin) refl)
+pub until_quiet_ends_quiet : (from : SiteName) (x : ProcState) → ProcFits x → NoCallsReady (proc_until_quiet from x)
+until_quiet_ends_quiet from x fits origin = passes_quiet (from ∷ sender_names x.senders) x fits origin (known (is_same_site from origin) refl)
   where
     named : (b : Bool) → is_among (sender_names x.senders) origin ≡ b → is_same_site from origin ≡ false → (is_among (from ∷ sender_names x.senders) origin ≡ true) ⊎ IsQuiet origin x
     named true is off = inl (rw (off, is) refl)
@@ -188,7 +188,7 @@ other-taken to other [] sites off = refl
 other-taken to other (packet ∷ more) sites off =
     other-taken to other more (at_proc to (proc_accept packet) sites) off ∙ other-at_proc to other (proc_accept packet) sites (λ x. (accept_names packet x).me) off
 
-answered_other : (up : Bool) (from to : SiteName) (p : Procs) → is_same_site to from ≡ false → proc_of from (calls_answer up from to p).sites ≡ proc_of from p.sites
+answered_other : (up : Bool) (from to : SiteName) (p : Procs) → is_same_site to from ≡ false → proc_of from (calls_return_mark up from to p).sites ≡ proc_of from p.sites
 answered_other true from to p off = other-taken to from (on_way_between from to (calls_send_mark from to (calls_release from to p)).net) p.sites off
 answered_other false from to p off = refl
 
@@ -224,16 +224,16 @@ passes_me : (origins : List SiteName) (x : ProcState) → (proc_passes origins x
 passes_me [] x = refl
 passes_me (origin ∷ origins) x = passes_me origins (proc_pass origin x) ∙ (pass_names origin (arrivals origin (as_site x)) x).me
 
-settle_me : (from : SiteName) (x : ProcState) → (proc_settle from x).me ≡ x.me
-settle_me from x = passes_me (from ∷ sender_names x.senders) x
+until_quiet_me : (from : SiteName) (x : ProcState) → (proc_until_quiet from x).me ≡ x.me
+until_quiet_me from x = passes_me (from ∷ sender_names x.senders) x
 
 pushed_quiet : (schema : Schema) (p : Procs) → AreMade schema p → (up : Bool) (from to : SiteName) (x : ProcState) → are_two_masters from to p ≡ true → proc_of to (calls_push up from to p).sites ≡ Some x → NoCallsReady x
 pushed_quiet schema p m up from to x are found =
     let n = pushed_in_made schema from to p m in
     let off = two_apart schema p m from to are in
-    let settled : proc_of to (calls_settle from to (calls_pushed_in from to p)).sites ≡ Some x = sym (answered_other up to from (calls_settle from to (calls_pushed_in from to p)) off) ∙ found in
-    let before = found-at_proc to (proc_settle from) (calls_pushed_in from to p).sites x (λ y there. settle_me from y) settled in
-    subst NoCallsReady (sym before.2) (settle_quiet from before.0 (site_fits schema (calls_pushed_in from to p) n to before.0 before.1))
+    let settled : proc_of to (calls_until_quiet from to (calls_pushed_in from to p)).sites ≡ Some x = sym (answered_other up to from (calls_until_quiet from to (calls_pushed_in from to p)) off) ∙ found in
+    let before = found-at_proc to (proc_until_quiet from) (calls_pushed_in from to p).sites x (λ y there. until_quiet_me from y) settled in
+    subst NoCallsReady (sym before.2) (until_quiet_ends_quiet from before.0 (site_fits schema (calls_pushed_in from to p) n to before.0 before.1))
 
 -- once a push of calls is done no position of any sender is ready at the receiver
 pub push_leaves_none_ready : (w : WorldState) → AreProcsBuilt w → PushesLeaveNoCallsReady w

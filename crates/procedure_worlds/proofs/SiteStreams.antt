@@ -7,7 +7,7 @@ use Rattle.rep_lists.proofs.Each.{each_then}
 use Rattle.rep_values.specs.declared.name.SiteName.{SiteName}
 use Rattle.rep_schema.specs.Tables.{Rows}
 use Rattle.rep_calls.specs.declared.call.Txn.{Txn}
-use Rattle.rep_calls.specs.declared.past.Past.{Past}
+use Rattle.rep_calls.specs.declared.past.PastEntry.{PastEntry}
 use Rattle.txn_effects.specs.Transactions.{Failure}
 use Rattle.deferred_queue.specs.Streams.{Mark as Acked, is_same_site, acked_by, raised_mark}
 use Rattle.deferred_queue.proofs.Sites.{is_same_site-true}
@@ -18,7 +18,7 @@ use Rattle.site_state.specs.declared.entry.Entry.{Entry}
 use Rattle.site_state.specs.declared.entry.Entry.TheVariants.{Local, Done, Error, Executed, Dropped, Refreshed}
 use Rattle.site_state.specs.declared.answers.Why.{Why}
 use Rattle.site_state.specs.declared.arrival.Arrival.{Arrival}
-use Rattle.site_state.specs.State.{SenderState, sender_of, at_sender, beside, arrived_at, arrivals, is_among}
+use Rattle.site_state.specs.State.{SenderState, sender_of, at_sender, arrival_beside, arrived_at, arrivals, is_among}
 use Rattle.site_state.specs.Packets.{with_arrival, arrived_by}
 use Rattle.site_state.specs.Journal.{error_at}
 use Rattle.site_state.specs.Ready.{stale_of}
@@ -33,7 +33,7 @@ use Rattle.proc_state.specs.Errors.{executed_by, executed_found, proc_execute}
 use Rattle.proc_state.proofs.Carrying.{neither, isnt_not}
 use Rattle.event_laws.proofs.Waiting.{arrival_holds}
 use Rattle.world_state.specs.Procs.{proc_of}
-use Rattle.procedure_worlds.specs.Streams.{low_at, IsOfStreams, HasArrived, SenderHasArrived, ArrivedOfStreams, MarksAreLow, WasSent, EntryOfStreams, JournalOfStreams}
+use Rattle.procedure_worlds.specs.Streams.{low_at, IsOfStreams, HasArrived, SenderHasArrived, ArrivedOfStreams, MarksAreLow, CallsWereSent, EntryOfStreams, JournalOfStreams}
 use Rattle.procedure_worlds.proofs.Sites.{AllGrow, of_streams-grow, low_grows}
 
 -- what was of the streams stays so
@@ -64,7 +64,7 @@ arrived-grow old new grow x all =
 pub marks-grow : (old new : List ProcState) → AllGrow old new → (x : ProcState) → MarksAreLow old x → MarksAreLow new x
 marks-grow old new grow x low to = omega (arith, low to, low_grows old new grow x.me to)
 
-sent-grow : (old new : List ProcState) → AllGrow old new → (from to : SiteName) (position : ℕ) (txn : Txn) → WasSent old from to position txn → WasSent new from to position txn
+sent-grow : (old new : List ProcState) → AllGrow old new → (from to : SiteName) (position : ℕ) (txn : Txn) → CallsWereSent old from to position txn → CallsWereSent new from to position txn
 sent-grow old new grow from to position txn was = record {
   number = was.number;
   dep = was.dep;
@@ -98,7 +98,7 @@ call_keeps sites calls to x = go (calls_here calls x)
 
 -- what arrived at a position was sent there
 pub was_sent : (sites : List ProcState) (x : ProcState) (origin : SiteName) (position : ℕ) (a : Arrival) → ArrivedOfStreams sites x → arrived_at origin position x.senders ≡ Some a
-    → WasSent sites origin x.me a.position a.txn
+    → CallsWereSent sites origin x.me a.position a.txn
 was_sent sites x origin position a all found = record { number = a.number; dep = a.dep; past = a.past; is = arrival_holds (HasArrived sites x.me) origin position x.senders a all found }
 
 pub apply_keeps : (sites : List ProcState) (origin : SiteName) (position : ℕ) (x : ProcState) → KeepsStreams sites x (proc_apply origin position x)
@@ -145,7 +145,7 @@ senders_arrived sites me from a (s ∷ ss) has all = go (is_same_site s.origin f
 
     go : (b : Bool) → is_same_site s.origin from ≡ b → AllByRecursion (SenderHasArrived sites me) (at_sender from (with_arrival a) ss)
         → AllByRecursion (SenderHasArrived sites me) (cond b (with_arrival a s ∷ ss) (s ∷ at_sender from (with_arrival a) ss))
-    go true is later = (all_put (beside a.position) (HasArrived sites me s.origin) a s.arrived (own (is_same_site-true s.origin from is)) all.0, all.1)
+    go true is later = (all_put (arrival_beside a.position) (HasArrived sites me s.origin) a s.arrived (own (is_same_site-true s.origin from is)) all.0, all.1)
     go false is later = (all.0, later)
 
 -- a mark that is raised
@@ -167,7 +167,7 @@ raised_low to from mark bound (m ∷ ms) raised low = go (is_same_site m.site fr
     go false here false there low later = rw there (later low)
 
 -- it is for this site
-own_site : (from to : SiteName) (number position dep : ℕ) (past : List Past) (txn : Txn) (x : ProcState) → is_foreign (Carry from to number position dep past txn) x ≡ false → to ≡ x.me
+own_site : (from to : SiteName) (number position dep : ℕ) (past : List PastEntry) (txn : Txn) (x : ProcState) → is_foreign (Carry from to number position dep past txn) x ≡ false → to ≡ x.me
 own_site from to number position dep past txn x is =
     let last = neither (not (is_same_site to x.me) || is_none (sender_of from x.senders) || not (is_carried x.schema x.procedures txn)) (not (is_empty past)) is in
     let third = neither (not (is_same_site to x.me) || is_none (sender_of from x.senders)) (not (is_carried x.schema x.procedures txn)) last.0 in
@@ -183,7 +183,7 @@ own_mark from to mark x is =
 pub accept_keeps : (sites : List ProcState) (packet : Packet) (x : ProcState) → IsOfStreams sites packet → KeepsStreams sites x (proc_accept packet x)
 accept_keeps sites packet x is = go packet is (is_foreign packet x) refl
   where
-    carried_in : (from to : SiteName) (number position dep : ℕ) (past : List Past) (txn : Txn) → to ≡ x.me → IsOfStreams sites (Carry from to number position dep past txn)
+    carried_in : (from to : SiteName) (number position dep : ℕ) (past : List PastEntry) (txn : Txn) → to ≡ x.me → IsOfStreams sites (Carry from to number position dep past txn)
         → ArrivedOfStreams sites x → ArrivedOfStreams sites (taken (Carry from to number position dep past txn) x)
     carried_in from to number position dep past txn same is all = by (arrived_at from position x.senders)
       where

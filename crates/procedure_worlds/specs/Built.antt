@@ -5,7 +5,7 @@ use Rattle.rep_values.specs.declared.name.SiteName.{SiteName}
 use Rattle.rep_schema.specs.declared.schema.Schema.{Schema}
 use Rattle.rep_schema.specs.declared.schema.TableEntry.{TableEntry}
 use Rattle.rep_schema.specs.Shape.{HasShape, no_schema}
-use Rattle.site_state.specs.Fits.{IsKeyed}
+use Rattle.site_state.specs.Fits.{SchemaIsKeyed}
 use Rattle.proc_state.specs.declared.procedure.Procedure.{Procedure}
 use Rattle.proc_state.specs.Calls.{AreProcedures}
 use Rattle.proc_state.specs.State.{ProcState}
@@ -14,7 +14,7 @@ use Rattle.world_state.specs.World.{WorldState}
 use Rattle.world_state.specs.Phases.{is_setup}
 use Rattle.world_state.specs.Procs.{Procs, proc_schema, early_masters, proc_made}
 use Rattle.world_state.specs.ProcRefusals.{most_proc_columns}
-use Rattle.procedure_worlds.specs.Streams.{Carries, AreOfStreams}
+use Rattle.procedure_worlds.specs.Streams.{NetCarries, AreOfStreams}
 
 -- ---- what is declared
 
@@ -53,11 +53,11 @@ proc_names sites = map (λ (x : ProcState). x.me) sites
 -- behind Setup each master that is there from the start holds the tables, which have keys; each site came to be by events, what
 -- the net of calls carries fits, and packets, arrivals, marks and journals are of the sites' streams
 pub record AreMade (schema : Schema) (p : Procs) : Type 0 where
-  pub keyed : IsKeyed (proc_schema schema p.tables)
+  pub keyed : SchemaIsKeyed (proc_schema schema p.tables)
   pub procedures : AreProcedures (proc_schema schema p.tables) p.procedures
   pub names : proc_names p.sites ≡ early_masters schema
   pub sites : EachComesFromCalls schema p
-  pub packets : AllByRecursion (Carries PacketFits) p.net
+  pub packets : AllByRecursion (NetCarries PacketFits) p.net
   pub streams : AreOfStreams p.sites p.net
 
 abbrev pub AreProcsMade : WorldState → Type 0

@@ -3,7 +3,7 @@ use Rattle.std.specs.Prelude.{◌≡◌, ℕ, ◌≤◌, List, Option, Some, Non
 use Rattle.std.specs.List.{AllByRecursion}
 use Rattle.rep_values.specs.declared.name.SiteName.{SiteName}
 use Rattle.rep_calls.specs.declared.call.Txn.{Txn}
-use Rattle.rep_calls.specs.declared.past.Past.{Past}
+use Rattle.rep_calls.specs.declared.past.PastEntry.{PastEntry}
 use Rattle.deferred_queue.specs.Streams.{acked_by}
 use Rattle.packet_code.specs.declared.packet.Packet.{Packet}
 use Rattle.packet_code.specs.declared.packet.Packet.TheVariants.{Carry, Mark}
@@ -29,7 +29,7 @@ IsOfStreams sites (Carry from to number position dep past txn) = calls_from to p
 IsOfStreams sites (Mark from to mark) = mark ≤ low_at to (proc_of from sites)
 
 -- so it is with all packets that are held or on the way
-pub record Carries (Holds : Packet → Type 0) (d : Direction) : Type 0 where
+pub record NetCarries (Holds : Packet → Type 0) (d : Direction) : Type 0 where
   pub held : AllByRecursion Holds d.held
   pub on_way : AllByRecursion Holds d.on_way
 
@@ -49,17 +49,17 @@ abbrev pub MarksAreLow : List ProcState → ProcState → Type 0
 MarksAreLow sites x = (to : SiteName) → acked_by to x.acked ≤ low_at x.me (proc_of to sites)
 
 -- a transaction is the one that a site has at a position of its stream to another one
-pub record WasSent (sites : List ProcState) (from to : SiteName) (position : ℕ) (txn : Txn) : Type 0 where
+pub record CallsWereSent (sites : List ProcState) (from to : SiteName) (position : ℕ) (txn : Txn) : Type 0 where
   pub number : ℕ
   pub dep : ℕ
-  pub past : List Past
+  pub past : List PastEntry
   pub is : IsOfStreams sites (Carry from to number position dep past txn)
 
 -- so it is with one that a site finished, be it done or in error
 abbrev pub EntryOfStreams : List ProcState → SiteName → Entry → Type 0
 EntryOfStreams sites me (Local number txn) = Unit {0}
-EntryOfStreams sites me (Done origin position onward txn) = WasSent sites origin me position txn
-EntryOfStreams sites me (Error origin position call error txn) = WasSent sites origin me position txn
+EntryOfStreams sites me (Done origin position onward txn) = CallsWereSent sites origin me position txn
+EntryOfStreams sites me (Error origin position call error txn) = CallsWereSent sites origin me position txn
 EntryOfStreams sites me (Executed origin position onward txn) = Unit {0}
 EntryOfStreams sites me (Dropped origin position) = Unit {0}
 EntryOfStreams sites me (Refreshed moment) = Unit {0}
@@ -69,7 +69,7 @@ JournalOfStreams sites x = AllByRecursion (EntryOfStreams sites x.me) x.journal
 
 -- packets, arrivals, marks and journals are of the sites' streams
 pub record AreOfStreams (sites : List ProcState) (net : List Direction) : Type 0 where
-  pub carried : AllByRecursion (Carries (IsOfStreams sites)) net
+  pub carried : AllByRecursion (NetCarries (IsOfStreams sites)) net
   pub arrived : AllByRecursion (ArrivedOfStreams sites) sites
   pub marks : AllByRecursion (MarksAreLow sites) sites
   pub journals : AllByRecursion (JournalOfStreams sites) sites

@@ -9,7 +9,7 @@ use Rattle.site_state.specs.declared.arrival.Arrival.{Arrival}
 use Rattle.site_state.specs.State.{arrived_at}
 use Rattle.site_state.specs.Journal.{error_at}
 use Rattle.site_state.specs.Ready.{is_ready}
-use Rattle.journal_order.specs.Settling.{IsFinishedOnce}
+use Rattle.journal_order.specs.Sorting.{IsFinishedOnce}
 use Rattle.journal_order.specs.Waited.{EachBehind}
 use Rattle.proc_state.specs.Carriers.{txn_after}
 use Rattle.proc_state.specs.State.{ProcState, as_site, journal_tables}
@@ -21,7 +21,7 @@ use Rattle.world_state.specs.World.{WorldState}
 use Rattle.world_state.specs.Procs.{proc_of}
 use Rattle.world_state.specs.Refusals.{world_refusal}
 use Rattle.world_state.specs.Steps.{world_step}
-use Rattle.procedure_worlds.specs.Streams.{low_at, WasSent}
+use Rattle.procedure_worlds.specs.Streams.{low_at, CallsWereSent}
 use Rattle.snapshot_worlds.specs.Worlds.{InScripts}
 
 -- ---- at each site
@@ -45,7 +45,7 @@ EachMarkIsLow sites = (from to : SiteName) (x : ProcState) → proc_of from site
 -- what arrived of a stream at a position is what its origin has there for the site
 abbrev pub EachArrivalWasSent : List ProcState → Type 0
 EachArrivalWasSent sites = (site origin : SiteName) (position : ℕ) (x : ProcState) (a : Arrival) → proc_of site sites ≡ Some x → arrived_at origin position x.senders ≡ Some a
-    → WasSent sites origin site position a.txn
+    → CallsWereSent sites origin site position a.txn
 
 -- ---- errors
 
@@ -56,7 +56,7 @@ pub record IsWholeCallError (sites : List ProcState) (site origin : SiteName) (p
   pub since : List Entry
   pub before : List Entry
   pub journal : x.journal ≡ since ++ Error origin position e.call e.error e.txn ∷ before
-  pub sent : WasSent sites origin site position e.txn
+  pub sent : CallsWereSent sites origin site position e.txn
   pub fails : txn_after x.schema x.procedures e.txn (journal_tables x.schema x.procedures before) ≡ Err (record { call = e.call; error = e.error })
   pub tables : journal_tables x.schema x.procedures (Error origin position e.call e.error e.txn ∷ before) ≡ journal_tables x.schema x.procedures before
 

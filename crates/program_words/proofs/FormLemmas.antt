@@ -3,7 +3,7 @@ use Rattle.std.proofs.Common.{◌≡◌, ◌≢◌, ◌≤◌, ◌<◌, true, fa
 use Rattle.std.specs.Prelude.{◌&&◌, ◌||◌, cond, Option, Some, None, Result, Ok, Err, IfErr}
 use Rattle.std.specs.Borrow.{Bor}
 use Rattle.std.specs.Cmp.Lexicographic.{pointwise}
-use Rattle.program_words.specs.Numerals.{number_in}
+use Rattle.program_words.specs.Numerals.{number_within}
 use Rattle.program_words.specs.Words.{appliers_in, asked_by, is_flag, is_joined, is_option, joined_value, live_by, most_appliers, most_count, most_seed, run_by, run_of, storm_by, storm_of, without_option}
 use Rattle.program_words.specs.declared.words.Asked.{Asked}
 use Rattle.program_words.specs.declared.words.Asked.TheVariants as asked
@@ -26,8 +26,8 @@ is_storm-many (a ∷ b ∷ c ∷ d ∷ e ∷ words) many = refl
 
 -- what a word is: the option, the option joined to its value, or neither
 data Kind (word : List ℕ) : Type 0 where
-  option : is_option word ≡ true → is_joined word ≡ false → ((least most : ℕ) → number_in least most word ≡ None) → Kind word
-  joined : is_option word ≡ false → is_joined word ≡ true → ((least most : ℕ) → number_in least most word ≡ None) → Kind word
+  option : is_option word ≡ true → is_joined word ≡ false → ((least most : ℕ) → number_within least most word ≡ None) → Kind word
+  joined : is_option word ≡ false → is_joined word ≡ true → ((least most : ℕ) → number_within least most word ≡ None) → Kind word
   plain : is_option word ≡ false → is_joined word ≡ false → Kind word
 
 kind : (word : List ℕ) → Kind word
@@ -65,12 +65,12 @@ is_run-run_by (a ∷ []) = go (kind a)
   where
     go : Kind a → is_run (a ∷ []) ≡ is_some (run_by (without_option (a ∷ [])) (appliers_in (a ∷ [])))
     go (option o j n) = rw (o, j)
-    go (joined o j n) = rw (o, j) (some-run_of (number_in 1 most_appliers (joined_value a)))
+    go (joined o j n) = rw (o, j) (some-run_of (number_within 1 most_appliers (joined_value a)))
     go (plain o j) = rw (o, j)
 is_run-run_by (a ∷ b ∷ []) = go (kind a)
   where
     go : Kind a → is_run (a ∷ b ∷ []) ≡ is_some (run_by (without_option (a ∷ b ∷ [])) (appliers_in (a ∷ b ∷ [])))
-    go (option o j n) = rw o (some-run_of (number_in 1 most_appliers b))
+    go (option o j n) = rw o (some-run_of (number_within 1 most_appliers b))
     go (joined o j n) = rw (o, j)
     go (plain o j) = rw (o, j)
 is_run-run_by (a ∷ b ∷ c ∷ words) = go (kind a)
@@ -82,14 +82,14 @@ is_run-run_by (a ∷ b ∷ c ∷ words) = go (kind a)
 
 module _ (a b : List ℕ) where
   -- beside a word that is the option, or is joined to its value, no two words are a seed and a count
-  no_storm-seed : number_in 0 most_seed a ≡ None → are_seed_and_count a b ≡ false
+  no_storm-seed : number_within 0 most_seed a ≡ None → are_seed_and_count a b ≡ false
   no_storm-seed none = rw none
 
-  no_storm-count : number_in 1 most_count b ≡ None → are_seed_and_count a b ≡ false
+  no_storm-count : number_within 1 most_count b ≡ None → are_seed_and_count a b ≡ false
   no_storm-count none = rw none (no-and (is_seed a))
 
 some-storm_by : (seed count : List ℕ) (n : Option ℕ) → (is_some n && are_seed_and_count seed count) ≡ is_some (storm_by (seed ∷ count ∷ []) n)
-some-storm_by seed count n = some-storm_of (number_in 0 most_seed seed) (number_in 1 most_count count) n
+some-storm_by seed count n = some-storm_of (number_within 0 most_seed seed) (number_within 1 most_count count) n
 
 no_storm_by : (seed count : List ℕ) → false ≡ is_some (storm_by (seed ∷ count ∷ []) None)
 no_storm_by seed count = some-storm_by seed count None
@@ -106,19 +106,19 @@ two a b (plain o j) (plain p k) = rw (o, j, p, k) (some-storm_by a b (Some 1))
 
 three : (a b c : List ℕ) → Kind a → Kind b → Kind c → Asks (a ∷ b ∷ c ∷ [])
 three a b c (option o j n) _ _ = rw (o, j, no_storm-seed a c (n 0 most_seed), no_storm-seed a b (n 0 most_seed)) (simp (no-and, no-or))
-three a b c (joined o j n) _ _ = rw (o, j, no_storm-seed a c (n 0 most_seed), no_storm-seed a b (n 0 most_seed)) (simp (no-and, no-or, some-storm_by b c (number_in 1 most_appliers (joined_value a))))
+three a b c (joined o j n) _ _ = rw (o, j, no_storm-seed a c (n 0 most_seed), no_storm-seed a b (n 0 most_seed)) (simp (no-and, no-or, some-storm_by b c (number_within 1 most_appliers (joined_value a))))
 three a b c (plain o j) (option p k m) _ = rw (o, j, p, k, no_storm-count a b (m 1 most_count)) (simp no-and)
-three a b c (plain o j) (joined p k m) _ = rw (o, j, p, k, no_storm-count a b (m 1 most_count)) (simp (no-and, no-or, some-storm_by a c (number_in 1 most_appliers (joined_value b))))
+three a b c (plain o j) (joined p k m) _ = rw (o, j, p, k, no_storm-count a b (m 1 most_count)) (simp (no-and, no-or, some-storm_by a c (number_within 1 most_appliers (joined_value b))))
 three a b c (plain o j) (plain p k) (option q l v) = rw (o, j, p, k, q, l) (no_storm_by a b)
-three a b c (plain o j) (plain p k) (joined q l v) = rw (o, j, p, k, q, l) (some-storm_by a b (number_in 1 most_appliers (joined_value c)))
+three a b c (plain o j) (plain p k) (joined q l v) = rw (o, j, p, k, q, l) (some-storm_by a b (number_within 1 most_appliers (joined_value c)))
 three a b c (plain o j) (plain p k) (plain q l) = rw (o, j, p, k, q, l)
 
 four : (a b c d : List ℕ) → Kind a → Kind b → Kind c → Asks (a ∷ b ∷ c ∷ d ∷ [])
-four a b c d (option o j n) _ _ = rw (o, no_storm-seed a d (n 0 most_seed), no_storm-seed a b (n 0 most_seed)) (simp (no-and, no-or, some-storm_by c d (number_in 1 most_appliers b)))
+four a b c d (option o j n) _ _ = rw (o, no_storm-seed a d (n 0 most_seed), no_storm-seed a b (n 0 most_seed)) (simp (no-and, no-or, some-storm_by c d (number_within 1 most_appliers b)))
 four a b c d (joined o j n) _ _ = rw (o, j, no_storm-seed a d (n 0 most_seed), no_storm-seed a b (n 0 most_seed)) (simp (no-and, no-or))
-four a b c d (plain o j) (option p k m) _ = rw (o, j, p, no_storm-count a b (m 1 most_count)) (simp (no-and, no-or, some-storm_by a d (number_in 1 most_appliers c)))
+four a b c d (plain o j) (option p k m) _ = rw (o, j, p, no_storm-count a b (m 1 most_count)) (simp (no-and, no-or, some-storm_by a d (number_within 1 most_appliers c)))
 four a b c d (plain o j) (joined p k m) _ = rw (o, j, p, k, no_storm-count a b (m 1 most_count)) (simp no-and)
-four a b c d (plain o j) (plain p k) (option q l v) = rw (o, j, p, k, q) (some-storm_by a b (number_in 1 most_appliers d))
+four a b c d (plain o j) (plain p k) (option q l v) = rw (o, j, p, k, q) (some-storm_by a b (number_within 1 most_appliers d))
 four a b c d (plain o j) (plain p k) (joined q l v) = rw (o, j, p, k, q, l)
 four a b c d (plain o j) (plain p k) (plain q l) = rw (o, j, p, k, q, l)
 

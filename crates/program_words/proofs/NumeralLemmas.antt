@@ -7,7 +7,7 @@ use Rattle.std.specs.Str.Parse.{ParsesUnsigned, digits_value}
 use Rattle.std.proofs.lemmas.Bool.{ltb-true, leb-true}
 use Rattle.std.proofs.lemmas.Str.Parse.{IsNumeralModel, numerals_by_value, parse_digits}
 use Rattle.rep_values.specs.Bytes.{is_digit}
-use Rattle.program_words.specs.Numerals.{is_numeral, number_in}
+use Rattle.program_words.specs.Numerals.{is_numeral, number_within}
 
 digits : IsNumeralModel (λ word. list_all is_digit word ≡ true) (digits_value 10)
 digits = numerals_by_value _ (search rules)
@@ -31,7 +31,7 @@ too_big value most below not_below = go (nat_le value most) refl
 
 module _ (word : List ℕ) (is : is_numeral word ≡ true) where
   -- a numeral that isn't read is too big
-  pub unread : {E : Type 0} (e : E) (least most : ℕ) → most < 2 ^ 64 → ParsesUnsigned {E = E} 64 10 word (Err e) → None ≡ number_in least most word
+  pub unread : {E : Type 0} (e : E) (least most : ℕ) → most < 2 ^ 64 → ParsesUnsigned {E = E} 64 10 word (Err e) → None ≡ number_within least most word
   unread e least most below parses = rw (is, too_big (digits_value 10 word) most below (λ value. read_numeral word (Err e) parses is (filled, value))) (none (nat_le least (digits_value 10 word)))
     where
       filled : 0 < length word

@@ -9,7 +9,7 @@ use Rattle.clap.specs.Simple.{built, entered}
 use Rattle.clap.specs.Takes.{default_passes, entered_passes, is_valid, settle_passes}
 use Rattle.clap.specs.Walk.{Walk, finished, nothing_held, walk_from}
 use Rattle.clap.proofs.OnLiterals.{clap_on_literals}
-use Rattle.program_words.specs.Numerals.{number_in}
+use Rattle.program_words.specs.Numerals.{number_within}
 use Rattle.program_words.specs.Words.{asked_in, most_appliers, most_count, most_seed, run_of, storm_of}
 use Rattle.program_words.specs.Command.{asked_of, asked_of_found, command_app}
 use Rattle.program_words.specs.declared.words.Asked.{Asked}
@@ -67,46 +67,46 @@ read_run = read (any (codes "run") ∷ []) (run_of (Some 1)) refl refl refl
 
 pub read_run-joined : (value : Text) → IsRead (codes "run" ∷ (codes "--appliers=" ++ value) ∷ [])
 unfolding clap_on_literals
-read_run-joined value = read (any (codes "run") ∷ any (codes "--appliers=" ++ value) ∷ []) (run_of (number_in 1 most_appliers value)) refl refl refl
+read_run-joined value = read (any (codes "run") ∷ any (codes "--appliers=" ++ value) ∷ []) (run_of (number_within 1 most_appliers value)) refl refl refl
 
 module _ (x : ℕ) (xs : Text) (p : IsPlain x) where
   pub read_run-apart : IsRead (codes "run" ∷ codes "--appliers" ∷ (x ∷ xs) ∷ [])
   unfolding clap_on_literals
-  read_run-apart = read (any (codes "run") ∷ any (codes "--appliers") ∷ plain x xs p.left ∷ []) (run_of (number_in 1 most_appliers (x ∷ xs))) refl refl refl
+  read_run-apart = read (any (codes "run") ∷ any (codes "--appliers") ∷ plain x xs p.left ∷ []) (run_of (number_within 1 most_appliers (x ∷ xs))) refl refl refl
 
   module _ (y : ℕ) (ys : Text) (q : IsPlain y) where
     pub read_storm : IsRead (codes "storm" ∷ (x ∷ xs) ∷ (y ∷ ys) ∷ [])
     unfolding clap_on_literals
-    read_storm = read (any (codes "storm") ∷ plain x xs p.left ∷ plain y ys q.left ∷ []) (storm_of (number_in 0 most_seed (x ∷ xs)) (number_in 1 most_count (y ∷ ys)) (Some 1)) refl refl (rw (p.left, p.right, q.left, q.right))
+    read_storm = read (any (codes "storm") ∷ plain x xs p.left ∷ plain y ys q.left ∷ []) (storm_of (number_within 0 most_seed (x ∷ xs)) (number_within 1 most_count (y ∷ ys)) (Some 1)) refl refl (rw (p.left, p.right, q.left, q.right))
 
     abbrev storm : Option ℕ → Option Asked
-    storm appliers = storm_of (number_in 0 most_seed (x ∷ xs)) (number_in 1 most_count (y ∷ ys)) appliers
+    storm appliers = storm_of (number_within 0 most_seed (x ∷ xs)) (number_within 1 most_count (y ∷ ys)) appliers
 
     module _ (value : Text) where
       pub read_storm-joined_first : IsRead (codes "storm" ∷ (codes "--appliers=" ++ value) ∷ (x ∷ xs) ∷ (y ∷ ys) ∷ [])
       unfolding clap_on_literals
-      read_storm-joined_first = read (any (codes "storm") ∷ any (codes "--appliers=" ++ value) ∷ plain x xs p.left ∷ plain y ys q.left ∷ []) (storm (number_in 1 most_appliers value)) refl refl refl
+      read_storm-joined_first = read (any (codes "storm") ∷ any (codes "--appliers=" ++ value) ∷ plain x xs p.left ∷ plain y ys q.left ∷ []) (storm (number_within 1 most_appliers value)) refl refl refl
 
       pub read_storm-joined_between : IsRead (codes "storm" ∷ (x ∷ xs) ∷ (codes "--appliers=" ++ value) ∷ (y ∷ ys) ∷ [])
       unfolding clap_on_literals
-      read_storm-joined_between = read (any (codes "storm") ∷ plain x xs p.left ∷ any (codes "--appliers=" ++ value) ∷ plain y ys q.left ∷ []) (storm (number_in 1 most_appliers value)) refl refl (rw (p.left, p.right))
+      read_storm-joined_between = read (any (codes "storm") ∷ plain x xs p.left ∷ any (codes "--appliers=" ++ value) ∷ plain y ys q.left ∷ []) (storm (number_within 1 most_appliers value)) refl refl (rw (p.left, p.right))
 
       pub read_storm-joined_last : IsRead (codes "storm" ∷ (x ∷ xs) ∷ (y ∷ ys) ∷ (codes "--appliers=" ++ value) ∷ [])
       unfolding clap_on_literals
-      read_storm-joined_last = read (any (codes "storm") ∷ plain x xs p.left ∷ plain y ys q.left ∷ any (codes "--appliers=" ++ value) ∷ []) (storm (number_in 1 most_appliers value)) refl refl (rw (p.left, p.right, q.left, q.right))
+      read_storm-joined_last = read (any (codes "storm") ∷ plain x xs p.left ∷ plain y ys q.left ∷ any (codes "--appliers=" ++ value) ∷ []) (storm (number_within 1 most_appliers value)) refl refl (rw (p.left, p.right, q.left, q.right))
 
     module _ (z : ℕ) (zs : Text) (r : IsPlain z) where
       pub read_storm-apart_first : IsRead (codes "storm" ∷ codes "--appliers" ∷ (z ∷ zs) ∷ (x ∷ xs) ∷ (y ∷ ys) ∷ [])
       unfolding clap_on_literals
-      read_storm-apart_first = read (any (codes "storm") ∷ any (codes "--appliers") ∷ plain z zs r.left ∷ plain x xs p.left ∷ plain y ys q.left ∷ []) (storm (number_in 1 most_appliers (z ∷ zs))) refl refl refl
+      read_storm-apart_first = read (any (codes "storm") ∷ any (codes "--appliers") ∷ plain z zs r.left ∷ plain x xs p.left ∷ plain y ys q.left ∷ []) (storm (number_within 1 most_appliers (z ∷ zs))) refl refl refl
 
       pub read_storm-apart_between : IsRead (codes "storm" ∷ (x ∷ xs) ∷ codes "--appliers" ∷ (z ∷ zs) ∷ (y ∷ ys) ∷ [])
       unfolding clap_on_literals
-      read_storm-apart_between = read (any (codes "storm") ∷ plain x xs p.left ∷ any (codes "--appliers") ∷ plain z zs r.left ∷ plain y ys q.left ∷ []) (storm (number_in 1 most_appliers (z ∷ zs))) refl refl (rw (p.left, p.right))
+      read_storm-apart_between = read (any (codes "storm") ∷ plain x xs p.left ∷ any (codes "--appliers") ∷ plain z zs r.left ∷ plain y ys q.left ∷ []) (storm (number_within 1 most_appliers (z ∷ zs))) refl refl (rw (p.left, p.right))
 
       pub read_storm-apart_last : IsRead (codes "storm" ∷ (x ∷ xs) ∷ (y ∷ ys) ∷ codes "--appliers" ∷ (z ∷ zs) ∷ [])
       unfolding clap_on_literals
-      read_storm-apart_last = read (any (codes "storm") ∷ plain x xs p.left ∷ plain y ys q.left ∷ any (codes "--appliers") ∷ plain z zs r.left ∷ []) (storm (number_in 1 most_appliers (z ∷ zs))) refl refl (rw (p.left, p.right, q.left, q.right))
+      read_storm-apart_last = read (any (codes "storm") ∷ plain x xs p.left ∷ plain y ys q.left ∷ any (codes "--appliers") ∷ plain z zs r.left ∷ []) (storm (number_within 1 most_appliers (z ∷ zs))) refl refl (rw (p.left, p.right, q.left, q.right))
 
 -- the values that the matches give are those of the rows
 pub asked_of_found-rows : (found : Found) → asked_of_found found ≡ asked_of_rows (rows_of found)

@@ -7,7 +7,7 @@ use Rattle.std.proofs.lemmas.Bool.Decides.{Decides-eqb}
 use Rattle.std.proofs.lemmas.Slice.Eq.{slice_eq-Decides, starts_is}
 use Rattle.std.specs.Cmp.Lexicographic.{pointwise}
 use Rattle.rep_values.specs.Bytes.{is_digit}
-use Rattle.program_words.specs.Numerals.{number_in}
+use Rattle.program_words.specs.Numerals.{number_within}
 use Rattle.program_words.proofs.NumeralLemmas.{both_true}
 use Rattle.program_words.specs.Words.{is_flag, is_joined, is_option, joined_value}
 
@@ -22,18 +22,18 @@ pub joined_is : (word : List ℕ) → is_joined word ≡ true → word ≡ codes
 joined_is word e = (starts_is Decides-eqb word (codes "--appliers=") _ refl).0 e
 
 -- a word that begins with a hyphen is no number
-no_number : (least most : ℕ) (rest : List ℕ) → number_in least most (45 ∷ rest) ≡ None
+no_number : (least most : ℕ) (rest : List ℕ) → number_within least most (45 ∷ rest) ≡ None
 no_number least most rest = go (nat_lt 0 (length (45 ∷ rest)))
   where
     go : (b : Bool) → cond ((b && false) && nat_le least (digits_value 10 (45 ∷ rest)) && nat_le (digits_value 10 (45 ∷ rest)) most) (Some (digits_value 10 (45 ∷ rest))) None ≡ None
     go true = refl
     go false = refl
 
-pub number-option : (least most : ℕ) (word : List ℕ) → is_option word ≡ true → number_in least most word ≡ None
-number-option least most word e = ap (number_in least most) (option_is word e) ∙ no_number least most (codes "-appliers")
+pub number-option : (least most : ℕ) (word : List ℕ) → is_option word ≡ true → number_within least most word ≡ None
+number-option least most word e = ap (number_within least most) (option_is word e) ∙ no_number least most (codes "-appliers")
 
-pub number-joined : (least most : ℕ) (word : List ℕ) → is_joined word ≡ true → number_in least most word ≡ None
-number-joined least most word e = ap (number_in least most) (joined_is word e) ∙ no_number least most (codes "-appliers=" ++ joined_value word)
+pub number-joined : (least most : ℕ) (word : List ℕ) → is_joined word ≡ true → number_within least most word ≡ None
+number-joined least most word e = ap (number_within least most) (joined_is word e) ∙ no_number least most (codes "-appliers=" ++ joined_value word)
 
 -- the option's word isn't joined to a value
 pub joined-option : (word : List ℕ) → is_option word ≡ true → is_joined word ≡ false
@@ -50,7 +50,7 @@ digit_plain byte e =
     record { left = ne_eqb byte 45 (λ is. omega arith); right = ne_eqb 45 byte (λ is. omega arith) }
 
 -- a number has a first byte, which is no hyphen
-pub at_number : (least most : ℕ) (P : List ℕ → Type 0) (word : List ℕ) → is_some (number_in least most word) ≡ true → ((byte : ℕ) (rest : List ℕ) → IsPlain byte → P (byte ∷ rest)) → P word
+pub at_number : (least most : ℕ) (P : List ℕ → Type 0) (word : List ℕ) → is_some (number_within least most word) ≡ true → ((byte : ℕ) (rest : List ℕ) → IsPlain byte → P (byte ∷ rest)) → P word
 at_number least most P [] e p = absurd (cc e)
 at_number least most P (byte ∷ rest) e p = p byte rest (digit_plain byte (go (is_digit byte) refl))
   where

@@ -5,7 +5,7 @@ use Rattle.clap.specs.Words.{App, Rule, first_value, new_app, new_rule, one_text
 use Rattle.clap.specs.Simple.{on_top}
 use Rattle.clap.specs.declared.builder.ArgAction.TheVariants.{Set, SetTrue}
 use Rattle.clap.specs.declared.parser.matches.Found.{Found}
-use Rattle.program_words.specs.Numerals.{number_in}
+use Rattle.program_words.specs.Numerals.{number_within}
 use Rattle.program_words.specs.Words.{appliers_of, most_count, most_seed, run_of, storm_of}
 use Rattle.program_words.specs.declared.words.Asked.{Asked}
 use Rattle.program_words.specs.declared.words.Asked.TheVariants as asked
@@ -42,7 +42,7 @@ appliers_or_one (Some value) = appliers_of (Some value)
 abbrev pub run_or_storm : Option (List ℕ) → Option (List ℕ) → Option (List ℕ) → Option Asked
 run_or_storm None count appliers = run_of (appliers_or_one appliers)
 run_or_storm (Some seed) None appliers = run_of (appliers_or_one appliers)
-run_or_storm (Some seed) (Some count) appliers = storm_of (number_in 0 most_seed seed) (number_in 1 most_count count) (appliers_or_one appliers)
+run_or_storm (Some seed) (Some count) appliers = storm_of (number_within 0 most_seed seed) (number_within 1 most_count count) (appliers_or_one appliers)
 
 -- the form is `live`
 abbrev pub names_live : Option (List ℕ) → Bool

@@ -1,7 +1,7 @@
 -- What may stand behind the first word.
 use Rattle.std.specs.Prelude.{ℕ, Bool, true, false, ◌&&◌, ◌||◌, List, [], ◌∷◌, is_some, map}
 use Rattle.std.specs.Borrow.{Bor}
-use Rattle.program_words.specs.Numerals.{number_in}
+use Rattle.program_words.specs.Numerals.{number_within}
 use Rattle.program_words.specs.Words.{is_flag, is_joined, is_option, joined_value, most_appliers, most_count, most_seed}
 
 -- the texts of words
@@ -9,13 +9,13 @@ abbrev pub texts : List (Bor (List ℕ)) → List (List ℕ)
 texts = map (λ word. word.now)
 
 abbrev pub is_seed : List ℕ → Bool
-is_seed word = is_some (number_in 0 most_seed word)
+is_seed word = is_some (number_within 0 most_seed word)
 
 abbrev pub is_count : List ℕ → Bool
-is_count word = is_some (number_in 1 most_count word)
+is_count word = is_some (number_within 1 most_count word)
 
 abbrev pub is_appliers : List ℕ → Bool
-is_appliers word = is_some (number_in 1 most_appliers word)
+is_appliers word = is_some (number_within 1 most_appliers word)
 
 -- `--appliers=N`
 abbrev pub has_appliers : List ℕ → Bool

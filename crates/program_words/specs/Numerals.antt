@@ -9,5 +9,5 @@ abbrev pub is_numeral : List ℕ → Bool
 is_numeral word = nat_lt 0 (length word) && list_all is_digit word
 
 -- the number that a word writes in decimal digits alone, where it is in a range
-abbrev pub number_in : ℕ → ℕ → List ℕ → Option ℕ
-number_in least most word = cond (is_numeral word && nat_le least (digits_value 10 word) && nat_le (digits_value 10 word) most) (Some (digits_value 10 word)) None
+abbrev pub number_within : ℕ → ℕ → List ℕ → Option ℕ
+number_within least most word = cond (is_numeral word && nat_le least (digits_value 10 word) && nat_le (digits_value 10 word) most) (Some (digits_value 10 word)) None

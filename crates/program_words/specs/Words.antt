@@ -3,7 +3,7 @@ use Rattle.std.specs.Prelude.{⊤, ℕ, ◌≤◌, Bool, true, false, cond, nat_
 use Rattle.std.specs.List.{starts_with}
 use Rattle.std.specs.Cmp.Lexicographic.{pointwise}
 use Rattle.std.specs.Borrow.{Bor}
-use Rattle.program_words.specs.Numerals.{number_in}
+use Rattle.program_words.specs.Numerals.{number_within}
 use Rattle.program_words.specs.declared.words.Asked.{Asked}
 use Rattle.program_words.specs.declared.words.Asked.TheVariants as asked
 
@@ -39,7 +39,7 @@ without_option (word ∷ words) = cond (is_option word) (drop 1 words) (cond (is
 -- how many appliers an option's value asks for
 abbrev pub appliers_of : Option (List ℕ) → Option ℕ
 appliers_of None = None
-appliers_of (Some value) = number_in 1 most_appliers value
+appliers_of (Some value) = number_within 1 most_appliers value
 
 -- how many appliers the first option among the words asks for, and 1 where there is no option
 abbrev pub appliers_in : List (List ℕ) → Option ℕ
@@ -65,7 +65,7 @@ run_by (w ∷ words) appliers = None
 abbrev pub storm_by : List (List ℕ) → Option ℕ → Option Asked
 storm_by [] appliers = None
 storm_by (w ∷ []) appliers = None
-storm_by (seed ∷ count ∷ []) appliers = storm_of (number_in 0 most_seed seed) (number_in 1 most_count count) appliers
+storm_by (seed ∷ count ∷ []) appliers = storm_of (number_within 0 most_seed seed) (number_within 1 most_count count) appliers
 storm_by (w ∷ v ∷ u ∷ words) appliers = None
 
 -- the flag `--json`

@@ -2,7 +2,7 @@
 ghost use Rattle.std.specs.Prelude.{◌≡◌, ◌≤◌, IfSome};
 ghost use Rattle.std.specs.List.{list_all};
 ghost use Rattle.rep_values.specs.Bytes.{is_digit};
-ghost use Rattle.program_words.specs.Numerals.{is_numeral, number_in};
+ghost use Rattle.program_words.specs.Numerals.{is_numeral, number_within};
 
 use rep_values::is_digit;
 
@@ -20,7 +20,7 @@ fn is_numeral(word: &[u8]) -> bool
 
 /// The number that a word writes in decimal digits alone, where it is in a range.
 pub(crate) fn number_in(word: &str, least: u64, most: u64) -> Option<u64>
-    ensures value { result ≡ number_in least most word.now }
+    ensures value { result ≡ number_within least most word.now }
     ensures least { IfSome result (λ number. least ≤ number) }
     ensures most { IfSome result (λ number. number ≤ most) }
 {

@@ -6,5 +6,5 @@ mod past;
 mod statement;
 
 pub use call::{Call, Part, Txn};
-pub use past::Past;
+pub use past::PastEntry;
 pub use statement::{How, Set, Statement};

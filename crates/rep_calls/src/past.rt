@@ -6,13 +6,13 @@ use std::alloc::Global;
 
 /// What the site that queued a transaction had finished of another master: the greatest queue number among these.
 #[derive(Clone, Copy)]
-pub struct Past {
+pub struct PastEntry {
     pub origin: SiteName,
     pub number: u64,
 }
 
-impl Copies for Past {
-    fn copy(&self, _alloc: Global) -> Result<Past, NoMemory> {
+impl Copies for PastEntry {
+    fn copy(&self, _alloc: Global) -> Result<PastEntry, NoMemory> {
         Ok(*self)
     }
 }

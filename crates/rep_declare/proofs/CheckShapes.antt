@@ -18,7 +18,7 @@ use Rattle.rep_schema.specs.Shape.{AreDistinct, HasTableShape, HasShape}
 use Rattle.rep_declare.specs.declared.declaration.Declare.TheVariants as declare
 use Rattle.rep_schema.specs.Named.{is_check, table_named, column_named}
 use Rattle.rep_values.specs.RefusalSteps.{first_refusal, known}
-use Rattle.rep_declare.specs.Refusals.{steps_of, refusal_of}
+use Rattle.rep_declare.specs.Refusals.{steps_of, declare_refusal}
 use Rattle.rep_declare.specs.Additions.{column_number, with_checks, declared}
 use Rattle.rep_values.proofs.RefusalSteps.{or_then-None, full-None, taken-None, known-None}
 use Rattle.rep_declare.proofs.ListNames.{same_bytes-false, find-None, AreDistinct-push}
@@ -75,7 +75,7 @@ one_more_check schema table name column rel value entry passed found shape =
 
 -- with a check that isn't refused
 pub HasShape-Check : (schema : Schema) (table : TableName) (name column : List ℕ) (rel : Rel) (value : Literal) → HasShape schema
-    → refusal_of schema (declare.Check table name column rel value) ≡ None → HasShape (declared (declare.Check table name column rel value) schema)
+    → declare_refusal schema (declare.Check table name column rel value) ≡ None → HasShape (declared (declare.Check table name column rel value) schema)
 HasShape-Check schema table name column rel value shape passed =
     HasShape-with_table_changed schema table (λ entry. with_checks (entry.checks ++ new_check name column rel value entry ∷ []) entry) shape (λ t. refl)
     (λ entry. one_more_check schema table name column rel value entry passed)

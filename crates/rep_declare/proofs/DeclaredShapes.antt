@@ -4,7 +4,7 @@ use Rattle.rep_schema.specs.declared.schema.Schema.{Schema}
 use Rattle.rep_schema.specs.Shape.{HasShape}
 use Rattle.rep_declare.specs.declared.declaration.Declare.{Declare}
 use Rattle.rep_declare.specs.declared.declaration.Declare.TheVariants as declare
-use Rattle.rep_declare.specs.Refusals.{refusal_of}
+use Rattle.rep_declare.specs.Refusals.{declare_refusal}
 use Rattle.rep_declare.specs.Additions.{declared, ColumnNamed}
 use Rattle.rep_declare.proofs.SiteShapes.{HasShape-Site, HasShape-LateSite, HasShape-SnapSite, HasShape-SiteLevel}
 use Rattle.rep_declare.proofs.TableShapes.{HasShape-Table, HasShape-Convergent}
@@ -15,7 +15,7 @@ use Rattle.rep_declare.proofs.UniqueMethodShapes.{HasShape-UniqueMethod}
 use Rattle.rep_declare.proofs.CheckShapes.{HasShape-Check}
 
 -- the schema with a declaration that isn't refused has its shape
-pub HasShape-declared : (declaration : Declare) (schema : Schema) → HasShape schema → ColumnNamed declaration → refusal_of schema declaration ≡ None
+pub HasShape-declared : (declaration : Declare) (schema : Schema) → HasShape schema → ColumnNamed declaration → declare_refusal schema declaration ≡ None
     → HasShape (declared declaration schema)
 HasShape-declared (declare.Site name) schema shape named passed = HasShape-Site schema name shape passed
 HasShape-declared (declare.LateSite name) schema shape named passed = HasShape-LateSite schema name shape passed

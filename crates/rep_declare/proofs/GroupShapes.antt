@@ -17,7 +17,7 @@ use Rattle.rep_schema.specs.Shape.{shadow_name, key_name, AreDistinct, ShareNone
 use Rattle.rep_declare.specs.declared.declaration.Declare.TheVariants as declare
 use Rattle.rep_schema.specs.Named.{is_group, is_constraint, table_named, places_named}
 use Rattle.rep_values.specs.RefusalSteps.{first_refusal}
-use Rattle.rep_declare.specs.Refusals.{steps_of, refusal_of}
+use Rattle.rep_declare.specs.Refusals.{steps_of, declare_refusal}
 use Rattle.rep_declare.specs.Additions.{with_groups, with_constraints, declared}
 use Rattle.rep_values.proofs.RefusalSteps.{or_then-None, refused-None, full-None, taken-None, known-None}
 use Rattle.rep_declare.proofs.ListNames.{same_bytes-false, find-None, AreDistinct-push}
@@ -98,7 +98,7 @@ one_more_group schema table name columns entry some passed found shape =
 
 -- with a group that isn't refused
 pub HasShape-Group : (schema : Schema) (table : TableName) (name : List ℕ) (columns : List (List ℕ)) → HasShape schema → 1 ≤ length columns
-    → refusal_of schema (declare.Group table name columns) ≡ None → HasShape (declared (declare.Group table name columns) schema)
+    → declare_refusal schema (declare.Group table name columns) ≡ None → HasShape (declared (declare.Group table name columns) schema)
 HasShape-Group schema table name columns shape some passed =
     HasShape-with_table_changed schema table (λ entry. with_groups (entry.groups ++ new_group name columns entry ∷ []) entry) shape (λ t. refl)
     (λ entry. one_more_group schema table name columns entry some passed)
@@ -131,7 +131,7 @@ one_more_constraint schema table name columns entry some passed found shape =
 
 -- with a secondary constraint that isn't refused
 pub HasShape-Unique : (schema : Schema) (table : TableName) (name : List ℕ) (columns : List (List ℕ)) → HasShape schema → 1 ≤ length columns
-    → refusal_of schema (declare.Unique table name columns) ≡ None → HasShape (declared (declare.Unique table name columns) schema)
+    → declare_refusal schema (declare.Unique table name columns) ≡ None → HasShape (declared (declare.Unique table name columns) schema)
 HasShape-Unique schema table name columns shape some passed =
     HasShape-with_table_changed schema table (λ entry. with_constraints (entry.constraints ++ new_constraint name columns entry ∷ []) entry) shape (λ t. refl)
     (λ entry. one_more_constraint schema table name columns entry some passed)

@@ -13,7 +13,7 @@ use Rattle.rep_schema.specs.declared.schema.Column.{Column}
 use Rattle.rep_schema.specs.Shape.{AreDistinct}
 use Rattle.rep_schema.specs.Named.{column_place, places_from, places_named}
 use Rattle.rep_declare.specs.Refusals.{column_step, columns_step}
-use Rattle.rep_declare.specs.Laws.{IsNamedAt, PlacesAreThoseOfNamedColumns, IsFree, LinesPassThatNameFreeColumns}
+use Rattle.rep_declare.specs.Laws.{IsNamedAt, PlacesAreThoseOfNamedColumns, ColumnIsFree, LinesPassThatNameFreeColumns}
 use Rattle.rep_values.proofs.RefusalSteps.{or_then-None, refused-None}
 use Rattle.rep_declare.proofs.ListNames.{same_bytes-true, same_bytes-false, same_bytes-same}
 use Rattle.rep_declare.proofs.PlacesNamed.{All-places_from, IsStrictlyIncreasing-places_from, columns_step-None, no_column}
@@ -94,15 +94,15 @@ once-columns_step columns is_taken before (name ∷ names) passed = all (once-co
         )
 
 -- a line that names free columns once, none of which stands before, isn't refused
-columns_step-free : (columns : List Column) (is_taken : ℕ → Bool) (before names : List (List ℕ)) → All (IsFree columns is_taken) names → AreDistinct names
+columns_step-free : (columns : List Column) (is_taken : ℕ → Bool) (before names : List (List ℕ)) → All (ColumnIsFree columns is_taken) names → AreDistinct names
     → All (λ name. list_any (same_bytes name) before ≡ false) names → columns_step columns is_taken before names ≡ None
 unfolding columns_step
 columns_step-free columns is_taken before [] free once new = refl
 columns_step-free columns is_taken before (name ∷ names) free once new =
-    rw step (columns_step-free columns is_taken (before ++ name ∷ []) names (All-tail (IsFree columns is_taken) name names free) (λ i j d less within. once (suc i) (suc j) d (omega (arith, less)) (omega (arith, within))) others)
+    rw step (columns_step-free columns is_taken (before ++ name ∷ []) names (All-tail (ColumnIsFree columns is_taken) name names free) (λ i j d less within. once (suc i) (suc j) d (omega (arith, less)) (omega (arith, within))) others)
   where
-    first : IsFree columns is_taken name
-    first = All-head (IsFree columns is_taken) name names free
+    first : ColumnIsFree columns is_taken name
+    first = All-head (ColumnIsFree columns is_taken) name names free
 
     step : column_step is_taken (list_any (same_bytes name) before) (column_place columns name) ≡ None
     step = rw first.1 (rw first.2 (rw (All-head (λ other. list_any (same_bytes other) before ≡ false) name names new) refl))

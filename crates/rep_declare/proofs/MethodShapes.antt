@@ -19,7 +19,7 @@ use Rattle.rep_declare.specs.declared.declaration.MethodWords.{MethodWords}
 use Rattle.rep_declare.specs.declared.declaration.MethodWords.TheVariants as words
 use Rattle.rep_schema.specs.Named.{is_group, is_priority, table_named, group_named}
 use Rattle.rep_values.specs.RefusalSteps.{first_refusal}
-use Rattle.rep_declare.specs.Refusals.{unknown_column, words_column, steps_of, refusal_of}
+use Rattle.rep_declare.specs.Refusals.{unknown_column, words_column, steps_of, declare_refusal}
 use Rattle.rep_declare.specs.Additions.{with_changed, place_or_zero, priority_number, with_priority, with_words_priority, method_of, with_groups, with_method, with_priorities, declared}
 use Rattle.rep_values.proofs.RefusalSteps.{or_then-None, full-None, known-None}
 use Rattle.rep_declare.proofs.ListNames.{All-with_changed, AreDistinct-with_changed, AllPairs-with_changed}
@@ -116,7 +116,7 @@ one_more_method schema table name method entry passed found shape =
 
 -- with a method of a group that isn't refused
 pub HasShape-Method : (schema : Schema) (table : TableName) (name : List ℕ) (method : MethodWords) → HasShape schema
-    → refusal_of schema (declare.Method table name method) ≡ None → HasShape (declared (declare.Method table name method) schema)
+    → declare_refusal schema (declare.Method table name method) ≡ None → HasShape (declared (declare.Method table name method) schema)
 HasShape-Method schema table name method shape passed =
     let groups : List PriorityGroup = with_words_priority method schema.priorities in
     HasShape-with_table_changed (with_priorities groups schema) table (with_group_method groups name method) (HasShape-with_words_priority schema method shape) (λ t. refl)

@@ -16,7 +16,7 @@ use Rattle.rep_schema.specs.Named.{is_column, column_named, column_place, places
 use Rattle.rep_values.specs.RefusalSteps.{unknown}
 use Rattle.rep_declare.specs.Refusals.{column_step, columns_step}
 use Rattle.rep_declare.specs.Additions.{place_or_zero, column_number}
-use Rattle.rep_declare.specs.Laws.{IsFree}
+use Rattle.rep_declare.specs.Laws.{ColumnIsFree}
 use Rattle.rep_values.proofs.RefusalSteps.{or_then-None, refused-None}
 use Rattle.rep_declare.proofs.ListNames.{same_bytes-true, same_bytes-same, list_any-false, place-AreDistinct}
 
@@ -59,16 +59,16 @@ some-places_from names n (c ∷ cs) (suc k) d within named = at (list_any (same_
 
 -- columns of a line that isn't refused are free
 pub columns_step-None : (columns : List Column) (is_taken : ℕ → Bool) (before names : List (List ℕ)) → columns_step columns is_taken before names ≡ None
-    → All (IsFree columns is_taken) names
+    → All (ColumnIsFree columns is_taken) names
 unfolding columns_step
-columns_step-None columns is_taken before [] passed = All-nil (IsFree columns is_taken)
+columns_step-None columns is_taken before [] passed = All-nil (ColumnIsFree columns is_taken)
 columns_step-None columns is_taken before (name ∷ names) passed =
-    All-cons (IsFree columns is_taken) name names (at (column_place columns name) refl steps.0) (columns_step-None columns is_taken (before ++ name ∷ []) names steps.1)
+    All-cons (ColumnIsFree columns is_taken) name names (at (column_place columns name) refl steps.0) (columns_step-None columns is_taken (before ++ name ∷ []) names steps.1)
   where
     steps : (column_step is_taken (list_any (same_bytes name) before) (column_place columns name) ≡ None) × (columns_step columns is_taken (before ++ name ∷ []) names ≡ None)
     steps = or_then-None _ _ passed
 
-    at : (found : Option ℕ) → column_place columns name ≡ found → column_step is_taken (list_any (same_bytes name) before) found ≡ None → IsFree columns is_taken name
+    at : (found : Option ℕ) → column_place columns name ≡ found → column_step is_taken (list_any (same_bytes name) before) found ≡ None → ColumnIsFree columns is_taken name
     at None is free = cc
     at (Some place) is free = (place, is, (or_parts (is_taken place) (list_any (same_bytes name) before) (refused-None _ refusal.NameTaken free)).0)
 
@@ -103,7 +103,7 @@ column_number-named columns name column found = at (column_place columns name) r
     at (Some place) is = (column_place-Some columns name place is).0
 
 module _ (columns : List Column) (is_taken : ℕ → Bool) (names : List (List ℕ)) (passed : columns_step columns is_taken [] names ≡ None) where
-  free : All (IsFree columns is_taken) names
+  free : All (ColumnIsFree columns is_taken) names
   free = columns_step-None columns is_taken [] names passed
 
   -- they are columns of the table where a column is named
@@ -123,7 +123,7 @@ module _ (columns : List Column) (is_taken : ℕ → Bool) (names : List (List �
   untaken : AreDistinct (map (λ c. c.name) columns) → All (λ p. is_taken p ≡ false) (places_named columns names)
   untaken distinct = All-places_from names (λ p. is_taken p ≡ false) 0 columns no_column (λ k within named.
       let by = Any-from_list_any (same_bytes (get_or columns k no_column).name) names named in
-      let there : IsFree columns is_taken by.1 = subst (IsFree columns is_taken) by.3 (free by.0 by.1 by.2) in
+      let there : ColumnIsFree columns is_taken by.1 = subst (ColumnIsFree columns is_taken) by.3 (free by.0 by.1 by.2) in
       let found = column_place-Some columns by.1 there.0 there.1 in
       let same : there.0 ≡ k = place-AreDistinct (λ c. c.name) columns there.0 k no_column distinct found.0 within
       (found.1 ∙ sym (same_bytes-true (get_or columns k no_column).name by.1 by.4)) in

@@ -21,7 +21,7 @@ use Rattle.rep_schema.specs.Levels.{beside_value}
 use Rattle.rep_schema.specs.Shape.{HasLevelShape, HasShape}
 use Rattle.rep_declare.specs.declared.declaration.Declare.TheVariants as declare
 use Rattle.rep_schema.specs.Named.{is_priority, priority_named}
-use Rattle.rep_declare.specs.Refusals.{level_count, refusal_of}
+use Rattle.rep_declare.specs.Refusals.{level_count, declare_refusal}
 use Rattle.rep_declare.specs.Additions.{with_changed, with_priority, with_priorities, with_level, declared}
 use Rattle.rep_values.proofs.RefusalSteps.{or_then-None, full-None}
 use Rattle.rep_declare.proofs.ListNames.{same_bytes-false, find-None, AreDistinct-push, length-with_changed, All-with_changed, AreDistinct-with_changed}
@@ -103,7 +103,7 @@ level_count-room found group (inl same) room = subst (λ o. level_count o < most
 level_count-room found group (inr none) room = rw none (omega arith)
 
 -- with a level that isn't refused
-pub HasShape-Priority : (schema : Schema) (name : List ℕ) (literal : Literal) (level : ℤ) → HasShape schema → refusal_of schema (declare.Priority name literal level) ≡ None
+pub HasShape-Priority : (schema : Schema) (name : List ℕ) (literal : Literal) (level : ℤ) → HasShape schema → declare_refusal schema (declare.Priority name literal level) ≡ None
     → HasShape (declared (declare.Priority name literal level) schema)
 HasShape-Priority schema name literal level shape passed =
     let value : Value = value_of_literal literal in

@@ -18,7 +18,7 @@ use Rattle.rep_schema.specs.Shape.{HasShape, HasMaster, is_master, is_early_mast
 use Rattle.rep_schema.specs.Entries.{snapshot_site}
 use Rattle.rep_declare.specs.declared.declaration.Declare.TheVariants as declare
 use Rattle.rep_schema.specs.Named.{is_site, site_named, has_master}
-use Rattle.rep_declare.specs.Refusals.{refusal_of}
+use Rattle.rep_declare.specs.Refusals.{declare_refusal}
 use Rattle.rep_declare.specs.Additions.{with_changed, with_sites, with_site_level, declared}
 use Rattle.rep_values.proofs.RefusalSteps.{or_then-None, refused-None, full-None, taken-None}
 use Rattle.rep_declare.proofs.ListNames.{same_bytes-true, same_bytes-false, find-None, AreDistinct-push, count_by-with_changed, All-with_changed, AreDistinct-with_changed, Any-with_changed}
@@ -64,7 +64,7 @@ one_more_site schema site shape new masters snapshots has = record {
 abbrev master_entry : SiteName → Bool → SiteEntry
 master_entry name late = record { name = name; master = None; level = None; late = late }
 
-one_more_master : (schema : Schema) (name : SiteName) (late : Bool) → HasShape schema → refusal_of schema (declare.Site name) ≡ None
+one_more_master : (schema : Schema) (name : SiteName) (late : Bool) → HasShape schema → declare_refusal schema (declare.Site name) ≡ None
     → HasShape (with_sites (schema.sites ++ master_entry name late ∷ []) schema)
 one_more_master schema name late shape passed =
     let site : SiteEntry = master_entry name late in
@@ -75,16 +75,16 @@ one_more_master schema name late shape passed =
     one_more_site schema site shape (taken-None _ steps.0) (omega (arith, room, masters)) (omega (arith, snapshots, shape.snapshots)) tt
 
 -- with a master site that isn't refused
-pub HasShape-Site : (schema : Schema) (name : SiteName) → HasShape schema → refusal_of schema (declare.Site name) ≡ None → HasShape (declared (declare.Site name) schema)
+pub HasShape-Site : (schema : Schema) (name : SiteName) → HasShape schema → declare_refusal schema (declare.Site name) ≡ None → HasShape (declared (declare.Site name) schema)
 HasShape-Site schema name shape passed = one_more_master schema name false shape passed
 
 -- with a late master that isn't refused
-pub HasShape-LateSite : (schema : Schema) (name : SiteName) → HasShape schema → refusal_of schema (declare.LateSite name) ≡ None
+pub HasShape-LateSite : (schema : Schema) (name : SiteName) → HasShape schema → declare_refusal schema (declare.LateSite name) ≡ None
     → HasShape (declared (declare.LateSite name) schema)
 HasShape-LateSite schema name shape passed = one_more_master schema name true shape passed
 
 -- with a snapshot site that isn't refused
-pub HasShape-SnapSite : (schema : Schema) (name master : SiteName) → HasShape schema → refusal_of schema (declare.SnapSite name master) ≡ None
+pub HasShape-SnapSite : (schema : Schema) (name master : SiteName) → HasShape schema → declare_refusal schema (declare.SnapSite name master) ≡ None
     → HasShape (declared (declare.SnapSite name master) schema)
 HasShape-SnapSite schema name master shape passed =
     let site : SiteEntry = snapshot_site name master in

@@ -19,7 +19,7 @@ use Rattle.rep_schema.specs.Shape.{AreDistinct, IsPlaceIn, method_priority, HasG
 use Rattle.rep_declare.specs.declared.declaration.Declare.TheVariants as declare
 use Rattle.rep_schema.specs.Entries.{plain_table}
 use Rattle.rep_schema.specs.Named.{is_table, is_column, table_named}
-use Rattle.rep_declare.specs.Refusals.{share_a_name, refusal_of}
+use Rattle.rep_declare.specs.Refusals.{share_a_name, declare_refusal}
 use Rattle.rep_declare.specs.Additions.{made_convergent, with_table_changed, with_priorities, declared}
 use Rattle.rep_values.proofs.RefusalSteps.{or_then-None, refused-None, full-None, too_many-None, taken-None}
 use Rattle.rep_declare.proofs.ListNames.{same_bytes-false, find-None, list_any-false, AreDistinct-push, All-with_changed, AreDistinct-with_changed, length-with_changed}
@@ -67,7 +67,7 @@ plain_table-shape priorities name columns few own keys = record {
 }
 
 -- with a table that isn't refused
-pub HasShape-Table : (schema : Schema) (name : TableName) (columns : List Column) → HasShape schema → refusal_of schema (declare.Table name columns) ≡ None
+pub HasShape-Table : (schema : Schema) (name : TableName) (columns : List Column) → HasShape schema → declare_refusal schema (declare.Table name columns) ≡ None
     → HasShape (declared (declare.Table name columns) schema)
 HasShape-Table schema name columns shape passed =
     let table : TableEntry = plain_table name columns in

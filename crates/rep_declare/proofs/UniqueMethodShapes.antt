@@ -18,7 +18,7 @@ use Rattle.rep_declare.specs.declared.declaration.UniqueWords.{UniqueWords}
 use Rattle.rep_declare.specs.declared.declaration.UniqueWords.TheVariants as unique_words
 use Rattle.rep_schema.specs.Named.{is_constraint, table_named, constraint_named, constraint_methods, methods_named}
 use Rattle.rep_values.specs.RefusalSteps.{first_refusal, known, full}
-use Rattle.rep_declare.specs.Refusals.{unknown_column, unique_words_column, refusal_of}
+use Rattle.rep_declare.specs.Refusals.{unknown_column, unique_words_column, declare_refusal}
 use Rattle.rep_declare.specs.Additions.{with_changed, unique_method_of, with_constraints, with_key_methods, with_unique_method, with_method_on, declared}
 use Rattle.rep_values.proofs.RefusalSteps.{or_then-None, full-None, known-None}
 use Rattle.rep_declare.proofs.ListNames.{length-with_changed, All-with_changed, AreDistinct-with_changed, AllPairs-with_changed}
@@ -113,7 +113,7 @@ name-with_method_on name method entry = at (same_bytes name key_name)
 
 -- with a method of a constraint that isn't refused
 pub HasShape-UniqueMethod : (schema : Schema) (table : TableName) (name : List ℕ) (method : UniqueWords) → HasShape schema
-    → refusal_of schema (declare.UniqueMethod table name method) ≡ None → HasShape (declared (declare.UniqueMethod table name method) schema)
+    → declare_refusal schema (declare.UniqueMethod table name method) ≡ None → HasShape (declared (declare.UniqueMethod table name method) schema)
 HasShape-UniqueMethod schema table name method shape passed =
     HasShape-with_table_changed schema table (λ entry. with_method_on name (unique_method_of entry.columns method) entry) shape
     (λ entry. name-with_method_on name (unique_method_of entry.columns method) entry)

@@ -17,7 +17,7 @@ use Rattle.rep_schema.specs.Entries.{master_site, late_site, snapshot_site, plai
 use Rattle.rep_schema.specs.Levels.{level_of}
 use Rattle.rep_declare.specs.declared.declaration.Declare.TheVariants as declare
 use Rattle.rep_declare.specs.declared.declaration.MethodWords.TheVariants as words
-use Rattle.rep_declare.specs.Refusals.{refusal_of}
+use Rattle.rep_declare.specs.Refusals.{declare_refusal}
 use Rattle.rep_declare.specs.Additions.{with_checks, with_tables, declared}
 
 abbrev site : List ℕ → SiteName
@@ -57,38 +57,38 @@ late_site_stands_behind : declared (declare.LateSite (site (codes "E"))) small
     ≡ record small { sites = small.sites ++ record { name = record { 0 = codes "E" }; master = None; level = None; late = true } ∷ [] }
 late_site_stands_behind = refl
 
-late_site_of_a_snapshot_sites_name : refusal_of small (declare.LateSite (site (codes "S"))) ≡ Some refusal.NameTaken
+late_site_of_a_snapshot_sites_name : declare_refusal small (declare.LateSite (site (codes "S"))) ≡ Some refusal.NameTaken
 late_site_of_a_snapshot_sites_name = refl
 
-name_before_the_ninth_master : refusal_of crowded (declare.LateSite (site (codes "D"))) ≡ Some refusal.NameTaken
+name_before_the_ninth_master : declare_refusal crowded (declare.LateSite (site (codes "D"))) ≡ Some refusal.NameTaken
 name_before_the_ninth_master = refl
 
-late_master_counts : refusal_of crowded (declare.Site (site (codes "E"))) ≡ Some (refusal.LimitReached limit.Masters)
+late_master_counts : declare_refusal crowded (declare.Site (site (codes "E"))) ≡ Some (refusal.LimitReached limit.Masters)
 late_master_counts = refl
 
-late_master_has_no_snapshot_site : refusal_of small (declare.SnapSite (site (codes "U")) (site (codes "D"))) ≡ Some refusal.UnknownName
+late_master_has_no_snapshot_site : declare_refusal small (declare.SnapSite (site (codes "U")) (site (codes "D"))) ≡ Some refusal.UnknownName
 late_master_has_no_snapshot_site = refl
 
 check_stands_behind : declared (declare.Check table (codes "short") (codes "N") Lt (literal.Words (codes "M"))) small
     ≡ with_tables (with_checks (low ∷ record { name = codes "short"; column = 2; rel = Lt; value = value.Words (codes "M") } ∷ []) (plain_table table columns) ∷ []) small
 check_stands_behind = refl
 
-checks_name_before_its_column : refusal_of small (declare.Check table (codes "low") (codes "X") Ge (literal.Num (pos 0))) ≡ Some refusal.NameTaken
+checks_name_before_its_column : declare_refusal small (declare.Check table (codes "low") (codes "X") Ge (literal.Num (pos 0))) ≡ Some refusal.NameTaken
 checks_name_before_its_column = refl
 
-column_before_the_ninth_check : refusal_of full (declare.Check table (codes "more") (codes "X") Ge (literal.Num (pos 0))) ≡ Some refusal.UnknownName
+column_before_the_ninth_check : declare_refusal full (declare.Check table (codes "more") (codes "X") Ge (literal.Num (pos 0))) ≡ Some refusal.UnknownName
 column_before_the_ninth_check = refl
 
-ninth_check_before_its_kind : refusal_of full (declare.Check table (codes "more") (codes "Q") Ge (literal.Words [])) ≡ Some (refusal.LimitReached limit.Checks)
+ninth_check_before_its_kind : declare_refusal full (declare.Check table (codes "more") (codes "Q") Ge (literal.Words [])) ≡ Some (refusal.LimitReached limit.Checks)
 ninth_check_before_its_kind = refl
 
-kind_before_the_range : refusal_of small (declare.Check table (codes "more") (codes "N") Ge (literal.Num (pos 1_000_000_000_000_001))) ≡ Some refusal.RowShape
+kind_before_the_range : declare_refusal small (declare.Check table (codes "more") (codes "N") Ge (literal.Num (pos 1_000_000_000_000_001))) ≡ Some refusal.RowShape
 kind_before_the_range = refl
 
-check_beyond_the_range : refusal_of small (declare.Check table (codes "more") (codes "Q") Ge (literal.Num (negsuc 1_000_000_000_000_000))) ≡ Some refusal.ValueRange
+check_beyond_the_range : declare_refusal small (declare.Check table (codes "more") (codes "Q") Ge (literal.Num (negsuc 1_000_000_000_000_000))) ≡ Some refusal.ValueRange
 check_beyond_the_range = refl
 
-least_number_in_a_check : refusal_of small (declare.Check table (codes "more") (codes "Q") Ge (literal.Num (negsuc 999_999_999_999_999))) ≡ None
+least_number_in_a_check : declare_refusal small (declare.Check table (codes "more") (codes "Q") Ge (literal.Num (negsuc 999_999_999_999_999))) ≡ None
 least_number_in_a_check = refl
 
 method_brings_its_priority_group : declared (declare.Method table (codes "g") (words.Priority (codes "Q") (codes "p"))) (declared (declare.Group table (codes "g") (codes "N" ∷ codes "Q" ∷ [])) small)
@@ -124,8 +124,8 @@ each_value_has_its_level : map (λ v. level_of levelled 0 (Some v)) (value.Num (
     ≡ Some (pos 3) ∷ Some (pos 9) ∷ Some (pos 1) ∷ None ∷ []
 each_value_has_its_level = refl
 
-value_has_a_level_already : refusal_of levelled (declare.Priority (codes "p") (literal.Words (codes "blue")) (pos 2)) ≡ Some refusal.NameTaken
+value_has_a_level_already : declare_refusal levelled (declare.Priority (codes "p") (literal.Words (codes "blue")) (pos 2)) ≡ Some refusal.NameTaken
 value_has_a_level_already = refl
 
-other_group_has_its_own_levels : refusal_of levelled (declare.Priority (codes "r") (literal.Words (codes "blue")) (pos 2)) ≡ None
+other_group_has_its_own_levels : declare_refusal levelled (declare.Priority (codes "r") (literal.Words (codes "blue")) (pos 2)) ≡ None
 other_group_has_its_own_levels = refl

@@ -28,12 +28,12 @@ PlacesAreThoseOfNamedColumns = (columns : List Column) (names : List (List ℕ))
     → IsStrictlyIncreasing (places_named columns names) × ((place : ℕ) → Contains (places_named columns names) place ↔ IsNamedAt columns names place)
 
 -- the column of a name is there and isn't taken
-abbrev pub IsFree : List Column → (ℕ → Bool) → List ℕ → Type 0
-IsFree columns is_taken name = (place : ℕ) × (column_place columns name ≡ Some place) × (is_taken place ≡ false)
+abbrev pub ColumnIsFree : List Column → (ℕ → Bool) → List ℕ → Type 0
+ColumnIsFree columns is_taken name = (place : ℕ) × (column_place columns name ≡ Some place) × (is_taken place ≡ false)
 
 -- a line names columns that are there and aren't taken, each once
 pub record NamesFreeColumns (columns : List Column) (is_taken : ℕ → Bool) (names : List (List ℕ)) : Type 0 where
-  pub free : All (IsFree columns is_taken) names
+  pub free : All (ColumnIsFree columns is_taken) names
   pub once : AreDistinct names
 
 -- exactly such a line isn't refused for its columns

@@ -133,5 +133,5 @@ steps_of schema (declare.Check table check column rel value) = known (table_name
 steps_of schema (declare.Convergent table) = unknown (table_named schema table) ∷ []
 
 -- why a declaration is refused, if it is
-abbrev pub refusal_of : Schema → Declare → Option Refusal
-refusal_of schema declaration = first_refusal (steps_of schema declaration)
+abbrev pub declare_refusal : Schema → Declare → Option Refusal
+declare_refusal schema declaration = first_refusal (steps_of schema declaration)

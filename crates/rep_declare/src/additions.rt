@@ -5,7 +5,7 @@ ghost use Rattle.std.specs.List.{find};
 ghost use Rattle.rep_values.specs.Literal.{value_of_literal};
 ghost use Rattle.rep_schema.specs.Shape.{HasShape};
 ghost use Rattle.rep_schema.specs.Named.{is_priority, is_table, is_group};
-ghost use Rattle.rep_declare.specs.Refusals.{refusal_of};
+ghost use Rattle.rep_declare.specs.Refusals.{declare_refusal};
 ghost use Rattle.rep_declare.specs.Additions.{ColumnNamed, declared, with_priority, with_words_priority, with_changed, with_level, with_sites, with_groups, with_method, method_of};
 
 use crate::changes::change_one;
@@ -373,8 +373,8 @@ pub fn add_declaration(
 ) -> Result<(), Refusal>
     requires shape { HasShape schema.old }
     requires columns { ColumnNamed declaration.now }
-    ensures ok { OnOk result ((refusal_of schema.old declaration.now ≡ None) × (schema.new ≡ declared declaration.now schema.old)) }
-    ensures err { IfErr result (λ why. (refusal_of schema.old declaration.now ≡ Some why) ⊎ ((refusal_of schema.old declaration.now ≡ None) × (why ≡ Memory))) }
+    ensures ok { OnOk result ((declare_refusal schema.old declaration.now ≡ None) × (schema.new ≡ declared declaration.now schema.old)) }
+    ensures err { IfErr result (λ why. (declare_refusal schema.old declaration.now ≡ Some why) ⊎ ((declare_refusal schema.old declaration.now ≡ None) × (why ≡ Memory))) }
     ensures kept { OnErr result (schema.new ≡ schema.old) }
     ensures shape { HasShape schema.new }
 {

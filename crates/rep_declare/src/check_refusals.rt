@@ -3,7 +3,7 @@ ghost use Rattle.std.specs.Prelude.{◌≡◌};
 ghost use Rattle.rep_schema.specs.declared.check.Rel.{Rel};
 ghost use Rattle.rep_values.specs.RefusalSteps.{first_refusal};
 ghost use Rattle.rep_declare.specs.declared.declaration.Declare.{Declare};
-ghost use Rattle.rep_declare.specs.Refusals.{refusal_of};
+ghost use Rattle.rep_declare.specs.Refusals.{declare_refusal};
 
 use crate::refusals::value_is_in_range;
 use rep_schema::{Schema, is_of_kind};
@@ -18,7 +18,7 @@ pub fn check_refusal(
     column: &Name,
     value: &Literal,
 ) -> Option<Refusal>
-    ensures { (rel : Rel) → result ≡ refusal_of schema.now (Declare.Check table.now check.now column.now rel value.now) }
+    ensures { (rel : Rel) → result ≡ declare_refusal schema.now (Declare.Check table.now check.now column.now rel value.now) }
 {
     let Some(table) = find_table(schema.tables.as_slice(), table) else {
         return Some(Refusal::UnknownName);

@@ -7,7 +7,7 @@ ghost use Rattle.rep_values.specs.Equality.{value_eq};
 ghost use Rattle.rep_schema.specs.Limits.{most_methods};
 ghost use Rattle.rep_schema.specs.Shape.{is_master, is_snapshot, shadow_name, key_name};
 ghost use Rattle.rep_values.specs.RefusalSteps.{first_refusal, refused, full};
-ghost use Rattle.rep_declare.specs.Refusals.{refusal_of, share_a_name, column_step, columns_step, unknown_column, words_column, unique_words_column, value_out_of_range};
+ghost use Rattle.rep_declare.specs.Refusals.{declare_refusal, share_a_name, column_step, columns_step, unknown_column, words_column, unique_words_column, value_out_of_range};
 ghost use Rattle.rep_schema.specs.Groups.{is_grouped};
 ghost use Rattle.rep_schema.specs.Named.{column_place, is_column, is_constrained};
 
@@ -49,7 +49,7 @@ fn snapshot_count(sites: &[SiteEntry]) -> usize
 }
 
 fn site_refusal(schema: &Schema, name: &SiteName) -> Option<Refusal>
-    ensures { result ≡ refusal_of schema.now (Declare.Site name.now) }
+    ensures { result ≡ declare_refusal schema.now (Declare.Site name.now) }
 {
     if find_site(schema.sites.as_slice(), name).is_some() {
         return Some(Refusal::NameTaken);
@@ -61,7 +61,7 @@ fn site_refusal(schema: &Schema, name: &SiteName) -> Option<Refusal>
 }
 
 fn snapshot_site_refusal(schema: &Schema, name: &SiteName, master: &SiteName) -> Option<Refusal>
-    ensures { result ≡ refusal_of schema.now (Declare.SnapSite name.now master.now) }
+    ensures { result ≡ declare_refusal schema.now (Declare.SnapSite name.now master.now) }
 {
     if find_site(schema.sites.as_slice(), name).is_some() {
         return Some(Refusal::NameTaken);
@@ -88,7 +88,7 @@ fn share_a_name(columns: &[Column]) -> bool
 }
 
 fn table_refusal(schema: &Schema, name: &TableName, columns: &[Column]) -> Option<Refusal>
-    ensures { result ≡ refusal_of schema.now (Declare.Table name.now columns.now) }
+    ensures { result ≡ declare_refusal schema.now (Declare.Table name.now columns.now) }
 {
     if find_table(schema.tables.as_slice(), name).is_some() {
         return Some(Refusal::NameTaken);
@@ -187,7 +187,7 @@ fn group_refusal(
     group: &Name,
     columns: &[Name],
 ) -> Option<Refusal>
-    ensures { result ≡ refusal_of schema.now (Declare.Group table.now group.now columns.now) }
+    ensures { result ≡ declare_refusal schema.now (Declare.Group table.now group.now columns.now) }
 {
     let Some(table) = find_table(schema.tables.as_slice(), table) else {
         return Some(Refusal::UnknownName);
@@ -210,7 +210,7 @@ fn unique_refusal(
     constraint: &Name,
     columns: &[Name],
 ) -> Option<Refusal>
-    ensures { result ≡ refusal_of schema.now (Declare.Unique table.now constraint.now columns.now) }
+    ensures { result ≡ declare_refusal schema.now (Declare.Unique table.now constraint.now columns.now) }
 {
     let Some(table) = find_table(schema.tables.as_slice(), table) else {
         return Some(Refusal::UnknownName);
@@ -277,7 +277,7 @@ fn group_method_refusal(
     group: &Name,
     method: &MethodWords,
 ) -> Option<Refusal>
-    ensures { result ≡ refusal_of schema.now (Declare.Method table.now group.now method.now) }
+    ensures { result ≡ declare_refusal schema.now (Declare.Method table.now group.now method.now) }
 {
     let Some(table) = find_table(schema.tables.as_slice(), table) else {
         return Some(Refusal::UnknownName);
@@ -298,7 +298,7 @@ fn unique_method_refusal(
     constraint: &Name,
     method: &UniqueWords,
 ) -> Option<Refusal>
-    ensures { result ≡ refusal_of schema.now (Declare.UniqueMethod table.now constraint.now method.now) }
+    ensures { result ≡ declare_refusal schema.now (Declare.UniqueMethod table.now constraint.now method.now) }
 {
     let Some(table) = find_table(schema.tables.as_slice(), table) else {
         return Some(Refusal::UnknownName);
@@ -324,7 +324,7 @@ pub(crate) fn value_is_in_range(value: &Literal) -> bool
 }
 
 fn priority_refusal(schema: &Schema, group: &Name, value: &Literal, level: i64) -> Option<Refusal>
-    ensures { result ≡ refusal_of schema.now (Declare.Priority group.now value.now level) }
+    ensures { result ≡ declare_refusal schema.now (Declare.Priority group.now value.now level) }
 {
     if let Some(group) = find_priority(schema.priorities.as_slice(), group) {
         if has_level(group.levels.as_slice(), &value.value()) {
@@ -344,7 +344,7 @@ fn priority_refusal(schema: &Schema, group: &Name, value: &Literal, level: i64) 
 }
 
 fn site_level_refusal(schema: &Schema, site: &SiteName, level: i64) -> Option<Refusal>
-    ensures { result ≡ refusal_of schema.now (Declare.SiteLevel site.now level) }
+    ensures { result ≡ declare_refusal schema.now (Declare.SiteLevel site.now level) }
 {
     let Some(site) = find_site(schema.sites.as_slice(), site) else {
         return Some(Refusal::UnknownName);
@@ -359,7 +359,7 @@ fn site_level_refusal(schema: &Schema, site: &SiteName, level: i64) -> Option<Re
 }
 
 fn convergent_refusal(schema: &Schema, table: &TableName) -> Option<Refusal>
-    ensures { result ≡ refusal_of schema.now (Declare.Convergent table.now) }
+    ensures { result ≡ declare_refusal schema.now (Declare.Convergent table.now) }
 {
     match find_table(schema.tables.as_slice(), table) {
         None => Some(Refusal::UnknownName),
@@ -369,7 +369,7 @@ fn convergent_refusal(schema: &Schema, table: &TableName) -> Option<Refusal>
 
 /// Why a declaration is refused, if it is.
 pub fn refusal_of(schema: &Schema, declaration: &Declare) -> Option<Refusal>
-    ensures { result ≡ refusal_of schema.now declaration.now }
+    ensures { result ≡ declare_refusal schema.now declaration.now }
 {
     match declaration {
         Declare::Site { name } => site_refusal(schema, name),

@@ -10,7 +10,7 @@ use Rattle.rep_schema.specs.Shape.{HasShape}
 use Rattle.rep_calls.specs.declared.call.Call.{Call}
 use Rattle.conflict_detect.specs.Fits.{table_of, CallFits}
 use Rattle.txn_effects.specs.Parts.{result_then}
-use Rattle.rep_schema.specs.Putting.{changes_between, made_all}
+use Rattle.rep_schema.specs.Putting.{changes_between, after_changes}
 use Rattle.txn_effects.specs.Calls.{KeysStandAlone, key_named, row_named, RowEffect, row_effect, Effect, call_effect}
 use Rattle.dependency_index.specs.declared.token.Token.{Token}
 use Rattle.dependency_index.specs.declared.token.Token.TheVariants as token
@@ -24,7 +24,7 @@ use Rattle.rep_laws.proofs.RowsEndAlike.{RowEndsAlike, row_effect-alike}
 
 -- tables and counters after an effect
 abbrev pub content_by : Schema → Effect → Content → Content
-content_by schema effect content = record { tables = made_all schema effect.changes content.tables; numbers = effect.numbers }
+content_by schema effect content = record { tables = after_changes schema effect.changes content.tables; numbers = effect.numbers }
 
 -- the same changes, after which two contents agree on tokens, and one of them is off the tokens as it was
 pub record AgreeAfter (schema : Schema) (tokens : List Token) (one other : Content) (effect last : Effect) : Type 0 where

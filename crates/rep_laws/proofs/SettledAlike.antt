@@ -14,7 +14,7 @@ use Rattle.rep_schema.specs.Tables.{Cells, Rows, columns_of, constraints_of, key
 use Rattle.rep_schema.specs.Groups.{values_at, are_same}
 use Rattle.unique_resolve.specs.declared.settled.Settled.{Settled}
 use Rattle.unique_resolve.specs.declared.settled.Settled.TheVariants.{Fits, Dropped, Conflict}
-use Rattle.unique_resolve.specs.Numbers.{Numbers, raised}
+use Rattle.unique_resolve.specs.Numbers.{Numbers, number_raised}
 use Rattle.unique_resolve.specs.Appending.{appended}
 use Rattle.unique_resolve.specs.Settling.{is_held, helping, settled_by, settled_one, TableOutcome, with_number, go_on, settled_each, key_methods_in, key_taken, with_numbers, settlement_of}
 use Rattle.dependency_index.specs.Tokens.{constrained_columns}
@@ -38,7 +38,7 @@ module _ (columns : List Column) (rows others : Rows) where
       settled_by-alike (method.AppendSite column ∷ methods) row number =
           rw (helping-alike (appended columns constraint.columns column origin.0 row), settled_by-alike methods row number) refl
       settled_by-alike (method.AppendSequence column ∷ methods) row number =
-          rw (helping-alike (appended columns constraint.columns column (decimal (raised number)) row), settled_by-alike methods row (raised number)) refl
+          rw (helping-alike (appended columns constraint.columns column (decimal (number_raised number)) row), settled_by-alike methods row (number_raised number)) refl
 
       settled_one-alike : (row : Cells) (number : ℕ) → settled_one columns rows origin constraint row number ≡ settled_one columns others origin constraint row number
       settled_one-alike row number = rw (alike row, settled_by-alike constraint.methods row number) refl

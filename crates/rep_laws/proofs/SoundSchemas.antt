@@ -15,8 +15,8 @@ use Rattle.rep_schema.proofs.Shapes.{key_count-columns_of}
 use Rattle.rep_schema.specs.Kinds.{is_some_and, is_key_at}
 use Rattle.schema_rules.specs.KeyRules.{is_well_keyed, is_off_the_key}
 use Rattle.schema_rules.specs.Rules.{broken_rule}
-use Rattle.schema_rules.specs.Soundness.{IsSound}
-use Rattle.schema_rules.proofs.SoundRules.{IsSound-unbroken}
+use Rattle.schema_rules.specs.Soundness.{KeepsAllRules}
+use Rattle.schema_rules.proofs.SoundRules.{KeepsAllRules-unbroken}
 use Rattle.txn_effects.specs.Calls.{HasKeys, IsOffTheKey, KeysStandAlone}
 
 pub both_hold : (a b : Bool) → (a && b) ≡ true → (a ≡ true) × (b ≡ true)
@@ -44,8 +44,8 @@ off_the_key columns (p ∷ ps) all =
     plain (Some column) is = no_key column.key is
 
 module _ (schema : Schema) (unbroken : broken_rule schema ≡ None) where
-  sound : IsSound schema
-  sound = (IsSound-unbroken schema).1 unbroken
+  sound : KeepsAllRules schema
+  sound = (KeepsAllRules-unbroken schema).1 unbroken
 
   -- every table has 1 to 4 key columns
   pub HasKeys-sound : HasShape schema → HasKeys schema

@@ -12,9 +12,9 @@ use Rattle.rep_calls.specs.declared.call.Txn.{Txn}
 use Rattle.conflict_detect.specs.Fits.{CallFits}
 use Rattle.txn_effects.specs.Parts.{result_then}
 use Rattle.txn_effects.specs.Calls.{HasKeys, KeysStandAlone, Effect, call_effect}
-use Rattle.rep_schema.specs.Putting.{made_all}
-use Rattle.txn_effects.specs.Transactions.{Failure, failing_at, behind, calls_effect, tables_by, numbers_by}
-use Rattle.rep_schema.proofs.Making.{made_all-append}
+use Rattle.rep_schema.specs.Putting.{after_changes}
+use Rattle.txn_effects.specs.Transactions.{Failure, failing_at, effect_behind, calls_effect, tables_by, numbers_by}
+use Rattle.rep_schema.proofs.Making.{after_changes-append}
 use Rattle.txn_effects.proofs.TransactionEffects.{IsApplied-call_effect}
 use Rattle.rep_laws.proofs.SoundSchemas.{HasKeys-sound, KeysStandAlone-sound}
 use Rattle.dependency_index.specs.declared.token.Token.{Token}
@@ -44,7 +44,7 @@ module _ (schema : Schema) (origin : SiteName) (tokens : List Token) (shape : Ha
   joined one later = record { changes = one.changes ++ later.changes; numbers = later.numbers }
 
   content_by-joined : (one later : Effect) (content : Content) → content_by schema (joined one later) content ≡ content_by schema later (content_by schema one content)
-  content_by-joined one later content = ap (λ (tables : List Rows). record { tables = tables; numbers = later.numbers }) (made_all-append schema one.changes later.changes content.tables)
+  content_by-joined one later content = ap (λ (tables : List Rows). record { tables = tables; numbers = later.numbers }) (after_changes-append schema one.changes later.changes content.tables)
 
   -- what holds after a call, and then after those behind it, holds after all
   AgreeAfter-then : (one other : Content) (effect last : Effect) → AgreeAfter schema tokens one other effect last → (later later_last : Effect)
@@ -57,7 +57,7 @@ module _ (schema : Schema) (origin : SiteName) (tokens : List Token) (shape : Ha
   }
 
   ends_behind : (one other : Content) (effect last : Effect) → AgreeAfter schema tokens one other effect last → (later later_last : Result Effect Failure)
-      → EndsAlikeOn schema tokens (content_by schema effect one) (content_by schema last other) later later_last → EndsAlikeOn schema tokens one other (behind effect.changes later) (behind last.changes later_last)
+      → EndsAlikeOn schema tokens (content_by schema effect one) (content_by schema last other) later later_last → EndsAlikeOn schema tokens one other (effect_behind effect.changes later) (effect_behind last.changes later_last)
   ends_behind one other effect last first (Ok later) (Ok later_last) rest = AgreeAfter-then one other effect last first later later_last rest
   ends_behind one other effect last first (Ok later) (Err failure) rest = absurd rest
   ends_behind one other effect last first (Err failure) (Ok later) rest = absurd rest
@@ -82,14 +82,14 @@ module _ (schema : Schema) (origin : SiteName) (tokens : List Token) (shape : Ha
       go : (result last : Result Effect ApplyError) → call_effect schema one.tables one.numbers origin call ≡ result → call_effect schema other.tables other.numbers origin call ≡ last → EndsAlikeOn schema tokens one other result last
           → ((effect later : Effect) → call_effect schema one.tables one.numbers origin call ≡ Ok effect → call_effect schema other.tables other.numbers origin call ≡ Ok later → AgreeAfter schema tokens one other effect later
           → EndsAlikeOn schema tokens (content_by schema effect one) (content_by schema later other)
-          (calls_effect schema origin (number + 1) calls (made_all schema effect.changes one.tables) effect.numbers)
-          (calls_effect schema origin (number + 1) calls (made_all schema later.changes other.tables) later.numbers))
+          (calls_effect schema origin (number + 1) calls (after_changes schema effect.changes one.tables) effect.numbers)
+          (calls_effect schema origin (number + 1) calls (after_changes schema later.changes other.tables) later.numbers))
           → EndsAlikeOn schema tokens one other
-          (result_then (failing_at number result) (λ effect. behind effect.changes (calls_effect schema origin (number + 1) calls (made_all schema effect.changes one.tables) effect.numbers)))
-          (result_then (failing_at number last) (λ effect. behind effect.changes (calls_effect schema origin (number + 1) calls (made_all schema effect.changes other.tables) effect.numbers)))
+          (result_then (failing_at number result) (λ effect. effect_behind effect.changes (calls_effect schema origin (number + 1) calls (after_changes schema effect.changes one.tables) effect.numbers)))
+          (result_then (failing_at number last) (λ effect. effect_behind effect.changes (calls_effect schema origin (number + 1) calls (after_changes schema effect.changes other.tables) effect.numbers)))
       go (Ok effect) (Ok last) gives last_gives ends rest =
-          ends_behind one other effect last ends (calls_effect schema origin (number + 1) calls (made_all schema effect.changes one.tables) effect.numbers)
-          (calls_effect schema origin (number + 1) calls (made_all schema last.changes other.tables) last.numbers)
+          ends_behind one other effect last ends (calls_effect schema origin (number + 1) calls (after_changes schema effect.changes one.tables) effect.numbers)
+          (calls_effect schema origin (number + 1) calls (after_changes schema last.changes other.tables) last.numbers)
           (rest effect last gives last_gives ends)
       go (Ok effect) (Err error) gives last_gives ends rest = absurd ends
       go (Err error) (Ok effect) gives last_gives ends rest = absurd ends

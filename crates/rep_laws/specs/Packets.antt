@@ -3,11 +3,11 @@ use Rattle.std.specs.Prelude.{◌≤◌, List, length}
 use Rattle.rep_schema.specs.declared.schema.Schema.{Schema}
 use Rattle.rep_schema.specs.Shape.{HasShape}
 use Rattle.rep_calls.specs.declared.call.Txn.{Txn}
-use Rattle.rep_calls.specs.declared.past.Past.{Past}
+use Rattle.rep_calls.specs.declared.past.PastEntry.{PastEntry}
 use Rattle.conflict_detect.specs.Fits.{TxnFits}
 use Rattle.conflict_detect.specs.KeysNamed.{HasKeys}
 use Rattle.packet_code.specs.declared.route.Route.{Route}
-use Rattle.packet_code.specs.Limits.{IsPlainTxn, IsPlace, IsSiteName, IsPast, IsPacket}
+use Rattle.packet_code.specs.Limits.{IsPlainTxn, IsPlace, IsSiteName, IsCausalPast, IsPacket}
 use Rattle.packet_code.specs.Route.{carried}
 use Rattle.packet_code.specs.Texts.{TxnHasTextForm}
 
@@ -21,5 +21,5 @@ FittingTransactionsArePlain = (schema : Schema) (txn : Txn) → HasShape schema 
 abbrev pub FittingTransactionsCanBeCarried : Type 0
 FittingTransactionsCanBeCarried = (schema : Schema) (txn : Txn) → HasShape schema → HasKeys schema → TxnFits schema txn
     → 1 ≤ length txn.calls → length txn.calls ≤ 1000 → TxnHasTextForm txn
-    → (route : Route) (past : List Past) → IsSiteName route.from → IsSiteName route.to → IsPlace route.number route.position route.dep
-    → IsPast route.from past → IsPacket (carried route past txn)
+    → (route : Route) (past : List PastEntry) → IsSiteName route.from → IsSiteName route.to → IsPlace route.number route.position route.dep
+    → IsCausalPast route.from past → IsPacket (carried route past txn)

@@ -5,7 +5,7 @@ use Rattle.std.specs.Io.KnownBytes.{Consumes, Appends, IsAtEnd}
 use Rattle.std.proofs.KnownBytes.{Appends-trans}
 use Rattle.rep_lines.specs.Lines.{newline, last_line}
 use Rattle.rep_lines.specs.Runs.{Stepped}
-use Rattle.rep_lines.specs.Fed.{Standing, beginning, prints_from, stops_from, FedInto, EndsStoppedInto, EndsShortInto}
+use Rattle.rep_lines.specs.Fed.{RunState, run_beginning, prints_from, stops_from, FedInto, EndsStoppedInto, EndsShortInto}
 use Rattle.rep_lines.specs.Told.{Tells, report, IsRunning, ReadsToStop, ReportsAll, ReportsStop, ReportsFront, ReportsRead}
 use Rattle.rep_lines.proofs.FedLemmas.{fed_then}
 
@@ -32,8 +32,8 @@ last_line-some [] some = absurd (some refl)
 last_line-some (b ∷ line) some = refl
 
 module _ {W : Type 0} (step : W → ℕ → List ℕ → Stepped W) (start : W) (most : ℕ) where
-  abbrev Ran : Option (List ℕ) → Option (List ℕ) → List ℕ → Standing W → Type 0
-  Ran k k' read at = FedInto step k k' (beginning start) read at
+  abbrev Ran : Option (List ℕ) → Option (List ℕ) → List ℕ → RunState W → Type 0
+  Ran k k' read at = FedInto step k k' (run_beginning start) read at
 
   -- all that was read was run
   reads_whole : (read rest : List ℕ) → IsRunning step start read → ReadsToStop step start most (read ++ rest) rest
@@ -45,36 +45,36 @@ module _ {W : Type 0} (step : W → ℕ → List ℕ → Stepped W) (start : W) 
       tells (ReportsFront step start most) l l k k [] [] took gave (λ rest is. ((report step start rest, refl), reads_whole [] rest refl))
 
   -- a read failed behind these bytes
-  pub tells_read : (l l' k k' : Option (List ℕ)) (read : List ℕ) (at : Standing W) → Consumes l l' read → Ran k k' read at → Tells (ReportsRead step start) l l' k k'
+  pub tells_read : (l l' k k' : Option (List ℕ)) (read : List ℕ) (at : RunState W) → Consumes l l' read → Ran k k' read at → Tells (ReportsRead step start) l l' k k'
   tells_read l l' k k' read at took ran = tells (ReportsRead step start) l l' k k' read ran.0 took ran.1
-      (λ rest is. let t = fed_then step (beginning start) read ran.0 at rest ran.2 in ((prints_from step at rest, t.0), (read, refl, ran.2.prints, ran.2.running)))
+      (λ rest is. let t = fed_then step (run_beginning start) read ran.0 at rest ran.2 in ((prints_from step at rest, t.0), (read, refl, ran.2.prints, ran.2.running)))
 
   -- a line of these bytes ended the run, and it stands within the last piece of them
   pub tells_stop : (l l' k k' : Option (List ℕ)) (read last : List ℕ) → Consumes l l' (read ++ last) → length last ≤ most → IsRunning step start read
-      → EndsStoppedInto step k k' (beginning start) (read ++ last) → Tells (ReportsStop step start most) l l' k k'
+      → EndsStoppedInto step k k' (run_beginning start) (read ++ last) → Tells (ReportsStop step start most) l l' k k'
   tells_stop l l' k k' read last took few running ends = tells (ReportsStop step start most) l l' k k' (read ++ last) ends.0 took ends.1
       (λ rest is. let e = ends.2 rest in (e.0, e.1, (read, last, refl, few, running)))
 
   -- the run ended within these bytes, and only a front was written
   pub tells_front : (l l' k k' : Option (List ℕ)) (read last : List ℕ) → Consumes l l' (read ++ last) → length last ≤ most → IsRunning step start read
-      → EndsShortInto step k k' (beginning start) (read ++ last) → Tells (ReportsFront step start most) l l' k k'
+      → EndsShortInto step k k' (run_beginning start) (read ++ last) → Tells (ReportsFront step start most) l l' k k'
   tells_front l l' k k' read last took few running ends = tells (ReportsFront step start most) l l' k k' (read ++ last) ends.0 took ends.1
       (λ rest is. (ends.2 rest, (read, last, refl, few, running)))
 
   -- all was read, and the last line was run
-  pub tells_all : (l l' k k' k'' : Option (List ℕ)) (read : List ℕ) (at : Standing W) (out : List ℕ) → Consumes l l' read → IsAtEnd l' → Ran k k' read at
+  pub tells_all : (l l' k k' k'' : Option (List ℕ)) (read : List ℕ) (at : RunState W) (out : List ℕ) → Consumes l l' read → IsAtEnd l' → Ran k k' read at
       → Appends k' k'' out → out ≡ prints_from step at [] → stops_from step at [] ≡ false → Tells (ReportsAll step start) l l' k k''
   tells_all l l' k k' k'' read at out took end ran gave last running =
       tells (ReportsAll step start) l l' k k'' read (ran.0 ++ out) took (Appends-trans k k' k'' ran.0 out ran.1 gave) (λ rest is.
-      let t = fed_then step (beginning start) read ran.0 at [] ran.2 in
+      let t = fed_then step (run_beginning start) read ran.0 at [] ran.2 in
       subst (λ r. ReportsAll step start (read ++ r) r (ran.0 ++ out)) (sym (at_end l' rest end is)) (refl, ap (λ o. ran.0 ++ o) last ∙ sym t.0, t.1 ∙ running))
 
   -- all was read, and the last line ended the run
-  pub tells_stop_last : (l l' k k' k'' : Option (List ℕ)) (read : List ℕ) (at : Standing W) → Consumes l l' read → IsAtEnd l' → Ran k k' read at
+  pub tells_stop_last : (l l' k k' k'' : Option (List ℕ)) (read : List ℕ) (at : RunState W) → Consumes l l' read → IsAtEnd l' → Ran k k' read at
       → EndsStoppedInto step k' k'' at (newline ∷ []) → at.line ≢ [] → Tells (ReportsStop step start most) l l' k k''
   tells_stop_last l l' k k' k'' read at took end ran ends some =
       tells (ReportsStop step start most) l l' k k'' read (ran.0 ++ ends.0) took (Appends-trans k k' k'' ran.0 ends.0 ran.1 ends.1) (λ rest is.
-      let t = fed_then step (beginning start) read ran.0 at [] ran.2 in
+      let t = fed_then step (run_beginning start) read ran.0 at [] ran.2 in
       let e = ends.2 [] in
       let printed_last : ends.0 ≡ prints_from step at [] = rw (last_line-some at.line some) e.0 in
       let stopped : stops_from step at [] ≡ true = rw (last_line-some at.line some) e.1 in
@@ -82,11 +82,11 @@ module _ {W : Type 0} (step : W → ℕ → List ℕ → Stepped W) (start : W) 
       (ap (λ o. ran.0 ++ o) printed_last ∙ sym t.0, t.1 ∙ stopped, reads_whole read [] ran.2.running))
 
   -- all was read, and the run ended within the last line
-  pub tells_front_last : (l l' k k' k'' : Option (List ℕ)) (read : List ℕ) (at : Standing W) → Consumes l l' read → IsAtEnd l' → Ran k k' read at
+  pub tells_front_last : (l l' k k' k'' : Option (List ℕ)) (read : List ℕ) (at : RunState W) → Consumes l l' read → IsAtEnd l' → Ran k k' read at
       → EndsShortInto step k' k'' at (newline ∷ []) → at.line ≢ [] → Tells (ReportsFront step start most) l l' k k''
   tells_front_last l l' k k' k'' read at took end ran ends some =
       tells (ReportsFront step start most) l l' k k'' read (ran.0 ++ ends.0) took (Appends-trans k k' k'' ran.0 ends.0 ran.1 ends.1) (λ rest is.
-      let t = fed_then step (beginning start) read ran.0 at [] ran.2 in
+      let t = fed_then step (run_beginning start) read ran.0 at [] ran.2 in
       let e = ends.2 [] in
       let front : prints_from step at [] ≡ ends.0 ++ e.0 = rw (last_line-some at.line some) e.1 in
       subst (λ r. ReportsFront step start most (read ++ r) r (ran.0 ++ ends.0)) (sym (at_end l' rest end is))

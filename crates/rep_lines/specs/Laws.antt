@@ -1,21 +1,21 @@
 -- Laws of lines, and of what they print.
 use Rattle.std.specs.Prelude.{◌≡◌, ℕ, ◌<◌, ◌≤◌, Bool, List, [], ◌++◌, length, true, All}
-use Rattle.rep_lines.specs.Lines.{whole_lines, pending, lines_after, joined, IsUnbroken}
+use Rattle.rep_lines.specs.Lines.{whole_lines, pending, lines_after, joined_lines, IsUnbroken}
 use Rattle.rep_lines.specs.Runs.{Stepped, halts, printed, is_stopped, state_after, last_state}
 use Rattle.rep_lines.specs.Limits.{limited}
-use Rattle.rep_lines.specs.Fed.{Begins, Standing, Fed, prints_from, stops_from}
+use Rattle.rep_lines.specs.Fed.{Begins, RunState, Fed, prints_from, stops_from}
 use Rattle.rep_lines.specs.Told.{ReadsToStop, ReportsRead}
 
 -- the lines, each with its end, and the bytes without an end are the bytes, and no line has an end within
 pub record LinesJoin (bytes : List ℕ) : Type 0 where
-  pub all : joined (whole_lines [] bytes) ++ pending [] bytes ≡ bytes
+  pub all : joined_lines (whole_lines [] bytes) ++ pending [] bytes ≡ bytes
   pub lines : All IsUnbroken (whole_lines [] bytes)
   pub rest : IsUnbroken (pending [] bytes)
 
 -- bytes have no other lines
 pub record LinesAreThese (lines : List (List ℕ)) (rest : List ℕ) : Type 0 where
-  pub whole : whole_lines [] (joined lines ++ rest) ≡ lines
-  pub last : pending [] (joined lines ++ rest) ≡ rest
+  pub whole : whole_lines [] (joined_lines lines ++ rest) ≡ lines
+  pub last : pending [] (joined_lines lines ++ rest) ≡ rest
 
 -- lines that come in two pieces are the lines of both together
 abbrev pub LinesOfPieces : List ℕ → List ℕ → List ℕ → Type 0
@@ -32,7 +32,7 @@ module _ {W : Type 0} (step : W → ℕ → List ℕ → Stepped W) where
       → (printed step w n (lines ++ more) ≡ printed step w n lines) × (is_stopped step w n (lines ++ more) ≡ true)
 
   -- what is still to be printed depends on where the run stands alone
-  abbrev pub GoesOn : Standing W → List ℕ → List ℕ → Standing W → List ℕ → Type 0
+  abbrev pub GoesOn : RunState W → List ℕ → List ℕ → RunState W → List ℕ → Type 0
   GoesOn old bytes out new rest = Fed step old bytes out new
       → (prints_from step old (bytes ++ rest) ≡ out ++ prints_from step new rest) × (stops_from step old (bytes ++ rest) ≡ stops_from step new rest)
 
@@ -44,7 +44,7 @@ module _ {W : Type 0} (step : W → ℕ → List ℕ → Stepped W) where
   pub record HoldsThroughout (holds : W → Bool) : Type 0 where
     pub behind : (w : W) (n : ℕ) (lines : List (List ℕ)) → holds w ≡ true → holds (state_after step w n lines) ≡ true
     pub end : (w : W) (n : ℕ) (lines : List (List ℕ)) → holds w ≡ true → holds (last_state step w n lines) ≡ true
-    pub fed : (old : Standing W) (bytes out : List ℕ) (new : Standing W) → Fed step old bytes out new → holds old.state ≡ true → holds new.state ≡ true
+    pub fed : (old : RunState W) (bytes out : List ℕ) (new : RunState W) → Fed step old bytes out new → holds old.state ≡ true → holds new.state ≡ true
 
   -- a line of `read` ends the run: no read behind these bytes is told to have failed, and where the run was ended early, fewer bytes
   -- were read behind them than a piece has

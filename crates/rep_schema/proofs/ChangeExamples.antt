@@ -8,7 +8,7 @@ use Rattle.rep_schema.specs.declared.schema.Column.{Column}
 use Rattle.rep_schema.specs.declared.schema.Kind.TheVariants as kind
 use Rattle.rep_schema.specs.declared.change.Change.{Change}
 use Rattle.rep_schema.specs.Tables.{Cells, Rows}
-use Rattle.rep_schema.specs.Changes.{made, unmade, room_for}
+use Rattle.rep_schema.specs.Changes.{after_change, before_change, room_for}
 
 -- tables of a key column and another column
 abbrev columns : List Column
@@ -29,28 +29,28 @@ change table before after = record { table = table; before = before; after = aft
 abbrev tables : List Rows
 tables = (row 1 5 ∷ row 3 7 ∷ []) ∷ [] ∷ []
 
-added : made schema (change 0 None (Some (row 2 6))) tables ≡ (row 1 5 ∷ row 2 6 ∷ row 3 7 ∷ []) ∷ [] ∷ []
+added : after_change schema (change 0 None (Some (row 2 6))) tables ≡ (row 1 5 ∷ row 2 6 ∷ row 3 7 ∷ []) ∷ [] ∷ []
 added = refl
 
-replaced : made schema (change 0 (Some (row 3 7)) (Some (row 3 8))) tables ≡ (row 1 5 ∷ row 3 8 ∷ []) ∷ [] ∷ []
+replaced : after_change schema (change 0 (Some (row 3 7)) (Some (row 3 8))) tables ≡ (row 1 5 ∷ row 3 8 ∷ []) ∷ [] ∷ []
 replaced = refl
 
-taken : made schema (change 0 (Some (row 1 5)) None) tables ≡ (row 3 7 ∷ []) ∷ [] ∷ []
+taken : after_change schema (change 0 (Some (row 1 5)) None) tables ≡ (row 3 7 ∷ []) ∷ [] ∷ []
 taken = refl
 
-added_to_the_other : made schema (change 1 None (Some (row 1 1))) tables ≡ (row 1 5 ∷ row 3 7 ∷ []) ∷ (row 1 1 ∷ []) ∷ []
+added_to_the_other : after_change schema (change 1 None (Some (row 1 1))) tables ≡ (row 1 5 ∷ row 3 7 ∷ []) ∷ (row 1 1 ∷ []) ∷ []
 added_to_the_other = refl
 
-nothing_changed : made schema (change 0 None None) tables ≡ tables
+nothing_changed : after_change schema (change 0 None None) tables ≡ tables
 nothing_changed = refl
 
-added_row_goes : unmade schema (change 0 None (Some (row 3 7))) tables ≡ (row 1 5 ∷ []) ∷ [] ∷ []
+added_row_goes : before_change schema (change 0 None (Some (row 3 7))) tables ≡ (row 1 5 ∷ []) ∷ [] ∷ []
 added_row_goes = refl
 
-old_row_comes_back : unmade schema (change 0 (Some (row 3 6)) (Some (row 3 7))) tables ≡ (row 1 5 ∷ row 3 6 ∷ []) ∷ [] ∷ []
+old_row_comes_back : before_change schema (change 0 (Some (row 3 6)) (Some (row 3 7))) tables ≡ (row 1 5 ∷ row 3 6 ∷ []) ∷ [] ∷ []
 old_row_comes_back = refl
 
-taken_row_comes_back : unmade schema (change 0 (Some (row 2 6)) None) tables ≡ (row 1 5 ∷ row 2 6 ∷ row 3 7 ∷ []) ∷ [] ∷ []
+taken_row_comes_back : before_change schema (change 0 (Some (row 2 6)) None) tables ≡ (row 1 5 ∷ row 2 6 ∷ row 3 7 ∷ []) ∷ [] ∷ []
 taken_row_comes_back = refl
 
 -- taken rows of the one table want room there, added and replaced ones none

@@ -11,9 +11,9 @@ use Rattle.rep_lists.specs.Rising.{IsRising, found_here}
 use Rattle.rep_values.specs.OrderLaws.{key_cmp_total}
 use Rattle.rep_schema.specs.declared.schema.Schema.{Schema}
 use Rattle.rep_schema.specs.declared.schema.Column.{Column}
-use Rattle.rep_schema.specs.Tables.{Cells, Rows, columns_of, constraint_columns_of, key_of, beside, row_cmp, find_row, picked, RowFits, IsUniqueRow, IsTable}
+use Rattle.rep_schema.specs.Tables.{Cells, Rows, columns_of, constraint_columns_of, key_of, row_beside, row_cmp, find_row, picked, RowFits, IsUniqueRow, IsTable}
 use Rattle.rep_schema.specs.Shown.{shown_by}
-use Rattle.rep_schema.proofs.KeptTables.{any_from_none}
+use Rattle.rep_schema.proofs.TableSteps.{any_from_none}
 
 -- what isn't found among values is none of them
 pub none_from_any : {X : Type 0} (P : X → Type 0) (xs : List X) → ¬ Any P xs → AllByRecursion (λ x. ¬ P x) xs
@@ -38,19 +38,19 @@ filter-first test x xs = go (test x)
 
 module _ (columns : List Column) where
   -- what is above a row is above each key that the row isn't below
-  above_key : (key x z : Cells) → beside columns key x ≢ Less → row_cmp columns x z ≡ Less → beside columns key z ≡ Greater
-  above_key key x z past below = go (beside columns key x) refl
+  above_key : (key x z : Cells) → row_beside columns key x ≢ Less → row_cmp columns x z ≡ Less → row_beside columns key z ≡ Greater
+  above_key key x z past below = go (row_beside columns key x) refl
     where
       k : Cells → Cells
       k = key_of columns
 
-      go : (o : Ordering) → beside columns key x ≡ o → beside columns key z ≡ Greater
+      go : (o : Ordering) → row_beside columns key x ≡ o → row_beside columns key z ≡ Greater
       go Less place = absurd (past place)
       go Equal place = key_cmp_total.antisymm (k z) key ∙ ap ordering_reverse (sym (key_cmp_total.congr (k x) key (k z) place) ∙ below)
       go Greater place = key_cmp_total.antisymm (k z) key ∙ ap ordering_reverse (key_cmp_total.trans key (k x) (k z) (key_cmp_total.antisymm key (k x) ∙ ap ordering_reverse place) below)
 
   -- so its key isn't found behind it
-  find_behind : (key x : Cells) (xs : Rows) → beside columns key x ≢ Less → AllByRecursion (λ z. row_cmp columns x z ≡ Less) xs → find_row columns key xs ≡ None
+  find_behind : (key x : Cells) (xs : Rows) → row_beside columns key x ≢ Less → AllByRecursion (λ z. row_cmp columns x z ≡ Less) xs → find_row columns key xs ≡ None
   find_behind key x [] past all = refl
   find_behind key x (z ∷ zs) past all = rw (above_key key x z past all.0)
 
@@ -66,12 +66,12 @@ module _ (columns : List Column) where
     -- the row of a key among those that a test picks is what the test shows of the row
     pub find_row-filter : (key : Cells) (rows : Rows) → IsRising (row_cmp columns) rows → find_row columns key (filter test rows) ≡ shown_by test (find_row columns key rows)
     find_row-filter key [] rising = refl
-    find_row-filter key (r ∷ rs) rising = go (test r) refl (beside columns key r) refl (find_row-filter key rs rising.1)
+    find_row-filter key (r ∷ rs) rising = go (test r) refl (row_beside columns key r) refl (find_row-filter key rs rising.1)
       where
-        behind : beside columns key r ≢ Less → find_row columns key (filter test rs) ≡ None
+        behind : row_beside columns key r ≢ Less → find_row columns key (filter test rs) ≡ None
         behind past = find_behind key r (filter test rs) past (all_filter (λ y. row_cmp columns r y ≡ Less) test rs rising.0)
 
-        go : (b : Bool) → test r ≡ b → (o : Ordering) → beside columns key r ≡ o → find_row columns key (filter test rs) ≡ shown_by test (find_row columns key rs)
+        go : (b : Bool) → test r ≡ b → (o : Ordering) → row_beside columns key r ≡ o → find_row columns key (filter test rs) ≡ shown_by test (find_row columns key rs)
             → find_row columns key (cond b (r ∷ filter test rs) (filter test rs)) ≡ shown_by test (found_here o r (find_row columns key rs))
         go true eb Less eo later = rw eo later
         go true eb Equal eo later = rw (eo, eb) refl

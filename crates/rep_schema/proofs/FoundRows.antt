@@ -8,7 +8,7 @@ use Rattle.rep_lists.proofs.FoundByKey.{find_put_own, find_put_other, find_take,
 use Rattle.rep_values.specs.Order.{key_cmp}
 use Rattle.rep_values.specs.OrderLaws.{key_cmp_total, exact_keys}
 use Rattle.rep_schema.specs.declared.schema.Column.{Column}
-use Rattle.rep_schema.specs.Tables.{Cells, Rows, key_of, beside, row_cmp, find_row, put_row, take_row}
+use Rattle.rep_schema.specs.Tables.{Cells, Rows, key_of, row_beside, row_cmp, find_row, put_row, take_row}
 
 module _ (columns : List Column) where
   -- a row that was put is found under its key
@@ -45,11 +45,11 @@ found_at P at (y ∷ ys) x all found = go (at y) refl found (found_at P at ys x 
 module _ (columns : List Column) (key row : Cells) (rows : Rows) (found : find_row columns key rows ≡ Some row) where
   -- a row that is found is one of the rows
   pub found_row : (P : Cells → Type 0) → AllByRecursion P rows → P row
-  found_row P all = (found_at P (beside columns key) rows row all found).0
+  found_row P all = (found_at P (row_beside columns key) rows row all found).0
 
   -- and has the key
   pub key_of-found : key_of columns row ≡ key
-  key_of-found = exact_keys (key_of columns row) key (found_at (λ x. Unit {0}) (beside columns key) rows row (all_units rows) found).1
+  key_of-found = exact_keys (key_of columns row) key (found_at (λ x. Unit {0}) (row_beside columns key) rows row (all_units rows) found).1
     where
       all_units : (xs : Rows) → AllByRecursion (λ x. Unit {0}) xs
       all_units [] = tt
@@ -66,4 +66,4 @@ take_absent at (x ∷ xs) absent = go (at x) absent (take_absent at xs)
     go Greater none later = refl
 
 pub take_row-absent : (columns : List Column) (key : Cells) (rows : Rows) → find_row columns key rows ≡ None → take_row columns key rows ≡ rows
-take_row-absent columns key rows absent = take_absent (beside columns key) rows absent
+take_row-absent columns key rows absent = take_absent (row_beside columns key) rows absent

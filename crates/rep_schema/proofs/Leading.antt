@@ -5,7 +5,7 @@ use Rattle.std.proofs.lemmas.List.Sums.{sum_by-append}
 use Rattle.rep_schema.specs.declared.schema.Schema.{Schema}
 use Rattle.rep_schema.specs.declared.change.Change.{Change}
 use Rattle.rep_schema.specs.Tables.{Cells, Rows, columns_of, key_of, find_row, take_row, rows_of, RowFits, IsUniqueRow, IsKeyed, AreTables}
-use Rattle.rep_schema.specs.Changes.{made_in, made, row_like, IsChange, ChangeFits, LeadsTo, is_taken_from, room_for}
+use Rattle.rep_schema.specs.Changes.{after_change_in, after_change, row_like, IsChange, ChangeFits, LeadsTo, is_taken_from, room_for}
 use Rattle.rep_schema.proofs.FoundRows.{found_row, key_of-found, take_row-absent}
 use Rattle.rep_schema.proofs.TakingBack.{AreTables-made}
 
@@ -13,12 +13,12 @@ module _ (schema : Schema) where
   -- changes behind others
   pub LeadsTo-append : (changes others : List Change) (earlier middle later : List Rows) → LeadsTo schema changes earlier middle → LeadsTo schema others middle later → LeadsTo schema (changes ++ others) earlier later
   LeadsTo-append [] others earlier middle later lead then = subst (λ tables. LeadsTo schema others tables later) (sym lead) then
-  LeadsTo-append (change ∷ changes) others earlier middle later lead then = (lead.0, LeadsTo-append changes others (made schema change earlier) middle later lead.1 then)
+  LeadsTo-append (change ∷ changes) others earlier middle later lead then = (lead.0, LeadsTo-append changes others (after_change schema change earlier) middle later lead.1 then)
 
   -- tables from which changes lead to others make those tables too
   pub AreTables-led : (changes : List Change) (earlier later : List Rows) → AreTables schema earlier → LeadsTo schema changes earlier later → AreTables schema later
   AreTables-led [] earlier later are lead = subst (AreTables schema) lead are
-  AreTables-led (change ∷ changes) earlier later are lead = AreTables-led changes (made schema change earlier) later (AreTables-made schema change earlier are lead.0) lead.1
+  AreTables-led (change ∷ changes) earlier later are lead = AreTables-led changes (after_change schema change earlier) later (AreTables-made schema change earlier are lead.0) lead.1
 
   -- a change of tables whose rows differ is a change of one row of the schema
   pub ChangeFits-from_IsChange : (change : Change) (tables : List Rows) → AreTables schema tables → IsChange schema change tables → change.before ≢ change.after → ChangeFits schema change
@@ -77,9 +77,9 @@ module _ (schema : Schema) (table : ℕ) (tables : List Rows) (below : table < l
             let own : key_of (columns_of schema table) x ≡ key = key_of-found (columns_of schema table) key x (rows_of tables table) (sym is) in
             rw own (sym is)
 
-    pub made-take : made schema (record { table = table; before = before; after = None }) tables ≡ set tables table (take_row (columns_of schema table) key (rows_of tables table))
+    pub made-take : after_change schema (record { table = table; before = before; after = None }) tables ≡ set tables table (take_row (columns_of schema table) key (rows_of tables table))
     made-take = ap (set tables table) (go before was)
       where
-        go : (old : Option Cells) → old ≡ find_row (columns_of schema table) key (rows_of tables table) → made_in (columns_of schema table) old None (rows_of tables table) ≡ take_row (columns_of schema table) key (rows_of tables table)
+        go : (old : Option Cells) → old ≡ find_row (columns_of schema table) key (rows_of tables table) → after_change_in (columns_of schema table) old None (rows_of tables table) ≡ take_row (columns_of schema table) key (rows_of tables table)
         go None is = sym (take_row-absent (columns_of schema table) key (rows_of tables table) (sym is))
         go (Some x) is = ap (λ k. take_row (columns_of schema table) k (rows_of tables table)) (key_of-found (columns_of schema table) key x (rows_of tables table) (sym is))

@@ -2,7 +2,7 @@
 pub mod KeyWalk
 pub mod RowFit
 pub mod SameValues
-pub mod KeptTables
+pub mod TableSteps
 pub mod FittingTests
 pub mod FoundRows
 pub mod FilteredRows

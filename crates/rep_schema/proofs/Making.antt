@@ -6,8 +6,8 @@ use Rattle.std.proofs.lemmas.Bool.{ne_eqb}
 use Rattle.rep_schema.specs.declared.schema.Schema.{Schema}
 use Rattle.rep_schema.specs.declared.change.Change.{Change}
 use Rattle.rep_schema.specs.Tables.{Cells, Rows}
-use Rattle.rep_schema.specs.Changes.{made, is_taken_from, room_for}
-use Rattle.rep_schema.specs.Putting.{is_unchanged, changes_between, made_all}
+use Rattle.rep_schema.specs.Changes.{after_change, is_taken_from, room_for}
+use Rattle.rep_schema.specs.Putting.{is_unchanged, changes_between, after_changes}
 use Rattle.rep_schema.proofs.ValuesAt.{are_same-Decides}
 use Rattle.rep_schema.proofs.Leading.{room_for-append}
 
@@ -32,9 +32,9 @@ changes_between-same table row = go (is_unchanged row row) ((is_unchanged-Decide
     go false is = cc
 
 -- the tables after changes and others behind them
-pub made_all-append : (schema : Schema) (changes others : List Change) (tables : List Rows) → made_all schema (changes ++ others) tables ≡ made_all schema others (made_all schema changes tables)
-made_all-append schema [] others tables = refl
-made_all-append schema (change ∷ changes) others tables = made_all-append schema changes others (made schema change tables)
+pub after_changes-append : (schema : Schema) (changes others : List Change) (tables : List Rows) → after_changes schema (changes ++ others) tables ≡ after_changes schema others (after_changes schema changes tables)
+after_changes-append schema [] others tables = refl
+after_changes-append schema (change ∷ changes) others tables = after_changes-append schema changes others (after_change schema change tables)
 
 -- each change wants room for one row at most
 pub room_for-length : (t : ℕ) (changes : List Change) → room_for t changes ≤ length changes

@@ -17,7 +17,7 @@ use Rattle.rep_schema.specs.declared.check.Check.{Check}
 use Rattle.rep_schema.specs.declared.check.Rel.TheVariants.{Ge}
 use Rattle.rep_schema.specs.declared.schema.Kind.TheVariants as kind
 use Rattle.rep_schema.specs.declared.schema.Method.TheVariants as method
-use Rattle.rep_schema.proofs.KeptTables.{any_from_none}
+use Rattle.rep_schema.proofs.TableSteps.{any_from_none}
 use Rattle.rep_schema.specs.Shape.{AreDistinct, ShareNone, IsPlaceIn, shadow_name, method_column, method_priority, AreColumns, HasGroupShape, HasTableShape, HasLevelShape, is_early_master, HasMaster, HasShape}
 
 -- pairs by recursion on the list

@@ -11,10 +11,10 @@ use Rattle.std.specs.Ordering.{ordering_reverse}
 use Rattle.rep_schema.specs.declared.schema.Schema.{Schema}
 use Rattle.rep_schema.specs.declared.schema.Column.{Column}
 use Rattle.rep_schema.specs.declared.change.Change.{Change}
-use Rattle.rep_schema.specs.Tables.{Cells, Rows, columns_of, key_of, beside, row_cmp, find_row, rows_of, RowFits, IsUniqueRow, IsTable, AreTables}
-use Rattle.rep_schema.specs.Changes.{made_in, made, unmade, IsChange, LeadsTo, HaveLed, room_for}
-use Rattle.rep_schema.proofs.SameValues.{beside-own}
-use Rattle.rep_schema.proofs.KeptTables.{IsTable-put, IsTable-take, IsUniqueRow-take, IsUniqueRow-put_same, AreTables-set}
+use Rattle.rep_schema.specs.Tables.{Cells, Rows, columns_of, key_of, row_beside, row_cmp, find_row, rows_of, RowFits, IsUniqueRow, IsTable, AreTables}
+use Rattle.rep_schema.specs.Changes.{after_change_in, after_change, before_change, IsChange, LeadsTo, HaveLed, room_for}
+use Rattle.rep_schema.proofs.SameValues.{row_beside-own}
+use Rattle.rep_schema.proofs.TableSteps.{IsTable-put, IsTable-take, IsUniqueRow-take, IsUniqueRow-put_same, AreTables-set}
 use Rattle.rep_schema.proofs.FoundRows.{found_row, key_of-found, find_row-put_own}
 
 module _ (schema : Schema) (table : ℕ) (rows : Rows) (is : IsTable schema table rows) where
@@ -22,7 +22,7 @@ module _ (schema : Schema) (table : ℕ) (rows : Rows) (is : IsTable schema tabl
   columns = columns_of schema table
 
   -- behind the row of a key stand greater keys
-  greater : (key x y : Cells) → beside columns key x ≡ Equal → row_cmp columns x y ≡ Less → beside columns key y ≡ Greater
+  greater : (key x y : Cells) → row_beside columns key x ≡ Equal → row_cmp columns x y ≡ Less → row_beside columns key y ≡ Greater
   greater key x y here less =
       let below : key_cmp key (key_of columns y) ≡ Less = sym (key_cmp_total.congr (key_of columns x) key (key_of columns y) here) ∙ less in
       key_cmp_total.antisymm (key_of columns y) key ∙ ap ordering_reverse below
@@ -39,20 +39,20 @@ module _ (schema : Schema) (table : ℕ) (rows : Rows) (is : IsTable schema tabl
   found_before old after before_is = before_is
 
   -- what was made in a table is unmade
-  pub unmade_in : (before after : Option Cells) → Before before → After before after → made_in columns after before (made_in columns before after rows) ≡ rows
+  pub unmade_in : (before after : Option Cells) → Before before → After before after → after_change_in columns after before (after_change_in columns before after rows) ≡ rows
   unmade_in None None before_is after_is = refl
-  unmade_in None (Some row) before_is after_is = take_put (beside columns (key_of columns row)) row rows (beside-own columns (key_of columns row) row refl) after_is
-  unmade_in (Some old) None before_is after_is = put_take (beside columns (key_of columns old)) (row_cmp columns) (greater (key_of columns old)) old rows is.rising before_is
+  unmade_in None (Some row) before_is after_is = take_put (row_beside columns (key_of columns row)) row rows (row_beside-own columns (key_of columns row) row refl) after_is
+  unmade_in (Some old) None before_is after_is = put_take (row_beside columns (key_of columns old)) (row_cmp columns) (greater (key_of columns old)) old rows is.rising before_is
   unmade_in (Some old) (Some row) before_is after_is =
       let same : key_of columns row ≡ key_of columns old = sym (key_of-found columns (key_of columns row) old rows after_is) in
-      rw same (put_put (beside columns (key_of columns old)) old row rows (beside-own columns (key_of columns old) row same) before_is)
+      rw same (put_put (row_beside columns (key_of columns old)) old row rows (row_beside-own columns (key_of columns old) row same) before_is)
 
   -- the row before fits
   pub fits_before : (old : Cells) → Before (Some old) → RowFits columns old
   fits_before old before_is = found_row columns (key_of columns old) old rows before_is (RowFits columns) is.fit
 
   -- and is unique among the rows after the change
-  pub unique_before : (old : Cells) (after : Option Cells) → Before (Some old) → After (Some old) after → IsUniqueRow schema table old (made_in columns (Some old) after rows)
+  pub unique_before : (old : Cells) (after : Option Cells) → Before (Some old) → After (Some old) after → IsUniqueRow schema table old (after_change_in columns (Some old) after rows)
   unique_before old None before_is after_is =
       IsUniqueRow-take schema table (key_of columns old) old rows (found_row columns (key_of columns old) old rows before_is (λ x. IsUniqueRow schema table x rows) is.apart)
   unique_before old (Some row) before_is after_is =
@@ -60,13 +60,13 @@ module _ (schema : Schema) (table : ℕ) (rows : Rows) (is : IsTable schema tabl
       IsUniqueRow-put_same schema table old row rows same (found_row columns (key_of columns old) old rows before_is (λ x. IsUniqueRow schema table x rows) is.apart)
 
   -- where a row took its place, that one is found under its key
-  pub replaced_by : (old row : Cells) → After (Some old) (Some row) → find_row columns (key_of columns old) (made_in columns (Some old) (Some row) rows) ≡ Some row
+  pub replaced_by : (old row : Cells) → After (Some old) (Some row) → find_row columns (key_of columns old) (after_change_in columns (Some old) (Some row) rows) ≡ Some row
   replaced_by old row after_is =
       let same : key_of columns old ≡ key_of columns row = key_of-found columns (key_of columns row) old rows after_is in
       rw same (find_row-put_own columns row rows)
 
   -- a table with a change made is a table
-  pub IsTable-made : (before after : Option Cells) → IfSome after (RowFits columns) → IfSome after (λ row. IsUniqueRow schema table row rows) → IsTable schema table (made_in columns before after rows)
+  pub IsTable-made : (before after : Option Cells) → IfSome after (RowFits columns) → IfSome after (λ row. IsUniqueRow schema table row rows) → IsTable schema table (after_change_in columns before after rows)
   IsTable-made None None fits unique = is
   IsTable-made (Some old) None fits unique = IsTable-take schema table (key_of columns old) rows is
   IsTable-made None (Some row) fits unique = IsTable-put schema table row rows fits unique is
@@ -80,30 +80,30 @@ module _ (schema : Schema) (change : Change) (earlier : List Rows) (are : AreTab
   is_table = are.each change.table is.table
 
   -- the changed table after the change
-  pub rows_of-made : rows_of (made schema change earlier) change.table ≡ made_in (columns_of schema change.table) change.before change.after (rows_of earlier change.table)
+  pub rows_of-made : rows_of (after_change schema change earlier) change.table ≡ after_change_in (columns_of schema change.table) change.before change.after (rows_of earlier change.table)
   rows_of-made = get_or-set_same earlier change.table _ [] in_range
 
   -- tables with a change made are tables
-  pub AreTables-made : AreTables schema (made schema change earlier)
+  pub AreTables-made : AreTables schema (after_change schema change earlier)
   AreTables-made = AreTables-set schema earlier change.table _ are (IsTable-made schema change.table (rows_of earlier change.table) is_table change.before change.after is.fits is.unique)
 
   -- what was made is unmade
-  pub unmade-made : unmade schema change (made schema change earlier) ≡ earlier
+  pub unmade-made : before_change schema change (after_change schema change earlier) ≡ earlier
   unmade-made =
       rw (rows_of-made, unmade_in schema change.table (rows_of earlier change.table) is_table change.before change.after is.before is.after)
       (set-set earlier change.table _ _ ∙ set-get_or earlier change.table [])
 
 -- taking changes back, the last one first
-abbrev pub unmade_all : Schema → List Change → List Rows → List Rows
-unmade_all schema [] tables = tables
-unmade_all schema (change ∷ changes) tables = unmade schema change (unmade_all schema changes tables)
+abbrev pub before_changes : Schema → List Change → List Rows → List Rows
+before_changes schema [] tables = tables
+before_changes schema (change ∷ changes) tables = before_change schema change (before_changes schema changes tables)
 
 -- the last of several changes
 lead-last : (schema : Schema) (changes : List Change) (change : Change) (earlier later : List Rows) → AreTables schema earlier → LeadsTo schema (changes ++ change ∷ []) earlier later
-    → (middle : List Rows) × AreTables schema middle × LeadsTo schema changes earlier middle × IsChange schema change middle × (made schema change middle ≡ later)
+    → (middle : List Rows) × AreTables schema middle × LeadsTo schema changes earlier middle × IsChange schema change middle × (after_change schema change middle ≡ later)
 lead-last schema [] change earlier later are lead = (earlier, are, refl, lead.0, lead.1)
 lead-last schema (first ∷ changes) change earlier later are lead =
-    let rest = lead-last schema changes change (made schema first earlier) later (AreTables-made schema first earlier are lead.0) lead.1 in
+    let rest = lead-last schema changes change (after_change schema first earlier) later (AreTables-made schema first earlier are lead.0) lead.1 in
     (rest.0, rest.1, (lead.0, rest.2), rest.3, rest.4)
 
 module _ (schema : Schema) (changes : List Change) (change : Change) (tables : List Rows) (led : HaveLed schema (changes ++ change ∷ []) tables) where
@@ -114,21 +114,21 @@ module _ (schema : Schema) (changes : List Change) (change : Change) (tables : L
       record { earlier = last.0; are = last.1; lead = (last.3, last.4) }
 
   -- and the others to the tables with it taken back
-  pub HaveLed-others : HaveLed schema changes (unmade schema change tables)
+  pub HaveLed-others : HaveLed schema changes (before_change schema change tables)
   HaveLed-others =
       let last = lead-last schema changes change led.earlier tables led.are led.lead in
-      let back : unmade schema change tables ≡ last.0 = ap (unmade schema change) (sym last.4) ∙ unmade-made schema change last.0 last.1 last.3 in
+      let back : before_change schema change tables ≡ last.0 = ap (before_change schema change) (sym last.4) ∙ unmade-made schema change last.0 last.1 last.3 in
       record { earlier = led.earlier; are = led.are; lead = rw back last.2 }
 
-pub unmade_all-last : (schema : Schema) (changes : List Change) (change : Change) (tables : List Rows) → unmade_all schema (changes ++ change ∷ []) tables ≡ unmade_all schema changes (unmade schema change tables)
-unmade_all-last schema [] change tables = refl
-unmade_all-last schema (first ∷ changes) change tables = ap (unmade schema first) (unmade_all-last schema changes change tables)
+pub before_changes-last : (schema : Schema) (changes : List Change) (change : Change) (tables : List Rows) → before_changes schema (changes ++ change ∷ []) tables ≡ before_changes schema changes (before_change schema change tables)
+before_changes-last schema [] change tables = refl
+before_changes-last schema (first ∷ changes) change tables = ap (before_change schema first) (before_changes-last schema changes change tables)
 
 -- taking all changes back gives the earlier tables
-pub unmade_all-led : (schema : Schema) (changes : List Change) (earlier later : List Rows) → AreTables schema earlier → LeadsTo schema changes earlier later → unmade_all schema changes later ≡ earlier
-unmade_all-led schema [] earlier later are lead = sym lead
-unmade_all-led schema (change ∷ changes) earlier later are lead =
-    ap (unmade schema change) (unmade_all-led schema changes (made schema change earlier) later (AreTables-made schema change earlier are lead.0) lead.1)
+pub before_changes-led : (schema : Schema) (changes : List Change) (earlier later : List Rows) → AreTables schema earlier → LeadsTo schema changes earlier later → before_changes schema changes later ≡ earlier
+before_changes-led schema [] earlier later are lead = sym lead
+before_changes-led schema (change ∷ changes) earlier later are lead =
+    ap (before_change schema change) (before_changes-led schema changes (after_change schema change earlier) later (AreTables-made schema change earlier are lead.0) lead.1)
     ∙ unmade-made schema change earlier are lead.0
 
 module _ (schema : Schema) (change : Change) (tables : List Rows) (led : HaveLed schema (change ∷ []) tables) where
@@ -142,7 +142,7 @@ module _ (schema : Schema) (change : Change) (tables : List Rows) (led : HaveLed
   table_then = led.are.each change.table led.lead.0.table
 
   -- the changed table now
-  rows_now : rows_of tables change.table ≡ made_in columns_here change.before change.after rows_then
+  rows_now : rows_of tables change.table ≡ after_change_in columns_here change.before change.after rows_then
   rows_now = ap (λ ts. rows_of ts change.table) (sym led.lead.1) ∙ rows_of-made schema change led.earlier led.are led.lead.0
 
   before_then : (old : Cells) → change.before ≡ Some old → find_row columns_here (key_of columns_here old) rows_then ≡ Some old

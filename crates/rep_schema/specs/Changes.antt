@@ -5,22 +5,22 @@ use Rattle.rep_schema.specs.declared.schema.Column.{Column}
 use Rattle.rep_schema.specs.declared.change.Change.{Change}
 use Rattle.rep_schema.specs.Tables.{Cells, Rows, columns_of, key_of, find_row, put_row, take_row, rows_of, RowFits, IsUniqueRow, IsKeyed, AreTables}
 
-abbrev pub made_in : List Column → Option Cells → Option Cells → Rows → Rows
-made_in columns before (Some row) rows = put_row columns row rows
-made_in columns (Some row) None rows = take_row columns (key_of columns row) rows
-made_in columns None None rows = rows
+abbrev pub after_change_in : List Column → Option Cells → Option Cells → Rows → Rows
+after_change_in columns before (Some row) rows = put_row columns row rows
+after_change_in columns (Some row) None rows = take_row columns (key_of columns row) rows
+after_change_in columns None None rows = rows
 
 -- the tables after a change: its row after is put, or its row before is taken where there is none after
-abbrev pub made : Schema → Change → List Rows → List Rows
-made schema change tables = slice_set tables change.table (made_in (columns_of schema change.table) change.before change.after (rows_of tables change.table))
+abbrev pub after_change : Schema → Change → List Rows → List Rows
+after_change schema change tables = slice_set tables change.table (after_change_in (columns_of schema change.table) change.before change.after (rows_of tables change.table))
 
 -- the change the other way round
 abbrev pub turned : Change → Change
 turned change = record { table = change.table; before = change.after; after = change.before }
 
 -- the tables after a change is taken back
-abbrev pub unmade : Schema → Change → List Rows → List Rows
-unmade schema change tables = made schema (turned change) tables
+abbrev pub before_change : Schema → Change → List Rows → List Rows
+before_change schema change tables = after_change schema (turned change) tables
 
 -- a change of one row of the schema: what is there fits, differs, and has one key
 pub record ChangeFits (schema : Schema) (change : Change) : Type 0 where
@@ -47,7 +47,7 @@ pub record IsChange (schema : Schema) (change : Change) (tables : List Rows) : T
 -- made in their order, the changes lead from the earlier tables to the later ones
 abbrev pub LeadsTo : Schema → List Change → List Rows → List Rows → Type 0
 LeadsTo schema [] earlier later = earlier ≡ later
-LeadsTo schema (change ∷ changes) earlier later = IsChange schema change earlier × LeadsTo schema changes (made schema change earlier) later
+LeadsTo schema (change ∷ changes) earlier later = IsChange schema change earlier × LeadsTo schema changes (after_change schema change earlier) later
 
 -- there are earlier tables of the schema from which the changes lead to these
 pub record HaveLed (schema : Schema) (changes : List Change) (tables : List Rows) : Type 0 where

@@ -4,7 +4,7 @@ use Rattle.rep_schema.specs.declared.schema.Schema.{Schema}
 use Rattle.rep_schema.specs.declared.change.Change.{Change}
 use Rattle.rep_schema.specs.Tables.{Cells, Rows}
 use Rattle.rep_schema.specs.Groups.{are_same}
-use Rattle.rep_schema.specs.Changes.{made}
+use Rattle.rep_schema.specs.Changes.{after_change}
 
 -- the same row, or none both times
 abbrev pub is_unchanged : Option Cells → Option Cells → Bool
@@ -23,9 +23,9 @@ changes_of None = []
 changes_of (Some change) = change ∷ []
 
 -- the tables after changes in their order
-abbrev pub made_all : Schema → List Change → List Rows → List Rows
-made_all schema [] tables = tables
-made_all schema (change ∷ changes) tables = made_all schema changes (made schema change tables)
+abbrev pub after_changes : Schema → List Change → List Rows → List Rows
+after_changes schema [] tables = tables
+after_changes schema (change ∷ changes) tables = after_changes schema changes (after_change schema change tables)
 
 -- what a store is before or after a step
 pub record StoreState : Type 0 where
@@ -36,7 +36,7 @@ pub record StoreState : Type 0 where
 -- a step in a table of a store, which makes no change, or one, or fails: where it fails, tables and room are as before;
 -- else its change is made, which uses up the room for one row at most. the schema stays
 pub record StepsIn {E : Type 0} (table : ℕ) (old new : StoreState) (outcome : Result (Option Change) E) : Type 0 where
-  pub tables : IfOk outcome (λ change. new.tables ≡ made_all old.schema (changes_of change) old.tables)
+  pub tables : IfOk outcome (λ change. new.tables ≡ after_changes old.schema (changes_of change) old.tables)
   pub same : OnErr outcome (new.tables ≡ old.tables)
   pub same_room : OnErr outcome (new.spare ≡ old.spare)
   pub schema : new.schema ≡ old.schema

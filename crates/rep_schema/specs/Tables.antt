@@ -67,8 +67,8 @@ abbrev pub IsKeyed : List Column → Type 0
 IsKeyed columns = IsKeyLen (key_count columns)
 
 -- where a row stands beside a key
-abbrev pub beside : List Column → Cells → Cells → Ordering
-beside columns key row = key_cmp (key_of columns row) key
+abbrev pub row_beside : List Column → Cells → Cells → Ordering
+row_beside columns key row = key_cmp (key_of columns row) key
 
 -- two rows compared by their keys
 abbrev pub row_cmp : List Column → Cells → Cells → Ordering
@@ -83,15 +83,15 @@ cell_cmp (Some u) (Some v) = value_cmp u v
 
 -- the row with a key, if there is one
 abbrev pub find_row : List Column → Cells → Rows → Option Cells
-find_row columns key rows = find_at (beside columns key) rows
+find_row columns key rows = find_at (row_beside columns key) rows
 
 -- the rows with this one among them, in place of the row with its key
 abbrev pub put_row : List Column → Cells → Rows → Rows
-put_row columns row rows = put_at (beside columns (key_of columns row)) row rows
+put_row columns row rows = put_at (row_beside columns (key_of columns row)) row rows
 
 -- the rows without the one with a key
 abbrev pub take_row : List Column → Cells → Rows → Rows
-take_row columns key rows = take_at (beside columns key) rows
+take_row columns key rows = take_at (row_beside columns key) rows
 
 -- a number within ±10^15
 abbrev pub IsInRange : ℤ → Type 0

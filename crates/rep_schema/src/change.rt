@@ -1,7 +1,7 @@
 //! Changes of rows, and taking them back.
 ghost use Rattle.std.specs.Prelude.{◌≡◌, ℕ, ◌+◌, ◌<◌, ◌≤◌, List, [], ◌∷◌, length, slice_index};
 ghost use Rattle.rep_schema.specs.Tables.{Rows, AreTables};
-ghost use Rattle.rep_schema.specs.Changes.{HaveLed, LeadsTo, unmade, room_for};
+ghost use Rattle.rep_schema.specs.Changes.{HaveLed, LeadsTo, before_change, room_for};
 
 use crate::{RowStore, columns_of, key_of};
 use rep_lists::Items;
@@ -25,7 +25,7 @@ pub struct Changes {
 fn undo_one<R: RowStore>(store: &mut R, change: Change)
     requires led { HaveLed (R.schema store.old) (change ∷ []) (R.tables store.old) }
     requires room { room_for change.table (change ∷ []) ≤ slice_index (R.spare store.old) change.table }
-    ensures tables { R.tables store.new ≡ unmade (R.schema store.old) change (R.tables store.old) }
+    ensures tables { R.tables store.new ≡ before_change (R.schema store.old) change (R.tables store.old) }
     ensures schema { R.schema store.new ≡ R.schema store.old }
     ensures room { (t : ℕ) → slice_index (R.spare store.old) t ≤ slice_index (R.spare store.new) t + room_for t (change ∷ []) }
 {

@@ -2,7 +2,7 @@
 ghost use Rattle.std.specs.Prelude.{◌≡◌, ◌+◌, ◌<◌, ◌↔◌, ◌∷◌, length, drop, slice_get, slice_index_or, IsTrue};
 ghost use Rattle.rep_values.specs.declared.value.Value.{Value as One};
 ghost use Rattle.rep_values.specs.Number.{IsKeyLen};
-ghost use Rattle.rep_schema.specs.Tables.{beside, cell_cmp, row_cmp, key_of, columns_of, constraints_of, constraint_columns_of, picked, IsKeyed, RowFits};
+ghost use Rattle.rep_schema.specs.Tables.{row_beside, cell_cmp, row_cmp, key_of, columns_of, constraints_of, constraint_columns_of, picked, IsKeyed, RowFits};
 
 use crate::{Column, Constraint, Schema};
 use rep_values::{Key, Row, Value, compare_values, same_value};
@@ -10,7 +10,7 @@ use std::cmp::Ordering;
 
 /// Where a row stands beside a key: before it, at it or behind it. It takes no memory and builds no key.
 pub fn compare_row(columns: &[Column], key: &[Value], row: &[Value]) -> Ordering
-    ensures { result ≡ beside columns.now key.now row.now }
+    ensures { result ≡ row_beside columns.now key.now row.now }
 {
     let mut read = 0;
     for i in 0..columns.len().min(row.len()) {

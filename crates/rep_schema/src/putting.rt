@@ -1,7 +1,7 @@
 //! Rows put into a store, and the changes that this makes.
 ghost use Rattle.std.specs.Prelude.{◌≡◌, ℕ, ◌+◌, ◌<◌, ◌≤◌, ◌==◌, ◌++◌, [], cond, length, slice_index, vec_len, vec_capacity, Some, IfOk, OnErr};
 ghost use Rattle.rep_schema.specs.Tables.{columns_of, key_of, find_row, rows_of, RowFits, IsKeyed, IsUniqueRow, AreTables};
-ghost use Rattle.rep_schema.specs.Changes.{made, row_like};
+ghost use Rattle.rep_schema.specs.Changes.{after_change, row_like};
 ghost use Rattle.rep_schema.specs.Putting.{is_unchanged, changes_between, changes_of, StepsIn};
 
 use crate::{Change, RowStore, key_in};
@@ -59,7 +59,7 @@ pub fn put_with_change<R: RowStore>(
     requires unique { IsUniqueRow (R.schema store.old) table row (rows_of (R.tables store.old) table) }
     requires room { 1 ≤ slice_index (R.spare store.old) table }
     ensures ok { IfOk result (λ change. change ≡ record { table = table; before = row_like (columns_of (R.schema store.old) table) row (rows_of (R.tables store.old) table); after = Some row }) }
-    ensures tables { IfOk result (λ change. R.tables store.new ≡ made (R.schema store.old) change (R.tables store.old)) }
+    ensures tables { IfOk result (λ change. R.tables store.new ≡ after_change (R.schema store.old) change (R.tables store.old)) }
     ensures same { OnErr result (R.tables store.new ≡ R.tables store.old) }
     ensures same_room { OnErr result (R.spare store.new ≡ R.spare store.old) }
     ensures schema { R.schema store.new ≡ R.schema store.old }

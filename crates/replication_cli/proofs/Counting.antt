@@ -8,7 +8,7 @@ use Rattle.world_state.specs.Steps.{world_steps}
 use Rattle.replication_cli.specs.declared.tally.Tally.{Tally}
 use Rattle.replication_cli.specs.Texts.{texts}
 use Rattle.replication_cli.specs.Tallies.{is_commit, is_refused, is_push, errors_of, tally_of, with_text}
-use Rattle.replication_cli.specs.Runs.{Running, beginning, with_command, with_commands}
+use Rattle.replication_cli.specs.Runs.{Running, storm_beginning, with_command, with_commands}
 
 commits_in : (t : Tally) (xs : List (List ℕ)) → (fold with_text t xs).commits ≡ t.commits + count_by is_commit xs
 commits_in t [] = sym (add-zero t.commits)
@@ -57,9 +57,9 @@ number-with_commands r [] = sym (add-zero r.number)
 number-with_commands r (c ∷ cs) = omega (arith, number-with_commands (with_command r c) cs)
 
 -- a run from the first command on has the world behind all of them
-pub world_behind : (cs : List Command) → (with_commands beginning cs).world ≡ world_steps 1 cs first_world
-world_behind cs = world-with_commands beginning cs
+pub world_behind : (cs : List Command) → (with_commands storm_beginning cs).world ≡ world_steps 1 cs first_world
+world_behind cs = world-with_commands storm_beginning cs
 
 -- and counts what they print
-pub tally_behind : (cs : List Command) → (with_commands beginning cs).tally ≡ tally_of (texts 1 cs first_world)
-tally_behind cs = tally-with_commands beginning cs ∙ tally_of-fold (texts 1 cs first_world)
+pub tally_behind : (cs : List Command) → (with_commands storm_beginning cs).tally ≡ tally_of (texts 1 cs first_world)
+tally_behind cs = tally-with_commands storm_beginning cs ∙ tally_of-fold (texts 1 cs first_world)

@@ -2,7 +2,7 @@
 use Rattle.std.proofs.Common.{ℕ, ◌+◌, ◌^◌, ◌≤◌, ◌<◌, Bool, true, false, cond, List, [], ◌∷◌, arith, lit≤}
 use Rattle.std.specs.Prelude.{fold}
 use Rattle.replication_cli.specs.declared.tally.Tally.{Tally}
-use Rattle.replication_cli.specs.Words.{last_number, with_digit, number_of, word_at}
+use Rattle.replication_cli.specs.Words.{last_number, with_digit, digits_number, word_at}
 use Rattle.replication_cli.specs.Tallies.{is_commit, is_refused, is_push, errors_of, with_refusal, with_text, HasRoom}
 use Rattle.replication_cli.specs.Runs.{IsCounted}
 
@@ -17,8 +17,8 @@ number_from-le n (d ∷ ds) within = number_from-le (with_digit n d) ds (with_di
 pub errors_of-le : (text : List ℕ) → errors_of text ≤ 2 ^ 64
 errors_of-le text = go (is_push text)
   where
-    go : (b : Bool) → cond b (number_of (word_at 8 text)) 0 ≤ 2 ^ 64
-    go true = let most : number_of (word_at 8 text) ≤ last_number = number_from-le 0 (word_at 8 text) (lit≤ tt) in omega arith
+    go : (b : Bool) → cond b (digits_number (word_at 8 text)) 0 ≤ 2 ^ 64
+    go true = let most : digits_number (word_at 8 text) ≤ last_number = number_from-le 0 (word_at 8 text) (lit≤ tt) in omega arith
     go false = lit≤ tt
 
 once : (b : Bool) → cond b 1 0 ≤ 1

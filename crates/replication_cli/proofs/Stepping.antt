@@ -9,7 +9,7 @@ use Rattle.world_state.specs.World.{WorldState}
 use Rattle.world_state.specs.Refusals.{world_refusal}
 use Rattle.world_state.specs.Steps.{world_step, step_by, told_by}
 use Rattle.world_run.specs.Texts.{line_text, told_text}
-use Rattle.world_run.specs.Doing.{IsDone, IsShort, IsRefused}
+use Rattle.world_run.specs.Doing.{IsDone, IsOutOfMemory, IsRefused}
 use Rattle.replication_cli.specs.declared.tally.Tally.{Tally}
 use Rattle.replication_cli.specs.Tallies.{with_refusal, with_text}
 use Rattle.replication_cli.specs.Runs.{Running, with_command}
@@ -41,7 +41,7 @@ with_command-refused r w t c why told refused counted =
 
 -- a command of which it was told that it was refused, and not for want of memory
 pub with_command-told : (r : Running) (w : WorldState) (t : Tally) (c : Command) (why : Refused) → is_memory why.refusal ≡ false
-    → IsShort r.number c r.world w why ⊎ IsRefused r.number c r.world w why → t ≡ with_refusal r.tally
+    → IsOutOfMemory r.number c r.world w why ⊎ IsRefused r.number c r.world w why → t ≡ with_refusal r.tally
     → record { world = w; number = r.number + 1; tally = t } ≡ with_command r c
 with_command-told r w t c why told (inl short) counted = let memory = rw short.memory at told in absurd (cc memory)
 with_command-told r w t c why told (inr refused) counted = with_command-refused r w t c why told refused counted

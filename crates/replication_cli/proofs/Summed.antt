@@ -9,7 +9,7 @@ use Rattle.replication_cli.specs.declared.tally.Tally.{Tally}
 use Rattle.replication_cli.specs.declared.stocks.Totals.{Totals}
 use Rattle.replication_cli.specs.Texts.{texts}
 use Rattle.replication_cli.specs.Tallies.{tally_of}
-use Rattle.replication_cli.specs.Runs.{Running, beginning, with_commands}
+use Rattle.replication_cli.specs.Runs.{Running, storm_beginning, with_commands}
 use Rattle.replication_cli.specs.Stocks.{stock_rows, totals_of, masters_agree}
 use Rattle.replication_cli.specs.Lines.{storm_line, tally_lines, totals_lines, agree_line}
 use Rattle.replication_cli.specs.Summary.{summary_text, storm_summary}
@@ -19,7 +19,7 @@ added : (a b c d : List ℕ) → ((a ++ b) ++ c) ++ d ≡ a ++ (b ++ (c ++ d))
 added a b c d = append_assoc (a ++ b) c d ∙ append_assoc a b (c ++ d)
 
 -- the summary of what a run of the storm's commands told, and of its world
-summary_of : (seed count : ℕ) (r : Running) → r ≡ with_commands beginning (storm_commands seed count) → summary_text seed count r.tally r.world ≡ storm_summary seed count
+summary_of : (seed count : ℕ) (r : Running) → r ≡ with_commands storm_beginning (storm_commands seed count) → summary_text seed count r.tally r.world ≡ storm_summary seed count
 unfolding storm_summary
 summary_of seed count r is =
     let cs : List Command = storm_commands seed count in
@@ -38,7 +38,7 @@ lines_added seed count none first second third all t totals agree none_is first_
     let summed_up : third ≡ lines = third_is ∙ ap (λ (l : List ℕ). l ++ totals_lines totals) told in
     all_is ∙ ap (λ (l : List ℕ). l ++ agree_line agree) summed_up ∙ added (storm_line seed count) (tally_lines t) (totals_lines totals) (agree_line agree)
 
-module _ (seed count : ℕ) (r : Running) (is : r ≡ with_commands beginning (storm_commands seed count)) where
+module _ (seed count : ℕ) (r : Running) (is : r ≡ with_commands storm_beginning (storm_commands seed count)) where
   -- they are the summary, where they are of the run and of its world
   pub summed : (t : Tally) (totals : Totals) (agree : Bool) → t ≡ r.tally → totals ≡ totals_of (stock_rows site_a r.world) → agree ≡ masters_agree r.world
       → storm_line seed count ++ (tally_lines t ++ (totals_lines totals ++ agree_line agree)) ≡ storm_summary seed count

@@ -1,17 +1,17 @@
 -- Texts that are counted by hand.
 use Rattle.std.proofs.Common.{◌≡◌, [], ◌∷◌, ◌++◌, false, refl}
 use Rattle.std.specs.Prelude.{codes}
-use Rattle.replication_cli.specs.Words.{word_at, number_of}
+use Rattle.replication_cli.specs.Words.{word_at, digits_number}
 use Rattle.replication_cli.specs.Tallies.{is_commit, errors_of, tally_of}
 
 third_word : word_at 2 (codes "commit B none" ++ 10 ∷ []) ≡ codes "none"
 third_word = refl
 
-number_of_digits : number_of (codes "1206") ≡ 1206
+number_of_digits : digits_number (codes "1206") ≡ 1206
 number_of_digits = refl
 
 -- the first number that has no 64 bits
-number_of_many_digits : number_of (codes "18446744073709551616") ≡ 18446744073709551615
+number_of_many_digits : digits_number (codes "18446744073709551616") ≡ 18446744073709551615
 number_of_many_digits = refl
 
 nothing_committed : is_commit (codes "commit B none" ++ 10 ∷ []) ≡ false

@@ -21,8 +21,8 @@ pub record IsCounted (number : ℕ) (t : Tally) : Type 0 where
   pub errors : t.errors ≤ number * 2 ^ 64
 
 -- nothing was run yet
-abbrev pub beginning : Running
-beginning = record { world = first_world; number = 1; tally = tally_of [] }
+abbrev pub storm_beginning : Running
+storm_beginning = record { world = first_world; number = 1; tally = tally_of [] }
 
 -- one more command
 abbrev pub with_command : Running → Command → Running

@@ -8,7 +8,7 @@ use Rattle.rep_values.specs.Equality.{value_eq}
 use Rattle.rep_schema.specs.Tables.{Cells, Rows, rows_of}
 use Rattle.site_state.specs.State.{SiteState}
 use Rattle.site_state.specs.Contents.{tables_of}
-use Rattle.event_laws.specs.Core.{site_of}
+use Rattle.event_laws.specs.Cluster.{site_of}
 use Rattle.world_state.specs.World.{WorldState}
 use Rattle.replication_cli.specs.declared.stocks.Totals.{Totals}
 use Rattle.storm_script.specs.Sites.{site_a, site_b, site_c}
@@ -23,31 +23,31 @@ abbrev pub stock_rows : SiteName → WorldState → Rows
 stock_rows site w = rows_in (site_of site w.sites)
 
 -- the number that a value is; 0 where it is none
-abbrev pub number_in : Option Value → ℤ
-number_in None = pos 0
-number_in (Some (value.Num n)) = n
-number_in (Some (value.Words text)) = pos 0
+abbrev pub number_or_zero : Option Value → ℤ
+number_or_zero None = pos 0
+number_or_zero (Some (value.Num n)) = n
+number_or_zero (Some (value.Words text)) = pos 0
 
 -- a row's QTY
 abbrev pub qty_of : Cells → ℤ
-qty_of row = number_in (slice_get row 2)
+qty_of row = number_or_zero (slice_get row 2)
 
 -- a row's TOP
 abbrev pub top_of : Cells → ℤ
-top_of row = number_in (slice_get row 3)
+top_of row = number_or_zero (slice_get row 3)
 
 -- the sum of QTY
 abbrev pub total_qty : Rows → ℤ
 total_qty rows = fold (λ sum row. sum +ℤ qty_of row) (pos 0) rows
 
 -- the greater of what was greatest so far, if there was any, and a number
-abbrev pub raised : Option ℤ → ℤ → Option ℤ
-raised None n = Some n
-raised (Some m) n = Some (if int_lt m n then n else m)
+abbrev pub greatest_with : Option ℤ → ℤ → Option ℤ
+greatest_with None n = Some n
+greatest_with (Some m) n = Some (if int_lt m n then n else m)
 
 -- the greatest TOP; 0 where there is no row
 abbrev pub greatest_top : Rows → ℤ
-greatest_top rows = unwrap_or (fold (λ top row. raised top (top_of row)) None rows) (pos 0)
+greatest_top rows = unwrap_or (fold (λ top row. greatest_with top (top_of row)) None rows) (pos 0)
 
 -- how many rows there are, the sum of QTY, and the greatest TOP
 abbrev pub totals_of : Rows → Totals

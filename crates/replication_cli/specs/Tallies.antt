@@ -2,7 +2,7 @@
 use Rattle.std.specs.Prelude.{ℕ, ◌+◌, ◌^◌, ◌<◌, ◌≤◌, Bool, ◌&&◌, not, cond, List, codes, count_by, sum_by}
 use Rattle.rep_values.specs.Name.{same_bytes}
 use Rattle.replication_cli.specs.declared.tally.Tally.{Tally}
-use Rattle.replication_cli.specs.Words.{word_at, number_of}
+use Rattle.replication_cli.specs.Words.{word_at, digits_number}
 
 -- the text has this word at a place, from 0
 abbrev pub has_word : ℕ → List ℕ → List ℕ → Bool
@@ -22,7 +22,7 @@ is_push text = has_word 0 (codes "push") text
 
 -- the errors that a push counted: its ninth word
 abbrev pub errors_of : List ℕ → ℕ
-errors_of text = cond (is_push text) (number_of (word_at 8 text)) 0
+errors_of text = cond (is_push text) (digits_number (word_at 8 text)) 0
 
 -- the counts over texts
 abbrev pub tally_of : List (List ℕ) → Tally

@@ -20,5 +20,5 @@ abbrev pub with_digit : ℕ → ℕ → ℕ
 with_digit n byte = min (n * 10 + (byte - 48)) last_number
 
 -- the number of 64 bits that digits are
-abbrev pub number_of : List ℕ → ℕ
-number_of digits = fold with_digit 0 digits
+abbrev pub digits_number : List ℕ → ℕ
+digits_number digits = fold with_digit 0 digits

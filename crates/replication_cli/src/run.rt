@@ -1,10 +1,10 @@
 //! A storm that is being run, command by command.
 ghost use Rattle.std.specs.Prelude.{◌≡◌, ◌+◌, ◌*◌, ◌^◌, ◌<◌, ◌≤◌, All, length, None, IfOk, OnOk};
 ghost use Rattle.storm_script.specs.Laws.{IsLine, most_rounds};
-ghost use Rattle.storm_script.specs.Rounds.{rounds};
+ghost use Rattle.storm_script.specs.Rounds.{storm_rounds};
 ghost use Rattle.storm_script.specs.Storm.{storm_commands};
 ghost use Rattle.world_run.specs.Doing.{Does};
-ghost use Rattle.replication_cli.specs.Runs.{beginning, with_command, with_commands};
+ghost use Rattle.replication_cli.specs.Runs.{storm_beginning, with_command, with_commands};
 
 use crate::tally::Tally;
 use page_tables::PageTables;
@@ -65,7 +65,7 @@ impl Model for Run {
 impl Run {
     // A world in which nothing is declared.
     fn start(alloc: Global) -> Result<Run, NoMemory>
-        ensures { IfOk result (λ run. run ≡ beginning) }
+        ensures { IfOk result (λ run. run ≡ storm_beginning) }
     {
         Ok(Run {
             world: World::make(alloc)?,
@@ -150,7 +150,7 @@ impl Run {
     ) -> Result<(), NoMemory>
         requires count { count ≤ most_rounds }
         requires room { self.old.number + 5 * count < 2 ^ 32 }
-        ensures { OnOk result (self.new ≡ with_commands self.old (rounds count 1 seed)) }
+        ensures { OnOk result (self.new ≡ with_commands self.old (storm_rounds count 1 seed)) }
     {
         let mut draws = Draws { state: seed };
         for before in 0..count {
@@ -190,7 +190,7 @@ fn storm_beside<X: Wait, W: Watch>(
     watch: &W,
 ) -> Result<Run, NoMemory>
     requires { count ≤ most_rounds }
-    ensures { IfOk result (λ run. run ≡ with_commands beginning (storm_commands seed count)) }
+    ensures { IfOk result (λ run. run ≡ with_commands storm_beginning (storm_commands seed count)) }
 {
     let mut run = Run::start(alloc)?;
     run.storm(rt, alloc, workers, seed, count, watch)?;
@@ -208,13 +208,13 @@ pub fn run_storm<X: Threads + Wait + Sync, W: Watch>(
 ) -> Result<Run, NoMemory>
     requires count { count ≤ most_rounds }
     requires appliers { (1 ≤ appliers) × (appliers ≤ 8) }
-    ensures { IfOk result (λ run. run ≡ with_commands beginning (storm_commands seed count)) }
+    ensures { IfOk result (λ run. run ≡ with_commands storm_beginning (storm_commands seed count)) }
 {
     let workers = Workers::new(alloc, appliers);
     let shared = &workers;
     let mut run = || -> Result<Run, NoMemory>
         requires { count ≤ most_rounds }
-        ensures { IfOk result (λ run. run ≡ with_commands beginning (storm_commands seed count)) }
+        ensures { IfOk result (λ run. run ≡ with_commands storm_beginning (storm_commands seed count)) }
     { storm_beside(rt, alloc, shared, seed, count, watch) };
     beside_workers(rt, alloc, shared, watch, &mut run)
 }

@@ -1,7 +1,7 @@
 //! The storm's table at a site.
 ghost use Rattle.std.specs.Prelude.{◌≡◌, ◌+◌, ◌<◌, ◌↔◌, ◌∷◌, length, drop, slice_get, None, IsTrue};
 ghost use Rattle.rep_schema.specs.Tables.{rows_of};
-ghost use Rattle.replication_cli.specs.Stocks.{number_in, qty_of, top_of, raised, total_qty, greatest_top, totals_of, same_rows, stock_rows, masters_agree};
+ghost use Rattle.replication_cli.specs.Stocks.{number_or_zero, qty_of, top_of, greatest_with, total_qty, greatest_top, totals_of, same_rows, stock_rows, masters_agree};
 
 use rep_schema::RowStore;
 use rep_values::{Row, SiteName, Value, same_values};
@@ -41,7 +41,7 @@ fn row_at<R: RowStore>(store: &R, place: u64) -> &Row
 
 // The number at a place of a row; 0 where there is none.
 fn number_in(row: &Row, place: usize) -> i64
-    ensures { result ≡ number_in (slice_get row.now place) }
+    ensures { result ≡ number_or_zero (slice_get row.now place) }
 {
     match row.values().get(place) {
         Some(Value::Num(number)) => *number,
@@ -51,7 +51,7 @@ fn number_in(row: &Row, place: usize) -> i64
 
 // The greater of what was greatest so far, if there was any, and a number.
 fn raised(top: Option<i64>, number: i64) -> Option<i64>
-    ensures { result ≡ raised top number }
+    ensures { result ≡ greatest_with top number }
 {
     match top {
         None => Some(number),

@@ -1,7 +1,7 @@
 //! The words of a text.
 ghost use Rattle.std.specs.Prelude.{◌≡◌, ◌+◌, ◌-◌, ◌≤◌, length};
 ghost use Rattle.std.specs.List.{position_or_len, after_first};
-ghost use Rattle.replication_cli.specs.Words.{ends_word, word_at, number_of};
+ghost use Rattle.replication_cli.specs.Words.{ends_word, word_at, digits_number};
 
 // Whether a byte ends a word.
 fn ends_word(byte: u8) -> bool
@@ -47,7 +47,7 @@ pub fn word_at(text: &[u8], place: usize) -> &[u8]
 
 /// The number that digits are. One that has no 64 bits is the last that has.
 pub fn number_of(digits: &[u8]) -> u64
-    ensures { result ≡ number_of digits.now }
+    ensures { result ≡ digits_number digits.now }
 {
     let mut number: u64 = 0;
     for digit in digits {

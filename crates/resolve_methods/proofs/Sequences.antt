@@ -26,7 +26,7 @@ use Rattle.rep_calls.specs.declared.call.Part.{Part}
 use Rattle.resolve_methods.specs.declared.decision.Decision.TheVariants.{TakeNew, TakeNumber, Keep, Undecided, Range}
 use Rattle.resolve_methods.specs.Ranks.{number_of, site_level_of}
 use Rattle.resolve_methods.specs.Decide.{greater_stays, lesser_stays, by_order, only, taken_in_range, added, new_in, or_next, first_decision, methods_of, decision_of}
-use Rattle.resolve_methods.specs.SequenceLaws.{sum_methods, greatest_methods, least_methods, IsOfOneNumber, number_or_zero, number_in, group_number, move_of, sum_of_moves, TakenInTurn, MoveIsAdded, MovesAreTaken, MovesAddUp, MovesAddInAnyOrder, GreatestStays, LeastStays, Rank, IsLowerLevel, GoesByRank, GreaterRankStays}
+use Rattle.resolve_methods.specs.SequenceLaws.{sum_methods, greatest_methods, least_methods, IsOfOneNumber, number_or_zero, one_group_number, group_number, move_of, sum_of_moves, TakenInTurn, MoveIsAdded, MovesAreTaken, MovesAddUp, MovesAddInAnyOrder, GreatestStays, LeastStays, Rank, IsLowerLevel, GoesByRank, GreaterRankStays}
 use Rattle.resolve_methods.proofs.Over.{slice_get-set_same}
 use Rattle.resolve_methods.proofs.TakenNumber.{RowFits-taken_number}
 use Rattle.resolve_methods.proofs.Orders.{gain, loss, balance}
@@ -106,7 +106,7 @@ moves_are_taken schema table group column (part ∷ parts) row one each fits wit
     let next_fits : RowFits (columns_of schema table) next = RowFits-with_values (columns_of schema table) (group_columns_of schema table group) (Num n ∷ []) row below number_fits fits in
     let now = number_at (columns_of schema table) row column one.numbers fits in
     let there : slice_get next column ≡ Some (Num n) = written_one schema table group column sum_methods one row (Num now.0) n now.1 in
-    let number : group_number schema table group next ≡ n = ap number_in (group_values_one schema table group column sum_methods one next (Num n) there) in
+    let number : group_number schema table group next ≡ n = ap one_group_number (group_values_one schema table group column sum_methods one next (Num n) there) in
     let rest = moves_are_taken schema table group column parts next one each.1 next_fits (rw number within.1) in
     (rest.0, (n, same, takes, rest.1))
 
@@ -139,7 +139,7 @@ module _ (schema : Schema) (table group column : ℕ) (one : IsOfOneNumber schem
       let next : Cells = with_group_values schema table group (Num n ∷ []) row in
       let there : slice_get next column ≡ Some (Num n) = written_one schema table group column sum_methods one row v n here in
       let rest = all_sums parts next last (Num n) there taken.3 in
-      let number : group_number schema table group next ≡ n = ap number_in (group_values_one schema table group column sum_methods one next (Num n) there) in
+      let number : group_number schema table group next ≡ n = ap one_group_number (group_values_one schema table group column sum_methods one next (Num n) there) in
       let first = one_sum part row n taken.1 taken.2 in
       omega (arith, ints, rest, number, first)
 

@@ -46,16 +46,16 @@ number_or_zero None = pos 0
 number_or_zero (Some n) = n
 
 -- the one number of a group's values
-abbrev pub number_in : Cells → ℤ
-number_in values = number_or_zero (number_of (only values))
+abbrev pub one_group_number : Cells → ℤ
+one_group_number values = number_or_zero (number_of (only values))
 
 -- the number that a row has in a group
 abbrev pub group_number : Schema → ℕ → ℕ → Cells → ℤ
-group_number schema table group row = number_in (group_values schema table group row)
+group_number schema table group row = one_group_number (group_values schema table group row)
 
 -- by how much a part moves its group's number
 abbrev pub move_of : Part → ℤ
-move_of part = number_in part.new -ℤ number_in part.old
+move_of part = one_group_number part.new -ℤ one_group_number part.old
 
 -- by how much parts move it together
 abbrev pub sum_of_moves : List Part → ℤ
@@ -109,14 +109,14 @@ abbrev pub GreatestStays : Type 0
 GreatestStays = (schema : Schema) (table column : ℕ) (part : Part) (row : Cells)
     → IsOfOneNumber schema table part.group column (greatest_methods column)
     → HasGroupValues schema table part → RowFits (columns_of schema table) row
-    → decision_of schema table part row ≡ cond (int_lt (group_number schema table part.group row) (number_in part.new)) TakeNew Keep
+    → decision_of schema table part row ≡ cond (int_lt (group_number schema table part.group row) (one_group_number part.new)) TakeNew Keep
 
 -- minimum and discard take the new number where it is lesser, else the current one stays
 abbrev pub LeastStays : Type 0
 LeastStays = (schema : Schema) (table column : ℕ) (part : Part) (row : Cells)
     → IsOfOneNumber schema table part.group column (least_methods column)
     → HasGroupValues schema table part → RowFits (columns_of schema table) row
-    → decision_of schema table part row ≡ cond (int_lt (number_in part.new) (group_number schema table part.group row)) TakeNew Keep
+    → decision_of schema table part row ≡ cond (int_lt (one_group_number part.new) (group_number schema table part.group row)) TakeNew Keep
 
 -- a stamp, and the level of a site that may have none
 pub record Rank : Type 0 where

@@ -4,7 +4,7 @@ use Rattle.std.proofs.Math.Seq.{map-set_same}
 use Rattle.std.proofs.lemmas.List.{get_or-set_other, get_or-set_same, map-set, get_or-map, length-map}
 use Rattle.rep_schema.specs.declared.schema.Schema.{Schema}
 use Rattle.rep_schema.specs.Tables.{rows_of, IsTable, AreTables}
-use Rattle.rep_schema.proofs.KeptTables.{AreTables-set}
+use Rattle.rep_schema.proofs.TableSteps.{AreTables-set}
 use Rattle.row_tables.specs.Stored.{StoredTable, rows_in, spare_in}
 
 module _ (stored : List StoredTable) (table : ℕ) (in_range : table < length stored) where

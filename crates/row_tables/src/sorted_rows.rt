@@ -1,7 +1,7 @@
 //! The rows of one table, in rising order of key.
 ghost use Rattle.std.specs.Prelude.{◌≡◌, ◌≢◌, ◌+◌, ◌≤◌, ◌⊎◌, ◌↔◌, [], length, slice_get, option_copied, IsTrue, IsSome, IsOk, IfOk, IfErr, OnOk, OnSome};
 ghost use Rattle.rep_lists.specs.Rising.{IsRising, IsThere, IsGap};
-ghost use Rattle.rep_schema.specs.Tables.{beside, row_cmp, key_of, find_row, put_row, take_row, picked, IsHeldElsewhere};
+ghost use Rattle.rep_schema.specs.Tables.{row_beside, row_cmp, key_of, find_row, put_row, take_row, picked, IsHeldElsewhere};
 
 use rep_lists::RoomyList;
 use rep_schema::{Column, compare_row, compare_rows, have_one_key, same_picked};
@@ -13,12 +13,12 @@ use std::marker::Model;
 /// The place of the row with a key, or else the place where it would stand.
 fn search(rows: &[Row], columns: &[Column], key: &[Value]) -> Result<usize, usize>
     requires { IsRising (row_cmp columns.now) rows.now }
-    ensures found { IfOk result (IsThere (beside columns.now key.now) rows.now) }
-    ensures absent { IfErr result (IsGap (beside columns.now key.now) rows.now) }
+    ensures found { IfOk result (IsThere (row_beside columns.now key.now) rows.now) }
+    ensures absent { IfErr result (IsGap (row_beside columns.now key.now) rows.now) }
 {
     rows.binary_search_by(
         |row: &Row| -> Ordering
-            ensures { result ≡ beside columns.entry.now key.entry.now row.now }
+            ensures { result ≡ row_beside columns.entry.now key.entry.now row.now }
         { compare_row(columns, key, row.values()) },
     )
 }
@@ -26,8 +26,8 @@ fn search(rows: &[Row], columns: &[Column], key: &[Value]) -> Result<usize, usiz
 /// The place of the row with another row's key, or else the place where that one would stand. No key is built.
 fn search_like(rows: &[Row], columns: &[Column], like: &[Value]) -> Result<usize, usize>
     requires { IsRising (row_cmp columns.now) rows.now }
-    ensures found { IfOk result (IsThere (beside columns.now (key_of columns.now like.now)) rows.now) }
-    ensures absent { IfErr result (IsGap (beside columns.now (key_of columns.now like.now)) rows.now) }
+    ensures found { IfOk result (IsThere (row_beside columns.now (key_of columns.now like.now)) rows.now) }
+    ensures absent { IfErr result (IsGap (row_beside columns.now (key_of columns.now like.now)) rows.now) }
 {
     rows.binary_search_by(
         |row: &Row| -> Ordering

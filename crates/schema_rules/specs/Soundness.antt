@@ -10,7 +10,7 @@ use Rattle.schema_rules.specs.CheckRules.{each_check, tests_plain_column, is_unc
 use Rattle.schema_rules.specs.Rules.{has_some_master, broken_rule}
 
 -- a schema that keeps all rules, one field for each in the order of their numbers
-pub record IsSound (schema : Schema) : Type 0 where
+pub record KeepsAllRules (schema : Schema) : Type 0 where
   pub mastered : has_some_master schema ≡ true
   pub keyed : list_all is_well_keyed schema.tables ≡ true
   pub grouped_apart : each_group is_off_the_key schema ≡ true
@@ -31,4 +31,4 @@ pub record IsSound (schema : Schema) : Type 0 where
 
 -- a schema is sound exactly where no rule is broken
 abbrev pub SoundUnbroken : Type 0
-SoundUnbroken = (schema : Schema) → IsSound schema ↔ (broken_rule schema ≡ None)
+SoundUnbroken = (schema : Schema) → KeepsAllRules schema ↔ (broken_rule schema ≡ None)

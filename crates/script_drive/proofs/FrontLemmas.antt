@@ -6,7 +6,7 @@ use Rattle.std.proofs.lemmas.List.{take_more}
 use Rattle.std.proofs.lemmas.List.Elements.{All-head, All-tail}
 use Rattle.rep_lines.specs.Lines.{newline, whole_lines, lines_after, IsUnbroken}
 use Rattle.rep_lines.specs.Runs.{Stepped, state_after}
-use Rattle.rep_lines.specs.Fed.{Standing, Fed}
+use Rattle.rep_lines.specs.Fed.{RunState, Fed}
 use Rattle.rep_lines.proofs.LineLemmas.{StartsLine, starts_line, whole_lines-unbroken, pending-unbroken}
 use Rattle.rep_lines.proofs.EndLemmas.{HaltsFirst, halts_first}
 use Rattle.rep_lines.proofs.LimitLemmas.{limited-long, one_line_too_many}
@@ -31,7 +31,7 @@ take-end xs n here ends = take_more xs n 0 here ∙ ap (λ b. take n xs ++ b ∷
 
 module _ {W : Type 0} (step : W → ℕ → List ℕ → Stepped W) where
   -- bytes that don't end their line are appended to it
-  pub fed_unbroken : (at : Standing W) (xs : List ℕ) → IsUnbroken xs → Fed step at xs [] (record { state = at.state; number = at.number; line = at.line ++ xs })
+  pub fed_unbroken : (at : RunState W) (xs : List ℕ) → IsUnbroken xs → Fed step at xs [] (record { state = at.state; number = at.number; line = at.line ++ xs })
   fed_unbroken at xs unbroken =
       let none : whole_lines at.line xs ≡ [] = whole_lines-unbroken at.line xs unbroken in
       let number : at.number + length (whole_lines at.line xs) ≡ at.number = ap (λ ls. at.number + length ls) none ∙ add-zero at.number in record {
@@ -41,12 +41,12 @@ module _ {W : Type 0} (step : W → ℕ → List ℕ → Stepped W) where
       }
 
   -- bytes behind the last line
-  pub bytes_behind_last : (at : Standing W) (xs rest : List ℕ) → 0 < length xs → 200000 < at.number → HaltsFirst (line_step step) at (xs ++ rest) (malformed_text at.number 2)
+  pub bytes_behind_last : (at : RunState W) (xs rest : List ℕ) → 0 < length xs → 200000 < at.number → HaltsFirst (line_step step) at (xs ++ rest) (malformed_text at.number 2)
   bytes_behind_last at [] rest some many = absurd (omega (arith, some))
   bytes_behind_last at (b ∷ bs) rest some many = one_line_too_many 200000 1024 malformed_text step at b (bs ++ rest) many
 
   -- bytes that make their line too long
-  pub front_too_long : (at : Standing W) (xs rest : List ℕ) → IsUnbroken xs → at.number ≤ 200000 → length at.line ≤ 1024 → 1024 < length at.line + length xs
+  pub front_too_long : (at : RunState W) (xs rest : List ℕ) → IsUnbroken xs → at.number ≤ 200000 → length at.line ≤ 1024 → 1024 < length at.line + length xs
       → HaltsFirst (line_step step) at (xs ++ rest) (malformed_text at.number 1)
   front_too_long at [] rest unbroken few short long = absurd (omega arith)
   front_too_long at (b ∷ bs) rest unbroken few short long =
@@ -57,15 +57,15 @@ module _ {W : Type 0} (step : W → ℕ → List ℕ → Stepped W) where
 
 module _ {W C : Type 0} (step : C → W → ℕ → List ℕ → Stepped W) (allowed : W → C → Type 0) (known : W → Type 0) where
   -- bytes that don't end their line are appended to it
-  pub feeds_unbroken : (a : Option (List ℕ)) (at mid : Standing W) (xs : List ℕ) → IsUnbroken xs → mid ≡ record { state = at.state; number = at.number; line = at.line ++ xs }
+  pub feeds_unbroken : (a : Option (List ℕ)) (at mid : RunState W) (xs : List ℕ) → IsUnbroken xs → mid ≡ record { state = at.state; number = at.number; line = at.line ++ xs }
       → FeedsBy step allowed a a at xs mid
   feeds_unbroken a at mid xs unbroken is choices may = (
-    subst (λ (s : Standing W). allowed s.state choices) is may,
-    ([], Appends-nil a, subst (λ (s : Standing W). Fed (line_step (step choices)) at xs [] s) (sym is) (fed_unbroken (line_step (step choices)) at xs unbroken)),
+    subst (λ (s : RunState W). allowed s.state choices) is may,
+    ([], Appends-nil a, subst (λ (s : RunState W). Fed (line_step (step choices)) at xs [] s) (sym is) (fed_unbroken (line_step (step choices)) at xs unbroken)),
   )
 
   -- a line was run that the bytes before its end belong to
-  pub feeds_line : (a b : Option (List ℕ)) (old : Standing W) (xs : List ℕ) (n : ℕ) (mid new : Standing W) → n < length xs → get_or xs n 0 ≡ newline → IsUnbroken (take n xs)
+  pub feeds_line : (a b : Option (List ℕ)) (old : RunState W) (xs : List ℕ) (n : ℕ) (mid new : RunState W) → n < length xs → get_or xs n 0 ≡ newline → IsUnbroken (take n xs)
       → mid ≡ record { state = old.state; number = old.number; line = old.line ++ take n xs }
       → FeedsBy step allowed a b mid (newline ∷ []) new → FeedsBy step allowed a b old (take (n + 1) xs) new
   feeds_line a b old xs n mid new here ends unbroken is line =
@@ -73,7 +73,7 @@ module _ {W C : Type 0} (step : C → W → ℕ → List ℕ → Stepped W) (all
       (feeds_by_more step allowed known a a b old (take n xs) mid (newline ∷ []) new (feeds_unbroken a old mid (take n xs) unbroken is) line)
 
   -- that line ended the run
-  pub halts_line : (a b : Option (List ℕ)) (halt : Halt) (old : Standing W) (xs : List ℕ) (n : ℕ) (mid : Standing W) → n < length xs → get_or xs n 0 ≡ newline → IsUnbroken (take n xs)
+  pub halts_line : (a b : Option (List ℕ)) (halt : Halt) (old : RunState W) (xs : List ℕ) (n : ℕ) (mid : RunState W) → n < length xs → get_or xs n 0 ≡ newline → IsUnbroken (take n xs)
       → mid ≡ record { state = old.state; number = old.number; line = old.line ++ take n xs }
       → HaltsBy step allowed known a b halt mid (newline ∷ []) → HaltsBy step allowed known a b halt old xs
   halts_line a b halt old xs n mid here ends unbroken is halted =

@@ -4,7 +4,7 @@ use Rattle.std.proofs.lemmas.List.Elements.{All-nil, All-push}
 use Rattle.std.specs.declared.option.Option.{Option}
 use Rattle.std.specs.Io.KnownBytes.{Consumes, Appends}
 use Rattle.rep_lines.specs.Runs.{Stepped}
-use Rattle.rep_lines.specs.Fed.{Standing, beginning, FedInto}
+use Rattle.rep_lines.specs.Fed.{RunState, run_beginning, FedInto}
 use Rattle.script_drive.specs.Halts.{status_of}
 use Rattle.script_drive.specs.Prompt.{Asked, AsksNext, IsAnswered, IsPrompt, FaultIsLast, TellsReads, ReadsSoFar, ReadsPromptly}
 use Rattle.script_drive.specs.declared.status.Status.TheVariants as status
@@ -38,7 +38,7 @@ module _ {W : Type 0} (step : W → ℕ → List ℕ → Stepped W) (start : W) 
   prompt_first r l k all script earlier is e f = (all, [], is, sym (append-nil all), (All-nil (IsPrompt step start script earlier), All-nil IsAnswered))
 
   -- a read asked for where a run stands that was fed all bytes read so far is prompt
-  prompt_here : (l l' k k' : Option (List ℕ)) (read : List ℕ) (at : Standing W) (asked : Asked) → Consumes l l' read → FedInto step k k' (beginning start) read at
+  prompt_here : (l l' k k' : Option (List ℕ)) (read : List ℕ) (at : RunState W) (asked : Asked) → Consumes l l' read → FedInto step k k' (run_beginning start) read at
       → asked.left ≡ l' → asked.written ≡ k' → (script earlier : List ℕ) → l ≡ Some script → k ≡ Some earlier → IsPrompt step start script earlier asked
   prompt_here l l' k k' read at asked took ran is_left is_written script earlier e f =
       let rest = left_is_told l l' script read e took in
@@ -46,8 +46,8 @@ module _ {W : Type 0} (step : W → ℕ → List ℕ → Stepped W) (start : W) 
       (read, rest.0, rest.1, is_left ∙ rest.2, is_written ∙ written, ran.2.running)
 
   -- one more was asked for there, and was answered
-  pub prompt_answered : (r r' r'' : Option (List Asked)) (l l' k k' : Option (List ℕ)) (read : List ℕ) (at : Standing W) (asked : Asked)
-      → ReadsSoFar step start r r' l k → Consumes l l' read → FedInto step k k' (beginning start) read at
+  pub prompt_answered : (r r' r'' : Option (List Asked)) (l l' k k' : Option (List ℕ)) (read : List ℕ) (at : RunState W) (asked : Asked)
+      → ReadsSoFar step start r r' l k → Consumes l l' read → FedInto step k k' (run_beginning start) read at
       → asked.left ≡ l' → asked.written ≡ k' → asked.failed ≡ false → AsksNext r' r'' asked → ReadsSoFar step start r r'' l k
   prompt_answered r r' r'' l l' k k' read at asked so_far took ran is_left is_written answered next =
       more_reads (λ script earlier further. All (IsPrompt step start script earlier) further × All IsAnswered further) (λ script earlier further. All (IsPrompt step start script earlier) further × All IsAnswered further)
@@ -58,8 +58,8 @@ module _ {W : Type 0} (step : W → ℕ → List ℕ → Stepped W) (start : W) 
       )) so_far next
 
   -- it failed, and the run ended
-  pub prompt_failed : (r r' r'' : Option (List Asked)) (l l' k k' : Option (List ℕ)) (read : List ℕ) (at : Standing W) (asked : Asked)
-      → ReadsSoFar step start r r' l k → Consumes l l' read → FedInto step k k' (beginning start) read at
+  pub prompt_failed : (r r' r'' : Option (List Asked)) (l l' k k' : Option (List ℕ)) (read : List ℕ) (at : RunState W) (asked : Asked)
+      → ReadsSoFar step start r r' l k → Consumes l l' read → FedInto step k k' (run_beginning start) read at
       → asked.left ≡ l' → asked.written ≡ k' → asked.failed ≡ true → AsksNext r' r'' asked → ReadsPromptly step start status.ReadFault r r'' l k
   prompt_failed r r' r'' l l' k k' read at asked so_far took ran is_left is_written failed next =
       more_reads (λ script earlier further. All (IsPrompt step start script earlier) further × All IsAnswered further) (λ script earlier further. All (IsPrompt step start script earlier) further × FaultIsLast status.ReadFault further)

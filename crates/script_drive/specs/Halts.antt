@@ -6,7 +6,7 @@ use Rattle.rep_io.specs.Faults.{Rose}
 use Rattle.rep_io.specs.Transfer.{TakesFront}
 use Rattle.rep_lines.specs.Runs.{Stepped, state_after}
 use Rattle.rep_lines.specs.Lines.{lines_after}
-use Rattle.rep_lines.specs.Fed.{Standing, prints_from, stops_from, FedInto, EndsStoppedInto, EndsShortInto, ReachesFrom}
+use Rattle.rep_lines.specs.Fed.{RunState, prints_from, stops_from, FedInto, EndsStoppedInto, EndsShortInto, ReachesFrom}
 use Rattle.script_drive.specs.declared.status.Status.{Status}
 use Rattle.script_drive.specs.declared.status.Status.TheVariants as status
 use Rattle.script_drive.specs.Lines.{most_bytes, line_step}
@@ -26,34 +26,34 @@ RefusesInto before after text WriteFault = TakesFront before after text
 RefusesInto before after text Memory = Appends before after []
 
 -- what the sink took by then: all up to the malformed line, or a front of what is printed
-abbrev pub HaltsInto : {W : Type 0} → (W → ℕ → List ℕ → Stepped W) → Option (List ℕ) → Option (List ℕ) → Halt → Standing W → List ℕ → Type 0
+abbrev pub HaltsInto : {W : Type 0} → (W → ℕ → List ℕ → Stepped W) → Option (List ℕ) → Option (List ℕ) → Halt → RunState W → List ℕ → Type 0
 HaltsInto step before after Malformed old bytes = EndsStoppedInto step before after old bytes
 HaltsInto step before after WriteFault old bytes = EndsShortInto step before after old bytes
 HaltsInto step before after Memory old bytes = EndsShortInto step before after old bytes
 
 -- no more bytes come: the last line was run where it isn't empty, no line ended the run, and w is the state behind it
-abbrev pub FinishesInto : {W : Type 0} → (W → ℕ → List ℕ → Stepped W) → Option (List ℕ) → Option (List ℕ) → Standing W → W → Type 0
+abbrev pub FinishesInto : {W : Type 0} → (W → ℕ → List ℕ → Stepped W) → Option (List ℕ) → Option (List ℕ) → RunState W → W → Type 0
 FinishesInto step before after old w = (out : List ℕ) × Appends before after out × (out ≡ prints_from step old []) × (stops_from step old [] ≡ false)
     × (w ≡ state_after step old.state old.number (lines_after old.line []))
 
 -- the run came to the state w within the bytes, and halted
-pub record HaltsAt {W : Type 0} (step : W → ℕ → List ℕ → Stepped W) (before after : Option (List ℕ)) (halt : Halt) (old : Standing W) (bytes : List ℕ) (w : W) : Type 0 where
+pub record HaltsAt {W : Type 0} (step : W → ℕ → List ℕ → Stepped W) (before after : Option (List ℕ)) (halt : Halt) (old : RunState W) (bytes : List ℕ) (w : W) : Type 0 where
   pub into : HaltsInto step before after halt old bytes
   pub reached : ReachesFrom step old bytes w
 
 -- the same, by all choices that the state to which the run came allows: the one before allowed them too, so that what holds
 -- of two pieces by the choices behind the second holds of both together
 module _ {W C : Type 0} (step : C → W → ℕ → List ℕ → Stepped W) (allowed : W → C → Type 0) where
-  abbrev pub FeedsBy : Option (List ℕ) → Option (List ℕ) → Standing W → List ℕ → Standing W → Type 0
+  abbrev pub FeedsBy : Option (List ℕ) → Option (List ℕ) → RunState W → List ℕ → RunState W → Type 0
   FeedsBy before after old bytes new =
       (choices : C) → allowed new.state choices → allowed old.state choices × FedInto (line_step (step choices)) before after old bytes new
 
-  abbrev pub FinishesBy : Option (List ℕ) → Option (List ℕ) → Standing W → W → Type 0
+  abbrev pub FinishesBy : Option (List ℕ) → Option (List ℕ) → RunState W → W → Type 0
   FinishesBy before after old w =
       (choices : C) → allowed w choices → allowed old.state choices × FinishesInto (line_step (step choices)) before after old w
 
   -- where it halted, `known` holds of that state
-  abbrev pub HaltsBy : (W → Type 0) → Option (List ℕ) → Option (List ℕ) → Halt → Standing W → List ℕ → Type 0
+  abbrev pub HaltsBy : (W → Type 0) → Option (List ℕ) → Option (List ℕ) → Halt → RunState W → List ℕ → Type 0
   HaltsBy known before after halt old bytes = (w : W) × known w
       × ((choices : C) → allowed w choices → allowed old.state choices × HaltsAt (line_step (step choices)) before after halt old bytes w)
 
@@ -63,5 +63,5 @@ pub record HasWriteCause {T : Type 0} (before now : ℕ) (result : Result T Halt
   pub failed : IfErr result (λ halt. halt ≡ WriteFault → Rose before now)
 
 -- how far a run is, in bytes, where each line has as many as it may
-abbrev pub progress : {W : Type 0} → Standing W → ℕ
+abbrev pub progress : {W : Type 0} → RunState W → ℕ
 progress at = (most_bytes + 1) * at.number + length at.line

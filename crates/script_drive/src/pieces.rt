@@ -1,7 +1,7 @@
 //! A script that is read piece by piece from a source, and its report that goes to a sink.
 ghost use Rattle.std.specs.Prelude.{◌≡◌, ◌≢◌};
 ghost use Rattle.rep_io.specs.Faults.{Rose};
-ghost use Rattle.rep_lines.specs.Fed.{beginning};
+ghost use Rattle.rep_lines.specs.Fed.{run_beginning};
 ghost use Rattle.script_drive.specs.Outcome.{RanBy};
 
 use crate::at_end::{AtEnd, end};
@@ -22,7 +22,7 @@ fn run_pieces<X: LineRunner, S, K: Sink, R: Reader<S, K>>(
     sink: &mut K,
 ) -> Status
     requires known { X.known run.old.state }
-    requires fresh { run.old ≡ beginning run.old.state }
+    requires fresh { run.old ≡ run_beginning run.old.state }
     ensures told { RanBy X.step X.allowed X.known run.old.state result (R.left source.old) (R.left source.new) (K.taken sink.old) (K.taken sink.new) (R.reads reader.old) (R.reads reader.new) }
     ensures read { result ≡ Status.ReadFault → Rose (R.faults source.old) (R.faults source.new) }
     ensures write { result ≡ Status.WriteFault → Rose (K.faults sink.old) (K.faults sink.new) }

@@ -3,7 +3,7 @@ ghost use Rattle.std.specs.Prelude.{◌≡◌, ◌≢◌, ◌≤◌, ◌<◌, �
 ghost use Rattle.rep_io.specs.Faults.{Rose};
 ghost use Rattle.rep_lines.specs.Lines.{newline, IsUnbroken};
 ghost use Rattle.rep_lines.specs.Runs.{Stepped};
-ghost use Rattle.rep_lines.specs.Fed.{beginning};
+ghost use Rattle.rep_lines.specs.Fed.{run_beginning};
 ghost use Rattle.report_text.specs.Texts.{malformed_text};
 ghost use Rattle.script_drive.specs.Lines.{GoesBy, StopsAnyway, most_bytes};
 ghost use Rattle.script_drive.specs.Halts.{FeedsBy, FinishesBy, HaltsBy, RefusesInto, HasWriteCause, status_of, progress};
@@ -94,9 +94,9 @@ pub struct Run<X: LineRunner> {
 
 impl<X: LineRunner> Model for Run<X> {
     ghost use Rattle.std.specs.Prelude.{◌≤◌, length, vec_capacity};
-    ghost use Rattle.rep_lines.specs.Fed.{Standing};
+    ghost use Rattle.rep_lines.specs.Fed.{RunState};
 
-    ghost Value = { Standing X.State };
+    ghost Value = { RunState X.State };
 
     ghost view = { λ r. record { state = X.state r.runner; number = r.number; line = r.line.items } };
 
@@ -106,7 +106,7 @@ impl<X: LineRunner> Model for Run<X> {
 impl<X: LineRunner> Run<X> {
     /// A run of which nothing was read yet. The room for a line is taken now.
     pub fn start(alloc: Global, runner: X) -> Result<Run<X>, AllocError>
-        ensures { IfOk result (λ run. run ≡ beginning (X.state runner)) }
+        ensures { IfOk result (λ run. run ≡ run_beginning (X.state runner)) }
     {
         let line = Vec::with_capacity(alloc, MOST_BYTES)?;
         Ok(Run {

@@ -12,7 +12,7 @@ use Rattle.rep_declare.specs.Additions.{ColumnNamed}
 use Rattle.script_lex.specs.declared.token.Token.{Token}
 use Rattle.script_lex.specs.Lines.{lexed}
 use Rattle.script_words.specs.Words.{is_named, is_valued, is_chosen, choice_of}
-use Rattle.script_words.specs.Reading.{Reading, ◌>>=◌, at, mark, row, ◌⊛◌, ◌⊘◌, optional, separated, many, some_of, ended}
+use Rattle.script_words.specs.Reading.{Reading, ◌>>=◌, at, mark, row, ◌⊛◌, ◌⊘◌, optional, separated, many, one_or_more, ended}
 use Rattle.script_words.specs.Parts.{name, number, whole_number, value, choice}
 use Rattle.script_parse.specs.declared.heads.Declaring.{Declaring}
 use Rattle.script_parse.specs.declared.heads.Declaring.TheVariants as declaring
@@ -97,7 +97,7 @@ gives-mark {A} P made word makes ts z rest is = go (made ts) refl is
     go (Ok x) found is = inner x.0 x.1 (makes ts x.0 x.1 found) (mark word x.1) is
 
 -- one or more are not none
-some-given : {A : Type 0} (test : Token → Bool) (part : Reading A) → Gives (λ (xs : List A). 1 ≤ length xs) (some_of test part)
+some-given : {A : Type 0} (test : Token → Bool) (part : Reading A) → Gives (λ (xs : List A). 1 ≤ length xs) (one_or_more test part)
 unfolding many
 some-given {A} test part [] xs rest is = absurd (cc is)
 some-given {A} test part (t ∷ ts) xs rest is = go (test t) refl is
@@ -128,13 +128,13 @@ declarations_name : (d : Declaring) → Gives ColumnNamed (declaration_of d)
 declarations_name declaring.Site = gives-1 ColumnNamed declare.Site site (λ a. tt)
 declarations_name declaring.LateSite = gives-1 ColumnNamed declare.LateSite site (λ a. tt)
 declarations_name declaring.SnapSite = gives-2 ColumnNamed declare.SnapSite site site (λ a b. tt)
-declarations_name declaring.Table = gives-2 ColumnNamed declare.Table table (some_of is_named column) (λ a b. tt)
-declarations_name declaring.Group = gives-both (λ names. 1 ≤ length names) ColumnNamed (row declare.Group ⊛ table ⊛ name) (some_of is_named name)
+declarations_name declaring.Table = gives-2 ColumnNamed declare.Table table (one_or_more is_named column) (λ a b. tt)
+declarations_name declaring.Group = gives-both (λ names. 1 ≤ length names) ColumnNamed (row declare.Group ⊛ table ⊛ name) (one_or_more is_named name)
     (gives-2 (λ f. (names : List (List ℕ)) → 1 ≤ length names → ColumnNamed (f names)) (λ t n names. declare.Group t n names) table name (λ a b names some. some)) (some-given is_named name)
 declarations_name declaring.Method = gives-3 ColumnNamed declare.Method table name method (λ a b c. tt)
 declarations_name declaring.Priority = gives-3 ColumnNamed declare.Priority name value number (λ a b c. tt)
 declarations_name declaring.SiteLevel = gives-2 ColumnNamed declare.SiteLevel site number (λ a b. tt)
-declarations_name declaring.Unique = gives-both (λ names. 1 ≤ length names) ColumnNamed (row declare.Unique ⊛ table ⊛ name) (some_of is_named name)
+declarations_name declaring.Unique = gives-both (λ names. 1 ≤ length names) ColumnNamed (row declare.Unique ⊛ table ⊛ name) (one_or_more is_named name)
     (gives-2 (λ f. (names : List (List ℕ)) → 1 ≤ length names → ColumnNamed (f names)) (λ t n names. declare.Unique t n names) table name (λ a b names some. some)) (some-given is_named name)
 declarations_name declaring.UniqueMethod = gives-3 ColumnNamed declare.UniqueMethod table name unique_method (λ a b c. tt)
 declarations_name declaring.Check = gives-then ColumnNamed (row declare.Check ⊛ table ⊛ name ⊛ name ⊛ choice rels) value
@@ -156,9 +156,9 @@ fates_name ts c rest is = first (site ts) is
             last (Ok more) is = let same : command.ClearFates from to ≡ y = ap (front_or y) is in subst NamesColumn same tt
 
         go : (b : Bool) → (y : Command) (end : List Token)
-            → (if b then (row (command.ClearFates from to) ⊘ codes "clear") us else (row (command.Fates from to) ⊛ some_of (is_chosen fates) (choice fates)) us) ≡ Ok (y, end) → NamesColumn y
+            → (if b then (row (command.ClearFates from to) ⊘ codes "clear") us else (row (command.Fates from to) ⊛ one_or_more (is_chosen fates) (choice fates)) us) ≡ Ok (y, end) → NamesColumn y
         go true y end is = cleared us y end is
-        go false y end is = gives-1 NamesColumn (command.Fates from to) (some_of (is_chosen fates) (choice fates)) (λ a. tt) us y end is
+        go false y end is = gives-1 NamesColumn (command.Fates from to) (one_or_more (is_chosen fates) (choice fates)) (λ a. tt) us y end is
 
     second : (from : SiteName) (o : Result (SiteName × List Token) ℕ) → (o >>= λ to. fates_behind from to.0 to.1) ≡ Ok (c, rest) → NamesColumn c
     second from (Err e) is = absurd (cc is)
@@ -172,19 +172,19 @@ fates_name ts c rest is = first (site ts) is
 rows_name : (h : Head) → Gives NamesColumn (row_of h)
 rows_name (head.Declare d) = gives-both ColumnNamed NamesColumn (row command.Declare) (declaration_of d) (gives-row (λ f. (d' : Declare) → ColumnNamed d' → NamesColumn (f d')) command.Declare (λ a named. named)) (declarations_name d)
 rows_name head.Snapshot = gives-3 NamesColumn snapshot_of site table where_tests (λ a b c. tt)
-rows_name head.Subsnapshot = gives-then NamesColumn (row subsnapshot_of ⊛ site ⊛ table ⊘ codes "parent" ⊛ table ⊘ codes "by" ⊛ some_of is_column_name name) where_tests
-    (gives-then (λ f. (tests : Option (List TestWords)) → NamesColumn (f tests)) (row subsnapshot_of ⊛ site ⊛ table ⊘ codes "parent" ⊛ table ⊘ codes "by") (some_of is_column_name name)
+rows_name head.Subsnapshot = gives-then NamesColumn (row subsnapshot_of ⊛ site ⊛ table ⊘ codes "parent" ⊛ table ⊘ codes "by" ⊛ one_or_more is_column_name name) where_tests
+    (gives-then (λ f. (tests : Option (List TestWords)) → NamesColumn (f tests)) (row subsnapshot_of ⊛ site ⊛ table ⊘ codes "parent" ⊛ table ⊘ codes "by") (one_or_more is_column_name name)
     (gives-mark (λ f. (columns : List (List ℕ)) (tests : Option (List TestWords)) → NamesColumn (f columns tests)) (row subsnapshot_of ⊛ site ⊛ table ⊘ codes "parent" ⊛ table) (codes "by")
     (gives-then (λ f. (columns : List (List ℕ)) (tests : Option (List TestWords)) → NamesColumn (f columns tests)) (row subsnapshot_of ⊛ site ⊛ table ⊘ codes "parent") table
     (gives-mark (λ f. (parents : TableName) (columns : List (List ℕ)) (tests : Option (List TestWords)) → NamesColumn (f parents columns tests)) (row subsnapshot_of ⊛ site ⊛ table) (codes "parent")
     (gives-2 (λ f. (parents : TableName) (columns : List (List ℕ)) (tests : Option (List TestWords)) → NamesColumn (f parents columns tests)) subsnapshot_of site table (λ a b c d e. tt))))))
-rows_name head.Row = gives-2 NamesColumn command.Row table (some_of is_valued value) (λ a b. tt)
+rows_name head.Row = gives-2 NamesColumn command.Row table (one_or_more is_valued value) (λ a b. tt)
 rows_name head.Resume = gives-row NamesColumn command.Resume tt
-rows_name head.Insert = gives-2 NamesColumn insert_of table (some_of is_valued value) (λ a b. tt)
-rows_name head.Update = gives-then NamesColumn (row update_of ⊛ table ⊛ some_of is_valued value ⊘ codes ":") (separated (codes ",") set_part)
-    (gives-mark (λ f. (sets : List Set) → NamesColumn (f sets)) (row update_of ⊛ table ⊛ some_of is_valued value) (codes ":")
-    (gives-2 (λ f. (sets : List Set) → NamesColumn (f sets)) update_of table (some_of is_valued value) (λ a b c. tt)))
-rows_name head.Delete = gives-2 NamesColumn delete_of table (some_of is_valued value) (λ a b. tt)
+rows_name head.Insert = gives-2 NamesColumn insert_of table (one_or_more is_valued value) (λ a b. tt)
+rows_name head.Update = gives-then NamesColumn (row update_of ⊛ table ⊛ one_or_more is_valued value ⊘ codes ":") (separated (codes ",") set_part)
+    (gives-mark (λ f. (sets : List Set) → NamesColumn (f sets)) (row update_of ⊛ table ⊛ one_or_more is_valued value) (codes ":")
+    (gives-2 (λ f. (sets : List Set) → NamesColumn (f sets)) update_of table (one_or_more is_valued value) (λ a b c. tt)))
+rows_name head.Delete = gives-2 NamesColumn delete_of table (one_or_more is_valued value) (λ a b. tt)
 rows_name head.Txn = gives-1 NamesColumn command.Txn site (λ a. tt)
 rows_name head.Commit = gives-row NamesColumn command.Commit tt
 rows_name head.Abandon = gives-row NamesColumn command.Abandon tt

@@ -20,7 +20,7 @@ use Rattle.script_lex.specs.declared.token.Symbol.TheVariants as symbol
 use Rattle.script_lex.specs.declared.token.Token.{Token}
 use Rattle.script_lex.specs.declared.token.Token.TheVariants as token
 use Rattle.script_words.specs.Words.{is_named, is_chosen}
-use Rattle.script_words.specs.Reading.{one, mark, at, begins, some_of, separated}
+use Rattle.script_words.specs.Reading.{one, mark, at, begins, one_or_more, separated}
 use Rattle.script_words.specs.Spelled.{value_token}
 use Rattle.script_words.specs.Parts.{name, choice}
 use Rattle.script_words.proofs.ReadAgain.{some_again, all_again, all_separated_again}
@@ -73,7 +73,7 @@ pub next_ends_column : (c : Column) (rest : List Token) → IsName c.name → en
 next_ends_column c rest formed = rw (name_is_no_mark 58 [] c.name refl formed) refl
 
 pub columns_again : (c : Column) (cs : List Column) → AllByRecursion (λ d. IsName d.name) (c ∷ cs)
-    → some_of is_named column (flat_map column_tokens (c ∷ cs)) ≡ Ok (c ∷ cs, [])
+    → one_or_more is_named column (flat_map column_tokens (c ∷ cs)) ≡ Ok (c ∷ cs, [])
 columns_again c cs formed =
     all_again is_named column column_tokens (λ d. IsName d.name) ends_column column_begins column_again next_ends_column c cs formed refl
 
@@ -104,7 +104,7 @@ column_name_begins : (n : List ℕ) (rest : List Token) → IsColumnName n → b
 column_name_begins n rest formed = rw (formed.0, formed.1) refl
 
 pub column_names_again : (n : List ℕ) (ns : List (List ℕ)) (rest : List Token) → AllByRecursion IsColumnName (n ∷ ns) → begins is_column_name rest ≡ false
-    → some_of is_column_name name (flat_map (λ m. token.Word m ∷ []) (n ∷ ns) ++ rest) ≡ Ok (n ∷ ns, rest)
+    → one_or_more is_column_name name (flat_map (λ m. token.Word m ∷ []) (n ∷ ns) ++ rest) ≡ Ok (n ∷ ns, rest)
 column_names_again n ns rest formed none =
     some_again is_column_name name (λ m. token.Word m ∷ []) IsColumnName (λ ts. true)
     column_name_begins (λ m ts named stop. name_again m ts named.0) (λ m ts named. refl) n ns rest formed refl none
@@ -169,7 +169,7 @@ all_units : (fs : List Fate) → AllByRecursion (λ f. Unit {0}) fs
 all_units [] = tt
 all_units (f ∷ fs) = (tt, all_units fs)
 
-pub fates_again : (f : Fate) (fs : List Fate) → some_of (is_chosen fates) (choice fates) (fate_tokens (f ∷ fs)) ≡ Ok (f ∷ fs, [])
+pub fates_again : (f : Fate) (fs : List Fate) → one_or_more (is_chosen fates) (choice fates) (fate_tokens (f ∷ fs)) ≡ Ok (f ∷ fs, [])
 fates_again f fs =
     all_again (is_chosen fates) (choice fates) (λ g. token.Word (fate_word g) ∷ []) (λ g. Unit {0}) (λ ts. true)
     fate_begins fate_again (λ g ts formed. refl) f fs (all_units (f ∷ fs)) refl

@@ -12,7 +12,7 @@ use Rattle.rep_schema.specs.Kinds.{is_plain}
 use Rattle.script_lex.specs.declared.token.Token.{Token}
 use Rattle.script_lex.specs.declared.token.Token.TheVariants as token
 use Rattle.script_words.specs.Words.{is_named, is_valued}
-use Rattle.script_words.specs.Reading.{one, mark, at, begins, several, some_of}
+use Rattle.script_words.specs.Reading.{one, mark, at, begins, several, one_or_more}
 use Rattle.script_words.specs.Parts.{value}
 use Rattle.script_words.specs.Spelled.{value_token}
 use Rattle.script_words.proofs.ReadAgain.{several_again, all_again}
@@ -54,7 +54,7 @@ column_again c rest formed ends = go c.name c.kind c.key formed.1 formed.0
     go n k false plain named = plain_again n k rest plain named (ends_so (at (codes ":") rest) ends)
 
 pub plain_columns_again : (c : Column) (cs : List Column) → AllByRecursion IsPlainColumn (c ∷ cs)
-    → some_of is_named plain_column (flat_map column_tokens (c ∷ cs)) ≡ Ok (c ∷ cs, [])
+    → one_or_more is_named plain_column (flat_map column_tokens (c ∷ cs)) ≡ Ok (c ∷ cs, [])
 plain_columns_again c cs formed =
     all_again is_named plain_column column_tokens IsPlainColumn ends_column (λ d rest plain. column_begins d rest plain.0) column_again
     (λ d rest plain. next_ends_column d rest plain.0) c cs formed refl

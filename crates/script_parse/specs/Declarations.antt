@@ -2,7 +2,7 @@
 use Rattle.rep_declare.specs.declared.declaration.Declare.{Declare}
 use Rattle.rep_declare.specs.declared.declaration.Declare.TheVariants as declare
 use Rattle.script_words.specs.Words.{is_named}
-use Rattle.script_words.specs.Reading.{Reading, row, ◌⊛◌, some_of}
+use Rattle.script_words.specs.Reading.{Reading, row, ◌⊛◌, one_or_more}
 use Rattle.script_words.specs.Parts.{name, number, value, choice}
 use Rattle.script_parse.specs.declared.heads.Declaring.{Declaring}
 use Rattle.script_parse.specs.declared.heads.Declaring.TheVariants as declaring
@@ -24,11 +24,11 @@ snapshot_site_row = row declare.SnapSite ⊛ site ⊛ site
 
 -- table NAME COLUMN+
 abbrev pub table_row : Reading Declare
-table_row = row declare.Table ⊛ table ⊛ some_of is_named column
+table_row = row declare.Table ⊛ table ⊛ one_or_more is_named column
 
 -- group NAME NAME NAME+
 abbrev pub group_row : Reading Declare
-group_row = row declare.Group ⊛ table ⊛ name ⊛ some_of is_named name
+group_row = row declare.Group ⊛ table ⊛ name ⊛ one_or_more is_named name
 
 -- method NAME NAME M
 abbrev pub method_row : Reading Declare
@@ -44,7 +44,7 @@ site_level_row = row declare.SiteLevel ⊛ site ⊛ number
 
 -- unique NAME NAME NAME+
 abbrev pub unique_row : Reading Declare
-unique_row = row declare.Unique ⊛ table ⊛ name ⊛ some_of is_named name
+unique_row = row declare.Unique ⊛ table ⊛ name ⊛ one_or_more is_named name
 
 -- unique-method NAME NAME U
 abbrev pub unique_method_row : Reading Declare

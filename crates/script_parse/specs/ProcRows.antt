@@ -2,7 +2,7 @@
 use Rattle.std.specs.Prelude.{ℕ, List}
 use Rattle.rep_values.specs.declared.literal.Literal.{Literal}
 use Rattle.script_words.specs.Words.{is_named, is_valued, is_chosen}
-use Rattle.script_words.specs.Reading.{Reading, row, ◌⊛◌, several, some_of}
+use Rattle.script_words.specs.Reading.{Reading, row, ◌⊛◌, several, one_or_more}
 use Rattle.script_words.specs.Parts.{name, whole_number, value, choice}
 use Rattle.script_parse.specs.declared.heads.ProcHead.{ProcHead}
 use Rattle.script_parse.specs.declared.heads.ProcHead.TheVariants as head
@@ -14,7 +14,7 @@ use Rattle.script_parse.specs.Parts.{site, table, fates}
 
 -- proctable NAME COLUMN+
 abbrev pub proc_table_row : Reading ProcLine
-proc_table_row = row proc_line.Table ⊛ table ⊛ some_of is_named plain_column
+proc_table_row = row proc_line.Table ⊛ table ⊛ one_or_more is_named plain_column
 
 -- procedure NAME NAME ACTION
 abbrev pub procedure_row : Reading ProcLine
@@ -42,7 +42,7 @@ push_calls_row = row proc_line.Push ⊛ site ⊛ site
 
 -- fate-calls NAME NAME FATE+
 abbrev pub fate_calls_row : Reading ProcLine
-fate_calls_row = row proc_line.Fates ⊛ site ⊛ site ⊛ some_of (is_chosen fates) (choice fates)
+fate_calls_row = row proc_line.Fates ⊛ site ⊛ site ⊛ one_or_more (is_chosen fates) (choice fates)
 
 -- execute-calls NAME NAME WHOLE
 abbrev pub execute_calls_row : Reading ProcLine

@@ -7,7 +7,7 @@ use Rattle.rep_calls.specs.declared.statement.Set.{Set}
 use Rattle.rep_calls.specs.declared.statement.Statement.TheVariants as statement
 use Rattle.script_lex.specs.declared.token.Token.{Token}
 use Rattle.script_words.specs.Words.{is_mark, is_named, is_valued, is_chosen}
-use Rattle.script_words.specs.Reading.{Reading, ◌>>=◌, row, ◌⊛◌, ◌⊘◌, optional, either, some_of, separated}
+use Rattle.script_words.specs.Reading.{Reading, ◌>>=◌, row, ◌⊛◌, ◌⊘◌, optional, either, one_or_more, separated}
 use Rattle.script_words.specs.Parts.{name, whole_number, value, choice}
 use Rattle.script_parse.specs.declared.command.TestWords.{TestWords}
 use Rattle.script_parse.specs.declared.command.Command.{Command}
@@ -32,11 +32,11 @@ is_column_name t = is_named t && not (is_mark (codes "where") t)
 
 -- subsnapshot NAME NAME parent NAME by NAME+ [where TEST [and TEST]..]
 abbrev pub subsnapshot_row : Reading Command
-subsnapshot_row = row subsnapshot_of ⊛ site ⊛ table ⊘ codes "parent" ⊛ table ⊘ codes "by" ⊛ some_of is_column_name name ⊛ where_tests
+subsnapshot_row = row subsnapshot_of ⊛ site ⊛ table ⊘ codes "parent" ⊛ table ⊘ codes "by" ⊛ one_or_more is_column_name name ⊛ where_tests
 
 -- row NAME VALUE+
 abbrev pub row_row : Reading Command
-row_row = row command.Row ⊛ table ⊛ some_of is_valued value
+row_row = row command.Row ⊛ table ⊛ one_or_more is_valued value
 
 -- resume
 abbrev pub resume_row : Reading Command
@@ -48,7 +48,7 @@ insert_of t values = command.Statement (statement.Insert t values)
 
 -- insert NAME VALUE+
 abbrev pub insert_row : Reading Command
-insert_row = row insert_of ⊛ table ⊛ some_of is_valued value
+insert_row = row insert_of ⊛ table ⊛ one_or_more is_valued value
 
 -- the update of a table's row
 abbrev pub update_of : TableName → List Literal → List Set → Command
@@ -56,7 +56,7 @@ update_of t key sets = command.Statement (statement.Update t key sets)
 
 -- update NAME VALUE+ : SET [, SET]..
 abbrev pub update_row : Reading Command
-update_row = row update_of ⊛ table ⊛ some_of is_valued value ⊘ codes ":" ⊛ separated (codes ",") set_part
+update_row = row update_of ⊛ table ⊛ one_or_more is_valued value ⊘ codes ":" ⊛ separated (codes ",") set_part
 
 -- the delete of a table's row
 abbrev pub delete_of : TableName → List Literal → Command
@@ -64,7 +64,7 @@ delete_of t key = command.Statement (statement.Delete t key)
 
 -- delete NAME VALUE+
 abbrev pub delete_row : Reading Command
-delete_row = row delete_of ⊛ table ⊛ some_of is_valued value
+delete_row = row delete_of ⊛ table ⊛ one_or_more is_valued value
 
 -- txn NAME
 abbrev pub txn_row : Reading Command
@@ -85,7 +85,7 @@ push_row = row command.Push ⊛ site ⊛ site ⊛ optional (codes "count") whole
 -- clear or FATE+, behind two sites
 abbrev pub fates_behind : SiteName → SiteName → Reading Command
 fates_behind from to =
-    either (codes "clear") (row (command.ClearFates from to) ⊘ codes "clear") (row (command.Fates from to) ⊛ some_of (is_chosen fates) (choice fates))
+    either (codes "clear") (row (command.ClearFates from to) ⊘ codes "clear") (row (command.Fates from to) ⊛ one_or_more (is_chosen fates) (choice fates))
 
 -- fate NAME NAME FATE+ or fate NAME NAME clear
 abbrev pub fate_row : Reading Command

@@ -30,7 +30,7 @@ fn key_flag(tokens: &mut Reader<'_>) -> Result<bool, BrokenRule>
     if !tokens.passes(b":") {
         return Ok(false);
     }
-    tokens.pass(b"key")?;
+    tokens.expect(b"key")?;
     Ok(true)
 }
 
@@ -40,7 +40,7 @@ fn column_among(types: &[(&[u8], Kind)], tokens: &mut Reader<'_>) -> Result<Colu
     ensures { ReadsExactly (column_among (entries types.now)) result tokens.old tokens.new }
 {
     let name = tokens.name()?;
-    tokens.pass(b":")?;
+    tokens.expect(b":")?;
     let kind = tokens.choice(types)?;
     let key = key_flag(tokens)?;
     Ok(Column { name, kind, key })

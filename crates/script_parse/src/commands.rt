@@ -13,7 +13,7 @@ use crate::{Command, Link, ParentWords, Refresh, Shown};
 use rep_calls::Statement;
 use rep_values::{Name, SiteName};
 use script_lex::{BrokenRule, LineStop};
-use script_words::{Part, Reader, ValuePart, separated, some_of};
+use script_words::{Part, Reader, ValuePart, separated, one_or_more};
 use std::alloc::Global;
 
 /// `snapshot NAME NAME [where TEST [and TEST]..]`
@@ -58,10 +58,10 @@ pub fn subsnapshot_form(alloc: Global, tokens: &mut Reader<'_>) -> Result<Comman
 {
     let site = site(tokens)?;
     let own = table(tokens)?;
-    tokens.pass(b"parent")?;
+    tokens.expect(b"parent")?;
     let parents = table(tokens)?;
-    tokens.pass(b"by")?;
-    let columns = some_of::<ColumnPart>(alloc, tokens);
+    tokens.expect(b"by")?;
+    let columns = one_or_more::<ColumnPart>(alloc, tokens);
     if let Err(LineStop::Rule(rule)) = columns {
         return Err(LineStop::Rule(rule));
     }
@@ -84,7 +84,7 @@ pub fn row_form(alloc: Global, tokens: &mut Reader<'_>) -> Result<Command, LineS
     ensures named { IfOk result NamesColumn }
 {
     let table = table(tokens)?;
-    let values = some_of::<ValuePart>(alloc, tokens)?;
+    let values = one_or_more::<ValuePart>(alloc, tokens)?;
     Ok(Command::Row { table, values })
 }
 
@@ -94,7 +94,7 @@ pub fn insert_form(alloc: Global, tokens: &mut Reader<'_>) -> Result<Command, Li
     ensures named { IfOk result NamesColumn }
 {
     let table = table(tokens)?;
-    let values = some_of::<ValuePart>(alloc, tokens)?;
+    let values = one_or_more::<ValuePart>(alloc, tokens)?;
     Ok(Command::Statement(Statement::Insert { table, values }))
 }
 
@@ -105,11 +105,11 @@ pub fn update_form(alloc: Global, tokens: &mut Reader<'_>) -> Result<Command, Li
     ensures named { IfOk result NamesColumn }
 {
     let table = table(tokens)?;
-    let key = some_of::<ValuePart>(alloc, tokens);
+    let key = one_or_more::<ValuePart>(alloc, tokens);
     if let Err(LineStop::Rule(rule)) = key {
         return Err(LineStop::Rule(rule));
     }
-    tokens.pass(b":")?;
+    tokens.expect(b":")?;
     let sets = separated::<SetPart>(alloc, b",", tokens)?;
     let key = key?;
     Ok(Command::Statement(Statement::Update { table, key, sets }))
@@ -121,7 +121,7 @@ pub fn delete_form(alloc: Global, tokens: &mut Reader<'_>) -> Result<Command, Li
     ensures named { IfOk result NamesColumn }
 {
     let table = table(tokens)?;
-    let key = some_of::<ValuePart>(alloc, tokens)?;
+    let key = one_or_more::<ValuePart>(alloc, tokens)?;
     Ok(Command::Statement(Statement::Delete { table, key }))
 }
 
@@ -168,7 +168,7 @@ fn fates_behind(
     if tokens.passes(b"clear") {
         return Ok(Command::ClearFates { from, to });
     }
-    let fates = some_of::<FatePart>(alloc, tokens)?;
+    let fates = one_or_more::<FatePart>(alloc, tokens)?;
     Ok(Command::Fates { from, to, fates })
 }
 

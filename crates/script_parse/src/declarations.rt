@@ -10,7 +10,7 @@ use crate::methods::{method, unique_method};
 use crate::parts::{rel, site, table};
 use rep_declare::Declare;
 use script_lex::{BrokenRule, LineStop};
-use script_words::{NamePart, Reader, some_of};
+use script_words::{NamePart, Reader, one_or_more};
 use std::alloc::Global;
 
 fn site_form(tokens: &mut Reader<'_>) -> Result<Declare, BrokenRule>
@@ -43,7 +43,7 @@ fn table_form(alloc: Global, tokens: &mut Reader<'_>) -> Result<Declare, LineSto
     ensures named { IfOk result ColumnNamed }
 {
     let name = table(tokens)?;
-    let columns = some_of::<ColumnPart>(alloc, tokens)?;
+    let columns = one_or_more::<ColumnPart>(alloc, tokens)?;
     Ok(Declare::Table { name, columns })
 }
 
@@ -53,7 +53,7 @@ fn group_form(alloc: Global, tokens: &mut Reader<'_>) -> Result<Declare, LineSto
 {
     let table = table(tokens)?;
     let group = tokens.name()?;
-    let columns = some_of::<NamePart>(alloc, tokens)?;
+    let columns = one_or_more::<NamePart>(alloc, tokens)?;
     Ok(Declare::Group {
         table,
         group,
@@ -104,7 +104,7 @@ fn unique_form(alloc: Global, tokens: &mut Reader<'_>) -> Result<Declare, LineSt
 {
     let table = table(tokens)?;
     let constraint = tokens.name()?;
-    let columns = some_of::<NamePart>(alloc, tokens)?;
+    let columns = one_or_more::<NamePart>(alloc, tokens)?;
     Ok(Declare::Unique {
         table,
         constraint,

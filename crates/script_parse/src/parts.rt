@@ -94,7 +94,7 @@ fn setting(column: Name, tokens: &mut Reader<'_>) -> Result<Set, BrokenRule>
         let how = How::To(tokens.value()?);
         return Ok(Set { column, how });
     }
-    tokens.pass(b"+")?;
+    tokens.expect(b"+")?;
     let how = How::Add(tokens.number()?);
     Ok(Set { column, how })
 }

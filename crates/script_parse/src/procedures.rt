@@ -8,7 +8,7 @@ use crate::heads::ProcHead;
 use crate::parts::{FatePart, SitePart, site, table};
 use crate::{CallWords, ProcLine};
 use script_lex::{BrokenRule, LineStop};
-use script_words::{Reader, ValuePart, several, some_of};
+use script_words::{Reader, ValuePart, several, one_or_more};
 use std::alloc::Global;
 
 /// `proctable NAME COLUMN+`
@@ -16,7 +16,7 @@ fn proc_table_form(alloc: Global, tokens: &mut Reader<'_>) -> Result<ProcLine, L
     ensures { Takes proc_table_row result tokens.old tokens.new }
 {
     let table = table(tokens)?;
-    let columns = some_of::<PlainColumnPart>(alloc, tokens)?;
+    let columns = one_or_more::<PlainColumnPart>(alloc, tokens)?;
     Ok(ProcLine::Table { table, columns })
 }
 
@@ -74,7 +74,7 @@ fn fate_calls_form(alloc: Global, tokens: &mut Reader<'_>) -> Result<ProcLine, L
 {
     let from = site(tokens)?;
     let to = site(tokens)?;
-    let fates = some_of::<FatePart>(alloc, tokens)?;
+    let fates = one_or_more::<FatePart>(alloc, tokens)?;
     Ok(ProcLine::Fates { from, to, fates })
 }
 

@@ -11,7 +11,7 @@ use Rattle.rep_values.specs.declared.literal.Literal.TheVariants as literal
 use Rattle.script_lex.specs.declared.token.Token.{Token}
 use Rattle.script_lex.specs.declared.token.Token.TheVariants as token
 use Rattle.script_words.specs.Words.{is_named, is_valued}
-use Rattle.script_words.specs.Reading.{one, begins, some_of}
+use Rattle.script_words.specs.Reading.{one, begins, one_or_more}
 use Rattle.script_words.specs.Parts.{name, number, value}
 use Rattle.script_words.specs.Spelled.{value_token, is_small}
 use Rattle.script_words.proofs.ReadAgain.{some_again, all_again}
@@ -53,14 +53,14 @@ value_begins (literal.Words bytes) rest formed = refl
 
 -- values in a row, with other tokens behind them
 pub values_again : (v : Literal) (vs : List Literal) (rest : List Token) → AllByRecursion (λ w. is_small w ≡ true) (v ∷ vs) → begins is_valued rest ≡ false
-    → some_of is_valued value (flat_map (λ w. value_token w ∷ []) (v ∷ vs) ++ rest) ≡ Ok (v ∷ vs, rest)
+    → one_or_more is_valued value (flat_map (λ w. value_token w ∷ []) (v ∷ vs) ++ rest) ≡ Ok (v ∷ vs, rest)
 values_again v vs rest formed none =
     some_again is_valued value (λ w. value_token w ∷ []) (λ w. is_small w ≡ true) (λ ts. true)
     value_begins (λ w ts small stop. value_again w ts small) (λ w ts small. refl) v vs rest formed refl none
 
 -- the same with nothing behind them
 pub all_values_again : (v : Literal) (vs : List Literal) → AllByRecursion (λ w. is_small w ≡ true) (v ∷ vs)
-    → some_of is_valued value (flat_map (λ w. value_token w ∷ []) (v ∷ vs)) ≡ Ok (v ∷ vs, [])
+    → one_or_more is_valued value (flat_map (λ w. value_token w ∷ []) (v ∷ vs)) ≡ Ok (v ∷ vs, [])
 all_values_again v vs formed =
     all_again is_valued value (λ w. value_token w ∷ []) (λ w. is_small w ≡ true) (λ ts. true)
     value_begins (λ w ts small stop. value_again w ts small) (λ w ts small. refl) v vs formed refl
@@ -76,7 +76,7 @@ name_begins n rest formed = rw formed refl
 
 -- names in a row, with nothing behind them
 pub all_names_again : (n : List ℕ) (ns : List (List ℕ)) → AllByRecursion (λ m. is_name m ≡ true) (n ∷ ns)
-    → some_of is_named name (flat_map (λ m. token.Word m ∷ []) (n ∷ ns)) ≡ Ok (n ∷ ns, [])
+    → one_or_more is_named name (flat_map (λ m. token.Word m ∷ []) (n ∷ ns)) ≡ Ok (n ∷ ns, [])
 all_names_again n ns formed =
     all_again is_named name (λ m. token.Word m ∷ []) (λ m. is_name m ≡ true) (λ ts. true)
     name_begins (λ m ts named stop. name_again m ts named) (λ m ts named. refl) n ns formed refl

@@ -4,7 +4,7 @@ use Rattle.std.specs.Prelude.{flat_map}
 use Rattle.std.specs.List.{AllByRecursion}
 use Rattle.script_lex.specs.declared.token.Token.{Token}
 use Rattle.script_words.specs.Words.{is_mark}
-use Rattle.script_words.specs.Reading.{Reading, begins, mark, after, many, several, some_of, separated}
+use Rattle.script_words.specs.Reading.{Reading, begins, mark, after, many, several, one_or_more, separated}
 
 -- A part that holds `Formed` is spelled by `spell`, and read again where what stands behind it stops it.
 module _ {A : Type 0} (starts : Token → Bool) (reading : Reading A) (spell : A → List Token) (Formed : A → Type 0) (stops : List Token → Bool)
@@ -46,15 +46,15 @@ module _ {A : Type 0} (starts : Token → Bool) (reading : Reading A) (spell : A
 
     -- one or more
     pub some_again : (x : A) (xs : List A) (rest : List Token) → AllByRecursion Formed (x ∷ xs) → stops rest ≡ true → begins starts rest ≡ false
-        → some_of starts reading (flat_map spell (x ∷ xs) ++ rest) ≡ Ok (x ∷ xs, rest)
+        → one_or_more starts reading (flat_map spell (x ∷ xs) ++ rest) ≡ Ok (x ∷ xs, rest)
     some_again x xs rest formed stop none =
         let one : begins starts (flat_map spell (x ∷ xs) ++ rest) ≡ true = rw append_assoc (starts_so x (flat_map spell xs ++ rest) formed.0) in
         rw one (several_again (x ∷ xs) rest formed stop none)
 
     -- the same with nothing behind them
-    pub all_again : (x : A) (xs : List A) → AllByRecursion Formed (x ∷ xs) → stops [] ≡ true → some_of starts reading (flat_map spell (x ∷ xs)) ≡ Ok (x ∷ xs, [])
+    pub all_again : (x : A) (xs : List A) → AllByRecursion Formed (x ∷ xs) → stops [] ≡ true → one_or_more starts reading (flat_map spell (x ∷ xs)) ≡ Ok (x ∷ xs, [])
     all_again x xs formed stop =
-        subst (λ ts. some_of starts reading ts ≡ Ok (x ∷ xs, [])) (append-nil (flat_map spell (x ∷ xs))) (some_again x xs [] formed stop refl)
+        subst (λ ts. one_or_more starts reading ts ≡ Ok (x ∷ xs, [])) (append-nil (flat_map spell (x ∷ xs))) (some_again x xs [] formed stop refl)
 
 -- A part, and others that are spelled behind a mark each.
 module _ {A : Type 0} (word : List ℕ) (m : Token) (marked : is_mark word m ≡ true) (reading : Reading A) (spell : A → List Token) (Formed : A → Type 0)

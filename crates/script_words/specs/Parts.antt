@@ -1,7 +1,7 @@
 -- The parts of one token that forms share.
 use Rattle.std.specs.Prelude.{ℕ, ℤ, List}
 use Rattle.rep_values.specs.declared.literal.Literal.{Literal}
-use Rattle.script_words.specs.Words.{name_of, whole_of, number_of, value_of, choice_of}
+use Rattle.script_words.specs.Words.{name_of, whole_of, token_number, value_of, choice_of}
 use Rattle.script_words.specs.Reading.{Reading, one}
 
 -- NAME
@@ -14,7 +14,7 @@ whole_number = one whole_of
 
 -- a number
 abbrev pub number : Reading ℤ
-number = one number_of
+number = one token_number
 
 -- VALUE
 abbrev pub value : Reading Literal

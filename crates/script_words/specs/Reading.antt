@@ -88,8 +88,8 @@ abbrev pub several : {A : Type 0} → (Token → Bool) → Reading A → Reading
 several test part ts = many test part (length ts) ts
 
 -- one or more
-abbrev pub some_of : {A : Type 0} → (Token → Bool) → Reading A → Reading (List A)
-some_of test part ts = if begins test ts then several test part ts else Err 6
+abbrev pub one_or_more : {A : Type 0} → (Token → Bool) → Reading A → Reading (List A)
+one_or_more test part ts = if begins test ts then several test part ts else Err 6
 
 -- one, and any number of further ones, each behind the mark
 abbrev pub separated : {A : Type 0} → List ℕ → Reading A → Reading (List A)

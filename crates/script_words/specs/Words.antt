@@ -31,11 +31,11 @@ signed true zero = pos 0
 signed true (suc size) = negsuc size
 
 -- a number with its sign; one of at most 16 digits is far below the bound
-abbrev pub number_of : Token → Option ℤ
-number_of (token.Word bytes) = None
-number_of (token.Number minus size) = if nat_lt size (2 ^ 63) then Some (signed minus size) else None
-number_of (token.Words bytes) = None
-number_of (token.Symbol s) = None
+abbrev pub token_number : Token → Option ℤ
+token_number (token.Word bytes) = None
+token_number (token.Number minus size) = if nat_lt size (2 ^ 63) then Some (signed minus size) else None
+token_number (token.Words bytes) = None
+token_number (token.Symbol s) = None
 
 -- VALUE: a number or a text
 abbrev pub value_of : Token → Option Literal

@@ -137,7 +137,7 @@ impl<'a> Reader<'a> {
 
     /// Passes over a word or a symbol that is written so, or stops at rule 6.
     #[tactic(auto, unfolding(crate::specs::Reading::mark))]
-    pub fn pass(&mut self, word: &[u8]) -> Result<(), BrokenRule>
+    pub fn expect(&mut self, word: &[u8]) -> Result<(), BrokenRule>
         ensures { PassesExactly (mark word.now) result self.old self.new }
     {
         if !self.is_at(word) {

@@ -2,7 +2,7 @@
 ghost use Rattle.std.specs.Prelude.{◌≡◌, ◌≤◌, ℕ, Bool, List, Result, IfOk, length};
 ghost use Rattle.script_lex.specs.declared.token.Token.{Token};
 ghost use Rattle.script_words.specs.Words.{is_named, is_valued};
-ghost use Rattle.script_words.specs.Reading.{begins, several, some_of, separated};
+ghost use Rattle.script_words.specs.Reading.{begins, several, one_or_more, separated};
 ghost use Rattle.script_words.specs.Parts.{name, value};
 ghost use Rattle.script_words.specs.Readers.{Reads, ReadsExactly};
 
@@ -88,8 +88,8 @@ pub fn several<P: Part>(alloc: Global, tokens: &mut Reader<'_>) -> Result<Items<
 }
 
 /// One or more.
-pub fn some_of<P: Part>(alloc: Global, tokens: &mut Reader<'_>) -> Result<Items<P::Item>, LineStop>
-    ensures read { Reads (some_of P.starts P.reading) result tokens.old tokens.new }
+pub fn one_or_more<P: Part>(alloc: Global, tokens: &mut Reader<'_>) -> Result<Items<P::Item>, LineStop>
+    ensures read { Reads (one_or_more P.starts P.reading) result tokens.old tokens.new }
     ensures some { IfOk result (λ found. 1 ≤ length found) }
 {
     if !P::is_next(tokens) {

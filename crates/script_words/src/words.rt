@@ -4,7 +4,7 @@ ghost use Rattle.std.specs.Cmp.Lexicographic.{pointwise};
 ghost use Rattle.rep_values.specs.Text.{is_text};
 ghost use Rattle.script_lex.specs.Lexemes.{lexeme_token, is_lexeme};
 ghost use Rattle.script_lex.specs.declared.token.Token.TheVariants as token;
-ghost use Rattle.script_words.specs.Words.{name_of, whole_of, number_of, signed, value_of, is_valued, is_mark};
+ghost use Rattle.script_words.specs.Words.{name_of, whole_of, token_number, signed, value_of, is_valued, is_mark};
 ghost use Rattle.script_words.specs.Readers.{IsTakenFor};
 
 use rep_values::{Literal, Name, Text};
@@ -44,7 +44,7 @@ fn signed(minus: bool, size: u64) -> Option<i64>
 
 /// A number.
 pub fn number_of(lexeme: Lexeme<'_>) -> Option<i64>
-    ensures { result ≡ number_of (lexeme_token lexeme.entry) }
+    ensures { result ≡ token_number (lexeme_token lexeme.entry) }
 {
     match lexeme {
         Lexeme::Number { minus, size } => signed(minus, size),

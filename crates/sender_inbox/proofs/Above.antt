@@ -7,11 +7,11 @@ use Rattle.rep_lists.specs.Rising.{IsRising, IsThere, IsGap}
 use Rattle.rep_lists.proofs.Rising.{rising_below}
 use Rattle.origin_marks.proofs.Counts.{cmp_less, cmp_equal, cmp_greater}
 use Rattle.site_state.specs.declared.arrival.Arrival.{Arrival}
-use Rattle.site_state.specs.State.{beside}
+use Rattle.site_state.specs.State.{arrival_beside}
 use Rattle.sender_inbox.specs.Incoming.{by_position, IsFirstAbove}
 
 -- the one behind the number itself
-pub first_above-there : (number : ℕ) (xs : List Arrival) (i : ℕ) → IsRising by_position xs → IsThere (beside number) xs i → IsFirstAbove number xs (i + 1)
+pub first_above-there : (number : ℕ) (xs : List Arrival) (i : ℕ) → IsRising by_position xs → IsThere (arrival_beside number) xs i → IsFirstAbove number xs (i + 1)
 first_above-there number xs i rising there = record {
   within = omega (arith, there.in_range);
   before = λ k d low lt. elim (cases_lt k i) [
@@ -24,7 +24,7 @@ first_above-there number xs i rising there = record {
 }
 
 -- the one where the number would stand
-pub first_above-gap : (number : ℕ) (xs : List Arrival) (i : ℕ) → IsGap (beside number) xs i → IsFirstAbove number xs i
+pub first_above-gap : (number : ℕ) (xs : List Arrival) (i : ℕ) → IsGap (arrival_beside number) xs i → IsFirstAbove number xs i
 first_above-gap number xs i gap = record {
   within = gap.in_range;
   before = λ k d low lt. omega (arith, cmp_less (get_or xs k d).position number (gap.before k d low lt));

@@ -8,8 +8,8 @@ use Rattle.std.proofs.lemmas.Bool.Decides.{nat_tests}
 use Rattle.rep_lists.specs.Rising.{IsRising, find_at, put_at, found_here, put_here}
 use Rattle.origin_marks.proofs.Counts.{cmp_less, cmp_equal, cmp_greater}
 use Rattle.site_state.specs.declared.arrival.Arrival.{Arrival}
-use Rattle.site_state.specs.State.{beside}
-use Rattle.site_state.specs.Ready.{number_in}
+use Rattle.site_state.specs.State.{arrival_beside}
+use Rattle.site_state.specs.Ready.{arrival_number}
 use Rattle.sender_inbox.specs.Incoming.{by_position, greatest_where}
 
 -- where two tests agree on each arrival, it is the same
@@ -18,14 +18,14 @@ greatest_where-same f g [] same = refl
 greatest_where-same f g (x ∷ xs) same = rw (same.0, greatest_where-same f g xs same.1) refl
 
 -- an arrival that doesn't pass leaves it
-pub greatest_where-put : (f : ℕ → Bool) (a : Arrival) (xs : List Arrival) → f a.position ≡ false → find_at (beside a.position) xs ≡ None
-    → greatest_where f (put_at (beside a.position) a xs) ≡ greatest_where f xs
+pub greatest_where-put : (f : ℕ → Bool) (a : Arrival) (xs : List Arrival) → f a.position ≡ false → find_at (arrival_beside a.position) xs ≡ None
+    → greatest_where f (put_at (arrival_beside a.position) a xs) ≡ greatest_where f xs
 greatest_where-put f a [] fails absent = rw fails refl
-greatest_where-put f a (x ∷ xs) fails absent = go (beside a.position x) absent (greatest_where-put f a xs fails)
+greatest_where-put f a (x ∷ xs) fails absent = go (arrival_beside a.position x) absent (greatest_where-put f a xs fails)
   where
-    go : (o : Ordering) → found_here o x (find_at (beside a.position) xs) ≡ None
-        → (find_at (beside a.position) xs ≡ None → greatest_where f (put_at (beside a.position) a xs) ≡ greatest_where f xs)
-        → greatest_where f (put_here o a x xs (put_at (beside a.position) a xs)) ≡ greatest_where f (x ∷ xs)
+    go : (o : Ordering) → found_here o x (find_at (arrival_beside a.position) xs) ≡ None
+        → (find_at (arrival_beside a.position) xs ≡ None → greatest_where f (put_at (arrival_beside a.position) a xs) ≡ greatest_where f xs)
+        → greatest_where f (put_here o a x xs (put_at (arrival_beside a.position) a xs)) ≡ greatest_where f (x ∷ xs)
     go Less none later = ap (λ n. max (cond (f x.position) x.number 0) n) (later none)
     go Equal none later = cc
     go Greater none later = rw fails (omega arith)
@@ -52,18 +52,18 @@ module _ (f g : ℕ → Bool) (position : ℕ) (is : (p : ℕ) → g p ≡ (p ==
   behind_same a (b ∷ xs) le all = (other_same b.position (λ same. omega (arith, same, le, cmp_less a.position b.position all.0)), behind_same a xs le all.1)
 
   -- where one position more passes, the number of its arrival counts too
-  pub greatest_where-more : (xs : List Arrival) → IsRising by_position xs → greatest_where g xs ≡ max (greatest_where f xs) (number_in (find_at (beside position) xs))
+  pub greatest_where-more : (xs : List Arrival) → IsRising by_position xs → greatest_where g xs ≡ max (greatest_where f xs) (arrival_number (find_at (arrival_beside position) xs))
   greatest_where-more [] rising = refl
-  greatest_where-more (x ∷ xs) rising = go (beside position x) refl (greatest_where-more xs rising.1)
+  greatest_where-more (x ∷ xs) rising = go (arrival_beside position x) refl (greatest_where-more xs rising.1)
     where
       rest : position ≤ x.position → greatest_where g xs ≡ greatest_where f xs
       rest le = greatest_where-same g f xs (behind_same x xs le rising.0)
 
-      go : (o : Ordering) → beside position x ≡ o → greatest_where g xs ≡ max (greatest_where f xs) (number_in (find_at (beside position) xs))
-          → greatest_where g (x ∷ xs) ≡ max (greatest_where f (x ∷ xs)) (number_in (found_here o x (find_at (beside position) xs)))
+      go : (o : Ordering) → arrival_beside position x ≡ o → greatest_where g xs ≡ max (greatest_where f xs) (arrival_number (find_at (arrival_beside position) xs))
+          → greatest_where g (x ∷ xs) ≡ max (greatest_where f (x ∷ xs)) (arrival_number (found_here o x (find_at (arrival_beside position) xs)))
       go Less at later =
           rw (other_same x.position (λ same. omega (arith, same, cmp_less x.position position at)))
-          (below_more (cond (f x.position) x.number 0) (greatest_where f xs) (greatest_where g xs) (number_in (find_at (beside position) xs)) later)
+          (below_more (cond (f x.position) x.number 0) (greatest_where f xs) (greatest_where g xs) (arrival_number (find_at (arrival_beside position) xs)) later)
       go Equal at later =
           let same : x.position ≡ position = cmp_equal x.position position at in
           let here : g x.position ≡ true = is x.position ∙ ap (λ b. b || f x.position) (same_number x.position position same) in

@@ -11,7 +11,7 @@ use Rattle.rep_lists.specs.Rising.{IsRising, IsThere, IsGap}
 use Rattle.rep_lists.proofs.Rising.{rising_below}
 use Rattle.origin_marks.proofs.Counts.{cmp_less}
 use Rattle.site_state.specs.declared.arrival.Arrival.{Arrival}
-use Rattle.site_state.specs.State.{beside}
+use Rattle.site_state.specs.State.{arrival_beside}
 use Rattle.sender_inbox.specs.Incoming.{by_position}
 
 module _ (xs : List Arrival) (rising : IsRising by_position xs) (l : Arrival) (last : slice_get xs (length xs - 1) ≡ Some l) (p : ℕ) where
@@ -27,7 +27,7 @@ module _ (xs : List Arrival) (rising : IsRising by_position xs) (l : Arrival) (l
       cmp_less (get_or xs k d).position l.position (rw (is_last d) at one)
 
   -- what is behind the last one would stand at the end
-  pub gap_behind : l.position < p → IsGap (beside p) xs (length xs)
+  pub gap_behind : l.position < p → IsGap (arrival_beside p) xs (length xs)
   gap_behind less = record {
     in_range = omega arith;
     before = λ k d low lt. sym (nat_cmp_is (get_or xs k d).position p Less (above k d lt));
@@ -41,7 +41,7 @@ module _ (xs : List Arrival) (rising : IsRising by_position xs) (l : Arrival) (l
       ]
 
   -- the last one stands at its place
-  pub there_at_last : p ≡ l.position → IsThere (beside p) xs (length xs - 1)
+  pub there_at_last : p ≡ l.position → IsThere (arrival_beside p) xs (length xs - 1)
   there_at_last same = record {
     in_range = within;
     here = λ d. sym (nat_cmp_is (get_or xs (length xs - 1) d).position p Equal (rw (is_last d, same)));

@@ -4,4 +4,4 @@ mod Greatest
 mod LastPlaces
 pub mod Places
 pub mod RisingPasts
-mod Keeping
+mod InboxSteps

@@ -8,7 +8,7 @@ use Rattle.std.proofs.lemmas.Option.{slice_get_within}
 use Rattle.rep_lists.specs.Rising.{IsRising, find_at}
 use Rattle.rep_lists.proofs.Each.{each_found}
 use Rattle.site_state.specs.declared.arrival.Arrival.{Arrival}
-use Rattle.site_state.specs.State.{beside}
+use Rattle.site_state.specs.State.{arrival_beside}
 use Rattle.sender_inbox.specs.Incoming.{by_position}
 
 -- of the arrival at a place holds what holds of each
@@ -20,7 +20,7 @@ of_each P xs k a all there =
     subst P same found.2
 
 -- what stands at a place is found under its position
-pub find_at-own : (xs : List Arrival) (k : ℕ) (a : Arrival) → IsRising by_position xs → slice_get xs k ≡ Some a → find_at (beside a.position) xs ≡ Some a
+pub find_at-own : (xs : List Arrival) (k : ℕ) (a : Arrival) → IsRising by_position xs → slice_get xs k ≡ Some a → find_at (arrival_beside a.position) xs ≡ Some a
 find_at-own [] k a rising there = cc
 find_at-own (x ∷ xs) zero a rising there = let same : x ≡ a = cc in rw (same, tied_itself nat_cmp_total a.position) refl
 find_at-own (x ∷ xs) (suc k) a rising there = rw (of_each (λ (y : Arrival). by_position x y ≡ Less) xs k a rising.0 there) (find_at-own xs k a rising.1 there)

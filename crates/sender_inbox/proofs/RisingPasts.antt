@@ -11,12 +11,12 @@ use Rattle.std.proofs.lemmas.Bool.Decides.{nat_tests}
 use Rattle.std.proofs.lemmas.Option.{slice_get_within, get_or_from_slice_get}
 use Rattle.rep_lists.specs.Rising.{IsRising, find_at, put_at, found_here, put_here}
 use Rattle.rep_lists.proofs.Rising.{all_put}
-use Rattle.rep_calls.specs.declared.past.Past.{Past}
+use Rattle.rep_calls.specs.declared.past.PastEntry.{PastEntry}
 use Rattle.deferred_queue.specs.Streams.{is_same_site}
 use Rattle.deferred_queue.proofs.Sites.{is_same_site-true}
 use Rattle.origin_marks.proofs.Counts.{cmp_less}
 use Rattle.site_state.specs.declared.arrival.Arrival.{Arrival}
-use Rattle.site_state.specs.State.{beside}
+use Rattle.site_state.specs.State.{arrival_beside}
 use Rattle.sender_inbox.specs.Incoming.{by_position, IsFirstAbove}
 use Rattle.sender_inbox.specs.Reaching.{reaches, is_within, PastsRise}
 use Rattle.sender_inbox.proofs.Places.{of_each, find_at-own}
@@ -27,11 +27,11 @@ pub le_through : (n m k : ℕ) → nat_le n m ≡ true → nat_le m k ≡ true �
 le_through n m k first next = grind (arith, nat_tests, first, next)
 
 -- what reaches as far as something reaches as far as what that covers
-reaches_more : (past : List Past) (p q : Past) → is_same_site q.origin p.origin ≡ true → nat_le p.number q.number ≡ true → reaches past q ≡ true → reaches past p ≡ true
+reaches_more : (past : List PastEntry) (p q : PastEntry) → is_same_site q.origin p.origin ≡ true → nat_le p.number q.number ≡ true → reaches past q ≡ true → reaches past p ≡ true
 reaches_more [] p q same less found = cc
 reaches_more (r ∷ past) p q same less found = go (is_same_site r.origin q.origin && nat_le q.number r.number) refl found (reaches_more past p q same less)
   where
-    test : Past → Bool
+    test : PastEntry → Bool
     test r = is_same_site r.origin p.origin && nat_le p.number r.number
 
     go : (b : Bool) → (is_same_site r.origin q.origin && nat_le q.number r.number) ≡ b → (b || reaches past q) ≡ true → (reaches past q ≡ true → reaches past p ≡ true) → (test r || reaches past p) ≡ true
@@ -46,7 +46,7 @@ reaches_more (r ∷ past) p q same less found = go (is_same_site r.origin q.orig
         right true c is = refl
         right false c is = is
 
-reaches_through : (past later : List Past) (p : Past) → reaches past p ≡ true → is_within past later ≡ true → reaches later p ≡ true
+reaches_through : (past later : List PastEntry) (p : PastEntry) → reaches past p ≡ true → is_within past later ≡ true → reaches later p ≡ true
 reaches_through [] later p found within = cc
 reaches_through (q ∷ past) later p found within = go (is_same_site q.origin p.origin && nat_le p.number q.number) refl found (reaches_through past later p)
   where
@@ -58,7 +58,7 @@ reaches_through (q ∷ past) later p found within = go (is_same_site q.origin p.
     go false here is rest = rest is parts.1
 
 -- a past is within what another one is within, where it is within that
-within_through : (past middle later : List Past) → is_within past middle ≡ true → is_within middle later ≡ true → is_within past later ≡ true
+within_through : (past middle later : List PastEntry) → is_within past middle ≡ true → is_within middle later ≡ true → is_within past later ≡ true
 within_through [] middle later first next = refl
 within_through (p ∷ past) middle later first next =
     let parts = and_parts (reaches middle p) (is_within past middle) first in
@@ -88,23 +88,23 @@ rise_beyond n (x ∷ xs) before = (λ from. absurd (omega (arith, from, before.0
 
 module _ (a : Arrival) where
   -- what comes in front of such a position makes no difference
-  rise_behind : (n : ℕ) (xs : List Arrival) → a.position < n → find_at (beside a.position) xs ≡ None → PastsRise n xs → PastsRise n (put_at (beside a.position) a xs)
+  rise_behind : (n : ℕ) (xs : List Arrival) → a.position < n → find_at (arrival_beside a.position) xs ≡ None → PastsRise n xs → PastsRise n (put_at (arrival_beside a.position) a xs)
   rise_behind n [] before absent rise = (λ from. tt, tt)
   rise_behind n (x ∷ xs) before absent rise = go (nat_cmp x.position a.position) refl absent (λ later. rise_behind n xs before later rise.1)
     where
-      go : (o : Ordering) → nat_cmp x.position a.position ≡ o → found_here o x (find_at (beside a.position) xs) ≡ None → (find_at (beside a.position) xs ≡ None → PastsRise n (put_at (beside a.position) a xs))
-          → PastsRise n (put_here o a x xs (put_at (beside a.position) a xs))
+      go : (o : Ordering) → nat_cmp x.position a.position ≡ o → found_here o x (find_at (arrival_beside a.position) xs) ≡ None → (find_at (arrival_beside a.position) xs ≡ None → PastsRise n (put_at (arrival_beside a.position) a xs))
+          → PastsRise n (put_here o a x xs (put_at (arrival_beside a.position) a xs))
       go Less at none rest = let first : x.position < a.position = cmp_less x.position a.position at in (λ from. absurd (omega (arith, from, first, before)), rest none)
       go Equal at none rest = absurd (cc none)
       go Greater at none rest = (λ from. absurd (omega (arith, from, before)), rise)
 
   -- behind all others, where their pasts are within its own
   rise_end : (from : ℕ) (xs : List Arrival) → AllByRecursion (λ (x : Arrival). x.position < a.position) xs → AllByRecursion (λ (x : Arrival). from ≤ x.position → is_within x.past a.past ≡ true) xs → PastsRise from xs
-      → PastsRise from (put_at (beside a.position) a xs)
+      → PastsRise from (put_at (arrival_beside a.position) a xs)
   rise_end from [] before within rise = (λ le. tt, tt)
   rise_end from (x ∷ xs) before within rise =
       rw (← nat_cmp_is x.position a.position Less before.0)
-      (λ le. all_put (beside a.position) (λ (b : Arrival). is_within x.past b.past ≡ true) a xs (within.0 le) (rise.0 le), rise_end from xs before.1 within.1 rise.1)
+      (λ le. all_put (arrival_beside a.position) (λ (b : Arrival). is_within x.past b.past ≡ true) a xs (within.0 le) (rise.0 le), rise_end from xs before.1 within.1 rise.1)
 
 none_left : (P : Arrival → Type 0) (xs : List Arrival) → 1 ≡ length xs + 1 → AllByRecursion P xs
 none_left P [] none = tt
@@ -122,7 +122,7 @@ module _ (l : Arrival) where
       (omega (arith, first, less), before_last p xs k (omega (arith, last)) there rising.1 less)
 
   -- the pasts of all are within that of the last one, and so within what that is within
-  within_last : (from : ℕ) (past : List Past) (xs : List Arrival) (k : ℕ) → k + 1 ≡ length xs → slice_get xs k ≡ Some l → PastsRise from xs → is_within l.past past ≡ true
+  within_last : (from : ℕ) (past : List PastEntry) (xs : List Arrival) (k : ℕ) → k + 1 ≡ length xs → slice_get xs k ≡ Some l → PastsRise from xs → is_within l.past past ≡ true
       → AllByRecursion (λ (x : Arrival). from ≤ x.position → is_within x.past past ≡ true) xs
   within_last from past [] k last there rise within = tt
   within_last from past (x ∷ xs) zero last there rise within =
@@ -133,9 +133,9 @@ module _ (l : Arrival) where
 
 -- ---- another arrival
 
-module _ (a : Arrival) (from : ℕ) (xs : List Arrival) (rising : IsRising by_position xs) (absent : find_at (beside a.position) xs ≡ None) (rise : PastsRise from xs) where
+module _ (a : Arrival) (from : ℕ) (xs : List Arrival) (rising : IsRising by_position xs) (absent : find_at (arrival_beside a.position) xs ≡ None) (rise : PastsRise from xs) where
   -- in front of another one
-  pub rise_between : (n : ℕ) → from ≤ n → a.position < n → PastsRise n (put_at (beside a.position) a xs)
+  pub rise_between : (n : ℕ) → from ≤ n → a.position < n → PastsRise n (put_at (arrival_beside a.position) a xs)
   rise_between n le before = rise_behind a n xs before absent (rise_later from n xs le rise)
 
   module _ (l : Arrival) (last : slice_get xs (length xs - 1) ≡ Some l) where
@@ -150,12 +150,12 @@ module _ (a : Arrival) (from : ℕ) (xs : List Arrival) (rising : IsRising by_po
     ]
 
     -- behind all, with a past within which that of the last one is
-    pub rise_on : l.position ≤ a.position → is_within l.past a.past ≡ true → PastsRise from (put_at (beside a.position) a xs)
+    pub rise_on : l.position ≤ a.position → is_within l.past a.past ≡ true → PastsRise from (put_at (arrival_beside a.position) a xs)
     rise_on le within =
         rise_end a from xs (before_last l a.position xs (length xs - 1) at_end last rising (behind_last le)) (within_last l from a.past xs (length xs - 1) at_end last rise within) rise
 
     -- behind all, with any past
-    pub rise_anew : l.position ≤ a.position → PastsRise a.position (put_at (beside a.position) a xs)
+    pub rise_anew : l.position ≤ a.position → PastsRise a.position (put_at (arrival_beside a.position) a xs)
     rise_anew le =
         let all = before_last l a.position xs (length xs - 1) at_end last rising (behind_last le) in
         rise_end a a.position xs all (beyond xs all) (rise_beyond a.position xs all)

@@ -7,7 +7,7 @@ use Rattle.rep_lists.specs.Rising.{IsRising, find_at}
 use Rattle.rep_values.specs.declared.name.SiteName.{SiteName}
 use Rattle.origin_marks.specs.Marks.{Marked, finished}
 use Rattle.site_state.specs.declared.arrival.Arrival.{Arrival}
-use Rattle.site_state.specs.State.{SenderState, beside}
+use Rattle.site_state.specs.State.{SenderState, arrival_beside}
 use Rattle.site_state.specs.Arrivals.{CanPass}
 
 -- what a contract sees of an inbox: the sender with what arrived, and the positions that are finished
@@ -38,4 +38,4 @@ pub record IsInbox (origin : SiteName) (arrived : List Arrival) (marked : Marked
   pub rising : IsRising by_position arrived
   pub from_one : AllByRecursion (λ (a : Arrival). 1 ≤ a.position) arrived
   pub passes : CanPass origin arrived
-  pub come : (position : ℕ) → finished marked position ≡ true → find_at (beside position) arrived ≢ None
+  pub come : (position : ℕ) → finished marked position ≡ true → find_at (arrival_beside position) arrived ≢ None

@@ -1,4 +1,4 @@
 -- The definitions of this crate.
 pub mod Incoming
 pub mod Reaching
-pub mod Kept
+pub mod InboxState

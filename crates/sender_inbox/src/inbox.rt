@@ -3,7 +3,7 @@ ghost use Rattle.std.specs.Prelude.{◌≡◌, ◌≢◌, ◌↔◌, ℕ, ◌<�
 ghost use Rattle.rep_lists.specs.Rising.{find_at};
 ghost use Rattle.deferred_queue.specs.Streams.{is_same_site};
 ghost use Rattle.origin_marks.specs.Marks.{finished, IsLowWater};
-ghost use Rattle.site_state.specs.State.{beside};
+ghost use Rattle.site_state.specs.State.{arrival_beside};
 ghost use Rattle.site_state.specs.Arrivals.{NamesOthers};
 ghost use Rattle.site_state.specs.Making.{new_sender};
 ghost use Rattle.site_state.specs.Joining.{with_first};
@@ -37,13 +37,13 @@ pub struct Inbox {
 
 impl Model for Inbox {
     ghost use Rattle.sender_inbox.specs.Incoming.{Incoming};
-    ghost use Rattle.sender_inbox.specs.Kept.{IsKept};
+    ghost use Rattle.sender_inbox.specs.InboxState.{KeepsGreatest};
 
     ghost Value = { Incoming };
 
     ghost view = { λ i. record { sender = record { origin = i.origin; first = i.first; arrived = i.arrived.items }; marked = i.finished } };
 
-    ghost invariant = { λ i. IsKept i.origin i.arrived.items i.finished i.greatest i.from };
+    ghost invariant = { λ i. KeepsGreatest i.origin i.arrived.items i.finished i.greatest i.from };
 }
 
 impl Inbox {
@@ -107,14 +107,14 @@ impl Inbox {
 
     /// What arrived at a position.
     pub fn find(&self, position: u64) -> Option<&Arrival>
-        ensures { option_copied result ≡ find_at (beside position) self.now.sender.arrived }
+        ensures { option_copied result ≡ find_at (arrival_beside position) self.now.sender.arrived }
     {
         find(&self.arrived, position)
     }
 
     /// Whether a position arrived. It takes no memory.
     pub fn has_arrived(&self, position: u64) -> bool
-        ensures { result ≡ is_some (find_at (beside position) self.now.sender.arrived) }
+        ensures { result ≡ is_some (find_at (arrival_beside position) self.now.sender.arrived) }
     {
         self.finished.is_finished(position) || find(&self.arrived, position).is_some()
     }
@@ -153,7 +153,7 @@ impl Inbox {
     pub fn accept(&mut self, arrival: Arrival) -> Result<(), NoMemory>
         requires earlier { arrival.dep < arrival.position }
         requires others { NamesOthers self.old.sender.origin arrival.past }
-        requires absent { find_at (beside arrival.position) self.old.sender.arrived ≡ None }
+        requires absent { find_at (arrival_beside arrival.position) self.old.sender.arrived ≡ None }
         ensures ok { OnOk result (self.new.sender ≡ with_arrival arrival self.old.sender) }
         ensures err { OnErr result (self.new.sender ≡ self.old.sender) }
         ensures marked { self.new.marked ≡ self.old.marked }
@@ -215,7 +215,7 @@ impl Inbox {
 
     /// Finishes a position that arrived. It takes no memory.
     pub fn finish(&mut self, position: u64)
-        requires arrived { find_at (beside position) self.old.sender.arrived ≢ None }
+        requires arrived { find_at (arrival_beside position) self.old.sender.arrived ≢ None }
         requires unfinished { finished self.old.marked position ≡ false }
         requires room { 1 ≤ self.old.marked.room }
         ensures sender { self.new.sender ≡ self.old.sender }

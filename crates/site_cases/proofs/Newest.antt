@@ -8,11 +8,11 @@ use Rattle.rep_values.specs.declared.name.SiteName.{SiteName}
 use Rattle.rep_schema.specs.declared.schema.Schema.{Schema}
 use Rattle.site_state.specs.declared.entry.Entry.{Entry}
 use Rattle.site_state.specs.State.{is_master_site}
-use Rattle.journal_order.specs.Settling.{IsFinishOf, IsSettleable, AreInOrder, entries_from}
+use Rattle.journal_order.specs.Sorting.{IsFinishOf, CanBeSorted, AreInOrder, entries_from}
 
-pub newest_can_be_settled : (schema : Schema) (origin : SiteName) (newest : ℕ) (journal : List Entry) (e : Entry) → newest + 1 ≡ length journal
-    → slice_get (reverse journal) newest ≡ Some e → IsFinishOf origin e → is_master_site schema origin ≡ true → IsSettleable schema origin newest journal
-newest_can_be_settled schema origin newest journal e last found finishes is_master = record {
+pub newest_can_be_sorted : (schema : Schema) (origin : SiteName) (newest : ℕ) (journal : List Entry) (e : Entry) → newest + 1 ≡ length journal
+    → slice_get (reverse journal) newest ≡ Some e → IsFinishOf origin e → is_master_site schema origin ≡ true → CanBeSorted schema origin newest journal
+newest_can_be_sorted schema origin newest journal e last found finishes is_master = record {
   within = omega (arith, last);
   master = is_master;
   entries = subst (AllByRecursion (IsFinishOf origin)) (sym alone) (finishes, tt);

@@ -24,7 +24,7 @@ use Rattle.local_txn.specs.declared.local.Here.{Here}
 use Rattle.local_txn.specs.declared.local.Stamps.{Stamps}
 use Rattle.local_txn.specs.declared.local.LocalStop.{LocalStop}
 use Rattle.local_txn.specs.Statements.{statement_refusal, statement_changes}
-use Rattle.local_txn.specs.Locals.{BlockEffect, beginning, local_effect}
+use Rattle.local_txn.specs.Locals.{BlockEffect, block_beginning, local_effect}
 
 abbrev column : List ℕ → Kind → Bool → Column
 column name kind key = record { name = name; kind = kind; key = key }
@@ -104,10 +104,10 @@ abbrev stamps : ℕ → Stamps
 stamps last = record { clock = 0; last = last }
 
 abbrev why : Statement → Option Refusal
-why statement = statement_refusal schema here (beginning (stamps 7) tables) statement
+why statement = statement_refusal schema here (block_beginning (stamps 7) tables) statement
 
 abbrev changes : Statement → List Change
-changes statement = statement_changes schema here (beginning (stamps 7) tables) statement
+changes statement = statement_changes schema here (block_beginning (stamps 7) tables) statement
 
 abbrev change : Option Cells → Option Cells → List Change
 change before after = record { table = 0; before = before; after = after } ∷ []

@@ -3,12 +3,12 @@ ghost use Rattle.std.specs.Prelude.{◌≡◌, [], length, replicate, IfOk};
 ghost use Rattle.rep_schema.specs.Shape.{HasShape};
 ghost use Rattle.rep_schema.specs.Sites.{senders_of, destinations_of};
 ghost use Rattle.site_state.specs.State.{is_master_site};
-ghost use Rattle.site_state.specs.Fits.{IsKeyed};
+ghost use Rattle.site_state.specs.Fits.{SchemaIsKeyed};
 
 use case_lines::CaseStop;
 use local_txn::{Here, fill_base_rows, put_base_row, sound_schemas_fill_freely};
 use master_join::copy_site;
-use rep_calls::Past;
+use rep_calls::PastEntry;
 use rep_laws::sound_schemas_have_keys;
 use rep_lists::{Copies, Items, NoMemory};
 use rep_schema::{RowStore, Schema, TableSet};
@@ -87,7 +87,7 @@ fn here_of(schema: &Schema, name: SiteName) -> Here
 /// A store with the base rows. Where the schema breaks a rule there is no case.
 fn base_store(alloc: Global, schema: &Schema, rows: &[BaseRow]) -> Result<ListTables, CaseStop>
     requires { HasShape schema.now }
-    ensures keyed { IfOk result (λ store. IsKeyed store.schema) }
+    ensures keyed { IfOk result (λ store. SchemaIsKeyed store.schema) }
     ensures schema { IfOk result (λ store. store.schema ≡ schema.now) }
 {
     let Ok(()) = check(schema) else {
@@ -120,7 +120,7 @@ impl Member {
         store: ListTables,
         name: SiteName,
     ) -> Result<Member, CaseStop>
-        requires keyed { IsKeyed store.schema }
+        requires keyed { SchemaIsKeyed store.schema }
         requires schema { store.schema ≡ schema.now }
     {
         let parties = parties_of(alloc, schema, &name)?;
@@ -158,7 +158,7 @@ impl Member {
         alloc: Global,
         source: &Member,
         name: SiteName,
-        firsts: &[Past],
+        firsts: &[PastEntry],
     ) -> Result<Member, CaseStop> {
         let schema = source.site.store().schema();
         let store = empty_store(alloc, schema)?;

@@ -4,7 +4,7 @@ ghost use Rattle.packet_code.specs.Limits.{IsPacket};
 use crate::told::{Told, push_seen, told};
 use case_lines::{CaseStop, Words, read_past};
 use packet_code::{Packet, Sealed, is_packet};
-use rep_calls::{Call, Past, Txn};
+use rep_calls::{Call, PastEntry, Txn};
 use rep_lists::{Items, NoMemory};
 use rep_values::SiteName;
 use row_tables::ListTables;
@@ -54,7 +54,7 @@ struct Carriage {
     from: SiteName,
     to: SiteName,
     numbers: Numbers,
-    past: Items<Past>,
+    past: Items<PastEntry>,
 }
 
 fn read_carriage(alloc: Global, words: &mut Words) -> Result<Carriage, CaseStop> {
@@ -112,7 +112,7 @@ pub fn mark_of(
 }
 
 /// What was seen, where anything was.
-fn push_past(out: &mut String, alloc: Global, past: &[Past]) -> Result<(), NoMemory> {
+fn push_past(out: &mut String, alloc: Global, past: &[PastEntry]) -> Result<(), NoMemory> {
     if past.is_empty() {
         return Ok(());
     }
@@ -162,7 +162,7 @@ fn described(alloc: Global, kept: usize, packet: &Packet) -> Result<String, NoMe
 }
 
 /// What was seen, where the packet carries a transaction.
-fn past_of(packet: &Packet) -> &[Past] {
+fn past_of(packet: &Packet) -> &[PastEntry] {
     match packet {
         Packet::Carry { past, .. } => past.as_slice(),
         Packet::Mark { .. } => &[],

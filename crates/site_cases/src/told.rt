@@ -1,7 +1,7 @@
 //! Errors, refusals and what was seen in words, as reports have them.
 
 use case_lines::{CaseStop, push_name};
-use rep_calls::Past;
+use rep_calls::PastEntry;
 use rep_lists::NoMemory;
 use rep_values::{ApplyError, Name, Refusal};
 use report_text::{Lines, MOST_LINE, refused_line};
@@ -75,14 +75,14 @@ pub fn refused(alloc: Global, statement: u32, refusal: &Refusal) -> Told {
     Ok(Some(text_of(alloc, &lines)?))
 }
 
-fn push_origin(out: &mut String, alloc: Global, seen: &Past) -> Result<(), NoMemory> {
+fn push_origin(out: &mut String, alloc: Global, seen: &PastEntry) -> Result<(), NoMemory> {
     push_name(out, &seen.origin.0)?;
     out.push_str(&format!(in alloc; " {}", seen.number)?)?;
     Ok(())
 }
 
 /// Each master that was seen, and its number.
-pub fn push_seen(out: &mut String, alloc: Global, past: &[Past]) -> Result<(), NoMemory> {
+pub fn push_seen(out: &mut String, alloc: Global, past: &[PastEntry]) -> Result<(), NoMemory> {
     for seen in past {
         push_origin(out, alloc, seen)?;
     }

@@ -1,6 +1,6 @@
 //! Positions that are evaluated away from the site, and the order of its journal.
 ghost use Rattle.std.specs.Prelude.{IfSome};
-ghost use Rattle.journal_order.specs.Settling.{IsFinishOf};
+ghost use Rattle.journal_order.specs.Sorting.{IsFinishOf};
 
 use case_lines::CaseStop;
 use rep_schema::RowStore;
@@ -74,6 +74,6 @@ pub fn settle_newest(alloc: Global, site: &mut Site<ListTables>) -> Result<bool,
     if !is_master_site(site.store().schema(), &origin) {
         return Ok(false);
     }
-    site.settle_pass(alloc, newest)?;
+    site.sort_new_entries(alloc, newest)?;
     Ok(true)
 }

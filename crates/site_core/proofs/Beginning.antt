@@ -22,10 +22,10 @@ use Rattle.site_outbox.specs.Outgoing.{Outgoing}
 use Rattle.txn_work.specs.declared.outcome.Ending.{Ending}
 use Rattle.txn_work.specs.Works.{WorkState, CanStandAlone}
 use Rattle.txn_work.specs.Endings.{effect_of}
-use Rattle.site_core.specs.Keeping.{IsSized, Holds}
+use Rattle.site_core.specs.SiteInvariant.{IsSized, SiteHolds}
 use Rattle.site_core.specs.Working.{touches_unique, has_unique, IsWorkOf, EndsHere, OutcomesHoldWhereRowsAreAsTheyWere}
 
-module _ (x : SiteState) (rows : List Rows) (numbers : Numbers) (inboxes : List Incoming) (out : Outgoing) (lists : List ErrorList) (room : ℕ) (h : Holds x rows numbers inboxes out lists room)
+module _ (x : SiteState) (rows : List Rows) (numbers : Numbers) (inboxes : List Incoming) (out : Outgoing) (lists : List ErrorList) (room : ℕ) (h : SiteHolds x rows numbers inboxes out lists room)
     (origin : SiteName) (position : ℕ) (a : Arrival) (there : arrived_at origin position x.senders ≡ Some a) where
   pub arrived_fits : TxnFits x.schema a.txn
   arrived_fits = fitting.arrived_has (TxnFits x.schema) origin position x.senders a h.fits.senders there

@@ -13,9 +13,9 @@ use Rattle.rep_calls.specs.declared.statement.Statement.{Statement}
 use Rattle.local_txn.specs.declared.local.Here.{Here}
 use Rattle.local_txn.specs.declared.local.Stamps.{Stamps}
 use Rattle.local_txn.specs.declared.local.LocalStop.{LocalStop}
-use Rattle.local_txn.specs.Held.{table_name}
-use Rattle.local_txn.specs.Statements.{Standing, outcome_in, statement_refusal, statement_changes, standing_after, changes_at}
-use Rattle.local_txn.specs.Locals.{BlockEffect, unless_refused, behind, statements_effect, beginning, stop_at, most_statements, local_effect}
+use Rattle.local_txn.specs.Held.{statement_table}
+use Rattle.local_txn.specs.Statements.{BlockState, outcome_in, statement_refusal, statement_changes, block_state_after, changes_at}
+use Rattle.local_txn.specs.Locals.{BlockEffect, unless_refused, block_effect_behind, statements_effect, block_beginning, stop_at, most_statements, local_effect}
 use Rattle.rep_schema.specs.Named.{table_place}
 
 -- a row changes once at most
@@ -30,24 +30,24 @@ few_between table before after = go (is_unchanged before after)
     go false = omega arith
 
 module _ (schema : Schema) (here : Here) where
-  few_by_one : (standing : Standing) (statement : Statement) → length (statement_changes schema here standing statement) ≤ 1
-  few_by_one standing statement = go (table_place schema (table_name statement))
+  few_by_one : (standing : BlockState) (statement : Statement) → length (statement_changes schema here standing statement) ≤ 1
+  few_by_one standing statement = go (table_place schema (statement_table statement))
     where
       go : (place : Option ℕ) → length (changes_at schema here standing place statement) ≤ 1
       go None = omega arith
       go (Some table) = few_between table (outcome_in schema here standing table statement).before (outcome_in schema here standing table statement).after
 
-  few_by_each : (number : ℕ) (statements : List Statement) (standing : Standing) (block : BlockEffect) → statements_effect schema here number statements standing ≡ Ok block → length block.changes ≤ length statements
+  few_by_each : (number : ℕ) (statements : List Statement) (standing : BlockState) (block : BlockEffect) → statements_effect schema here number statements standing ≡ Ok block → length block.changes ≤ length statements
   few_by_each number [] standing block is =
       let same : record { changes = []; stamps = standing.stamps } ≡ block = cc is in
       subst (λ (b : BlockEffect). length b.changes ≤ 0) same (omega arith)
   few_by_each number (s ∷ ss) standing block is =
-      go (statement_refusal schema here standing s) (statements_effect schema here (number + 1) ss (standing_after schema here standing s)) (few_by_each (number + 1) ss (standing_after schema here standing s)) is
+      go (statement_refusal schema here standing s) (statements_effect schema here (number + 1) ss (block_state_after schema here standing s)) (few_by_each (number + 1) ss (block_state_after schema here standing s)) is
     where
       changes : List Change
       changes = statement_changes schema here standing s
 
-      go : (refused : Option Refusal) (later : Result BlockEffect LocalStop) → ((b : BlockEffect) → later ≡ Ok b → length b.changes ≤ length ss) → unless_refused refused number (behind changes later) ≡ Ok block
+      go : (refused : Option Refusal) (later : Result BlockEffect LocalStop) → ((b : BlockEffect) → later ≡ Ok b → length b.changes ≤ length ss) → unless_refused refused number (block_effect_behind changes later) ≡ Ok block
           → length block.changes ≤ suc (length ss)
       go (Some why) later few is = absurd (cc is)
       go None (Err stop) few is = absurd (cc is)
@@ -60,6 +60,6 @@ module _ (schema : Schema) (here : Here) where
   few_by_block stamps statements tables block is = go (nat_le (length statements) most_statements) refl is
     where
       go : (b : Bool) → nat_le (length statements) most_statements ≡ b
-          → cond b (statements_effect schema here 1 statements (beginning stamps tables)) (stop_at (most_statements + 1) (refusal.LimitReached limit.Statements)) ≡ Ok block → (length block.changes ≤ length statements) × (length statements ≤ 1000)
-      go true at is = (few_by_each 1 statements (beginning stamps tables) block is, grind (arith, nat_tests, at))
+          → cond b (statements_effect schema here 1 statements (block_beginning stamps tables)) (stop_at (most_statements + 1) (refusal.LimitReached limit.Statements)) ≡ Ok block → (length block.changes ≤ length statements) × (length statements ≤ 1000)
+      go true at is = (few_by_each 1 statements (block_beginning stamps tables) block is, grind (arith, nat_tests, at))
       go false at is = absurd (cc is)

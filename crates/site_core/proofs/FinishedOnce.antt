@@ -5,7 +5,7 @@ use Rattle.std.specs.List.{list_any}
 use Rattle.std.proofs.lemmas.Bool.Decides.{nat_tests}
 use Rattle.rep_values.specs.declared.name.SiteName.{SiteName}
 use Rattle.rep_schema.specs.declared.change.Change.{Change}
-use Rattle.rep_calls.specs.declared.past.Past.{Past}
+use Rattle.rep_calls.specs.declared.past.PastEntry.{PastEntry}
 use Rattle.txn_effects.specs.Calls.{Effect}
 use Rattle.txn_effects.specs.Transactions.{Failure}
 use Rattle.deferred_queue.specs.Streams.{is_same_site}
@@ -16,7 +16,7 @@ use Rattle.site_state.specs.State.{SiteState, is_master_site}
 use Rattle.site_state.specs.Journal.{finishes, finished}
 use Rattle.site_state.specs.Streams.{count_of}
 use Rattle.site_state.specs.Steps.{count_where, is_empty, is_open}
-use Rattle.journal_order.specs.Settling.{IsFinishedOnce, StaysWithMasters}
+use Rattle.journal_order.specs.Sorting.{IsFinishedOnce, StaysWithMasters}
 use Rattle.site_core.specs.Applying.{onward_of, entry_by, onward_past}
 use Rattle.journal_steps.proofs.ChangedInbox.{Finishes}
 use Rattle.site_core.proofs.Onward.{onward_is}
@@ -43,7 +43,7 @@ once_more e origin position journal finishing unfinished once o q = rw (finishin
     go false c same at = once o q
 
 -- what came from a master gets no number onward
-pub no_onward : (origin : SiteName) (x : SiteState) (past : Option (List Past)) → past ≡ onward_past origin x → (count : ℕ) → count ≡ count_of x → (changes : List Change)
+pub no_onward : (origin : SiteName) (x : SiteState) (past : Option (List PastEntry)) → past ≡ onward_past origin x → (count : ℕ) → count ≡ count_of x → (changes : List Change)
     → is_master_site x.schema origin ≡ true → onward_of past changes count ≡ 0
 no_onward origin x past past_is count count_is changes master =
     onward_is origin x past past_is count count_is changes
@@ -53,7 +53,7 @@ no_onward origin x past past_is count count_is changes master =
     go true = refl
     go false = refl
 
-pub entry_stays : (origin : SiteName) (x : SiteState) (past : Option (List Past)) → past ≡ onward_past origin x → (a : Arrival) (count : ℕ) → count ≡ count_of x → (r : Result Effect Failure)
+pub entry_stays : (origin : SiteName) (x : SiteState) (past : Option (List PastEntry)) → past ≡ onward_past origin x → (a : Arrival) (count : ℕ) → count ≡ count_of x → (r : Result Effect Failure)
     → StaysWithMasters x.schema (entry_by past origin a count r)
 entry_stays origin x past past_is a count count_is (Ok done) = no_onward origin x past past_is count count_is done.changes
 entry_stays origin x past past_is a count count_is (Err failure) = tt

@@ -22,7 +22,7 @@ use Rattle.site_notes.specs.Noted.{NotesState}
 use Rattle.site_outbox.specs.Outgoing.{Outgoing}
 use Rattle.journal_steps.specs.Inboxes.{senders_in, sender_in}
 use Rattle.journal_steps.proofs.SenderInboxes.{sender_of-inboxes}
-use Rattle.site_core.specs.Keeping.{state_of, Holds}
+use Rattle.site_core.specs.SiteInvariant.{state_of, SiteHolds}
 use Rattle.journal_steps.proofs.StandingErrors.{lists_by}
 use Rattle.journal_steps.proofs.ChangedInbox.{is_from, inbox_of-none, senders_in-changed, follow_same}
 
@@ -73,12 +73,12 @@ module _ (schema : Schema) (here : Here) (base : List Rows) (inboxes : List Inco
 
   -- where nothing happened, the site keeps what it kept
   pub first_holds : (journal : List Entry) (rows : List Rows) (numbers : Numbers) (lists : List ErrorList) (room : ℕ) → journal ≡ []
-      → Holds (state_of schema here base journal inboxes out notes stamps moment) rows numbers inboxes out lists room
-      → Holds (state_of schema here base journal (set inboxes place new) out notes stamps moment) rows numbers (set inboxes place new) out lists room
+      → SiteHolds (state_of schema here base journal inboxes out notes stamps moment) rows numbers inboxes out lists room
+      → SiteHolds (state_of schema here base journal (set inboxes place new) out notes stamps moment) rows numbers (set inboxes place new) out lists room
   first_holds journal rows numbers lists room nothing before = rw nothing (by (rw nothing at before))
     where
-      by : Holds (state_of schema here base [] inboxes out notes stamps moment) rows numbers inboxes out lists room
-          → Holds (state_of schema here base [] (set inboxes place new) out notes stamps moment) rows numbers (set inboxes place new) out lists room
+      by : SiteHolds (state_of schema here base [] inboxes out notes stamps moment) rows numbers inboxes out lists room
+          → SiteHolds (state_of schema here base [] (set inboxes place new) out notes stamps moment) rows numbers (set inboxes place new) out lists room
       by h = record {
         based = h.based;
         fits = record { keyed = h.fits.keyed; content = h.fits.content; queued = tt; senders = rw senders (senders_have-first _ origin number (senders_in inboxes) h.fits.senders); journal = tt; within = h.fits.within };

@@ -2,11 +2,11 @@
 use Rattle.std.proofs.Common.{◌≡◌, List, [], ◌∷◌, Bool, true, false, refl}
 use Rattle.std.specs.List.{AllByRecursion}
 use Rattle.rep_values.specs.declared.name.SiteName.{SiteName}
-use Rattle.rep_calls.specs.declared.past.Past.{Past}
+use Rattle.rep_calls.specs.declared.past.PastEntry.{PastEntry}
 use Rattle.deferred_queue.specs.Streams.{is_same_site}
 use Rattle.deferred_queue.proofs.Sites.{is_same_site-true}
 use Rattle.packet_code.specs.declared.packet.Packet.{Packet}
-use Rattle.packet_code.specs.Limits.{IsSeen}
+use Rattle.packet_code.specs.Limits.{IsPastEntry}
 use Rattle.site_state.specs.declared.answers.Accepted.TheVariants as accepted
 use Rattle.site_state.specs.State.{SiteState}
 use Rattle.site_state.specs.Arrivals.{NamesOthers}
@@ -19,7 +19,7 @@ pub foreign_answer : (packet : Packet) (x : SiteState) → is_foreign packet x �
 foreign_answer packet x foreign = rw foreign refl
 
 -- what a packet's sender had seen is of others than itself
-pub names_others : (from : SiteName) (past : List Past) → AllByRecursion (IsSeen from) past → NamesOthers from past
+pub names_others : (from : SiteName) (past : List PastEntry) → AllByRecursion (IsPastEntry from) past → NamesOthers from past
 names_others from [] seen = refl
 names_others from (one ∷ past) seen = rw (other (is_same_site one.origin from) refl, names_others from past seen.1) refl
   where

@@ -11,10 +11,10 @@ pub mod NotedRows
 pub mod FewChanges
 pub mod Installing
 pub mod FinishedOnce
-pub mod Holding
+pub mod SiteSteps
 pub mod FirstNumbers
 pub mod Passing
 pub mod Waiting
 pub mod Beginning
-pub mod SettledSite
+pub mod SortedSite
 pub mod RefreshedSite

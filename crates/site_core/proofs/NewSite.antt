@@ -15,13 +15,13 @@ use Rattle.error_queue.specs.ErrorLists.{ErrorList, no_errors, in_order}
 use Rattle.site_state.specs.State.{is_master_site}
 use Rattle.site_state.specs.Deferrals as queue
 use Rattle.site_state.specs.Making.{new_sender, new_destination}
-use Rattle.site_state.specs.Fits.{IsKeyed, SendersHave, AreWithin, AreApart}
+use Rattle.site_state.specs.Fits.{SchemaIsKeyed, SendersHave, AreWithin, SnapshotsApart}
 use Rattle.site_notes.specs.Noted.{NotesState}
 use Rattle.site_state.proofs.DeclaredSites.{origins, sites_in}
 use Rattle.sender_inbox.specs.Incoming.{Incoming}
 use Rattle.site_outbox.specs.Outgoing.{Outgoing, Keeps}
 use Rattle.journal_steps.specs.Inboxes.{senders_in, Follows}
-use Rattle.site_core.specs.Keeping.{state_of, Holds}
+use Rattle.site_core.specs.SiteInvariant.{state_of, SiteHolds}
 use Rattle.journal_steps.proofs.StandingErrors.{lists_by}
 use Rattle.site_core.proofs.Apart.{NamesApart, destinations_stand_apart}
 
@@ -53,11 +53,11 @@ follow_nothing : (inboxes : List Incoming) → AllByRecursion (λ (i : Incoming)
 follow_nothing [] none = tt
 follow_nothing (i ∷ is) none = (none.0, follow_nothing is none.1)
 
-pub new_holds : (schema : Schema) (here : Here) (rows base : List Rows) (inboxes : List Incoming) (out : Outgoing) (notes : NotesState) (snapshots : List Snapshot) (numbers : Numbers) (lists : List ErrorList) (room : ℕ) → IsKeyed schema → AreTables schema rows → base ≡ rows
+pub new_holds : (schema : Schema) (here : Here) (rows base : List Rows) (inboxes : List Incoming) (out : Outgoing) (notes : NotesState) (snapshots : List Snapshot) (numbers : Numbers) (lists : List ErrorList) (room : ℕ) → SchemaIsKeyed schema → AreTables schema rows → base ≡ rows
     → here.is_master ≡ is_master_site schema here.site → senders_in inboxes ≡ map new_sender (senders_of schema here.site) → AllByRecursion (λ (i : Incoming). (p : ℕ) → marks.finished i.marked p ≡ false) inboxes
     → out.destinations ≡ map (new_destination schema) (destinations_of schema here.site) → Keeps schema [] [] out → numbers ≡ first_numbers schema → lists ≡ map no_errors (senders_of schema here.site)
-    → notes.snapshots ≡ snapshots → AreWithin schema snapshots → AreApart snapshots
-    → Holds (state_of schema here base [] inboxes out notes (record { clock = 0; last = 0 }) 0) rows numbers inboxes out lists room
+    → notes.snapshots ≡ snapshots → AreWithin schema snapshots → SnapshotsApart snapshots
+    → SiteHolds (state_of schema here base [] inboxes out notes (record { clock = 0; last = 0 }) 0) rows numbers inboxes out lists room
 new_holds schema here rows base inboxes out notes snapshots numbers lists room keyed are same master senders unfinished destinations keeps first none shows within apart = record {
   based = rw same are;
   fits = record { keyed = keyed; content = record { tables = rw same are; counters = AreCounters-first schema }; queued = tt; senders = rw senders (none_arrived _ (senders_of schema here.site)); journal = tt; within = rw shows within };

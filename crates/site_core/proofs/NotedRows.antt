@@ -11,9 +11,9 @@ use Rattle.site_state.specs.State.{LogState}
 use Rattle.site_state.specs.Contents.{changes_by}
 use Rattle.site_state.specs.Notes.{logged_in, touched_in}
 use Rattle.site_state.specs.Refreshes.{renewed}
-use Rattle.site_state.specs.Fits.{AreApart}
+use Rattle.site_state.specs.Fits.{SnapshotsApart}
 use Rattle.site_notes.specs.Noted.{NotesState}
-use Rattle.site_core.specs.Noting.{IsNoted}
+use Rattle.site_core.specs.Noting.{RowsAreNoted}
 
 -- ---- no rows
 
@@ -26,14 +26,14 @@ touched_nothing schema [] = refl
 touched_nothing schema (s ∷ ss) = ap (λ (rest : List Snapshot). s ∷ rest) (touched_nothing schema ss)
 
 -- where no row changed, notes that have the same logs and snapshots have them noted
-pub noted_nothing : (schema : Schema) (moment : ℕ) (old new : NotesState) → new.logs ≡ old.logs → new.snapshots ≡ old.snapshots → IsNoted schema moment [] old new
+pub noted_nothing : (schema : Schema) (moment : ℕ) (old new : NotesState) → new.logs ≡ old.logs → new.snapshots ≡ old.snapshots → RowsAreNoted schema moment [] old new
 noted_nothing schema moment old new logs snapshots = record {
   logs = rw (logged_nothing schema moment old.logs) logs;
   snapshots = rw (touched_nothing schema old.snapshots) snapshots;
 }
 
 -- where a transaction fails, no row changed
-pub noted_failed : (schema : Schema) (moment : ℕ) (r : Result Effect Failure) (failure : Failure) (old new : NotesState) → r ≡ Err failure → new.logs ≡ old.logs → new.snapshots ≡ old.snapshots → IsNoted schema moment (changes_by r) old new
+pub noted_failed : (schema : Schema) (moment : ℕ) (r : Result Effect Failure) (failure : Failure) (old new : NotesState) → r ≡ Err failure → new.logs ≡ old.logs → new.snapshots ≡ old.snapshots → RowsAreNoted schema moment (changes_by r) old new
 noted_failed schema moment r failure old new fails logs snapshots = rw fails (noted_nothing schema moment old new logs snapshots)
 
 -- notes that have nothing noted have the same logs and snapshots
@@ -50,14 +50,14 @@ module _ (change : Snapshot → Snapshot) (same : (s : Snapshot) → (change s).
   others_stay table [] others = tt
   others_stay table (s ∷ ss) others = (subst (λ (n : ℕ). n ≢ table) (sym (same s)) others.0, others_stay table ss others.1)
 
-  apart-map : (ss : List Snapshot) → AreApart ss → AreApart (map change ss)
+  apart-map : (ss : List Snapshot) → SnapshotsApart ss → SnapshotsApart (map change ss)
   apart-map [] apart = tt
   apart-map (s ∷ ss) apart = (subst (λ (n : ℕ). AllByRecursion (λ (t : Snapshot). t.table ≢ n) (map change ss)) (sym (same s)) (others_stay s.table ss apart.0), apart-map ss apart.1)
 
 -- they stay so while rows change
-pub apart_noted : (schema : Schema) (moment : ℕ) (changes : List Change) (old new : NotesState) → IsNoted schema moment changes old new → AreApart old.snapshots → AreApart new.snapshots
-apart_noted schema moment changes old new noted apart = subst AreApart (sym noted.snapshots) (apart-map (touched_in schema changes) (λ s. refl) old.snapshots apart)
+pub apart_noted : (schema : Schema) (moment : ℕ) (changes : List Change) (old new : NotesState) → RowsAreNoted schema moment changes old new → SnapshotsApart old.snapshots → SnapshotsApart new.snapshots
+apart_noted schema moment changes old new noted apart = subst SnapshotsApart (sym noted.snapshots) (apart-map (touched_in schema changes) (λ s. refl) old.snapshots apart)
 
 -- and by a refresh
-pub apart_renewed : (moment : ℕ) (old new : List Snapshot) → new ≡ map (renewed moment) old → AreApart old → AreApart new
-apart_renewed moment old new is apart = subst AreApart (sym is) (apart-map (renewed moment) (λ s. refl) old apart)
+pub apart_renewed : (moment : ℕ) (old new : List Snapshot) → new ≡ map (renewed moment) old → SnapshotsApart old → SnapshotsApart new
+apart_renewed moment old new is apart = subst SnapshotsApart (sym is) (apart-map (renewed moment) (λ s. refl) old apart)

@@ -7,9 +7,9 @@ use Rattle.rep_values.specs.declared.name.SiteName.{SiteName}
 use Rattle.rep_schema.specs.declared.schema.Schema.{Schema}
 use Rattle.rep_schema.specs.declared.change.Change.{Change}
 use Rattle.rep_schema.specs.Tables.{Rows}
-use Rattle.rep_schema.specs.Putting.{made_all}
+use Rattle.rep_schema.specs.Putting.{after_changes}
 use Rattle.rep_calls.specs.declared.call.Txn.{Txn}
-use Rattle.rep_calls.specs.declared.past.Past.{Past}
+use Rattle.rep_calls.specs.declared.past.PastEntry.{PastEntry}
 use Rattle.conflict_detect.specs.ChangeCalls.{call_of}
 use Rattle.site_state.specs.State.{SiteState, is_master_site}
 use Rattle.site_state.specs.Contents.{txn_of}
@@ -18,7 +18,7 @@ use Rattle.site_state.specs.Pasts.{past_of, pasts_of}
 use Rattle.site_state.specs.Packets.{past_in}
 use Rattle.site_state.specs.Steps.{is_empty, is_open, onward_number}
 use Rattle.site_state.proofs.FittingSites.{one_has}
-use Rattle.site_core.specs.Keeping.{IsSized}
+use Rattle.site_core.specs.SiteInvariant.{IsSized}
 use Rattle.site_core.specs.Applying.{goes_on, onward_of, sends_on, onward_past}
 
 -- the order of the tests doesn't matter
@@ -34,7 +34,7 @@ tests p true false false false = refl
 tests p false k a true = refl
 tests p false k a false = refl
 
-module _ (origin : SiteName) (x : SiteState) (past : Option (List Past)) (past_is : past ≡ onward_past origin x) (count : ℕ) (count_is : count ≡ count_of x) where
+module _ (origin : SiteName) (x : SiteState) (past : Option (List PastEntry)) (past_is : past ≡ onward_past origin x) (count : ℕ) (count_is : count ≡ count_of x) where
   -- the number is the definition's
   pub onward_is : (changes : List Change) → onward_of past changes count ≡ onward_number origin changes x
   onward_is changes =
@@ -67,7 +67,7 @@ module _ (origin : SiteName) (x : SiteState) (past : Option (List Past)) (past_i
       go false false = refl
 
 -- a transaction of 1 to 1,000 changed rows is sized where there are some
-pub sized_changes : (schema : Schema) (past : Option (List Past)) (changes : List Change) (txns : List Txn) → length changes ≤ 1000 → AllByRecursion IsSized txns → AllByRecursion IsSized (with_one (goes_on past changes) (txn_of schema changes) txns)
+pub sized_changes : (schema : Schema) (past : Option (List PastEntry)) (changes : List Change) (txns : List Txn) → length changes ≤ 1000 → AllByRecursion IsSized txns → AllByRecursion IsSized (with_one (goes_on past changes) (txn_of schema changes) txns)
 sized_changes schema past [] txns few sized = sized
 sized_changes schema past (c ∷ cs) txns few sized = one_has IsSized (is_some past) (txn_of schema (c ∷ cs)) txns (record { some = omega arith; most = omega (arith, few, long (c ∷ cs)) }) sized
   where
@@ -76,6 +76,6 @@ sized_changes schema past (c ∷ cs) txns few sized = one_has IsSized (is_some p
     long (d ∷ ds) = ap ℕ.suc (long ds)
 
 -- where no row changed the rows are as before
-pub nothing_made : (schema : Schema) (changes : List Change) (rows : List Rows) → is_empty changes ≡ true → made_all schema changes rows ≡ rows
+pub nothing_made : (schema : Schema) (changes : List Change) (rows : List Rows) → is_empty changes ≡ true → after_changes schema changes rows ≡ rows
 nothing_made schema [] rows none = refl
 nothing_made schema (c ∷ cs) rows none = absurd (cc none)

@@ -9,7 +9,7 @@ use Rattle.origin_marks.specs.Marks as marks
 use Rattle.error_queue.specs.ErrorLists.{ErrorList}
 use Rattle.site_state.specs.declared.arrival.Arrival.{Arrival}
 use Rattle.site_state.specs.declared.answers.Why.TheVariants as why
-use Rattle.site_state.specs.State.{SenderState, SiteState, sender_of, beside, arrived_at, arrivals, first_number}
+use Rattle.site_state.specs.State.{SenderState, SiteState, sender_of, arrival_beside, arrived_at, arrivals, first_number}
 use Rattle.site_state.specs.Arrivals.{CanPass}
 use Rattle.site_state.specs.Journal.{finished, low_water}
 use Rattle.site_state.specs.Pasts.{past_of}
@@ -17,12 +17,12 @@ use Rattle.site_state.specs.Ready.{covered_at, covered, is_due, stale_of}
 use Rattle.sender_inbox.specs.Incoming.{Incoming, by_position}
 use Rattle.site_outbox.specs.Outgoing.{Outgoing}
 use Rattle.journal_steps.specs.Inboxes.{senders_in, inbox_of, Follows}
-use Rattle.site_core.specs.Keeping.{Holds}
+use Rattle.site_core.specs.SiteInvariant.{SiteHolds}
 use Rattle.site_core.specs.Seen.{past_from}
 use Rattle.journal_steps.proofs.SenderInboxes.{sender_of-inboxes, found_inbox, finished_found, mark_found, low_water-found, unfinished_none, low_water-none}
 use Rattle.site_core.proofs.SeenMasters.{past_from-follows}
 
-module _ (x : SiteState) (rows : List Rows) (numbers : Numbers) (inboxes : List Incoming) (out : Outgoing) (lists : List ErrorList) (room : ℕ) (h : Holds x rows numbers inboxes out lists room) (senders : x.senders ≡ senders_in inboxes) where
+module _ (x : SiteState) (rows : List Rows) (numbers : Numbers) (inboxes : List Incoming) (out : Outgoing) (lists : List ErrorList) (room : ℕ) (h : SiteHolds x rows numbers inboxes out lists room) (senders : x.senders ≡ senders_in inboxes) where
   -- what the site has seen of the masters
   pub past_is : past_from x.schema inboxes ≡ past_of x
   past_is = past_from-follows x.schema x.journal inboxes h.follow ∙ rw senders refl
@@ -67,7 +67,7 @@ module _ (x : SiteState) (rows : List Rows) (numbers : Numbers) (inboxes : List 
       pub first_is : i.sender.first ≡ first_number origin x
       first_is = rw sender_is refl
 
-      pub arrived_is : (position : ℕ) → find_at (beside position) i.sender.arrived ≡ arrived_at origin position x.senders
+      pub arrived_is : (position : ℕ) → find_at (arrival_beside position) i.sender.arrived ≡ arrived_at origin position x.senders
       arrived_is position = rw sender_is refl
 
       -- its arrivals rise where the inbox's do
@@ -97,17 +97,17 @@ module _ (x : SiteState) (rows : List Rows) (numbers : Numbers) (inboxes : List 
           not_yet : finished origin x.journal position ≡ false
           not_yet = sym (finished_is position) ∙ open'
 
-          pub stale_absent : find_at (beside position) i.sender.arrived ≡ None → Some why.NotArrived ≡ stale_of origin position x
+          pub stale_absent : find_at (arrival_beside position) i.sender.arrived ≡ None → Some why.NotArrived ≡ stale_of origin position x
           stale_absent none = rw (not_yet, sender_is, none) refl
 
-          pub stale_early : (a : Arrival) → find_at (beside position) i.sender.arrived ≡ Some a → is_due origin x a ≡ false → Some why.NotReady ≡ stale_of origin position x
+          pub stale_early : (a : Arrival) → find_at (arrival_beside position) i.sender.arrived ≡ Some a → is_due origin x a ≡ false → Some why.NotReady ≡ stale_of origin position x
           stale_early a there due = rw (not_yet, sender_is, there, due) refl
 
-          pub stale_ready : (a : Arrival) → find_at (beside position) i.sender.arrived ≡ Some a → is_due origin x a ≡ true → None ≡ stale_of origin position x
+          pub stale_ready : (a : Arrival) → find_at (arrival_beside position) i.sender.arrived ≡ Some a → is_due origin x a ≡ true → None ≡ stale_of origin position x
           stale_ready a there due = rw (not_yet, sender_is, there, due) refl
 
         -- what is ready arrived
-        pub ready_arrives : find_at (beside position) i.sender.arrived ≡ None → stale_of origin position x ≡ None → ⊥
+        pub ready_arrives : find_at (arrival_beside position) i.sender.arrived ≡ None → stale_of origin position x ≡ None → ⊥
         ready_arrives none ready = go (marks.finished i.marked position) refl
           where
             go : (b : Bool) → marks.finished i.marked position ≡ b → ⊥

@@ -23,11 +23,11 @@ use Rattle.site_state.proofs.FittingSites.{within_renewed}
 use Rattle.sender_inbox.specs.Incoming.{Incoming}
 use Rattle.site_notes.specs.Noted.{NotesState}
 use Rattle.site_outbox.specs.Outgoing.{Outgoing, Keeps}
-use Rattle.site_core.specs.Keeping.{state_of, IsSized, Holds}
+use Rattle.site_core.specs.SiteInvariant.{state_of, IsSized, SiteHolds}
 use Rattle.site_core.proofs.NotedRows.{apart_renewed}
 
 module _ (schema : Schema) (here : Here) (base : List Rows) (journal : List Entry) (inboxes : List Incoming) (out : Outgoing) (notes : NotesState) (stamps : Stamps) (moment : ℕ)
-    (rows : List Rows) (numbers : Numbers) (lists : List ErrorList) (room : ℕ) (h : Holds (state_of schema here base journal inboxes out notes stamps moment) rows numbers inboxes out lists room)
+    (rows : List Rows) (numbers : Numbers) (lists : List ErrorList) (room : ℕ) (h : SiteHolds (state_of schema here base journal inboxes out notes stamps moment) rows numbers inboxes out lists room)
     (master_moment : ℕ) (base' : List Rows) (notes' : NotesState) (shows : notes'.snapshots ≡ map (renewed master_moment) notes.snapshots) where
   abbrev x : SiteState
   x = state_of schema here base journal inboxes out notes stamps moment
@@ -43,7 +43,7 @@ module _ (schema : Schema) (here : Here) (base : List Rows) (journal : List Entr
     rebased = queue_after-rebased schema here base' base journal snapshot_site
 
     refresh_holds : (room' : ℕ) → AreTables schema base' → length (in_order lists) ≤ room'
-        → Holds (state_of schema here base' (Refreshed master_moment ∷ journal) inboxes out notes' stamps moment) base' (first_numbers schema) inboxes out lists room'
+        → SiteHolds (state_of schema here base' (Refreshed master_moment ∷ journal) inboxes out notes' stamps moment) base' (first_numbers schema) inboxes out lists room'
     refresh_holds room' are droppable = record {
       based = are;
       fits = record {
@@ -70,5 +70,5 @@ module _ (schema : Schema) (here : Here) (base : List Rows) (journal : List Entr
     }
 
     pub refresh_holds_is : (schema' : Schema) (journal' : List Entry) (rows' : List Rows) (numbers' : Numbers) (room' : ℕ) → schema' ≡ schema → journal' ≡ Refreshed master_moment ∷ journal → rows' ≡ base' → numbers' ≡ first_numbers schema
-        → AreTables schema base' → length (in_order lists) ≤ room' → Holds (state_of schema' here base' journal' inboxes out notes' stamps moment) rows' numbers' inboxes out lists room'
+        → AreTables schema base' → length (in_order lists) ≤ room' → SiteHolds (state_of schema' here base' journal' inboxes out notes' stamps moment) rows' numbers' inboxes out lists room'
     refresh_holds_is schema' journal' rows' numbers' room' schema_is journal_is rows_are numbers_are are droppable = rw (schema_is, journal_is, rows_are, numbers_are) (refresh_holds room' are droppable)

@@ -7,7 +7,7 @@ use Rattle.rep_lists.proofs.Rising.{rising_put}
 use Rattle.rep_values.specs.Order.{name_cmp}
 use Rattle.std.proofs.lemmas.Cmp.{nat_list_cmp_total}
 use Rattle.rep_schema.specs.declared.schema.Schema.{Schema}
-use Rattle.rep_calls.specs.declared.past.Past.{Past}
+use Rattle.rep_calls.specs.declared.past.PastEntry.{PastEntry}
 use Rattle.site_state.specs.declared.entry.Entry.{Entry}
 use Rattle.site_state.specs.State.{is_master_site}
 use Rattle.site_state.specs.Pasts.{with_seen, past_at}
@@ -27,9 +27,9 @@ past_from-follows schema journal (i ∷ is) follow =
     go false = refl
 
 -- it rises by names
-pub rising_found : (found : Option Past) (past : List Past) → IsRising by_name past → IsRising by_name (with_found found past)
+pub rising_found : (found : Option PastEntry) (past : List PastEntry) → IsRising by_name past → IsRising by_name (with_found found past)
 rising_found None past rising = rising
-rising_found (Some seen) past rising = rising_put (λ (s : Past). s.origin.0) name_cmp nat_list_cmp_total seen past rising
+rising_found (Some seen) past rising = rising_put (λ (s : PastEntry). s.origin.0) name_cmp nat_list_cmp_total seen past rising
 
 pub rising_past : (schema : Schema) (inboxes : List Incoming) → IsRising by_name (past_from schema inboxes)
 rising_past schema [] = tt

@@ -10,7 +10,7 @@ use Rattle.rep_lists.specs.Rising.{IsRising}
 use Rattle.rep_lists.proofs.Places.{found_at}
 use Rattle.rep_values.specs.declared.name.SiteName.{SiteName}
 use Rattle.rep_schema.specs.Tables.{Rows}
-use Rattle.rep_calls.specs.declared.past.Past.{Past}
+use Rattle.rep_calls.specs.declared.past.PastEntry.{PastEntry}
 use Rattle.unique_resolve.specs.Numbers.{Numbers}
 use Rattle.deferred_queue.specs.Streams.{is_same_site}
 use Rattle.deferred_queue.proofs.Sites.{is_same_site-true}
@@ -30,7 +30,7 @@ use Rattle.sender_inbox.proofs.RisingPasts.{le_through, within_later}
 use Rattle.site_outbox.specs.Outgoing.{Outgoing}
 use Rattle.journal_steps.specs.Inboxes.{senders_in, inbox_of}
 use Rattle.site_core.specs.declared.looking.Placed.{Placed}
-use Rattle.site_core.specs.Keeping.{Holds}
+use Rattle.site_core.specs.SiteInvariant.{SiteHolds}
 use Rattle.site_core.specs.Looking.{NoneReady, IsReadyAt, IsNextReady}
 use Rattle.site_core.proofs.Reading.{arrived_is, arrivals_are, finished_is, mark_is, stale_ready}
 use Rattle.site_core.proofs.Passing.{finished-not_ready, not_ready_more, first_is, arrivals_stay, pass_goes_on}
@@ -39,7 +39,7 @@ use Rattle.site_core.proofs.Passing.{finished-not_ready, not_ready_more, first_i
 
 module _ (x : SiteState) where
   -- what is covered covers what is seen of the same master up to there
-  covered_below : (p q : Past) → is_same_site q.origin p.origin ≡ true → nat_le p.number q.number ≡ true → is_covered x q ≡ true → is_covered x p ≡ true
+  covered_below : (p q : PastEntry) → is_same_site q.origin p.origin ≡ true → nat_le p.number q.number ≡ true → is_covered x q ≡ true → is_covered x p ≡ true
   covered_below p q same less is = go (is_same_site q.origin x.here.site) refl is
     where
       one : q.origin ≡ p.origin
@@ -51,7 +51,7 @@ module _ (x : SiteState) where
           let reached : nat_le p.number (covered p.origin x) ≡ true = le_through p.number q.number (covered p.origin x) less (subst (λ (o : SiteName). nat_le q.number (covered o x) ≡ true) one covers) in
           rw (subst (λ (o : SiteName). is_same_site o x.here.site ≡ false) one here) reached
 
-  covered_reached : (later : List Past) (p : Past) → reaches later p ≡ true → list_all (is_covered x) later ≡ true → is_covered x p ≡ true
+  covered_reached : (later : List PastEntry) (p : PastEntry) → reaches later p ≡ true → list_all (is_covered x) later ≡ true → is_covered x p ≡ true
   covered_reached [] p reached all = cc
   covered_reached (q ∷ later) p reached all = go (is_same_site q.origin p.origin && nat_le p.number q.number) refl reached (covered_reached later p)
     where
@@ -63,13 +63,13 @@ module _ (x : SiteState) where
       go false here is rest = rest is parts.1
 
   -- where a past is covered, so is each one within it
-  covered_within : (past later : List Past) → is_within past later ≡ true → list_all (is_covered x) later ≡ true → list_all (is_covered x) past ≡ true
+  covered_within : (past later : List PastEntry) → is_within past later ≡ true → list_all (is_covered x) later ≡ true → list_all (is_covered x) past ≡ true
   covered_within [] later within all = refl
   covered_within (p ∷ past) later within all =
       let parts = and_parts (reaches later p) (is_within past later) within in
       and_from (is_covered x p) (list_all (is_covered x) past) (covered_reached later p parts.0 all) (covered_within past later parts.1 all)
 
-  uncovered_later : (past later : List Past) → is_within past later ≡ true → list_all (is_covered x) past ≡ false → list_all (is_covered x) later ≡ false
+  uncovered_later : (past later : List PastEntry) → is_within past later ≡ true → list_all (is_covered x) past ≡ false → list_all (is_covered x) later ≡ false
   uncovered_later past later within open' = go (list_all (is_covered x) later) refl
     where
       go : (b : Bool) → list_all (is_covered x) later ≡ b → b ≡ false
@@ -115,7 +115,7 @@ module _ (origin : SiteName) (x : SiteState) where
 
 -- ---- a look at what arrived
 
-module _ (x : SiteState) (rows : List Rows) (numbers : Numbers) (inboxes : List Incoming) (out : Outgoing) (lists : List ErrorList) (room : ℕ) (h : Holds x rows numbers inboxes out lists room) (senders : x.senders ≡ senders_in inboxes)
+module _ (x : SiteState) (rows : List Rows) (numbers : Numbers) (inboxes : List Incoming) (out : Outgoing) (lists : List ErrorList) (room : ℕ) (h : SiteHolds x rows numbers inboxes out lists room) (senders : x.senders ≡ senders_in inboxes)
     (origin : SiteName) (i : Incoming) (found : inbox_of origin inboxes ≡ Some i) (rising : IsRising by_position i.sender.arrived) (place : ℕ) (a : Arrival) (there : slice_get i.sender.arrived place ≡ Some a) where
   in_arrivals : (k : ℕ) (b : Arrival) → slice_get i.sender.arrived k ≡ Some b → slice_get (arrivals origin x) k ≡ Some b
   in_arrivals k b at = rw (arrivals_are x rows numbers inboxes out lists room h senders origin i found) at

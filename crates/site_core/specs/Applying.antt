@@ -5,7 +5,7 @@ use Rattle.rep_values.specs.declared.name.SiteName.{SiteName}
 use Rattle.rep_values.specs.declared.refusal.Refusal.{Refusal}
 use Rattle.rep_values.specs.declared.refusal.Refusal.TheVariants as refusal
 use Rattle.rep_schema.specs.declared.change.Change.{Change}
-use Rattle.rep_calls.specs.declared.past.Past.{Past}
+use Rattle.rep_calls.specs.declared.past.PastEntry.{PastEntry}
 use Rattle.txn_effects.specs.Calls.{Effect}
 use Rattle.txn_effects.specs.Transactions.{Failure}
 use Rattle.txn_apply.specs.declared.stop.ApplyStop.{ApplyStop}
@@ -19,15 +19,15 @@ use Rattle.site_state.specs.Pasts.{past_of}
 use Rattle.site_state.specs.Steps.{is_empty, is_open}
 
 -- changed rows go onward where there are some and where the site has what it had seen to send with them
-abbrev pub goes_on : Option (List Past) → List Change → Bool
+abbrev pub goes_on : Option (List PastEntry) → List Change → Bool
 goes_on past changes = not (is_empty changes) && is_some past
 
 -- the number under which they are queued behind so many transactions, 0 where they don't go onward
-abbrev pub onward_of : Option (List Past) → List Change → ℕ → ℕ
+abbrev pub onward_of : Option (List PastEntry) → List Change → ℕ → ℕ
 onward_of past changes count = cond (goes_on past changes) (count + 1) 0
 
 -- the entry of an arrival by what its transaction does
-abbrev pub entry_by : Option (List Past) → SiteName → Arrival → ℕ → Result Effect Failure → Entry
+abbrev pub entry_by : Option (List PastEntry) → SiteName → Arrival → ℕ → Result Effect Failure → Entry
 entry_by past origin a count (Ok effect) = Done origin a.position (onward_of past effect.changes count) a.txn
 entry_by past origin a count (Err failure) = Error origin a.position failure.call failure.error a.txn
 
@@ -41,10 +41,10 @@ abbrev pub sends_on : SiteName → SiteState → Bool
 sends_on origin x = x.here.is_master && not (is_master_site x.schema origin) && list_any is_open x.destinations
 
 -- what a site had seen, where it sends on what came from an origin
-abbrev pub onward_past : SiteName → SiteState → Option (List Past)
+abbrev pub onward_past : SiteName → SiteState → Option (List PastEntry)
 onward_past origin x = cond (sends_on origin x) (Some (past_of x)) None
 
 -- why an error isn't executed whose transaction stops so
-abbrev pub refusal_of : ApplyStop → Refusal
-refusal_of (Failed call error) = refusal.StillFails error
-refusal_of Memory = refusal.Memory
+abbrev pub execute_stop_refusal : ApplyStop → Refusal
+execute_stop_refusal (Failed call error) = refusal.StillFails error
+execute_stop_refusal Memory = refusal.Memory

@@ -1,9 +1,9 @@
 -- The definitions of this crate.
-pub mod Keeping
+pub mod SiteInvariant
 pub mod Seen
 pub mod Applying
 pub mod Noting
-pub mod Settled
+pub mod Outcomes
 pub mod Committing
 pub mod Working
 pub mod Ordering

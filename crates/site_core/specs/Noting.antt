@@ -6,6 +6,6 @@ use Rattle.site_state.specs.Notes.{logged_in, touched_in}
 use Rattle.site_notes.specs.Noted.{NotesState}
 
 -- changed rows are noted at a moment: in the logs of their tables, and at the snapshots
-pub record IsNoted (schema : Schema) (moment : ℕ) (changes : List Change) (old new : NotesState) : Type 0 where
+pub record RowsAreNoted (schema : Schema) (moment : ℕ) (changes : List Change) (old new : NotesState) : Type 0 where
   pub logs : new.logs ≡ map (logged_in schema moment changes) old.logs
   pub snapshots : new.snapshots ≡ map (touched_in schema changes) old.snapshots

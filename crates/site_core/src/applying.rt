@@ -3,9 +3,9 @@ ghost use Rattle.std.specs.Prelude.{◌≡◌, ◌≢◌, List, ◌≤◌, lengt
 ghost use Rattle.std.specs.List.{AllByRecursion};
 ghost use Rattle.rep_schema.specs.Shape.{HasShape};
 ghost use Rattle.rep_schema.specs.Changes.{ChangeFits, LeadsTo};
-ghost use Rattle.rep_schema.specs.Putting.{made_all};
+ghost use Rattle.rep_schema.specs.Putting.{after_changes};
 ghost use Rattle.rep_calls.specs.declared.call.Txn.{Txn as TxnValue};
-ghost use Rattle.rep_calls.specs.declared.past.Past.{Past as PastValue};
+ghost use Rattle.rep_calls.specs.declared.past.PastEntry.{PastEntry as PastValue};
 ghost use Rattle.conflict_detect.specs.Fits.{TxnFits};
 ghost use Rattle.unique_resolve.specs.Numbers.{AreCounters};
 ghost use Rattle.txn_effects.specs.Transactions.{txn_effect};
@@ -14,16 +14,16 @@ ghost use Rattle.site_state.specs.Contents.{txn_of, changes_by};
 ghost use Rattle.site_state.specs.Streams.{with_one};
 ghost use Rattle.site_state.specs.Packets.{past_in};
 ghost use Rattle.site_state.specs.Passes.{apply_answer_by};
-ghost use Rattle.site_state.specs.Fits.{IsKeyed};
+ghost use Rattle.site_state.specs.Fits.{SchemaIsKeyed};
 ghost use Rattle.site_outbox.specs.Outgoing.{Keeps};
 ghost use Rattle.txn_work.specs.Endings.{effect_of};
 ghost use Rattle.site_core.specs.Applying.{goes_on, onward_of, entry_by, error_by};
-ghost use Rattle.site_core.specs.Noting.{IsNoted};
-ghost use Rattle.site_core.specs.Settled.{settled_by, AreAsBefore, AreChanged};
+ghost use Rattle.site_core.specs.Noting.{RowsAreNoted};
+ghost use Rattle.site_core.specs.Outcomes.{outcome_by, AreAsBefore, AreChanged};
 
 use conflict_detect::txn_of;
-use journal_steps::{Settled, Step, step_of};
-use rep_calls::{Past, Txn};
+use journal_steps::{ApplyOutcome, Step, step_of};
+use rep_calls::{PastEntry, Txn};
 use rep_lists::{Items, NoMemory};
 use rep_schema::{Change, Changes, RowStore, Schema, holds_tables};
 use rep_values::SiteName;
@@ -48,10 +48,10 @@ fn send_onward(
     alloc: Global,
     schema: &Schema,
     outbox: &mut Outbox,
-    past: Option<Items<Past>>,
+    past: Option<Items<PastEntry>>,
     changes: &[Change],
 ) -> Result<u64, NoMemory>
-    requires keyed { IsKeyed schema.now }
+    requires keyed { SchemaIsKeyed schema.now }
     requires fits { AllByRecursion (ChangeFits schema.now) changes.now }
     ensures number { IfOk result (λ onward. onward ≡ onward_of past changes.now (length outbox.old.deferred)) }
     ensures ok { OnOk result ((pasts : List (List PastValue)) (txns : List TxnValue) → Keeps schema.now pasts txns outbox.old
@@ -77,17 +77,17 @@ pub(crate) fn apply_onward<R: RowStore>(
     store: &mut R,
     counters: &mut Counters,
     outbox: &mut Outbox,
-    past: Option<Items<Past>>,
+    past: Option<Items<PastEntry>>,
     origin: &SiteName,
     txn: &Txn,
 ) -> Result<Done, ApplyStop>
-    requires keyed { IsKeyed (R.schema store.old) }
+    requires keyed { SchemaIsKeyed (R.schema store.old) }
     requires counters { AreCounters (R.schema store.old) counters.old }
     requires fits { TxnFits (R.schema store.old) txn.now }
     requires few { length txn.now.calls ≤ 1000 }
     ensures ok { IfOk result (λ done. txn_effect (R.schema store.old) origin.now txn.now (R.tables store.old) counters.old
         ≡ Ok (record { changes = done.changes.rows; numbers = counters.new })) }
-    ensures tables { IfOk result (λ done. R.tables store.new ≡ made_all (R.schema store.old) done.changes.rows (R.tables store.old)) }
+    ensures tables { IfOk result (λ done. R.tables store.new ≡ after_changes (R.schema store.old) done.changes.rows (R.tables store.old)) }
     ensures onward { IfOk result (λ done. done.onward ≡ onward_of past done.changes.rows (length outbox.old.deferred)) }
     ensures few { IfOk result (λ done. length done.changes.rows ≤ length txn.now.calls) }
     ensures fits { IfOk result (λ done. AllByRecursion (ChangeFits (R.schema store.old)) done.changes.rows) }
@@ -128,15 +128,15 @@ fn install_onward<R: RowStore>(
     outbox: &mut Outbox,
     notes: &mut Notes,
     moment: u64,
-    past: Option<Items<Past>>,
+    past: Option<Items<PastEntry>>,
     changes: Changes,
 ) -> Result<u64, NoMemory>
-    requires keyed { IsKeyed (R.schema store.old) }
-    requires leads { LeadsTo (R.schema store.old) changes.rows (R.tables store.old) (made_all (R.schema store.old) changes.rows (R.tables store.old)) }
+    requires keyed { SchemaIsKeyed (R.schema store.old) }
+    requires leads { LeadsTo (R.schema store.old) changes.rows (R.tables store.old) (after_changes (R.schema store.old) changes.rows (R.tables store.old)) }
     requires differ { AllByRecursion (λ change. change.before ≢ change.after) changes.rows }
     requires room { length changes.rows ≤ notes.old.room }
-    ensures tables { OnOk result (R.tables store.new ≡ made_all (R.schema store.old) changes.rows (R.tables store.old)) }
-    ensures noted { OnOk result (IsNoted (R.schema store.old) moment changes.rows notes.old notes.new) }
+    ensures tables { OnOk result (R.tables store.new ≡ after_changes (R.schema store.old) changes.rows (R.tables store.old)) }
+    ensures noted { OnOk result (RowsAreNoted (R.schema store.old) moment changes.rows notes.old notes.new) }
     ensures onward { IfOk result (λ onward. onward ≡ onward_of past changes.rows (length outbox.old.deferred)) }
     ensures queue { OnOk result ((pasts : List (List PastValue)) (txns : List TxnValue) → Keeps (R.schema store.old) pasts txns outbox.old
         → Keeps (R.schema store.old) (with_one (goes_on past changes.rows) (past_in past) pasts) (with_one (goes_on past changes.rows) (txn_of (R.schema store.old) changes.rows) txns) outbox.new) }
@@ -165,16 +165,16 @@ fn apply_noting<R: RowStore>(
     outbox: &mut Outbox,
     notes: &mut Notes,
     moment: u64,
-    past: Option<Items<Past>>,
+    past: Option<Items<PastEntry>>,
     origin: &SiteName,
     txn: &Txn,
-) -> Result<Settled, NoMemory>
-    requires keyed { IsKeyed (R.schema store.old) }
+) -> Result<ApplyOutcome, NoMemory>
+    requires keyed { SchemaIsKeyed (R.schema store.old) }
     requires counters { AreCounters (R.schema store.old) counters.old }
     requires fits { TxnFits (R.schema store.old) txn.now }
     requires few { length txn.now.calls ≤ 1000 }
     requires room { length txn.now.calls ≤ notes.old.room }
-    ensures settled { IfOk result (λ settled. settled ≡ settled_by past (length outbox.old.deferred) (txn_effect (R.schema store.old) origin.now txn.now (R.tables store.old) counters.old)) }
+    ensures settled { IfOk result (λ settled. settled ≡ outcome_by past (length outbox.old.deferred) (txn_effect (R.schema store.old) origin.now txn.now (R.tables store.old) counters.old)) }
     ensures changed { OnOk result (AreChanged (R.schema store.old) moment past (txn_effect (R.schema store.old) origin.now txn.now (R.tables store.old) counters.old)
         (record { tables = R.tables store.old; numbers = counters.old; out = outbox.old; notes = notes.old })
         (record { tables = R.tables store.new; numbers = counters.new; out = outbox.new; notes = notes.new })) }
@@ -189,35 +189,35 @@ fn apply_noting<R: RowStore>(
     match apply_onward(alloc, store, counters, outbox, past, origin, txn) {
         Ok(done) => {
             notes.note(store.schema(), done.changes.rows.as_slice(), moment);
-            Ok(Settled::Done {
+            Ok(ApplyOutcome::Done {
                 onward: done.onward,
             })
         }
-        Err(ApplyStop::Failed { call, error }) => Ok(Settled::Failed { call, error }),
+        Err(ApplyStop::Failed { call, error }) => Ok(ApplyOutcome::Failed { call, error }),
         Err(ApplyStop::Memory) => Err(NoMemory),
     }
 }
 
 /// The same for a transaction that ends as it was evaluated before, where it was.
-fn settle<R: RowStore>(
+fn evaluate<R: RowStore>(
     alloc: Global,
     store: &mut R,
     counters: &mut Counters,
     outbox: &mut Outbox,
     notes: &mut Notes,
     moment: u64,
-    past: Option<Items<Past>>,
+    past: Option<Items<PastEntry>>,
     origin: &SiteName,
     txn: &Txn,
     ending: Option<Ending>,
-) -> Result<Settled, NoMemory>
-    requires keyed { IsKeyed (R.schema store.old) }
+) -> Result<ApplyOutcome, NoMemory>
+    requires keyed { SchemaIsKeyed (R.schema store.old) }
     requires counters { AreCounters (R.schema store.old) counters.old }
     requires fits { TxnFits (R.schema store.old) txn.now }
     requires few { length txn.now.calls ≤ 1000 }
     requires room { length txn.now.calls ≤ notes.old.room }
     requires ending { IfSome ending (λ e. txn_effect (R.schema store.old) origin.now txn.now (R.tables store.old) counters.old ≡ effect_of e counters.old) }
-    ensures settled { IfOk result (λ settled. settled ≡ settled_by past (length outbox.old.deferred) (txn_effect (R.schema store.old) origin.now txn.now (R.tables store.old) counters.old)) }
+    ensures settled { IfOk result (λ settled. settled ≡ outcome_by past (length outbox.old.deferred) (txn_effect (R.schema store.old) origin.now txn.now (R.tables store.old) counters.old)) }
     ensures changed { OnOk result (AreChanged (R.schema store.old) moment past (txn_effect (R.schema store.old) origin.now txn.now (R.tables store.old) counters.old)
         (record { tables = R.tables store.old; numbers = counters.old; out = outbox.old; notes = notes.old })
         (record { tables = R.tables store.new; numbers = counters.new; out = outbox.new; notes = notes.new })) }
@@ -233,9 +233,9 @@ fn settle<R: RowStore>(
     match ending {
         Some(Ending::Changed(changes)) => {
             let onward = install_onward(alloc, store, outbox, notes, moment, past, changes)?;
-            Ok(Settled::Done { onward })
+            Ok(ApplyOutcome::Done { onward })
         }
-        Some(Ending::Failed { call, error }) => Ok(Settled::Failed { call, error }),
+        Some(Ending::Failed { call, error }) => Ok(ApplyOutcome::Failed { call, error }),
         None => apply_noting(
             alloc, store, counters, outbox, notes, moment, past, origin, txn,
         ),
@@ -258,12 +258,12 @@ pub(crate) fn apply_arrival<R: RowStore>(
     outbox: &mut Outbox,
     notes: &mut Notes,
     moment: u64,
-    past: Option<Items<Past>>,
+    past: Option<Items<PastEntry>>,
     origin: &SiteName,
     arrival: &Arrival,
     ending: Option<Ending>,
 ) -> Result<Step, NoMemory>
-    requires keyed { IsKeyed (R.schema store.old) }
+    requires keyed { SchemaIsKeyed (R.schema store.old) }
     requires counters { AreCounters (R.schema store.old) counters.old }
     requires fits { TxnFits (R.schema store.old) arrival.now.txn }
     requires few { length arrival.now.txn.calls ≤ 1000 }
@@ -286,7 +286,7 @@ pub(crate) fn apply_arrival<R: RowStore>(
     notes.reserve(arrival.txn.calls.len() as u64)?;
     // One for the journal, and one for the error queue.
     let (txn, kept) = two_copies(&arrival.txn)?;
-    let settled = settle(
+    let settled = evaluate(
         alloc,
         store,
         counters,

@@ -2,20 +2,20 @@
 ghost use Rattle.std.specs.Prelude.{◌≡◌, ◌+◌, ◌≤◌, ◌∷◌, true, List, length, IfOk, IfErr, IfSome, OnOk, OnErr, Ok, None};
 ghost use Rattle.std.specs.List.{AllByRecursion};
 ghost use Rattle.rep_schema.specs.Changes.{ChangeFits};
-ghost use Rattle.rep_schema.specs.Putting.{made_all};
+ghost use Rattle.rep_schema.specs.Putting.{after_changes};
 ghost use Rattle.rep_calls.specs.declared.call.Txn.{Txn as TxnValue};
-ghost use Rattle.rep_calls.specs.declared.past.Past.{Past as PastValue};
+ghost use Rattle.rep_calls.specs.declared.past.PastEntry.{PastEntry as PastValue};
 ghost use Rattle.rep_values.specs.declared.refusal.Refusal.TheVariants as refusal;
 ghost use Rattle.conflict_detect.specs.Fits.{TxnFits};
 ghost use Rattle.local_txn.specs.Locals.{local_effect};
 ghost use Rattle.local_txn.specs.Running.{EndsAs};
 ghost use Rattle.site_state.specs.Steps.{is_empty};
-ghost use Rattle.site_state.specs.Fits.{IsKeyed};
+ghost use Rattle.site_state.specs.Fits.{SchemaIsKeyed};
 ghost use Rattle.site_outbox.specs.Outgoing.{Keeps};
 ghost use Rattle.site_core.specs.Committing.{IsQueued};
 
 use local_txn::{Here, Local, LocalStop, Stamps, run_local};
-use rep_calls::{Past, Statement, Txn};
+use rep_calls::{PastEntry, Statement, Txn};
 use rep_lists::{Items, NoMemory};
 use rep_schema::{Changes, RowStore, Schema, undo};
 use rep_values::Refusal;
@@ -52,10 +52,10 @@ fn queue_local(
     alloc: Global,
     schema: &Schema,
     outbox: &mut Outbox,
-    past: Items<Past>,
+    past: Items<PastEntry>,
     txn: Txn,
 ) -> Result<Queued, NoMemory>
-    requires keyed { IsKeyed schema.now }
+    requires keyed { SchemaIsKeyed schema.now }
     requires fits { TxnFits schema.now txn }
     ensures txn { IfOk result (λ queued. queued.txn ≡ txn) }
     ensures number { IfOk result (λ queued. queued.number ≡ length outbox.old.deferred + 1) }
@@ -76,13 +76,13 @@ pub(crate) fn run_block<R: RowStore>(
     here: &Here,
     stamps: &Stamps,
     outbox: &mut Outbox,
-    past: Items<Past>,
+    past: Items<PastEntry>,
     statements: &[Statement],
 ) -> Result<Block, LocalStop>
-    requires keyed { IsKeyed (R.schema store.old) }
+    requires keyed { SchemaIsKeyed (R.schema store.old) }
     ensures ok { IfOk result (λ block. local_effect (R.schema store.old) here.now stamps.now statements.now (R.tables store.old)
         ≡ Ok (record { changes = block.changes.rows; stamps = block.stamps })) }
-    ensures tables { IfOk result (λ block. R.tables store.new ≡ made_all (R.schema store.old) block.changes.rows (R.tables store.old)) }
+    ensures tables { IfOk result (λ block. R.tables store.new ≡ after_changes (R.schema store.old) block.changes.rows (R.tables store.old)) }
     ensures fits { IfOk result (λ block. AllByRecursion (ChangeFits (R.schema store.old)) block.changes.rows) }
     ensures few { IfOk result (λ block. length block.changes.rows ≤ length statements.now) }
     ensures most { IfOk result (λ block. length block.changes.rows ≤ 1000) }

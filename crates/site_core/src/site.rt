@@ -5,24 +5,24 @@ ghost use Rattle.error_queue.specs.ErrorLists.{in_order};
 ghost use Rattle.site_state.specs.State.{is_master_site};
 ghost use Rattle.site_state.specs.Contents.{tables_of};
 ghost use Rattle.site_state.specs.Commits.{site_clock};
-ghost use Rattle.site_state.specs.Deferrals.{deferred_of, marks_of};
+ghost use Rattle.site_state.specs.Deferrals.{deferred_of, deferred_marks};
 ghost use Rattle.site_state.specs.Errors.{errors_of};
 ghost use Rattle.site_state.specs.Making.{new_log, new_site, tables_in};
 ghost use Rattle.site_state.specs.Steps.{begun};
-ghost use Rattle.site_state.specs.Fits.{IsKeyed, AreWithin, AreApart, SiteFits};
-ghost use Rattle.journal_order.specs.Settling.{IsFinishedOnce};
+ghost use Rattle.site_state.specs.Fits.{SchemaIsKeyed, AreWithin, SnapshotsApart, SiteFits};
+ghost use Rattle.journal_order.specs.Sorting.{IsFinishedOnce};
 ghost use Rattle.journal_order.specs.Waited.{FinishesEarlierFirst};
 
 mod commit;
 mod errors;
 mod joining;
+mod newest;
 mod noting;
 mod passes;
 mod ready;
 mod receive;
 mod refresh;
 mod send;
-mod settle;
 mod work;
 
 use deferred_queue::Queue;
@@ -64,13 +64,13 @@ pub struct Site<R: RowStore> {
 impl<R: RowStore> Model for Site<R> {
     ghost use Rattle.std.specs.Prelude.{reverse};
     ghost use Rattle.site_state.specs.State.{SiteState};
-    ghost use Rattle.site_core.specs.Keeping.{state_of, Holds};
+    ghost use Rattle.site_core.specs.SiteInvariant.{state_of, SiteHolds};
 
     ghost Value = { SiteState };
 
     ghost view = { λ s. state_of (R.schema s.store) s.here (R.tables s.base.value) (reverse s.journal.items) s.inboxes.items s.outbox s.notes s.stamps s.moment };
 
-    ghost invariant = { λ s. Holds (state_of (R.schema s.store) s.here (R.tables s.base.value) (reverse s.journal.items) s.inboxes.items s.outbox s.notes s.stamps s.moment)
+    ghost invariant = { λ s. SiteHolds (state_of (R.schema s.store) s.here (R.tables s.base.value) (reverse s.journal.items) s.inboxes.items s.outbox s.notes s.stamps s.moment)
         (R.tables s.store) s.counters s.inboxes.items s.outbox s.errors.lists s.journal.spare };
 }
 
@@ -108,13 +108,13 @@ impl<R: RowStore> Site<R> {
         logged: &TableSet,
         snapshots: Items<Snapshot>,
     ) -> Result<Site<R>, NoMemory>
-        requires keyed { IsKeyed (R.schema store) }
+        requires keyed { SchemaIsKeyed (R.schema store) }
         requires master { here.is_master ≡ is_master_site (R.schema store) here.site }
         requires senders { senders.now ≡ senders_of (R.schema store) here.site }
         requires destinations { destinations.now ≡ destinations_of (R.schema store) here.site }
         requires logged { (table : ℕ) → has_table logged.now table ≡ true → table < 32 }
         requires within { AreWithin (R.schema store) snapshots }
-        requires apart { AreApart snapshots }
+        requires apart { SnapshotsApart snapshots }
         ensures { IfOk result (λ site. site ≡ new_site (R.schema store) here logged.now snapshots (R.tables store)) }
     {
         let base = snapshot::Snapshot::of(&store);
@@ -166,7 +166,7 @@ impl<R: RowStore> Site<R> {
     pub fn store(&self) -> &R
         ensures tables { R.tables result.now ≡ tables_of self.now }
         ensures schema { R.schema result.now ≡ self.now.schema }
-        ensures keyed { IsKeyed self.now.schema }
+        ensures keyed { SchemaIsKeyed self.now.schema }
     {
         &self.store
     }
@@ -174,7 +174,7 @@ impl<R: RowStore> Site<R> {
     /// The queue.
     pub fn queue(&self) -> &Queue
         ensures deferred { result.now.deferred ≡ deferred_of self.now }
-        ensures marks { result.now.marks ≡ marks_of self.now }
+        ensures marks { result.now.marks ≡ deferred_marks self.now }
     {
         self.outbox.queue()
     }

@@ -2,7 +2,7 @@
 ghost use Rattle.std.specs.Prelude.{◌≡◌, map, filter, IfOk};
 ghost use Rattle.rep_schema.specs.Shape.{AreDistinct, is_early_master};
 ghost use Rattle.rep_schema.specs.Sites.{names_of};
-ghost use Rattle.site_state.specs.Fits.{IsKeyed};
+ghost use Rattle.site_state.specs.Fits.{SchemaIsKeyed};
 ghost use Rattle.event_laws.specs.Events.{without};
 ghost use Rattle.proc_state.specs.Calls.{AreProcedures};
 ghost use Rattle.world_state.specs.Procs.{proc_schema, early_masters, proc_made};
@@ -63,7 +63,7 @@ fn proc_made(
     masters: &[SiteName],
     name: &SiteName,
 ) -> Result<ProcSite, NoMemory>
-    requires keyed { IsKeyed schema.now }
+    requires keyed { SchemaIsKeyed schema.now }
     requires procedures { AreProcedures schema.now procedures.now }
     requires distinct { AreDistinct masters.now }
     ensures { IfOk result (λ made. made ≡ proc_made schema.now procedures.now masters.now name.now) }
@@ -82,7 +82,7 @@ fn procs_made(
     procedures: &Items<Procedure>,
     masters: &[SiteName],
 ) -> Result<Vec<ProcSite>, NoMemory>
-    requires keyed { IsKeyed schema.now }
+    requires keyed { SchemaIsKeyed schema.now }
     requires procedures { AreProcedures schema.now procedures.now }
     requires distinct { AreDistinct masters.now }
     ensures { IfOk result (λ made. made.items ≡ map (proc_made schema.now procedures.now masters.now) masters.now) }
@@ -102,7 +102,7 @@ pub fn make_proc_sites(
     tables: &Items<TableEntry>,
     procedures: &Items<Procedure>,
 ) -> Result<Vec<ProcSite>, NoMemory>
-    requires keyed { IsKeyed (proc_schema schema.now tables.now) }
+    requires keyed { SchemaIsKeyed (proc_schema schema.now tables.now) }
     requires procedures { AreProcedures (proc_schema schema.now tables.now) procedures.now }
     ensures { IfOk result (λ sites. sites.items ≡ map (proc_made (proc_schema schema.now tables.now) procedures.now (early_masters schema.now)) (early_masters schema.now)) }
 {

@@ -3,7 +3,7 @@ ghost use Rattle.std.specs.Prelude.{◌≡◌, ◌<◌, [], length, filter, slic
 ghost use Rattle.std.specs.List.{AllByRecursion};
 ghost use Rattle.rep_schema.specs.Tables.{rows_of, IsTable};
 ghost use Rattle.snapshot_query.specs.Parents.{picks_by};
-ghost use Rattle.site_state.specs.Fits.{IsKeyed};
+ghost use Rattle.site_state.specs.Fits.{SchemaIsKeyed};
 ghost use Rattle.site_state.specs.Refreshes.{with_tables};
 ghost use Rattle.event_laws.specs.Rules.{rows_ruled, IsParentWithin};
 ghost use Rattle.world_state.specs.Making.{snapshots_at};
@@ -40,7 +40,7 @@ fn rows_picked(
     declared: &DeclaredSnapshot,
     filled: &PageTables,
 ) -> Result<Items<Row>, NoMemory>
-    requires keyed { IsKeyed filled.now.schema }
+    requires keyed { SchemaIsKeyed filled.now.schema }
     requires within { declared.now.table < length filled.now.schema.tables }
     requires parents { IsParentWithin filled.now.schema declared.now.parent }
     ensures table { IfOk result (λ rows. IsTable filled.now.schema declared.now.table rows) }
@@ -59,7 +59,7 @@ fn show_one(
     filled: &PageTables,
     store: &mut PageTables,
 ) -> Result<Snapshot, NoMemory>
-    requires keyed { IsKeyed store.old.schema }
+    requires keyed { SchemaIsKeyed store.old.schema }
     requires schema { filled.now.schema ≡ store.old.schema }
     requires within { declared.now.table < length store.old.schema.tables }
     requires parents { IsParentWithin store.old.schema declared.now.parent }
@@ -81,7 +81,7 @@ pub(crate) fn show_each(
     filled: &PageTables,
     store: &mut PageTables,
 ) -> Result<Items<Snapshot>, NoMemory>
-    requires keyed { IsKeyed store.old.schema }
+    requires keyed { SchemaIsKeyed store.old.schema }
     requires schema { filled.now.schema ≡ store.old.schema }
     requires within { AllByRecursion (λ s. s.table < length store.old.schema.tables) snapshots.now }
     requires parents { AllByRecursion (λ s. IsParentWithin store.old.schema s.parent) snapshots.now }

@@ -6,7 +6,7 @@ ghost use Rattle.rep_schema.specs.Sites.{has_table};
 ghost use Rattle.rep_laws.specs.Commuting.{IsSound};
 ghost use Rattle.site_state.specs.State.{is_master_site};
 ghost use Rattle.site_state.specs.Making.{master_here, new_site};
-ghost use Rattle.site_state.specs.Fits.{IsKeyed, AreWithin, AreApart};
+ghost use Rattle.site_state.specs.Fits.{SchemaIsKeyed, AreWithin, SnapshotsApart};
 ghost use Rattle.event_laws.specs.Rules.{IsParentWithin};
 ghost use Rattle.world_state.specs.Making.{rows_made, snapshots_at, snapshot_here, rows_of_snapshots, site_made, entry_made, is_early, sites_made};
 ghost use Rattle.site_making.specs.Entries.{IsEntryOf};
@@ -55,7 +55,7 @@ fn filled_copy(alloc: Global, store: &PageTables) -> Result<PageTables, NoMemory
     requires { IsSound store.now.schema }
     ensures tables { IfOk result (λ filled. filled.tables ≡ rows_made store.now.schema store.now.tables) }
     ensures schema { IfOk result (λ filled. filled.schema ≡ store.now.schema) }
-    ensures keyed { IfOk result (λ filled. IsKeyed filled.schema) }
+    ensures keyed { IfOk result (λ filled. SchemaIsKeyed filled.schema) }
 {
     sound_schemas_have_keys();
     let mut filled = store.copy(alloc)?;
@@ -71,11 +71,11 @@ fn new_site(
     logged: &TableSet,
     snapshots: Items<Snapshot>,
 ) -> Result<Site<PageTables>, NoMemory>
-    requires keyed { IsKeyed store.schema }
+    requires keyed { SchemaIsKeyed store.schema }
     requires master { here.is_master ≡ is_master_site store.schema here.site }
     requires logged { (table : ℕ) → has_table logged.now table ≡ true → table < 32 }
     requires within { AreWithin store.schema snapshots }
-    requires apart { AreApart snapshots }
+    requires apart { SnapshotsApart snapshots }
     ensures { IfOk result (λ made. made ≡ new_site store.schema here logged.now snapshots store.tables) }
 {
     let senders = senders_of(alloc, store.schema(), &here.site)?;
@@ -99,7 +99,7 @@ fn master_made(
     snapshots: &[DeclaredSnapshot],
     site: SiteName,
 ) -> Result<Site<PageTables>, NoMemory>
-    requires keyed { IsKeyed filled.now.schema }
+    requires keyed { SchemaIsKeyed filled.now.schema }
     requires master { is_master_site filled.now.schema site ≡ true }
     ensures { IfOk result (λ made. made ≡ site_made filled.now.schema filled.now.tables snapshots.now site None) }
 {
@@ -116,11 +116,11 @@ fn snapshot_site_made(
     snapshots: &[DeclaredSnapshot],
     site: SiteName,
 ) -> Result<Site<PageTables>, NoMemory>
-    requires keyed { IsKeyed filled.now.schema }
+    requires keyed { SchemaIsKeyed filled.now.schema }
     requires master { is_master_site filled.now.schema site ≡ false }
     requires within { AllByRecursion (λ s. s.table < length filled.now.schema.tables) snapshots.now }
     requires parents { AllByRecursion (λ s. IsParentWithin filled.now.schema s.parent) snapshots.now }
-    requires apart { AreApart (snapshots_at snapshots.now site) }
+    requires apart { SnapshotsApart (snapshots_at snapshots.now site) }
     ensures { IfOk result (λ made. made ≡ new_site filled.now.schema (snapshot_here snapshots.now site) [] (snapshots_at snapshots.now site)
         (rows_of_snapshots filled.now.schema filled.now.tables (snapshots_at snapshots.now site))) }
 {
@@ -137,11 +137,11 @@ fn entry_made(
     snapshots: &[DeclaredSnapshot],
     entry: &SiteEntry,
 ) -> Result<Site<PageTables>, NoMemory>
-    requires keyed { IsKeyed filled.now.schema }
+    requires keyed { SchemaIsKeyed filled.now.schema }
     requires entry { IsEntryOf filled.now.schema entry.now }
     requires within { AllByRecursion (λ s. s.table < length filled.now.schema.tables) snapshots.now }
     requires parents { AllByRecursion (λ s. IsParentWithin filled.now.schema s.parent) snapshots.now }
-    requires apart { AreApart (snapshots_at snapshots.now entry.now.name) }
+    requires apart { SnapshotsApart (snapshots_at snapshots.now entry.now.name) }
     ensures { IfOk result (λ made. made ≡ entry_made filled.now.schema filled.now.tables snapshots.now entry.now) }
 {
     match &entry.master {
@@ -157,11 +157,11 @@ fn entries_made(
     snapshots: &[DeclaredSnapshot],
     entries: &[SiteEntry],
 ) -> Result<Vec<Site<PageTables>>, NoMemory>
-    requires keyed { IsKeyed filled.now.schema }
+    requires keyed { SchemaIsKeyed filled.now.schema }
     requires entries { AllByRecursion (IsEntryOf filled.now.schema) entries.now }
     requires within { AllByRecursion (λ s. s.table < length filled.now.schema.tables) snapshots.now }
     requires parents { AllByRecursion (λ s. IsParentWithin filled.now.schema s.parent) snapshots.now }
-    requires apart { (site : SiteNameValue) → AreApart (snapshots_at snapshots.now site) }
+    requires apart { (site : SiteNameValue) → SnapshotsApart (snapshots_at snapshots.now site) }
     ensures { IfOk result (λ made. made.items ≡ map (entry_made filled.now.schema filled.now.tables snapshots.now) entries.now) }
 {
     let mut made = Vec::new(alloc);
@@ -201,10 +201,10 @@ fn early_sites(
     filled: &PageTables,
     snapshots: &[DeclaredSnapshot],
 ) -> Result<Vec<Site<PageTables>>, NoMemory>
-    requires keyed { IsKeyed filled.now.schema }
+    requires keyed { SchemaIsKeyed filled.now.schema }
     requires within { AllByRecursion (λ s. s.table < length filled.now.schema.tables) snapshots.now }
     requires parents { AllByRecursion (λ s. IsParentWithin filled.now.schema s.parent) snapshots.now }
-    requires apart { (site : SiteNameValue) → AreApart (snapshots_at snapshots.now site) }
+    requires apart { (site : SiteNameValue) → SnapshotsApart (snapshots_at snapshots.now site) }
     ensures { IfOk result (λ made. made.items ≡ sites_made filled.now.schema filled.now.tables snapshots.now) }
 {
     let schema = filled.schema();
@@ -225,7 +225,7 @@ pub fn make_sites(
     requires sound { IsSound store.now.schema }
     requires within { AllByRecursion (λ s. s.table < length store.now.schema.tables) snapshots.now }
     requires parents { AllByRecursion (λ s. IsParentWithin store.now.schema s.parent) snapshots.now }
-    requires apart { (site : SiteNameValue) → AreApart (snapshots_at snapshots.now site) }
+    requires apart { (site : SiteNameValue) → SnapshotsApart (snapshots_at snapshots.now site) }
     ensures { IfOk result (λ sites. sites.items ≡ sites_made store.now.schema (rows_made store.now.schema store.now.tables) snapshots.now) }
 {
     let filled = filled_copy(alloc, store)?;

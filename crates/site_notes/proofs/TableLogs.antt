@@ -7,7 +7,7 @@ use Rattle.snapshot_log.specs.Logs.{RoomyLog, count_up_to}
 use Rattle.site_state.specs.State.{LoggedKey, LogState}
 use Rattle.site_state.specs.Notes.{log_of, keys_in}
 use Rattle.site_state.specs.Purges.{log_purged, purged_where}
-use Rattle.site_notes.specs.Kept.{log_in, logs_in}
+use Rattle.site_notes.specs.RoomyNotes.{log_in, logs_in}
 
 -- the first log of a table
 pub log_of-logs_in : (table : ℕ) (logs : List RoomyLog) → option_map log_in (find (λ (l : RoomyLog). l.log.table == table) logs) ≡ log_of table (logs_in logs)

@@ -1,3 +1,3 @@
 -- The definitions of this crate.
-pub mod Kept
+pub mod RoomyNotes
 pub mod Noted

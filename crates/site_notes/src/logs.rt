@@ -5,7 +5,7 @@ ghost use Rattle.rep_schema.specs.Changes.{ChangeFits};
 ghost use Rattle.site_state.specs.Making.{new_log};
 ghost use Rattle.site_state.specs.Notes.{log_of, keys_in, logged_in};
 ghost use Rattle.site_state.specs.Purges.{purged_where};
-ghost use Rattle.site_notes.specs.Kept.{log_in, logs_in, log_spares, least};
+ghost use Rattle.site_notes.specs.RoomyNotes.{log_in, logs_in, log_spares, least};
 
 use crate::changed::note_in;
 use rep_lists::NoMemory;

@@ -11,7 +11,7 @@ ghost use Rattle.site_state.specs.Notes.{log_of, keys_in, logged_in, touched_in,
 ghost use Rattle.site_state.specs.Purges.{purged_where};
 ghost use Rattle.site_state.specs.Refreshes.{renewed};
 ghost use Rattle.snapshot_log.specs.Logs.{count_up_to};
-ghost use Rattle.site_notes.specs.Kept.{log_in, snapshot_in};
+ghost use Rattle.site_notes.specs.RoomyNotes.{log_in, snapshot_in};
 ghost use Rattle.site_notes.specs.Noted.{as_lent, without_query, with_query, at_place};
 
 use crate::{Watched, logs, snapshots};
@@ -32,7 +32,7 @@ pub struct Notes {
 }
 
 impl Model for Notes {
-    ghost use Rattle.site_notes.specs.Kept.{logs_in, snapshots_in, least_room};
+    ghost use Rattle.site_notes.specs.RoomyNotes.{logs_in, snapshots_in, least_room};
     ghost use Rattle.site_notes.specs.Noted.{NotesState};
 
     ghost Value = { NotesState };

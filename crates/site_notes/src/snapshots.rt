@@ -4,7 +4,7 @@ ghost use Rattle.std.specs.List.{AllByRecursion};
 ghost use Rattle.rep_schema.specs.Changes.{ChangeFits};
 ghost use Rattle.site_state.specs.Notes.{touched_in};
 ghost use Rattle.site_state.specs.Refreshes.{renewed};
-ghost use Rattle.site_notes.specs.Kept.{snapshots_in, snapshot_spares, least};
+ghost use Rattle.site_notes.specs.RoomyNotes.{snapshots_in, snapshot_spares, least};
 
 use crate::Watched;
 use crate::changed::touch_in;

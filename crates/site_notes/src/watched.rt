@@ -5,7 +5,7 @@ ghost use Rattle.rep_values.specs.Order.{key_cmp};
 ghost use Rattle.site_state.specs.State.{LogState};
 ghost use Rattle.site_state.specs.Notes.{log_of, pending_keys};
 ghost use Rattle.site_state.specs.Refreshes.{renewed};
-ghost use Rattle.site_notes.specs.Kept.{log_in};
+ghost use Rattle.site_notes.specs.RoomyNotes.{log_in};
 ghost use Rattle.site_notes.specs.Noted.{key_touched, as_lent, without_query, with_query};
 
 use crate::merge::with_keys;
@@ -30,7 +30,7 @@ pub struct Watched {
 }
 
 impl Model for Watched {
-    ghost use Rattle.site_notes.specs.Kept.{RoomySnapshot};
+    ghost use Rattle.site_notes.specs.RoomyNotes.{RoomySnapshot};
 
     ghost Value = { RoomySnapshot };
 

@@ -13,73 +13,73 @@ use Rattle.site_state.specs.Making.{is_late_master, new_destination}
 use Rattle.site_state.specs.Deferrals.{StandApart}
 use Rattle.site_state.proofs.Destinations.{destination_split}
 use Rattle.site_state.proofs.Deferring.{AreFound, apart_names, all_found, acked_by-marks}
-use Rattle.site_outbox.specs.declared.outlet.Outlet.{Outlet}
-use Rattle.site_outbox.specs.Outlets.{first_acked, later_marks, joined, with_mark, mark_of, new_outlet, OutletsApart}
-use Rattle.site_outbox.specs.Kept.{IsWithin}
+use Rattle.site_outbox.specs.declared.destination_entry.DestinationEntry.{DestinationEntry}
+use Rattle.site_outbox.specs.DestinationEntries.{first_acked, later_marks, with_marks, with_mark, destination_mark, new_destination_entry, EntriesApart}
+use Rattle.site_outbox.specs.OutboxInvariant.{IsWithin}
 
 -- the sites of marks, and of outlets
 abbrev pub marked_sites : List Mark → List SiteName
 marked_sites ms = map (λ (m : Mark). m.site) ms
 
-abbrev pub outlet_sites : List Outlet → List SiteName
-outlet_sites os = map (λ (o : Outlet). o.site) os
+abbrev pub entry_sites : List DestinationEntry → List SiteName
+entry_sites os = map (λ (o : DestinationEntry). o.site) os
 
 -- ---- marks
 
 -- the destinations have the marks
-pub marks-joined : (os : List Outlet) (ms : List Mark) → marked_sites ms ≡ outlet_sites os → map mark_of (joined os ms) ≡ ms
+pub marks-joined : (os : List DestinationEntry) (ms : List Mark) → marked_sites ms ≡ entry_sites os → map destination_mark (with_marks os ms) ≡ ms
 marks-joined [] [] same = refl
 marks-joined [] (m ∷ ms) same = absurd (cc same)
 marks-joined (o ∷ os) [] same = absurd (cc same)
 marks-joined (o ∷ os) (m ∷ ms) same =
     let first : m.site ≡ o.site = cc same in
-    let rest : marked_sites ms ≡ outlet_sites os = cc same in
+    let rest : marked_sites ms ≡ entry_sites os = cc same in
     rw (marks-joined os ms rest, ← first) refl
 
-own_marks : (all : List DestinationState) (os : List Outlet) (ms : List Mark) → AreFound all (joined os ms) → joined os ms ≡ map (with_mark (map mark_of all)) os
+own_marks : (all : List DestinationState) (os : List DestinationEntry) (ms : List Mark) → AreFound all (with_marks os ms) → with_marks os ms ≡ map (with_mark (map destination_mark all)) os
 own_marks all [] ms found = refl
 own_marks all (o ∷ os) ms found =
-    let own : acked_by o.site (map mark_of all) ≡ first_acked ms = acked_by-marks o.site all ∙ ap acked_in found.0 in
+    let own : acked_by o.site (map destination_mark all) ≡ first_acked ms = acked_by-marks o.site all ∙ ap acked_in found.0 in
     rw (own, own_marks all os (later_marks ms) found.1) refl
 
 -- each mark is found by its site
-pub joined-with_mark : (os : List Outlet) (ms : List Mark) → marked_sites ms ≡ outlet_sites os → StandApart (joined os ms) → joined os ms ≡ map (with_mark ms) os
-joined-with_mark os ms same apart = subst (λ (marks : List Mark). joined os ms ≡ map (with_mark marks) os) (marks-joined os ms same) (own_marks (joined os ms) os ms (all_found (joined os ms) apart))
+pub with_marks-with_mark : (os : List DestinationEntry) (ms : List Mark) → marked_sites ms ≡ entry_sites os → StandApart (with_marks os ms) → with_marks os ms ≡ map (with_mark ms) os
+with_marks-with_mark os ms same apart = subst (λ (marks : List Mark). with_marks os ms ≡ map (with_mark marks) os) (marks-joined os ms same) (own_marks (with_marks os ms) os ms (all_found (with_marks os ms) apart))
 
 -- what holds of each destination holds of each outlet with the mark of its site
-pub each-with_mark : (P : DestinationState → Type 0) (Q : Outlet → Type 0) (ms : List Mark) (os : List Outlet) → ((o : Outlet) → P (with_mark ms o) → Q o) → AllByRecursion P (map (with_mark ms) os) → AllByRecursion Q os
+pub each-with_mark : (P : DestinationState → Type 0) (Q : DestinationEntry → Type 0) (ms : List Mark) (os : List DestinationEntry) → ((o : DestinationEntry) → P (with_mark ms o) → Q o) → AllByRecursion P (map (with_mark ms) os) → AllByRecursion Q os
 each-with_mark P Q ms [] follows each = tt
 each-with_mark P Q ms (o ∷ os) follows each = (follows o each.0, each-with_mark P Q ms os follows each.1)
 
 -- what holds of each destination, whatever its mark, holds of each outlet
-pub each-joined : (P : DestinationState → Type 0) (Q : Outlet → Type 0) (os : List Outlet) (ms : List Mark) → ((o : Outlet) (acked : ℕ) → P (record { site = o.site; opened = o.opened; acked = acked }) → Q o) → AllByRecursion P (joined os ms) → AllByRecursion Q os
+pub each-joined : (P : DestinationState → Type 0) (Q : DestinationEntry → Type 0) (os : List DestinationEntry) (ms : List Mark) → ((o : DestinationEntry) (acked : ℕ) → P (record { site = o.site; opened = o.opened; acked = acked }) → Q o) → AllByRecursion P (with_marks os ms) → AllByRecursion Q os
 each-joined P Q [] ms follows each = tt
 each-joined P Q (o ∷ os) ms follows each = (follows o (first_acked ms) each.0, each-joined P Q os (later_marks ms) follows each.1)
 
 -- ---- one of them
 
 -- a site is a destination where an outlet is to it
-pub is_some-destination_of : (site : SiteName) (os : List Outlet) (ms : List Mark) → is_some (destination_of site (joined os ms)) ≡ list_any (λ (o : Outlet). is_same_site o.site site) os
+pub is_some-destination_of : (site : SiteName) (os : List DestinationEntry) (ms : List Mark) → is_some (destination_of site (with_marks os ms)) ≡ list_any (λ (o : DestinationEntry). is_same_site o.site site) os
 is_some-destination_of site [] ms = refl
 is_some-destination_of site (o ∷ os) ms = go (is_same_site o.site site) (is_some-destination_of site os (later_marks ms))
   where
-    go : (b : Bool) → is_some (destination_of site (joined os (later_marks ms))) ≡ list_any (λ (o : Outlet). is_same_site o.site site) os
-        → is_some (cond b (Some (record { site = o.site; opened = o.opened; acked = first_acked ms })) (destination_of site (joined os (later_marks ms)))) ≡ (b || list_any (λ (o : Outlet). is_same_site o.site site) os)
+    go : (b : Bool) → is_some (destination_of site (with_marks os (later_marks ms))) ≡ list_any (λ (o : DestinationEntry). is_same_site o.site site) os
+        → is_some (cond b (Some (record { site = o.site; opened = o.opened; acked = first_acked ms })) (destination_of site (with_marks os (later_marks ms)))) ≡ (b || list_any (λ (o : DestinationEntry). is_same_site o.site site) os)
     go true later = refl
     go false later = later
 
 -- one is open where an outlet is
-pub is_open-joined : (os : List Outlet) (ms : List Mark) → list_any is_open (joined os ms) ≡ list_any (λ (o : Outlet). is_some o.opened) os
+pub is_open-joined : (os : List DestinationEntry) (ms : List Mark) → list_any is_open (with_marks os ms) ≡ list_any (λ (o : DestinationEntry). is_some o.opened) os
 is_open-joined [] ms = refl
 is_open-joined (o ∷ os) ms = ap (λ b. is_some o.opened || b) (is_open-joined os (later_marks ms))
 
 -- where the destinations are apart, the outlets are
-pub outlets_apart : (os : List Outlet) (ms : List Mark) → StandApart (joined os ms) → OutletsApart os
-outlets_apart [] ms apart = tt
-outlets_apart (o ∷ os) ms apart =
-    (others os (later_marks ms) (apart_names (record { site = o.site; opened = o.opened; acked = first_acked ms }) (joined os (later_marks ms)) apart.0), outlets_apart os (later_marks ms) apart.1)
+pub entries_apart : (os : List DestinationEntry) (ms : List Mark) → StandApart (with_marks os ms) → EntriesApart os
+entries_apart [] ms apart = tt
+entries_apart (o ∷ os) ms apart =
+    (others os (later_marks ms) (apart_names (record { site = o.site; opened = o.opened; acked = first_acked ms }) (with_marks os (later_marks ms)) apart.0), entries_apart os (later_marks ms) apart.1)
   where
-    others : (ps : List Outlet) (ms : List Mark) → AllByRecursion (λ (e : DestinationState). is_same_site o.site e.site ≡ false) (joined ps ms) → AllByRecursion (λ (other : Outlet). is_same_site o.site other.site ≡ false) ps
+    others : (ps : List DestinationEntry) (ms : List Mark) → AllByRecursion (λ (e : DestinationState). is_same_site o.site e.site ≡ false) (with_marks ps ms) → AllByRecursion (λ (other : DestinationEntry). is_same_site o.site other.site ≡ false) ps
     others [] ms each = tt
     others (p ∷ ps) ms each = (each.0, others ps (later_marks ms) each.1)
 
@@ -95,21 +95,21 @@ none_changes site change (d ∷ ds) none = go (is_same_site d.site site) none (n
     go false none later = ap (λ rest. d ∷ rest) (later none)
 
 -- a mark for a site changes its destination alone
-pub joined-raised : (site : SiteName) (mark : ℕ) (os : List Outlet) (ms : List Mark) → marked_sites ms ≡ outlet_sites os → StandApart (joined os ms)
-    → joined os (map (raised_mark site mark) ms) ≡ at_destination site (acknowledged mark) (joined os ms)
-joined-raised site mark [] ms same apart = refl
-joined-raised site mark (o ∷ os) [] same apart = absurd (cc same)
-joined-raised site mark (o ∷ os) (m ∷ ms) same apart =
+pub with_marks-raised : (site : SiteName) (mark : ℕ) (os : List DestinationEntry) (ms : List Mark) → marked_sites ms ≡ entry_sites os → StandApart (with_marks os ms)
+    → with_marks os (map (raised_mark site mark) ms) ≡ at_destination site (acknowledged mark) (with_marks os ms)
+with_marks-raised site mark [] ms same apart = refl
+with_marks-raised site mark (o ∷ os) [] same apart = absurd (cc same)
+with_marks-raised site mark (o ∷ os) (m ∷ ms) same apart =
     let first : m.site ≡ o.site = cc same in
-    let rest : marked_sites ms ≡ outlet_sites os = cc same in
-    rw (first, joined-raised site mark os ms rest apart.1) (go (is_same_site o.site site) refl)
+    let rest : marked_sites ms ≡ entry_sites os = cc same in
+    rw (first, with_marks-raised site mark os ms rest apart.1) (go (is_same_site o.site site) refl)
   where
     go : (b : Bool) → is_same_site o.site site ≡ b
-        → record { site = o.site; opened = o.opened; acked = (cond {A = Mark} b (record { site = o.site; acked = max m.acked mark }) (record { site = o.site; acked = m.acked })).acked } ∷ at_destination site (acknowledged mark) (joined os ms)
-        ≡ cond b (acknowledged mark (record { site = o.site; opened = o.opened; acked = m.acked }) ∷ joined os ms) (record { site = o.site; opened = o.opened; acked = m.acked } ∷ at_destination site (acknowledged mark) (joined os ms))
+        → record { site = o.site; opened = o.opened; acked = (cond {A = Mark} b (record { site = o.site; acked = max m.acked mark }) (record { site = o.site; acked = m.acked })).acked } ∷ at_destination site (acknowledged mark) (with_marks os ms)
+        ≡ cond b (acknowledged mark (record { site = o.site; opened = o.opened; acked = m.acked }) ∷ with_marks os ms) (record { site = o.site; opened = o.opened; acked = m.acked } ∷ at_destination site (acknowledged mark) (with_marks os ms))
     go true is =
-        let none : destination_of site (joined os ms) ≡ None = rw (is_same_site-true o.site site is) at apart.0 in
-        rw (none_changes site (acknowledged mark) (joined os ms) none) refl
+        let none : destination_of site (with_marks os ms) ≡ None = rw (is_same_site-true o.site site is) at apart.0 in
+        rw (none_changes site (acknowledged mark) (with_marks os ms) none) refl
     go false is = refl
 
 -- the sites of the marks stay
@@ -149,17 +149,17 @@ each-at_destination P site change (d ∷ ds) changed each = go (is_same_site d.s
 abbrev pub new_mark : SiteName → Mark
 new_mark site = record { site = site; acked = 0 }
 
-pub joined-new : (schema : Schema) (sites : List SiteName) → joined (map (new_outlet schema) sites) (map new_mark sites) ≡ map (new_destination schema) sites
-joined-new schema [] = refl
-joined-new schema (site ∷ sites) = ap (λ ds. new_destination schema site ∷ ds) (joined-new schema sites)
+pub with_marks-new : (schema : Schema) (sites : List SiteName) → with_marks (map (new_destination_entry schema) sites) (map new_mark sites) ≡ map (new_destination schema) sites
+with_marks-new schema [] = refl
+with_marks-new schema (site ∷ sites) = ap (λ ds. new_destination schema site ∷ ds) (with_marks-new schema sites)
 
 pub marked_sites-new : (sites : List SiteName) → marked_sites (map new_mark sites) ≡ sites
 marked_sites-new [] = refl
 marked_sites-new (site ∷ sites) = ap (λ rest. site ∷ rest) (marked_sites-new sites)
 
-pub outlet_sites-new : (schema : Schema) (sites : List SiteName) → outlet_sites (map (new_outlet schema) sites) ≡ sites
-outlet_sites-new schema [] = refl
-outlet_sites-new schema (site ∷ sites) = ap (λ rest. site ∷ rest) (outlet_sites-new schema sites)
+pub entry_sites-new : (schema : Schema) (sites : List SiteName) → entry_sites (map (new_destination_entry schema) sites) ≡ sites
+entry_sites-new schema [] = refl
+entry_sites-new schema (site ∷ sites) = ap (λ rest. site ∷ rest) (entry_sites-new schema sites)
 
 -- nothing is acknowledged or queued
 pub within-new : (schema : Schema) (sites : List SiteName) → AllByRecursion (IsWithin 0 []) (map (new_destination schema) sites)

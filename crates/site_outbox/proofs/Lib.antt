@@ -2,5 +2,5 @@
 pub mod Joined
 pub mod Noting
 pub mod Places
-pub mod Kept
+pub mod OutboxSteps
 pub mod Opening

@@ -6,7 +6,7 @@ use Rattle.std.proofs.lemmas.Bool.Decides.{nat_tests}
 use Rattle.rep_values.specs.declared.name.SiteName.{SiteName}
 use Rattle.rep_schema.specs.declared.schema.Schema.{Schema}
 use Rattle.rep_calls.specs.declared.call.Txn.{Txn}
-use Rattle.rep_calls.specs.declared.past.Past.{Past}
+use Rattle.rep_calls.specs.declared.past.PastEntry.{PastEntry}
 use Rattle.dependency_index.specs.Tokens.{txn_tokens}
 use Rattle.dependency_index.specs.Dependencies.{NotedStream, IsNoted}
 use Rattle.deferred_queue.specs.Streams.{Deferred, Mark, is_same_site, last_position}
@@ -19,32 +19,32 @@ use Rattle.site_state.specs.Joining.{opened_from, opened_at}
 use Rattle.site_state.proofs.Destinations.{destination_split, IsOpenedFrom, opened_in-opened}
 use Rattle.site_state.proofs.Deferring.{AreFound, all_found, length-deferred_in}
 use Rattle.site_state.proofs.Growing.{queued_behind-none}
-use Rattle.site_outbox.specs.declared.outlet.Outlet.{Outlet}
+use Rattle.site_outbox.specs.declared.destination_entry.DestinationEntry.{DestinationEntry}
 use Rattle.site_outbox.specs.Outgoing.{Keeps}
-use Rattle.site_outbox.specs.Outlets.{first_acked, later_marks, joined, outlet_opened}
-use Rattle.site_outbox.specs.Kept.{IsWithin, IsOutbox}
-use Rattle.site_outbox.proofs.Joined.{outlet_sites, none_changes, each-at_destination}
+use Rattle.site_outbox.specs.DestinationEntries.{first_acked, later_marks, with_marks, destination_entry_opened}
+use Rattle.site_outbox.specs.OutboxInvariant.{IsWithin, IsOutbox}
+use Rattle.site_outbox.proofs.Joined.{entry_sites, none_changes, each-at_destination}
 
 -- ---- the destinations
 
 -- they are those of which one is opened
-pub joined-opened : (site : SiteName) (count : ℕ) (os : List Outlet) (ms : List Mark) → StandApart (joined os ms)
-    → joined (map (outlet_opened site count) os) ms ≡ at_destination site (opened_at count) (joined os ms)
-joined-opened site count [] ms apart = refl
-joined-opened site count (o ∷ os) ms apart = rw (joined-opened site count os (later_marks ms) apart.1) (go (is_same_site o.site site) refl)
+pub with_marks-opened : (site : SiteName) (count : ℕ) (os : List DestinationEntry) (ms : List Mark) → StandApart (with_marks os ms)
+    → with_marks (map (destination_entry_opened site count) os) ms ≡ at_destination site (opened_at count) (with_marks os ms)
+with_marks-opened site count [] ms apart = refl
+with_marks-opened site count (o ∷ os) ms apart = rw (with_marks-opened site count os (later_marks ms) apart.1) (go (is_same_site o.site site) refl)
   where
     go : (b : Bool) → is_same_site o.site site ≡ b
-        → record { site = o.site; opened = cond b (opened_from o.opened count) o.opened; acked = first_acked ms } ∷ at_destination site (opened_at count) (joined os (later_marks ms))
-        ≡ cond b (opened_at count (record { site = o.site; opened = o.opened; acked = first_acked ms }) ∷ joined os (later_marks ms)) (record { site = o.site; opened = o.opened; acked = first_acked ms } ∷ at_destination site (opened_at count) (joined os (later_marks ms)))
+        → record { site = o.site; opened = cond b (opened_from o.opened count) o.opened; acked = first_acked ms } ∷ at_destination site (opened_at count) (with_marks os (later_marks ms))
+        ≡ cond b (opened_at count (record { site = o.site; opened = o.opened; acked = first_acked ms }) ∷ with_marks os (later_marks ms)) (record { site = o.site; opened = o.opened; acked = first_acked ms } ∷ at_destination site (opened_at count) (with_marks os (later_marks ms)))
     go true is =
-        let none : destination_of site (joined os (later_marks ms)) ≡ None = rw (is_same_site-true o.site site is) at apart.0 in
-        rw (none_changes site (opened_at count) (joined os (later_marks ms)) none) refl
+        let none : destination_of site (with_marks os (later_marks ms)) ≡ None = rw (is_same_site-true o.site site is) at apart.0 in
+        rw (none_changes site (opened_at count) (with_marks os (later_marks ms)) none) refl
     go false is = refl
 
 -- the sites stay
-outlet_sites-opened : (site : SiteName) (count : ℕ) (os : List Outlet) → outlet_sites (map (outlet_opened site count) os) ≡ outlet_sites os
-outlet_sites-opened site count [] = refl
-outlet_sites-opened site count (o ∷ os) = ap (λ rest. o.site ∷ rest) (outlet_sites-opened site count os)
+entry_sites-opened : (site : SiteName) (count : ℕ) (os : List DestinationEntry) → entry_sites (map (destination_entry_opened site count) os) ≡ entry_sites os
+entry_sites-opened site count [] = refl
+entry_sites-opened site count (o ∷ os) = ap (λ rest. o.site ∷ rest) (entry_sites-opened site count os)
 
 -- they stay apart
 StandApart-opened : (site : SiteName) (count : ℕ) (ds : List DestinationState) → StandApart ds → StandApart (at_destination site (opened_at count) ds)
@@ -80,15 +80,15 @@ within_opened site count deferred all (d ∷ ds) empty found each = go (is_same_
     go false is later = (each.0, later)
 
 -- a stream that is opened where nothing was queued for it leaves each within the queue
-pub IsOutbox-opened : (os : List Outlet) (ms : List Mark) (deferred : List Deferred) (noted : List NotedStream) (count gone : ℕ) (site : SiteName)
-    → (opened_in (destination_of site (joined os ms)) ≡ None → last_position site deferred ≡ 0)
-    → IsOutbox os ms deferred noted count gone → IsOutbox (map (outlet_opened site count) os) ms deferred noted count gone
+pub IsOutbox-opened : (os : List DestinationEntry) (ms : List Mark) (deferred : List Deferred) (noted : List NotedStream) (count gone : ℕ) (site : SiteName)
+    → (opened_in (destination_of site (with_marks os ms)) ≡ None → last_position site deferred ≡ 0)
+    → IsOutbox os ms deferred noted count gone → IsOutbox (map (destination_entry_opened site count) os) ms deferred noted count gone
 IsOutbox-opened os ms deferred noted count gone site empty is = record {
-  marked = is.marked ∙ sym (outlet_sites-opened site count os);
-  indexed = is.indexed ∙ sym (outlet_sites-opened site count os);
-  apart = rw (joined-opened site count os ms is.apart) (StandApart-opened site count (joined os ms) is.apart);
+  marked = is.marked ∙ sym (entry_sites-opened site count os);
+  indexed = is.indexed ∙ sym (entry_sites-opened site count os);
+  apart = rw (with_marks-opened site count os ms is.apart) (StandApart-opened site count (with_marks os ms) is.apart);
   streams = is.streams;
-  each = rw (joined-opened site count os ms is.apart) (within_opened site count deferred (joined os ms) (joined os ms) empty (all_found (joined os ms) is.apart) is.each);
+  each = rw (with_marks-opened site count os ms is.apart) (within_opened site count deferred (with_marks os ms) (with_marks os ms) empty (all_found (with_marks os ms) is.apart) is.each);
   counted = is.counted;
   purged_within = is.purged_within;
 }
@@ -102,7 +102,7 @@ place_since-opened schema txn older site count None within =
     let behind : nat_lt count (length older + 1) ≡ false = grind (arith, nat_tests, within) in rw behind refl
 place_since-opened schema txn older site count (Some n) within = refl
 
-deferred_in-opened : (schema : Schema) (site : SiteName) (count : ℕ) (ds : List DestinationState) (gone : ℕ) (pasts : List (List Past)) (txns : List Txn) → length txns ≤ count
+deferred_in-opened : (schema : Schema) (site : SiteName) (count : ℕ) (ds : List DestinationState) (gone : ℕ) (pasts : List (List PastEntry)) (txns : List Txn) → length txns ≤ count
     → deferred_in schema (at_destination site (opened_at count) ds) gone pasts txns ≡ deferred_in schema ds gone pasts txns
 deferred_in-opened schema site count ds gone pasts [] within = refl
 deferred_in-opened schema site count ds gone pasts (txn ∷ older) within = rw (same_places ds, deferred_in-opened schema site count ds gone pasts older (omega (arith, within))) refl
@@ -126,7 +126,7 @@ opened_by : (count : ℕ) (opened : Option ℕ) → IfSome opened (λ n. n ≤ c
 opened_by count None within = omega arith
 opened_by count (Some n) within = within
 
-pub Keeps-opened : (schema : Schema) (pasts : List (List Past)) (txns : List Txn) (site : SiteName) (count : ℕ) (ds : List DestinationState) (gone : ℕ) (deferred : List Deferred) (noted : List NotedStream) → length deferred ≡ count
+pub Keeps-opened : (schema : Schema) (pasts : List (List PastEntry)) (txns : List Txn) (site : SiteName) (count : ℕ) (ds : List DestinationState) (gone : ℕ) (deferred : List Deferred) (noted : List NotedStream) → length deferred ≡ count
     → Keeps schema pasts txns (record { destinations = ds; purged = gone; deferred = deferred; noted = noted })
     → Keeps schema pasts txns (record { destinations = at_destination site (opened_at count) ds; purged = gone; deferred = deferred; noted = noted })
 Keeps-opened schema pasts txns site count ds gone deferred noted counted keeps = record {

@@ -11,13 +11,13 @@ use Rattle.dependency_index.specs.Tokens.{txn_tokens, share_token}
 use Rattle.dependency_index.specs.Dependencies.{dependency_number}
 use Rattle.dependency_index.proofs.NotedTokens.{last_where-bound}
 use Rattle.deferred_queue.specs.declared.destination.Destination.{Destination}
-use Rattle.deferred_queue.specs.Streams.{Mark, Deferrals, CanBeSent, IsDestination, AreApart, is_same_site, destination_to, in_order, last_position}
+use Rattle.deferred_queue.specs.Streams.{Mark, Deferrals, CanBeSent, IsDestination, DestinationsApart, is_same_site, destination_to, in_order, last_position}
 use Rattle.deferred_queue.proofs.Sites.{is_same_site-true}
 use Rattle.site_state.specs.State.{DestinationState, destination_of, opened_in}
 use Rattle.site_state.specs.Streams.{stream_in}
 use Rattle.site_state.specs.Deferrals.{place_since, place_for, StandApart}
 use Rattle.site_state.proofs.Deferring.{AreFound, all_found}
-use Rattle.site_outbox.specs.Outlets.{mark_of}
+use Rattle.site_outbox.specs.DestinationEntries.{destination_mark}
 use Rattle.site_outbox.specs.Noting.{TokenStreams, place_at}
 use Rattle.site_outbox.proofs.Noting.{place_now}
 
@@ -47,24 +47,24 @@ module _ (tokens : List Token) (streams : TokenStreams) where
       go false is later = other d.opened is ∙ later
 
   -- no two are the same site
-  pub AreApart-sent_to : (ds : List DestinationState) → StandApart ds → AreApart (sent_to ds)
+  pub AreApart-sent_to : (ds : List DestinationState) → StandApart ds → DestinationsApart (sent_to ds)
   AreApart-sent_to [] apart = tt
   AreApart-sent_to (d ∷ ds) apart = go d.opened (AreApart-sent_to ds apart.1)
     where
-      go : (o : Option ℕ) → AreApart (sent_to ds) → AreApart (cons_option (place_at tokens streams d.site o) (sent_to ds))
+      go : (o : Option ℕ) → DestinationsApart (sent_to ds) → DestinationsApart (cons_option (place_at tokens streams d.site o) (sent_to ds))
       go None later = later
       go (Some opened) later =
           (destination_to-sent_to d.site ds apart.1 ∙ ap (λ (o : Option DestinationState). place_at tokens streams d.site (opened_in o)) apart.0, later)
 
   -- they stand in the order of the marks
-  pub in_order-sent_to : (ds : List DestinationState) → StandApart ds → in_order (map mark_of ds) (sent_to ds) ≡ sent_to ds
+  pub in_order-sent_to : (ds : List DestinationState) → StandApart ds → in_order (map destination_mark ds) (sent_to ds) ≡ sent_to ds
   in_order-sent_to ds apart = each ds (all_found ds apart)
     where
       own : (site : SiteName) (o : Option ℕ) → option_map (λ (d : Destination). record { site = site; dep = d.dep }) (place_at tokens streams site o) ≡ place_at tokens streams site o
       own site None = refl
       own site (Some opened) = refl
 
-      each : (es : List DestinationState) → AreFound ds es → in_order (map mark_of es) (sent_to ds) ≡ sent_to es
+      each : (es : List DestinationState) → AreFound ds es → in_order (map destination_mark es) (sent_to ds) ≡ sent_to es
       each [] found = refl
       each (e ∷ es) found =
           let here : destination_to e.site (sent_to ds) ≡ place_at tokens streams e.site e.opened =
@@ -72,16 +72,16 @@ module _ (tokens : List Token) (streams : TokenStreams) where
           rw (here, own e.site e.opened, each es found.1) refl
 
   -- each is a destination of the queue, and depends on a position that its stream has
-  pub can_be_sent : (queue : Deferrals) (ds : List DestinationState) → map mark_of ds ≡ queue.marks → ((site : SiteName) → length (streams site) ≡ last_position site queue.deferred) → StandApart ds
+  pub can_be_sent : (queue : Deferrals) (ds : List DestinationState) → map destination_mark ds ≡ queue.marks → ((site : SiteName) → length (streams site) ≡ last_position site queue.deferred) → StandApart ds
       → AllByRecursion (CanBeSent queue) (sent_to ds)
   can_be_sent queue ds marks long apart = each ds (all_found ds apart)
     where
-      marked : (site : SiteName) (es : List DestinationState) (d : DestinationState) → destination_of site es ≡ Some d → IsDestination (map mark_of es) site
+      marked : (site : SiteName) (es : List DestinationState) (d : DestinationState) → destination_of site es ≡ Some d → IsDestination (map destination_mark es) site
       marked site [] d found = absurd (cc found)
       marked site (e ∷ es) d found = go (is_same_site e.site site) found (marked site es d)
         where
-          go : (b : Bool) → cond b (Some e) (destination_of site es) ≡ Some d → (destination_of site es ≡ Some d → IsDestination (map mark_of es) site)
-              → cond b (Some (record { site = e.site; dep = 0 })) (destination_to site (map (λ (m : Mark). record { site = m.site; dep = 0 }) (map mark_of es))) ≡ None → ⊥
+          go : (b : Bool) → cond b (Some e) (destination_of site es) ≡ Some d → (destination_of site es ≡ Some d → IsDestination (map destination_mark es) site)
+              → cond b (Some (record { site = e.site; dep = 0 })) (destination_to site (map (λ (m : Mark). record { site = m.site; dep = 0 }) (map destination_mark es))) ≡ None → ⊥
           go true found later none = absurd (cc none)
           go false found later none = later found none
 

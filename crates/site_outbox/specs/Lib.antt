@@ -1,5 +1,5 @@
 -- The definitions of this crate.
 pub mod Outgoing
-pub mod Outlets
+pub mod DestinationEntries
 pub mod Noting
-pub mod Kept
+pub mod OutboxInvariant

@@ -4,7 +4,7 @@ use Rattle.std.specs.List.{AllByRecursion}
 use Rattle.rep_values.specs.declared.name.SiteName.{SiteName}
 use Rattle.rep_schema.specs.declared.schema.Schema.{Schema}
 use Rattle.rep_calls.specs.declared.call.Txn.{Txn}
-use Rattle.rep_calls.specs.declared.past.Past.{Past}
+use Rattle.rep_calls.specs.declared.past.PastEntry.{PastEntry}
 use Rattle.deferred_queue.specs.Streams.{Deferred}
 use Rattle.dependency_index.specs.Tokens.{txn_tokens}
 use Rattle.dependency_index.specs.Dependencies.{NotedStream, IsNoted}
@@ -22,7 +22,7 @@ pub record Outgoing : Type 0 where
 
 -- an outbox keeps these transactions, the newest first, with what the site had seen before each: each stream has those behind
 -- the count at which it was opened, and their tokens are noted
-pub record Keeps (schema : Schema) (pasts : List (List Past)) (txns : List Txn) (out : Outgoing) : Type 0 where
+pub record Keeps (schema : Schema) (pasts : List (List PastEntry)) (txns : List Txn) (out : Outgoing) : Type 0 where
   pub seen : length pasts ≡ length txns
   pub queue : out.deferred ≡ deferred_in schema out.destinations out.purged pasts txns
   pub tokens : (site : SiteName) → IsNoted out.noted site (map (txn_tokens schema) (stream_in (opened_in (destination_of site out.destinations)) txns))

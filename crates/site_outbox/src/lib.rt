@@ -2,7 +2,7 @@
 #![tactic(auto)]
 
 mod outbox;
-mod outlet;
-mod outlets;
+mod destination_entry;
+mod destination_entries;
 
 pub use outbox::Outbox;

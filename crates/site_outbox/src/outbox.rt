@@ -5,11 +5,11 @@ ghost use Rattle.std.specs.List.{list_any};
 ghost use Rattle.rep_schema.specs.declared.schema.Schema.{Schema};
 ghost use Rattle.rep_schema.specs.Shape.{HasShape};
 ghost use Rattle.rep_calls.specs.declared.call.Txn.{Txn};
-ghost use Rattle.rep_calls.specs.declared.past.Past.{Past};
+ghost use Rattle.rep_calls.specs.declared.past.PastEntry.{PastEntry};
 ghost use Rattle.conflict_detect.specs.Fits.{TxnFits};
 ghost use Rattle.conflict_detect.specs.KeysNamed.{HasKeys};
 ghost use Rattle.packet_code.specs.Bodies.{IsBody};
-ghost use Rattle.deferred_queue.specs.Streams.{at_position, stream_to, unpurged, last_position};
+ghost use Rattle.deferred_queue.specs.Streams.{at_position, queue_stream_to, unpurged, last_position};
 ghost use Rattle.site_state.specs.State.{destination_of, at_destination, opened_in};
 ghost use Rattle.site_state.specs.Steps.{is_open};
 ghost use Rattle.site_state.specs.Packets.{acknowledged};
@@ -18,14 +18,14 @@ ghost use Rattle.site_state.specs.Purges.{acknowledged_by_all};
 ghost use Rattle.site_state.specs.Deferrals.{StandApart};
 ghost use Rattle.site_state.specs.Making.{new_destination};
 ghost use Rattle.site_outbox.specs.Outgoing.{Keeps};
-ghost use Rattle.site_outbox.specs.Outlets.{mark_of};
+ghost use Rattle.site_outbox.specs.DestinationEntries.{destination_mark};
 
-use crate::outlet::Outlet;
-use crate::outlets::{acknowledged_by_all, has_open, is_among, new_each, note_each, open_each};
+use crate::destination_entry::DestinationEntry;
+use crate::destination_entries::{acknowledged_by_all, has_open, is_among, new_each, note_each, open_each};
 use deferred_queue::{Queue, Sent};
 use dependency_index::{Index, tokens_of};
 use packet_code::Body;
-use rep_calls::{Past, Txn};
+use rep_calls::{PastEntry, Txn};
 use rep_lists::{Items, NoMemory};
 use rep_schema::Schema;
 use rep_values::SiteName;
@@ -36,7 +36,7 @@ use std::marker::Model;
 /// queue is purged.
 #[derive(Drop)]
 pub struct Outbox {
-    outlets: Vec<Outlet>,
+    outlets: Vec<DestinationEntry>,
     queue: Queue,
     index: Index,
     count: u64,
@@ -45,13 +45,13 @@ pub struct Outbox {
 
 impl Model for Outbox {
     ghost use Rattle.site_outbox.specs.Outgoing.{Outgoing};
-    ghost use Rattle.site_outbox.specs.Outlets.{joined};
-    ghost use Rattle.site_outbox.specs.Kept.{IsOutbox};
+    ghost use Rattle.site_outbox.specs.DestinationEntries.{with_marks};
+    ghost use Rattle.site_outbox.specs.OutboxInvariant.{IsOutbox};
 
     ghost Value = { Outgoing };
 
     ghost view = { λ o. record {
-      destinations = joined o.outlets.items o.queue.marks;
+      destinations = with_marks o.outlets.items o.queue.marks;
       purged = o.purged;
       deferred = o.queue.deferred;
       noted = o.index.streams;
@@ -90,15 +90,15 @@ impl Outbox {
         &mut self,
         alloc: Global,
         schema: &Schema,
-        past: Items<Past>,
+        past: Items<PastEntry>,
         txn: Txn,
     ) -> Result<u64, NoMemory>
         requires shape { HasShape schema.now }
         requires keys { HasKeys schema.now }
         requires fits { TxnFits schema.now txn }
         ensures number { IfOk result (λ number. number ≡ length self.old.deferred + 1) }
-        ensures ok { OnOk result ((pasts : List (List Past)) (txns : List Txn) → Keeps schema.now pasts txns self.old → Keeps schema.now (past ∷ pasts) (txn ∷ txns) self.new) }
-        ensures err { OnErr result ((pasts : List (List Past)) (txns : List Txn) → Keeps schema.now pasts txns self.old → Keeps schema.now pasts txns self.new) }
+        ensures ok { OnOk result ((pasts : List (List PastEntry)) (txns : List Txn) → Keeps schema.now pasts txns self.old → Keeps schema.now (past ∷ pasts) (txn ∷ txns) self.new) }
+        ensures err { OnErr result ((pasts : List (List PastEntry)) (txns : List Txn) → Keeps schema.now pasts txns self.old → Keeps schema.now pasts txns self.new) }
         ensures destinations { self.new.destinations ≡ self.old.destinations }
         ensures purged { self.new.purged ≡ self.old.purged }
     {
@@ -125,7 +125,7 @@ impl Outbox {
           dep = sent.dep;
           cargo = Some (record { txn = sent.txn.now; past = sent.past.now });
         }) result
-            ≡ unpurged (at_position position (stream_to to.now self.now.deferred)) }
+            ≡ unpurged (at_position position (queue_stream_to to.now self.now.deferred)) }
         ensures earlier { IfSome result (λ sent. sent.dep < position) }
         ensures number { IfSome result (λ sent. 1 ≤ sent.number) }
         ensures queued { IfSome result (λ sent. sent.number ≤ length self.now.deferred) }
@@ -140,7 +140,7 @@ impl Outbox {
         requires empty { opened_in (destination_of site.now self.old.destinations) ≡ None → last_position site.now self.old.deferred ≡ 0 }
         ensures destinations { self.new.destinations ≡ at_destination site.now (opened_at (length self.old.deferred)) self.old.destinations }
         ensures deferred { self.new.deferred ≡ self.old.deferred }
-        ensures keeps { (schema : Schema) (pasts : List (List Past)) (txns : List Txn) → Keeps schema pasts txns self.old → Keeps schema pasts txns self.new }
+        ensures keeps { (schema : Schema) (pasts : List (List PastEntry)) (txns : List Txn) → Keeps schema pasts txns self.old → Keeps schema pasts txns self.new }
         ensures purged { self.new.purged ≡ self.old.purged }
     {
         let count = self.count;
@@ -151,7 +151,7 @@ impl Outbox {
     pub fn acknowledge(&mut self, site: &SiteName, mark: u64)
         requires { mark ≤ last_position site.now self.old.deferred }
         ensures destinations { self.new.destinations ≡ at_destination site.now (acknowledged mark) self.old.destinations }
-        ensures keeps { (schema : Schema) (pasts : List (List Past)) (txns : List Txn) → Keeps schema pasts txns self.old → Keeps schema pasts txns self.new }
+        ensures keeps { (schema : Schema) (pasts : List (List PastEntry)) (txns : List Txn) → Keeps schema pasts txns self.old → Keeps schema pasts txns self.new }
         ensures purged { self.new.purged ≡ self.old.purged }
     {
         self.queue.acknowledge(site, mark);
@@ -162,7 +162,7 @@ impl Outbox {
         ensures purged { self.new.purged ≡ max self.old.purged (acknowledged_by_all (length self.old.deferred) self.old.destinations) }
         ensures count { result ≡ self.new.purged - self.old.purged }
         ensures destinations { self.new.destinations ≡ self.old.destinations }
-        ensures keeps { (schema : Schema) (pasts : List (List Past)) (txns : List Txn) → Keeps schema pasts txns self.old → Keeps schema pasts txns self.new }
+        ensures keeps { (schema : Schema) (pasts : List (List PastEntry)) (txns : List Txn) → Keeps schema pasts txns self.old → Keeps schema pasts txns self.new }
     {
         let before = self.purged;
         let acknowledged = acknowledged_by_all(&self.outlets, &self.queue, self.count);
@@ -202,7 +202,7 @@ impl Outbox {
     /// The queue.
     pub fn queue(&self) -> &Queue
         ensures deferred { result.now.deferred ≡ self.now.deferred }
-        ensures marks { result.now.marks ≡ map mark_of self.now.destinations }
+        ensures marks { result.now.marks ≡ map destination_mark self.now.destinations }
     {
         &self.queue
     }

@@ -14,7 +14,7 @@ use Rattle.site_state.specs.declared.rows.TableRows.{TableRows}
 use Rattle.site_state.specs.State.{LogState}
 use Rattle.site_state.specs.Notes.{pending_keys}
 use Rattle.site_state.specs.Refreshes.{row_count}
-use Rattle.site_state.specs.Fits.{AreApart}
+use Rattle.site_state.specs.Fits.{SnapshotsApart}
 use Rattle.fast_refresh.specs.Showing.{ShowsOthers}
 use Rattle.fast_refresh.specs.Refreshed.{RefreshesTo}
 use Rattle.site_refresh.specs.Refreshing.{OthersAreShown, AreGivenOnce, pending_count}
@@ -32,7 +32,7 @@ IsUnchanged done table = room_for table (all_changes done) ≡ 0
 
 -- the snapshots that are left are apart, their tables weren't changed, and show what they have to
 pub record SnapshotsLeft (schema : Schema) (logs : List LogState) (master : List Rows) (done : List Changes) (tables : List Rows) (left : List Snapshot) : Type 0 where
-  pub apart : AreApart left
+  pub apart : SnapshotsApart left
   pub unchanged : AllByRecursion (λ (s : Snapshot). IsUnchanged done s.table) left
   pub others : OthersAreShown schema logs master left tables
 

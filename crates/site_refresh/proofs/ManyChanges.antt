@@ -5,7 +5,7 @@ use Rattle.rep_schema.specs.declared.schema.Schema.{Schema}
 use Rattle.rep_schema.specs.declared.change.Change.{Change}
 use Rattle.rep_schema.specs.declared.change.Changes.{Changes}
 use Rattle.rep_schema.specs.Tables.{Rows, AreTables}
-use Rattle.rep_schema.specs.Changes.{made, LeadsTo}
+use Rattle.rep_schema.specs.Changes.{after_change, LeadsTo}
 use Rattle.rep_schema.proofs.Leading.{AreTables-led}
 use Rattle.site_refresh.specs.Done.{all_changes}
 
@@ -20,7 +20,7 @@ module _ (schema : Schema) where
       → (middle : List Rows) × LeadsTo schema changes earlier middle × LeadsTo schema others middle later
   lead_apart [] others earlier later lead = (earlier, refl, lead)
   lead_apart (change ∷ changes) others earlier later lead =
-      let rest = lead_apart changes others (made schema change earlier) later lead.1 in
+      let rest = lead_apart changes others (after_change schema change earlier) later lead.1 in
       (rest.0, (lead.0, rest.1), rest.2)
 
   -- those of the last refresh lead on from tables to which the others led

@@ -5,7 +5,7 @@ ghost use Rattle.snapshot_query.specs.declared.snapshot.Snapshot.{Snapshot as Sn
 ghost use Rattle.snapshot_query.specs.Queries.{matches, query_rows};
 ghost use Rattle.site_state.specs.Notes.{pending_keys};
 ghost use Rattle.site_state.specs.Refreshes.{rows_shown, with_tables};
-ghost use Rattle.site_state.specs.Fits.{IsKeyed, AreApart, AreWithin};
+ghost use Rattle.site_state.specs.Fits.{SchemaIsKeyed, SnapshotsApart, AreWithin};
 ghost use Rattle.fast_refresh.specs.Showing.{ShowsOthers};
 ghost use Rattle.fast_refresh.specs.Refreshed.{RefreshesTo};
 ghost use Rattle.site_refresh.specs.Refreshing.{OthersAreShown, pending_count, counted};
@@ -46,7 +46,7 @@ fn refresh_at<R: RowStore, M: MasterView>(
     moment: u64,
 ) -> Result<Changes, NoMemory>
     requires place { place < length notes.old.snapshots }
-    requires keyed { IsKeyed (R.schema store.old) }
+    requires keyed { SchemaIsKeyed (R.schema store.old) }
     requires within { AreWithin (R.schema store.old) notes.old.snapshots }
     requires schema { M.schema master.old ≡ R.schema store.old }
     requires master { AreTables (R.schema store.old) (M.tables master.old) }
@@ -80,9 +80,9 @@ pub(crate) fn refresh_each<R: RowStore, M: MasterView>(
     moment: u64,
     done: &mut Vec<Changes>,
 ) -> Result<RefreshCount, NoMemory>
-    requires keyed { IsKeyed (R.schema store.old) }
+    requires keyed { SchemaIsKeyed (R.schema store.old) }
     requires within { AreWithin (R.schema store.old) notes.old.snapshots }
-    requires apart { AreApart notes.old.snapshots }
+    requires apart { SnapshotsApart notes.old.snapshots }
     requires schema { M.schema master.old ≡ R.schema store.old }
     requires master { AreTables (R.schema store.old) (M.tables master.old) }
     requires others { OthersAreShown (R.schema store.old) logs.now.logs (M.tables master.old) notes.old.snapshots (R.tables store.old) }

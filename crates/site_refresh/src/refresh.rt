@@ -2,7 +2,7 @@
 ghost use Rattle.std.specs.Prelude.{◌≡◌, ℕ, ◌+◌, ◌≤◌, List, length, map, slice_index, Ok, IfOk, OnOk, OnErr};
 ghost use Rattle.rep_schema.specs.Tables.{Rows, AreTables};
 ghost use Rattle.rep_schema.specs.Changes.{HaveLed, LeadsTo, room_for};
-ghost use Rattle.site_state.specs.Fits.{IsKeyed, AreApart, AreWithin};
+ghost use Rattle.site_state.specs.Fits.{SchemaIsKeyed, SnapshotsApart, AreWithin};
 ghost use Rattle.site_state.specs.Refreshes.{renewed, rows_shown, with_tables};
 ghost use Rattle.site_refresh.specs.Refreshing.{OthersAreShown, AreGivenFor, pending_count, counted};
 ghost use Rattle.site_refresh.specs.Done.{all_changes};
@@ -59,9 +59,9 @@ pub fn refresh_all_fast<R: RowStore, M: MasterView>(
     logs: &Notes,
     moment: u64,
 ) -> Result<RefreshCount, NoMemory>
-    requires keyed { IsKeyed (R.schema store.old) }
+    requires keyed { SchemaIsKeyed (R.schema store.old) }
     requires within { AreWithin (R.schema store.old) notes.old.snapshots }
-    requires apart { AreApart notes.old.snapshots }
+    requires apart { SnapshotsApart notes.old.snapshots }
     requires schema { M.schema master.old ≡ R.schema store.old }
     requires master { AreTables (R.schema store.old) (M.tables master.old) }
     requires others { OthersAreShown (R.schema store.old) logs.now.logs (M.tables master.old) notes.old.snapshots (R.tables store.old) }
@@ -92,9 +92,9 @@ pub fn refresh_all<R: RowStore>(
     rows: &[TableRows],
     moment: u64,
 ) -> Result<RefreshCount, NoMemory>
-    requires keyed { IsKeyed (R.schema store.old) }
+    requires keyed { SchemaIsKeyed (R.schema store.old) }
     requires within { AreWithin (R.schema store.old) notes.old.snapshots }
-    requires apart { AreApart notes.old.snapshots }
+    requires apart { SnapshotsApart notes.old.snapshots }
     requires rows { AreGivenFor (R.schema store.old) notes.old.snapshots rows.now }
     ensures tables { OnOk result (R.tables store.new ≡ with_tables rows.now (R.tables store.old)) }
     ensures count { IfOk result (λ count. count ≡ counted 0 rows.now) }

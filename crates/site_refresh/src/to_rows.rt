@@ -3,7 +3,7 @@ ghost use Rattle.std.specs.Prelude.{◌≡◌, ℕ, ◌+◌, ◌<◌, ◌≤◌,
 ghost use Rattle.rep_schema.specs.Tables.{IsTable};
 ghost use Rattle.snapshot_query.specs.declared.snapshot.Snapshot.{Snapshot as SnapshotValue};
 ghost use Rattle.site_state.specs.Refreshes.{with_tables};
-ghost use Rattle.site_state.specs.Fits.{IsKeyed, AreWithin};
+ghost use Rattle.site_state.specs.Fits.{SchemaIsKeyed, AreWithin};
 ghost use Rattle.fast_refresh.specs.Refreshed.{RefreshesTo};
 ghost use Rattle.site_refresh.specs.Refreshing.{AreGivenFor, counted};
 ghost use Rattle.site_refresh.specs.Done.{HaveDone};
@@ -42,7 +42,7 @@ fn refresh_at<R: RowStore>(
 ) -> Result<Changes, NoMemory>
     requires place { place < length notes.old.snapshots }
     requires table { IfSome (slice_get notes.old.snapshots place) (λ s. s.table ≡ given.now.table) }
-    requires keyed { IsKeyed (R.schema store.old) }
+    requires keyed { SchemaIsKeyed (R.schema store.old) }
     requires within { AreWithin (R.schema store.old) notes.old.snapshots }
     requires rows { IsTable (R.schema store.old) given.now.table given.now.rows }
     ensures refreshed { RefreshesTo given.now.table given.now.rows
@@ -67,7 +67,7 @@ pub(crate) fn refresh_each<R: RowStore>(
     moment: u64,
     done: &mut Vec<Changes>,
 ) -> Result<RefreshCount, NoMemory>
-    requires keyed { IsKeyed (R.schema store.old) }
+    requires keyed { SchemaIsKeyed (R.schema store.old) }
     requires within { AreWithin (R.schema store.old) notes.old.snapshots }
     requires rows { AreGivenFor (R.schema store.old) notes.old.snapshots rows.now }
     requires none { done.old.items ≡ [] }

@@ -3,7 +3,7 @@ use Rattle.std.specs.Prelude.{ℕ, ◌==◌, nat_le, cond, Option, None, Some, L
 use Rattle.rep_values.specs.declared.name.SiteName.{SiteName}
 use Rattle.rep_schema.specs.declared.schema.Schema.{Schema}
 use Rattle.error_queue.specs.declared.entry.ErrorEntry.{ErrorEntry}
-use Rattle.rep_calls.specs.declared.past.Past.{Past}
+use Rattle.rep_calls.specs.declared.past.PastEntry.{PastEntry}
 use Rattle.report_text.specs.Sheet.{line}
 use Rattle.report_text.specs.Refusals.{error_text}
 use Rattle.report_text.specs.Texts.{logged_key_text}
@@ -13,9 +13,9 @@ use Rattle.site_state.specs.declared.entry.Entry.TheVariants.{Local, Done, Error
 use Rattle.site_state.specs.State.{LoggedKey, LogState, SiteState, arrivals}
 use Rattle.site_state.specs.Journal.{low_water}
 use Rattle.site_state.specs.Errors.{errors_of}
-use Rattle.site_state.specs.Deferrals.{deferred_of, marks_of}
+use Rattle.site_state.specs.Deferrals.{deferred_of, deferred_marks}
 use Rattle.deferred_queue.specs.declared.destination.Place.{Place}
-use Rattle.deferred_queue.specs.Streams.{Numbered, stream_to, place_of, last_position, acked_by, numbered}
+use Rattle.deferred_queue.specs.Streams.{Numbered, queue_stream_to, stream_place, last_position, acked_by, numbered}
 
 -- ---- errors
 
@@ -55,7 +55,7 @@ sender_text x origin = line (codes "from") (origin.0 ∷ codes "arrived" ∷ dec
 -- to D queued N acked M
 abbrev pub destination_text : SiteState → SiteName → List ℕ
 destination_text x to =
-    line (codes "to") (to.0 ∷ codes "queued" ∷ decimal (last_position to (deferred_of x)) ∷ codes "acked" ∷ decimal (acked_by to (marks_of x)) ∷ [])
+    line (codes "to") (to.0 ∷ codes "queued" ∷ decimal (last_position to (deferred_of x)) ∷ codes "acked" ∷ decimal (acked_by to (deferred_marks x)) ∷ [])
 
 -- marks SITE, and each of these senders and destinations
 abbrev pub marks_text : List ℕ → List SiteName → List SiteName → SiteState → List ℕ
@@ -75,18 +75,18 @@ place_text to acked (Some p) =
     line (codes "to") (to.0 ∷ codes "position" ∷ decimal p.position ∷ codes "dep" ∷ decimal p.dep ∷ state_word acked p.position ∷ [])
 
 -- where a number stands in the stream to a destination
-abbrev pub place_at : SiteState → ℕ → SiteName → List ℕ
-place_at x number to = place_text to (acked_by to (marks_of x)) (place_of number (stream_to to (deferred_of x)))
+abbrev pub stream_place_of : SiteState → ℕ → SiteName → List ℕ
+stream_place_of x number to = place_text to (acked_by to (deferred_marks x)) (stream_place number (queue_stream_to to (deferred_of x)))
 
 -- past ORIGIN NUMBER
-abbrev pub past_text : Past → List ℕ
+abbrev pub past_text : PastEntry → List ℕ
 past_text p = line (codes "past") (p.origin.0 ∷ decimal p.number ∷ [])
 
 -- txn NUMBER calls C, where it goes, what was seen before it, and its calls
 abbrev pub queued_text : List SiteName → SiteState → Numbered → List ℕ
 queued_text destinations x n =
     line (codes "txn") (decimal n.number ∷ codes "calls" ∷ decimal (length n.cargo.txn.calls) ∷ [])
-    ++ (flat_map (place_at x n.number) destinations ++ (flat_map past_text n.cargo.past ++ calls_text x.schema n.cargo.txn.calls))
+    ++ (flat_map (stream_place_of x n.number) destinations ++ (flat_map past_text n.cargo.past ++ calls_text x.schema n.cargo.txn.calls))
 
 -- queue SITE, and each transaction that isn't purged, in rising number, with these destinations
 abbrev pub queue_text : List ℕ → List SiteName → SiteState → List ℕ

@@ -2,7 +2,7 @@
 ghost use Rattle.std.specs.Prelude.{◌≡◌, ◌<◌, ◌≤◌, ◌+◌, ◌∷◌, ◌++◌, length, drop, OnOk, OnErr};
 ghost use Rattle.report_text.specs.Sheet.{StandBefore, word_text, most_of};
 ghost use Rattle.report_text.specs.Calls.{table_name};
-ghost use Rattle.site_notes.specs.Kept.{log_in};
+ghost use Rattle.site_notes.specs.RoomyNotes.{log_in};
 ghost use Rattle.site_report.specs.Shows.{table_log_text, log_text};
 
 use rep_schema::{RowStore, Schema};

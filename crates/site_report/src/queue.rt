@@ -1,10 +1,10 @@
 //! The queue of a site.
 ghost use Rattle.std.specs.Prelude.{◌≡◌, ◌++◌, flat_map, OnOk, OnErr};
 ghost use Rattle.report_text.specs.Sheet.{StandBefore};
-ghost use Rattle.site_report.specs.Shows.{place_at, past_text, queued_text, queue_text};
+ghost use Rattle.site_report.specs.Shows.{stream_place_of, past_text, queued_text, queue_text};
 
 use deferred_queue::Queued;
-use rep_calls::Past;
+use rep_calls::PastEntry;
 use rep_schema::RowStore;
 use rep_values::{NoMemory, SiteName};
 use report_text::{Lines, MOST_LINE, Word, add_calls};
@@ -17,7 +17,7 @@ fn add_place<R: RowStore>(
     number: u64,
     to: &SiteName,
 ) -> Result<(), NoMemory>
-    ensures ok { OnOk result (lines.new.bytes ≡ lines.old.bytes ++ place_at site.now number to.now) }
+    ensures ok { OnOk result (lines.new.bytes ≡ lines.old.bytes ++ stream_place_of site.now number to.now) }
     ensures err { OnErr result (lines.new.bytes ≡ lines.old.bytes) }
 {
     let Some(place) = site.queue().place_of(to, number) else {
@@ -49,7 +49,7 @@ fn add_places<R: RowStore>(
     number: u64,
     destinations: &[SiteName],
 ) -> Result<(), NoMemory>
-    ensures ok { OnOk result (lines.new.bytes ≡ lines.old.bytes ++ flat_map (place_at site.now number) destinations.now) }
+    ensures ok { OnOk result (lines.new.bytes ≡ lines.old.bytes ++ flat_map (stream_place_of site.now number) destinations.now) }
     ensures err { OnErr result (StandBefore lines.old.bytes lines.new.bytes) }
 {
     for to in destinations {
@@ -59,7 +59,7 @@ fn add_places<R: RowStore>(
 }
 
 /// What was seen before a transaction.
-fn add_past(lines: &mut Lines, past: &[Past]) -> Result<(), NoMemory>
+fn add_past(lines: &mut Lines, past: &[PastEntry]) -> Result<(), NoMemory>
     ensures ok { OnOk result (lines.new.bytes ≡ lines.old.bytes ++ flat_map past_text past.now) }
     ensures err { OnErr result (StandBefore lines.old.bytes lines.new.bytes) }
 {

@@ -14,8 +14,8 @@ use Rattle.rep_values.specs.declared.name.SiteName.{SiteName}
 use Rattle.deferred_queue.specs.Streams.{is_same_site}
 use Rattle.deferred_queue.proofs.Sites.{is_same_site-true}
 use Rattle.error_queue.specs.declared.entry.ErrorEntry.{ErrorEntry}
-use Rattle.error_queue.specs.ErrorLists.{beside}
-use Rattle.error_queue.specs.Kept.{by_position, AreErrorsOf}
+use Rattle.error_queue.specs.ErrorLists.{error_beside}
+use Rattle.error_queue.specs.ErrorQueueState.{by_error_position, AreErrorsOf}
 use Rattle.site_state.specs.declared.arrival.Arrival.{Arrival}
 use Rattle.site_state.specs.declared.entry.Entry.{Entry}
 use Rattle.site_state.specs.declared.entry.Entry.TheVariants.{Local, Done, Error, Executed, Dropped, Refreshed}
@@ -52,13 +52,13 @@ behind_all positions (e ∷ errors) p q le below =
     rw (← nat_cmp_is e.position p Greater (omega (arith, le, first))) (ap (λ (t : List ℕ). text_among positions e ++ t) (behind_all positions errors p q le below.1))
 
 -- the line of the error of one position more comes first, where it is below the others
-first_more : (positions : List ℕ) (p : ℕ) (errors : List ErrorEntry) → IsRising by_position errors → AllByRecursion (λ k. nat_cmp p k ≡ Less) positions
+first_more : (positions : List ℕ) (p : ℕ) (errors : List ErrorEntry) → IsRising by_error_position errors → AllByRecursion (λ k. nat_cmp p k ≡ Less) positions
     → text_at errors p ++ flat_map (text_among positions) errors ≡ flat_map (text_among (p ∷ positions)) errors
 first_more positions p [] rising below = refl
 first_more positions p (e ∷ errors) rising below = go (nat_cmp e.position p) refl (first_more positions p errors rising.1 below)
   where
     go : (o : Ordering) → nat_cmp e.position p ≡ o → text_at errors p ++ flat_map (text_among positions) errors ≡ flat_map (text_among (p ∷ positions)) errors
-        → text_found (found_here o e (find_at (beside p) errors)) ++ (text_among positions e ++ flat_map (text_among positions) errors)
+        → text_found (found_here o e (find_at (error_beside p) errors)) ++ (text_among positions e ++ flat_map (text_among positions) errors)
         ≡ cond (is_eq o || has positions e.position) (error_entry_text e) [] ++ flat_map (text_among (p ∷ positions)) errors
     go Less place later =
         let before : e.position < p = ranked e.position p Less (sym place) in
@@ -75,7 +75,7 @@ no_texts [] = refl
 no_texts (e ∷ errors) = no_texts errors
 
 -- the lines position by position are those of the errors that stand at one
-pub texts_at : (errors : List ErrorEntry) (positions : List ℕ) → IsRising by_position errors → IsStrictlySortedBy nat_cmp positions
+pub texts_at : (errors : List ErrorEntry) (positions : List ℕ) → IsRising by_error_position errors → IsStrictlySortedBy nat_cmp positions
     → flat_map (text_at errors) positions ≡ flat_map (text_among positions) errors
 texts_at errors [] rising sorted = sym (no_texts errors)
 texts_at errors (p ∷ positions) rising sorted =

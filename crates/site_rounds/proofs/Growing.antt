@@ -9,7 +9,7 @@ use Rattle.site_state.specs.Passes.{site_apply, apply_each, site_pass, is_done, 
 use Rattle.site_state.specs.Steps.{begun, count_where}
 use Rattle.site_state.proofs.Growing.{IsFront, front_none}
 use Rattle.site_state.proofs.Stepping.{apply_steps, steps_later}
-use Rattle.world_state.specs.Rounds.{has_ready, passed_where_ready, round, rounds, sender_names, arrived_count, site_settle}
+use Rattle.world_state.specs.Rounds.{has_ready, passed_where_ready, round, rounds, sender_names, arrived_count, site_until_quiet}
 use Rattle.site_rounds.specs.Parts.{finished_in}
 use Rattle.site_rounds.proofs.Parts.{count_at_most}
 
@@ -44,15 +44,15 @@ rounds_grow zero origins x = front_none x.journal
 rounds_grow (suc n) origins x = grows_then x (round origins x) (rounds n origins (round origins x)) (round_grows origins x) (rounds_grow n origins (round origins x))
 
 -- once a site has settled what came, its journal has more in front
-pub settle_grows : (origin : SiteName) (x : SiteState) → Grows x (site_settle origin x)
-settle_grows origin x =
+pub until_quiet_grows : (origin : SiteName) (x : SiteState) → Grows x (site_until_quiet origin x)
+until_quiet_grows origin x =
     let y : SiteState = site_pass origin x in
-    grows_then x y (site_settle origin x) (pass_grows origin x) (rounds_grow (arrived_count y.senders) (sender_names y.senders) y)
+    grows_then x y (site_until_quiet origin x) (pass_grows origin x) (rounds_grow (arrived_count y.senders) (sender_names y.senders) y)
 
 -- and is no shorter
-pub settled-longer : (origin : SiteName) (x y : SiteState) (before : ℕ) → y ≡ site_settle origin x → before ≡ length x.journal → before ≤ length y.journal
-settled-longer origin x y before is begins =
-    let g = settle_grows origin x in
+pub until_quiet-longer : (origin : SiteName) (x y : SiteState) (before : ℕ) → y ≡ site_until_quiet origin x → before ≡ length x.journal → before ≤ length y.journal
+until_quiet-longer origin x y before is begins =
+    let g = until_quiet_grows origin x in
     let same : length y.journal ≡ length g.front + length x.journal = ap (λ (z : SiteState). length z.journal) is ∙ ap length g.is ∙ length-append g.front x.journal in
     omega (arith, same, begins)
 

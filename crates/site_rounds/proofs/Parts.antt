@@ -13,21 +13,21 @@ use Rattle.site_state.specs.Contents.{content_of}
 use Rattle.site_state.specs.Steps.{begun, count_where}
 use Rattle.site_state.specs.Passes.{site_apply, apply_each, site_pass, pass_answer, is_done, is_error}
 use Rattle.site_state.proofs.Stepping.{apply_steps}
-use Rattle.event_laws.specs.Core.{Core, site_of, at_site}
+use Rattle.event_laws.specs.Cluster.{Cluster, site_of, at_site}
 use Rattle.event_laws.specs.Events.{is_master_in, applied_where, happens}
 use Rattle.event_laws.specs.Events as event
 use Rattle.event_laws.specs.Confluence.{applied_in_turn, CanPassInAnyOrder}
-use Rattle.world_state.specs.Rounds.{has_ready, passed_where_ready, round, rounds, sender_names, arrived_count, site_settle}
+use Rattle.world_state.specs.Rounds.{has_ready, passed_where_ready, round, rounds, sender_names, arrived_count, site_until_quiet}
 use Rattle.world_laws.proofs.Finding.{at_twice}
 use Rattle.world_laws.proofs.SiteSteps.{Runs, runs_behind, SiteRuns, then_runs, same_does, does_runs}
 use Rattle.world_laws.proofs.RoundsEnd.{pass_goes}
 use Rattle.world_laws.proofs.PushCounts.{pass_grows, added_count-then}
-use Rattle.site_rounds.specs.Parts.{part_of, parts_done, PartlySettled, MastersCanPass, Passes}
+use Rattle.site_rounds.specs.Parts.{part_of, parts_done, PartlyApplied, MastersCanPass, Passes}
 
 -- ---- parts of passes are events of their site
 
 -- positions are applied in turn where a pass was begun
-turn_runs : (site origin : SiteName) (positions : List ℕ) (v : Core) → is_among v.begun site ≡ true → Runs v (at_site site (applied_in_turn origin positions) v.sites)
+turn_runs : (site origin : SiteName) (positions : List ℕ) (v : Cluster) → is_among v.begun site ≡ true → Runs v (at_site site (applied_in_turn origin positions) v.sites)
 turn_runs site origin [] v is = does_runs site (λ x. x) (same_does site) v
 turn_runs site origin (position ∷ later) v is =
     let one : (happens (event.Apply site origin position) v).sites ≡ at_site site (site_apply origin position) v.sites
@@ -59,14 +59,14 @@ parts_done-append : (first next : List (SiteName × List ℕ)) (x : SiteState) �
 parts_done-append [] next x = refl
 parts_done-append (part ∷ parts) next x = parts_done-append parts next (part_of part.0 part.1 x)
 
-pub partly_same : (x : SiteState) → PartlySettled x x
+pub partly_same : (x : SiteState) → PartlyApplied x x
 partly_same x = ([], refl)
 
-pub partly_then : (x y z : SiteState) → PartlySettled x y → PartlySettled y z → PartlySettled x z
+pub partly_then : (x y z : SiteState) → PartlyApplied x y → PartlyApplied y z → PartlyApplied x z
 partly_then x y z first next = (first.0 ++ next.0, next.1 ∙ ap (parts_done next.0) first.1 ∙ sym (parts_done-append first.0 next.0 x))
 
 -- a part of one pass
-pub partly_part : (origin : SiteName) (positions : List ℕ) (x y : SiteState) → y ≡ part_of origin positions x → PartlySettled x y
+pub partly_part : (origin : SiteName) (positions : List ℕ) (x y : SiteState) → y ≡ part_of origin positions x → PartlyApplied x y
 partly_part origin positions x y is = ((origin, positions) ∷ [], is)
 
 abbrev pub positions_of : List Arrival → List ℕ
@@ -77,29 +77,29 @@ pub apply_each-in_turn : (origin : SiteName) (arrived : List Arrival) (x : SiteS
 apply_each-in_turn origin [] x = refl
 apply_each-in_turn origin (a ∷ arrived) x = apply_each-in_turn origin arrived (site_apply origin a.position x)
 
-partly_pass : (origin : SiteName) (x : SiteState) → PartlySettled x (site_pass origin x)
+partly_pass : (origin : SiteName) (x : SiteState) → PartlyApplied x (site_pass origin x)
 partly_pass origin x = partly_part origin (positions_of (arrivals origin x)) x (site_pass origin x) (apply_each-in_turn origin (arrivals origin x) (begun x))
 
-partly_where_ready : (origin : SiteName) (x : SiteState) → PartlySettled x (passed_where_ready origin x)
+partly_where_ready : (origin : SiteName) (x : SiteState) → PartlyApplied x (passed_where_ready origin x)
 partly_where_ready origin x = go (has_ready origin x)
   where
-    go : (b : Bool) → PartlySettled x (cond b (site_pass origin x) x)
+    go : (b : Bool) → PartlyApplied x (cond b (site_pass origin x) x)
     go true = partly_pass origin x
     go false = partly_same x
 
-partly_round : (origins : List SiteName) (x : SiteState) → PartlySettled x (round origins x)
+partly_round : (origins : List SiteName) (x : SiteState) → PartlyApplied x (round origins x)
 partly_round [] x = partly_same x
 partly_round (origin ∷ origins) x = partly_then x (passed_where_ready origin x) (round origins (passed_where_ready origin x)) (partly_where_ready origin x) (partly_round origins (passed_where_ready origin x))
 
-partly_rounds : (n : ℕ) (origins : List SiteName) (x : SiteState) → PartlySettled x (rounds n origins x)
+partly_rounds : (n : ℕ) (origins : List SiteName) (x : SiteState) → PartlyApplied x (rounds n origins x)
 partly_rounds zero origins x = partly_same x
 partly_rounds (suc n) origins x = partly_then x (round origins x) (rounds n origins (round origins x)) (partly_round origins x) (partly_rounds n origins (round origins x))
 
 -- all passes that a receiver makes
-pub partly_settle : (origin : SiteName) (x : SiteState) → PartlySettled x (site_settle origin x)
-partly_settle origin x =
+pub partly_until_quiet : (origin : SiteName) (x : SiteState) → PartlyApplied x (site_until_quiet origin x)
+partly_until_quiet origin x =
     let y : SiteState = site_pass origin x in
-    partly_then x y (site_settle origin x) (partly_pass origin x) (partly_rounds (arrived_count y.senders) (sender_names y.senders) y)
+    partly_then x y (site_until_quiet origin x) (partly_pass origin x) (partly_rounds (arrived_count y.senders) (sender_names y.senders) y)
 
 -- ---- counts
 

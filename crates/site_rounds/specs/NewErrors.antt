@@ -4,7 +4,7 @@ use Rattle.rep_lists.specs.Rising.{find_at}
 use Rattle.rep_values.specs.declared.name.SiteName.{SiteName}
 use Rattle.deferred_queue.specs.Streams.{is_same_site}
 use Rattle.error_queue.specs.declared.entry.ErrorEntry.{ErrorEntry}
-use Rattle.error_queue.specs.ErrorLists.{beside}
+use Rattle.error_queue.specs.ErrorLists.{error_beside}
 use Rattle.report_text.specs.Refusals.{error_text}
 use Rattle.site_state.specs.declared.entry.Entry.{Entry}
 use Rattle.site_state.specs.declared.entry.Entry.TheVariants.{Local, Done, Error, Executed, Dropped, Refreshed}
@@ -48,7 +48,7 @@ text_found (Some e) = error_entry_text e
 
 -- the line of the error of a position, if one stands
 abbrev pub text_at : List ErrorEntry → ℕ → List ℕ
-text_at errors position = text_found (find_at (beside position) errors)
+text_at errors position = text_found (find_at (error_beside position) errors)
 
 -- an error stands by these entries
 abbrev pub StandsBy : List Entry → ErrorEntry → Type 0

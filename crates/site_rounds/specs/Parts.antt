@@ -18,8 +18,8 @@ parts_done [] x = x
 parts_done (part ∷ parts) x = parts_done parts (part_of part.0 part.1 x)
 
 -- some passes were made, of each some positions
-abbrev pub PartlySettled : SiteState → SiteState → Type 0
-PartlySettled x y = (parts : List (SiteName × List ℕ)) × (y ≡ parts_done parts x)
+abbrev pub PartlyApplied : SiteState → SiteState → Type 0
+PartlyApplied x y = (parts : List (SiteName × List ℕ)) × (y ≡ parts_done parts x)
 
 -- of each sender that is a master, what is ready can be applied in any order
 abbrev pub MastersCanPass : SiteState → Type 0
@@ -35,5 +35,5 @@ pub record Passes (before after : SiteState) (count : PassCount) : Type 0 where
   pub grows : (test : Entry → Bool) → count_where test before.journal ≤ count_where test after.journal
   pub done : count.done ≡ added_count is_done before after
   pub errors : count.errors ≡ added_count is_error before after
-  pub partly : PartlySettled before after
+  pub partly : PartlyApplied before after
   pub masters : MastersCanPass after

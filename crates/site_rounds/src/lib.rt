@@ -13,4 +13,4 @@ pub use entries::finished_by_newest;
 pub use errors::add_new_errors;
 pub use journalled::Journalled;
 pub use passing::{By, Passing, Serial};
-pub use rounds::settle;
+pub use rounds::apply_until_quiet;

@@ -1,5 +1,5 @@
 //! How a pass is made: by the site alone, or by a call that is passed in.
-ghost use Rattle.site_rounds.specs.Passing.{TakesPass, AnswersPass, MakesPasses};
+ghost use Rattle.site_rounds.specs.Passing.{PassRequires, PassEnsures, MakesPasses};
 
 use page_tables::PageTables;
 use rep_lists::NoMemory;
@@ -22,8 +22,8 @@ pub trait Passing {
         origin: &SiteName,
     ) -> Result<(Site<PageTables>, PassCount), (Site<PageTables>, NoMemory)>
         requires able { able self.now }
-        requires takes { TakesPass origin.now site }
-        ensures { AnswersPass origin.now site result };
+        requires takes { PassRequires origin.now site }
+        ensures { PassEnsures origin.now site result };
 }
 
 /// The site makes its passes alone, one position after the other.
@@ -39,8 +39,8 @@ impl Passing for Serial {
         mut site: Site<PageTables>,
         origin: &SiteName,
     ) -> Result<(Site<PageTables>, PassCount), (Site<PageTables>, NoMemory)>
-        requires { TakesPass origin.now site }
-        ensures { AnswersPass origin.now site result }
+        requires { PassRequires origin.now site }
+        ensures { PassEnsures origin.now site result }
     {
         match site.apply_pass(alloc, origin) {
             Ok(count) => Ok((site, count)),
@@ -71,8 +71,8 @@ impl<
         origin: &SiteName,
     ) -> Result<(Site<PageTables>, PassCount), (Site<PageTables>, NoMemory)>
         requires able { MakesPasses (F.pre self.now.pass) (F.post self.now.pass) }
-        requires takes { TakesPass origin.now site }
-        ensures { AnswersPass origin.now site result }
+        requires takes { PassRequires origin.now site }
+        ensures { PassEnsures origin.now site result }
     {
         (self.pass)(alloc, site, *origin)
     }

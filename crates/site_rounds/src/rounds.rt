@@ -4,8 +4,8 @@ ghost use Rattle.std.specs.List.{list_any};
 ghost use Rattle.site_state.specs.declared.entry.Entry.{Entry};
 ghost use Rattle.site_state.specs.Steps.{count_where};
 ghost use Rattle.site_state.specs.Passes.{site_pass, is_done, is_error, added_count};
-ghost use Rattle.world_state.specs.Rounds.{has_ready, passed_where_ready, round, sender_names, site_settle};
-ghost use Rattle.site_rounds.specs.Parts.{PartlySettled, MastersCanPass, Passes};
+ghost use Rattle.world_state.specs.Rounds.{has_ready, passed_where_ready, round, sender_names, site_until_quiet};
+ghost use Rattle.site_rounds.specs.Parts.{PartlyApplied, MastersCanPass, Passes};
 
 use crate::passed::{NOTHING, Passed, added, joined};
 use crate::passing::Passing;
@@ -54,7 +54,7 @@ fn pass<P: Passing>(
     requires masters { MastersCanPass site }
     ensures ok { IfOk result (λ made. made.0 ≡ site_pass origin.now site) }
     ensures passes { IfOk result (λ made. Passes site made.0 made.1) }
-    ensures err { IfErr result (λ stopped. PartlySettled site stopped.0) }
+    ensures err { IfErr result (λ stopped. PartlyApplied site stopped.0) }
 {
     // No machine makes so many passes.
     if site.moment() == u64::MAX {
@@ -77,7 +77,7 @@ fn pass_where_ready<P: Passing>(
     ensures ok { IfOk result (λ made. made.0 ≡ passed_where_ready origin.now site) }
     ensures passes { IfOk result (λ made. Passes site made.0 made.1.count) }
     ensures some { IfOk result (λ made. made.1.some ≡ has_ready origin.now site) }
-    ensures err { IfErr result (λ stopped. PartlySettled site stopped.0) }
+    ensures err { IfErr result (λ stopped. PartlyApplied site stopped.0) }
 {
     if !has_ready(&site, origin) {
         return Ok((site, NOTHING));
@@ -97,7 +97,7 @@ fn round<P: Passing>(
     ensures ok { IfOk result (λ made. made.0 ≡ round (sender_names site.senders) site) }
     ensures passes { IfOk result (λ made. Passes site made.0 made.1.count) }
     ensures none { IfOk result (λ made. made.1.some ≡ false → list_any (λ origin. has_ready origin site) (sender_names site.senders) ≡ false) }
-    ensures err { IfErr result (λ stopped. PartlySettled site stopped.0) }
+    ensures err { IfErr result (λ stopped. PartlyApplied site stopped.0) }
 {
     let mut passed = NOTHING;
     for place in 0..site.sender_count() {
@@ -114,7 +114,7 @@ fn round<P: Passing>(
 /// after the other in declared order, each with a pass where some position of its is ready, until a round does nothing. It
 /// answers the site then, and how many transactions were finished. Where there is no memory, some of these passes are made, the
 /// last perhaps in part.
-pub fn settle<P: Passing>(
+pub fn apply_until_quiet<P: Passing>(
     alloc: Global,
     passing: &P,
     site: Site<PageTables>,
@@ -122,9 +122,9 @@ pub fn settle<P: Passing>(
 ) -> Result<(Site<PageTables>, PassCount), (Site<PageTables>, NoMemory)>
     requires able { P.able passing.now }
     requires masters { MastersCanPass site }
-    ensures ok { IfOk result (λ made. made.0 ≡ site_settle origin.now site) }
+    ensures ok { IfOk result (λ made. made.0 ≡ site_until_quiet origin.now site) }
     ensures count { IfOk result (λ made. (made.1.done ≡ added_count is_done site made.0) × (made.1.errors ≡ added_count is_error site made.0)) }
-    ensures err { IfErr result (λ stopped. PartlySettled site stopped.0) }
+    ensures err { IfErr result (λ stopped. PartlyApplied site stopped.0) }
 {
     let (mut site, mut count) = pass(alloc, passing, site, origin)?;
     for _ in 0..u64::MAX {

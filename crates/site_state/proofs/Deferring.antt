@@ -7,12 +7,12 @@ use Rattle.std.proofs.lemmas.Bool.Decides.{nat_tests}
 use Rattle.rep_values.specs.declared.name.SiteName.{SiteName}
 use Rattle.rep_schema.specs.declared.schema.Schema.{Schema}
 use Rattle.rep_calls.specs.declared.call.Txn.{Txn}
-use Rattle.rep_calls.specs.declared.past.Past.{Past}
+use Rattle.rep_calls.specs.declared.past.PastEntry.{PastEntry}
 use Rattle.packet_code.specs.declared.packet.Packet.{Packet}
 use Rattle.packet_code.specs.declared.packet.Packet.TheVariants.{Carry}
-use Rattle.deferred_queue.specs.declared.cargo.Cargo.{Cargo}
+use Rattle.deferred_queue.specs.declared.queued_txn.QueuedTxn.{QueuedTxn}
 use Rattle.deferred_queue.specs.declared.destination.Destination.{Destination}
-use Rattle.deferred_queue.specs.Streams.{Deferred, InStream, is_same_site, destination_to, stream_to, at_position, unpurged, acked_by, last_position, is_acknowledged, purged}
+use Rattle.deferred_queue.specs.Streams.{Deferred, InStream, is_same_site, destination_to, queue_stream_to, at_position, unpurged, acked_by, last_position, is_acknowledged, purged}
 use Rattle.deferred_queue.specs.Streams as queue
 use Rattle.deferred_queue.proofs.Sites.{is_same_site-true, is_same_site-refl}
 use Rattle.site_state.specs.State.{DestinationState, SiteState, destination_of, opened_in, acked_in, opened_of}
@@ -20,7 +20,7 @@ use Rattle.site_state.specs.Streams.{with_one, queued_behind, stream_in, queue_o
 use Rattle.site_state.specs.Pasts.{pasts_of}
 use Rattle.site_state.specs.Packets.{count_opened, packet_found, past_in, site_packet}
 use Rattle.site_state.specs.Purges.{acknowledged_by, acknowledged_by_all, site_purge}
-use Rattle.site_state.specs.Deferrals.{place_since, place_for, cargo_kept, deferred_in, deferred_of, marks_of, StandApart}
+use Rattle.site_state.specs.Deferrals.{place_since, place_for, queued_txn_kept, deferred_in, deferred_of, deferred_marks, StandApart}
 use Rattle.site_state.proofs.Growing.{length-queued_behind}
 
 -- ---- the destinations of one transaction
@@ -67,54 +67,54 @@ destination_to-places schema txn older site (d ∷ ds) apart = go (is_same_site 
 -- ---- streams
 
 -- as many transactions
-pub length-deferred_in : (schema : Schema) (ds : List DestinationState) (gone : ℕ) (pasts : List (List Past)) (txns : List Txn) → length (deferred_in schema ds gone pasts txns) ≡ length txns
+pub length-deferred_in : (schema : Schema) (ds : List DestinationState) (gone : ℕ) (pasts : List (List PastEntry)) (txns : List Txn) → length (deferred_in schema ds gone pasts txns) ≡ length txns
 length-deferred_in schema ds gone pasts [] = refl
 length-deferred_in schema ds gone pasts (txn ∷ older) = ap suc (length-deferred_in schema ds gone pasts older)
 
 -- a destination that isn't open has no stream
-pub stream_to-closed : (schema : Schema) (site : SiteName) (ds : List DestinationState) (gone : ℕ) (pasts : List (List Past)) (txns : List Txn) → StandApart ds → opened_in (destination_of site ds) ≡ None
-    → stream_to site (deferred_in schema ds gone pasts txns) ≡ []
+pub stream_to-closed : (schema : Schema) (site : SiteName) (ds : List DestinationState) (gone : ℕ) (pasts : List (List PastEntry)) (txns : List Txn) → StandApart ds → opened_in (destination_of site ds) ≡ None
+    → queue_stream_to site (deferred_in schema ds gone pasts txns) ≡ []
 stream_to-closed schema site ds gone pasts [] apart is = refl
 stream_to-closed schema site ds gone pasts (txn ∷ older) apart is = rw (destination_to-places schema txn older site ds apart, is) (stream_to-closed schema site ds gone pasts older apart is)
 
 -- a stream to an open destination is as long
-pub length-stream_to : (schema : Schema) (site : SiteName) (opened : ℕ) (ds : List DestinationState) (gone : ℕ) (pasts : List (List Past)) (txns : List Txn) → StandApart ds → opened_in (destination_of site ds) ≡ Some opened
-    → length (stream_to site (deferred_in schema ds gone pasts txns)) ≡ length (queued_behind opened txns)
+pub length-stream_to : (schema : Schema) (site : SiteName) (opened : ℕ) (ds : List DestinationState) (gone : ℕ) (pasts : List (List PastEntry)) (txns : List Txn) → StandApart ds → opened_in (destination_of site ds) ≡ Some opened
+    → length (queue_stream_to site (deferred_in schema ds gone pasts txns)) ≡ length (queued_behind opened txns)
 length-stream_to schema site opened ds gone pasts [] apart is = refl
 length-stream_to schema site opened ds gone pasts (txn ∷ older) apart is =
     rw (destination_to-places schema txn older site ds apart, is) (by (nat_lt opened (length older + 1)) (length-stream_to schema site opened ds gone pasts older apart is))
   where
-    by : (b : Bool) → length (stream_to site (deferred_in schema ds gone pasts older)) ≡ length (queued_behind opened older)
+    by : (b : Bool) → length (queue_stream_to site (deferred_in schema ds gone pasts older)) ≡ length (queued_behind opened older)
         → length (queue.with_one (cond b (Some (record { site = site; dep = dependency_of schema txn (queued_behind opened older) })) None) (length (deferred_in schema ds gone pasts older) + 1)
-        (cargo_kept gone (length older + 1) txn (at_position (length older + 1) pasts)) (stream_to site (deferred_in schema ds gone pasts older)))
+        (queued_txn_kept gone (length older + 1) txn (at_position (length older + 1) pasts)) (queue_stream_to site (deferred_in schema ds gone pasts older)))
         ≡ length (with_one b txn (queued_behind opened older))
     by true later = ap suc later
     by false later = later
 
 -- what stands at a position of a stream that was opened at a count
-abbrev pub in_stream : Schema → ℕ → ℕ → List (List Past) → ℕ → List Txn → Txn → InStream
+abbrev pub in_stream : Schema → ℕ → ℕ → List (List PastEntry) → ℕ → List Txn → Txn → InStream
 in_stream schema opened gone pasts position stream txn = record {
   number = opened + position;
   dep = dep_at schema position stream;
-  cargo = cargo_kept gone (opened + position) txn (at_position (opened + position) pasts);
+  cargo = queued_txn_kept gone (opened + position) txn (at_position (opened + position) pasts);
 }
 
 -- what the queue's crate finds at a position is what stands there in the site's stream
-pub at_position-deferred_in : (schema : Schema) (site : SiteName) (opened : ℕ) (ds : List DestinationState) (gone : ℕ) (pasts : List (List Past)) (txns : List Txn) (p : ℕ) → StandApart ds
+pub at_position-deferred_in : (schema : Schema) (site : SiteName) (opened : ℕ) (ds : List DestinationState) (gone : ℕ) (pasts : List (List PastEntry)) (txns : List Txn) (p : ℕ) → StandApart ds
     → opened_in (destination_of site ds) ≡ Some opened
-    → at_position p (stream_to site (deferred_in schema ds gone pasts txns)) ≡ option_map (in_stream schema opened gone pasts p (queued_behind opened txns)) (at_position p (queued_behind opened txns))
+    → at_position p (queue_stream_to site (deferred_in schema ds gone pasts txns)) ≡ option_map (in_stream schema opened gone pasts p (queued_behind opened txns)) (at_position p (queued_behind opened txns))
 at_position-deferred_in schema site opened ds gone pasts [] p apart is = refl
 at_position-deferred_in schema site opened ds gone pasts (txn ∷ older) p apart is =
     rw (destination_to-places schema txn older site ds apart, is) (by (nat_lt opened (length older + 1)) refl (at_position-deferred_in schema site opened ds gone pasts older p apart is))
   where
     stream : List InStream
-    stream = stream_to site (deferred_in schema ds gone pasts older)
+    stream = queue_stream_to site (deferred_in schema ds gone pasts older)
 
     dep : ℕ
     dep = dependency_of schema txn (queued_behind opened older)
 
-    cargo : Option Cargo
-    cargo = cargo_kept gone (length older + 1) txn (at_position (length older + 1) pasts)
+    cargo : Option QueuedTxn
+    cargo = queued_txn_kept gone (length older + 1) txn (at_position (length older + 1) pasts)
 
     here : (b : Bool) → (p == length (queued_behind opened older) + 1) ≡ b → nat_lt opened (length older + 1) ≡ true
         → at_position p stream ≡ option_map (in_stream schema opened gone pasts p (queued_behind opened older)) (at_position p (queued_behind opened older))
@@ -129,7 +129,7 @@ at_position-deferred_in schema site opened ds gone pasts (txn ∷ older) p apart
         rw (at, number, place) refl
     here false at above later =
         let same : dep_at schema p (queued_behind opened older) ≡ dep_at schema p (txn ∷ queued_behind opened older) = rw at refl in
-        later ∙ ap (λ (d : ℕ). option_map (λ (t : Txn). record { number = opened + p; dep = d; cargo = cargo_kept gone (opened + p) t (at_position (opened + p) pasts) }) (at_position p (queued_behind opened older))) same
+        later ∙ ap (λ (d : ℕ). option_map (λ (t : Txn). record { number = opened + p; dep = d; cargo = queued_txn_kept gone (opened + p) t (at_position (opened + p) pasts) }) (at_position p (queued_behind opened older))) same
 
     by : (b : Bool) → nat_lt opened (length older + 1) ≡ b
         → at_position p stream ≡ option_map (in_stream schema opened gone pasts p (queued_behind opened older)) (at_position p (queued_behind opened older))
@@ -140,7 +140,7 @@ at_position-deferred_in schema site opened ds gone pasts (txn ∷ older) p apart
 
 -- ---- packets
 
-abbrev packet_with : SiteName → SiteName → ℕ → InStream → Cargo → Packet
+abbrev packet_with : SiteName → SiteName → ℕ → InStream → QueuedTxn → Packet
 packet_with from to position found cargo = Carry from to found.number position found.dep cargo.past cargo.txn
 
 -- the packet of what was found in a stream, where it isn't purged
@@ -156,7 +156,7 @@ packet_in site p x opened (Some txn) = cond (nat_le (count_opened opened + p) x.
 
 -- the packet of what the queue's crate finds at a position is the site's packet
 pub packet_of-deferred_of : (site : SiteName) (p : ℕ) (x : SiteState) → StandApart x.destinations
-    → packet_of x.here.site site p (at_position p (stream_to site (deferred_of x))) ≡ site_packet site p x
+    → packet_of x.here.site site p (at_position p (queue_stream_to site (deferred_of x))) ≡ site_packet site p x
 packet_of-deferred_of site p x apart = go (opened_of site x) refl
   where
     kept : (opened : ℕ) (txn : Txn) → opened_of site x ≡ Some opened → (b : Bool)
@@ -181,7 +181,7 @@ packet_of-deferred_of site p x apart = go (opened_of site x) refl
     by opened is None there = sent opened is None there
     by opened is (Some txn) there = kept opened txn is (nat_le (opened + p) x.purged) ∙ sent opened is (Some txn) there
 
-    go : (o : Option ℕ) → opened_of site x ≡ o → packet_of x.here.site site p (at_position p (stream_to site (deferred_of x))) ≡ site_packet site p x
+    go : (o : Option ℕ) → opened_of site x ≡ o → packet_of x.here.site site p (at_position p (queue_stream_to site (deferred_of x))) ≡ site_packet site p x
     go None is = rw (stream_to-closed x.schema site x.destinations x.purged (pasts_of x) (queue_of x) apart is, is) refl
     go (Some opened) is =
         ap (packet_of x.here.site site p) (at_position-deferred_in x.schema site opened x.destinations x.purged (pasts_of x) (queue_of x) p apart is)
@@ -226,7 +226,7 @@ acked_by-marks site (d ∷ ds) = go (is_same_site d.site site) (acked_by-marks s
     go true later = refl
     go false later = later
 
-module _ (schema : Schema) (all : List DestinationState) (apart : StandApart all) (gone : ℕ) (pasts : List (List Past)) (count : ℕ) (txn : Txn) (older : List Txn) (within : length older + 1 ≤ count) where
+module _ (schema : Schema) (all : List DestinationState) (apart : StandApart all) (gone : ℕ) (pasts : List (List PastEntry)) (count : ℕ) (txn : Txn) (older : List Txn) (within : length older + 1 ≤ count) where
   abbrev marks : List queue.Mark
   marks = map (λ (d : DestinationState). record { site = d.site; acked = d.acked }) all
 
@@ -268,15 +268,15 @@ module _ (schema : Schema) (all : List DestinationState) (apart : StandApart all
       ∙ sym (two_tests (acknowledged_by count d.acked d.opened) (length older + 1) (acknowledged_by_all count ds))
 
 -- a purge of the queue's crate takes what each destination has acknowledged of what it has
-pub purged-deferred_in : (schema : Schema) (ds : List DestinationState) (gone : ℕ) (pasts : List (List Past)) (count : ℕ) (txns : List Txn) → StandApart ds → length txns ≤ count
+pub purged-deferred_in : (schema : Schema) (ds : List DestinationState) (gone : ℕ) (pasts : List (List PastEntry)) (count : ℕ) (txns : List Txn) → StandApart ds → length txns ≤ count
     → purged (map (λ (d : DestinationState). record { site = d.site; acked = d.acked }) ds) (deferred_in schema ds gone pasts txns) ≡ deferred_in schema ds (max gone (acknowledged_by_all count ds)) pasts txns
 purged-deferred_in schema ds gone pasts count [] apart within = refl
 purged-deferred_in schema ds gone pasts count (txn ∷ older) apart within =
     rw (all_acked schema ds apart gone pasts count txn older (omega (arith, within)) ds (all_found ds apart), purged-deferred_in schema ds gone pasts count older apart (omega (arith, within)))
-    (ap (λ (cargo : Option Cargo). record { cargo = cargo; to = filter_map (place_for schema txn older) ds } ∷ deferred_in schema ds (max gone (acknowledged_by_all count ds)) pasts older)
+    (ap (λ (cargo : Option QueuedTxn). record { cargo = cargo; to = filter_map (place_for schema txn older) ds } ∷ deferred_in schema ds (max gone (acknowledged_by_all count ds)) pasts older)
     (kept (nat_le (length older + 1) (acknowledged_by_all count ds)) refl (nat_le (length older + 1) gone) refl (nat_le (length older + 1) (max gone (acknowledged_by_all count ds))) refl))
   where
-    cargo : Option Cargo
+    cargo : Option QueuedTxn
     cargo = Some (record { txn = txn; past = past_in (at_position (length older + 1) pasts) })
 
     kept : (a : Bool) → nat_le (length older + 1) (acknowledged_by_all count ds) ≡ a → (b : Bool) → nat_le (length older + 1) gone ≡ b → (c : Bool) → nat_le (length older + 1) (max gone (acknowledged_by_all count ds)) ≡ c
@@ -289,5 +289,5 @@ purged-deferred_in schema ds gone pasts count (txn ∷ older) apart within =
     kept false all_have false before false both = refl
 
 -- what a purge of the queue's crate leaves is the site's queue after its purge
-pub purged-deferred_of : (x : SiteState) → StandApart x.destinations → purged (marks_of x) (deferred_of x) ≡ deferred_of (site_purge x)
+pub purged-deferred_of : (x : SiteState) → StandApart x.destinations → purged (deferred_marks x) (deferred_of x) ≡ deferred_of (site_purge x)
 purged-deferred_of x apart = purged-deferred_in x.schema x.destinations x.purged (pasts_of x) (count_of x) (queue_of x) apart (omega arith)

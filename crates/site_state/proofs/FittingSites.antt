@@ -27,7 +27,7 @@ use Rattle.site_state.specs.declared.entry.Entry.TheVariants.{Local, Done, Error
 use Rattle.error_queue.specs.declared.entry.ErrorEntry.{ErrorEntry}
 use Rattle.site_state.specs.declared.answers.Why.{Why}
 use Rattle.site_state.specs.declared.arrival.Arrival.{Arrival}
-use Rattle.site_state.specs.State.{SenderState, SiteState, sender_of, at_sender, beside, arrived_in, arrived_at}
+use Rattle.site_state.specs.State.{SenderState, SiteState, sender_of, at_sender, arrival_beside, arrived_in, arrived_at}
 use Rattle.site_state.specs.Journal.{is_position, error_at}
 use Rattle.site_state.specs.Contents.{content_of, tables_of, txn_of}
 use Rattle.site_state.specs.Streams.{with_one, went_onward, queue_of}
@@ -59,8 +59,8 @@ module _ (P : Txn → Type 0) where
   arrived_has origin position [] a all found = absurd (cc found)
   arrived_has origin position (s ∷ ss) a all found = go (is_same_site s.origin origin) (arrived_has origin position ss a all.1) found
     where
-      go : (b : Bool) → (arrived_at origin position ss ≡ Some a → P a.txn) → find_at (beside position) (arrived_in (cond b (Some s) (sender_of origin ss))) ≡ Some a → P a.txn
-      go true later found = arrival_has (λ (a : Arrival). P a.txn) (beside position) s.arrived a all.0 found
+      go : (b : Bool) → (arrived_at origin position ss ≡ Some a → P a.txn) → find_at (arrival_beside position) (arrived_in (cond b (Some s) (sender_of origin ss))) ≡ Some a → P a.txn
+      go true later found = arrival_has (λ (a : Arrival). P a.txn) (arrival_beside position) s.arrived a all.0 found
       go false later found = later found
 
   unless_has : (b : Bool) (o : Option ErrorEntry) (e : ErrorEntry) → (o ≡ Some e → P e.txn) → cond b None o ≡ Some e → P e.txn
@@ -90,7 +90,7 @@ module _ (P : Txn → Type 0) where
   senders_put from a (s ∷ ss) has all = go (is_same_site s.origin from) (senders_put from a ss has all.1)
     where
       go : (b : Bool) → SendersHave P (at_sender from (with_arrival a) ss) → SendersHave P (cond b (with_arrival a s ∷ ss) (s ∷ at_sender from (with_arrival a) ss))
-      go true later = (all_put (beside a.position) (λ (a : Arrival). P a.txn) a s.arrived has all.0, all.1)
+      go true later = (all_put (arrival_beside a.position) (λ (a : Arrival). P a.txn) a s.arrived has all.0, all.1)
       go false later = (all.0, later)
 
 -- ---- calls

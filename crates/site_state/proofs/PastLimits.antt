@@ -19,11 +19,11 @@ use Rattle.rep_schema.specs.declared.schema.SiteEntry.{SiteEntry}
 use Rattle.rep_schema.specs.Shape.{is_master, HasShape}
 use Rattle.rep_schema.specs.Named.{is_site, site_named}
 use Rattle.rep_schema.specs.Sites.{sends_to, names_of, senders_to, senders_of}
-use Rattle.rep_calls.specs.declared.past.Past.{Past}
+use Rattle.rep_calls.specs.declared.past.PastEntry.{PastEntry}
 use Rattle.deferred_queue.specs.Streams.{is_same_site}
 use Rattle.deferred_queue.proofs.Sites.{is_same_site-refl}
 use Rattle.local_txn.specs.declared.local.Here.{Here}
-use Rattle.packet_code.specs.Limits.{IsSeen, IsPast}
+use Rattle.packet_code.specs.Limits.{IsPastEntry, IsCausalPast}
 use Rattle.packet_code.specs.Texts.{PastHasForm}
 use Rattle.site_state.specs.declared.entry.Entry.{Entry}
 use Rattle.site_state.specs.declared.entry.Entry.TheVariants.{Local, Done, Error, Executed, Dropped, Refreshed}
@@ -122,7 +122,7 @@ says_senders : (schema : Schema) → HasShape schema → (to : Option SiteEntry)
 says_senders schema shape None = tt
 says_senders schema shape (Some to) = picked_each (SaysMaster schema) (λ from. sends_to from to) schema.sites (says_each schema shape)
 
-length-put_at : (at : Past → Ordering) (seen : Past) (past : List Past) → length (put_at at seen past) ≤ length past + 1
+length-put_at : (at : PastEntry → Ordering) (seen : PastEntry) (past : List PastEntry) → length (put_at at seen past) ≤ length past + 1
 length-put_at at seen [] = omega arith
 length-put_at at seen (s ∷ past) = go (at s) (length-put_at at seen past)
   where
@@ -150,7 +150,7 @@ length-past_at schema journal (s ∷ ss) (e ∷ es) names says =
 -- ---- other masters, in rising order
 
 -- another site, and a number from 1
-record IsOther (site : SiteName) (seen : Past) : Type 0 where
+record IsOther (site : SiteName) (seen : PastEntry) : Type 0 where
   another : seen.origin ≢ site
   from_one : 1 ≤ seen.number
 
@@ -169,15 +169,15 @@ others_past_at schema site journal (s ∷ ss) others = go (is_master_site schema
     go true false above later = later
     go false c above later = later
 
-rising_past_at : (schema : Schema) (journal : List Entry) (ss : List SenderState) → RisesBy (λ (seen : Past). seen.origin.0) name_cmp (past_at schema journal ss)
+rising_past_at : (schema : Schema) (journal : List Entry) (ss : List SenderState) → RisesBy (λ (seen : PastEntry). seen.origin.0) name_cmp (past_at schema journal ss)
 rising_past_at schema journal [] = tt
 rising_past_at schema journal (s ∷ ss) = go (is_master_site schema s.origin && nat_lt 0 (seen_of journal s)) (rising_past_at schema journal ss)
   where
-    go : (b : Bool) → RisesBy (λ (seen : Past). seen.origin.0) name_cmp (past_at schema journal ss) → RisesBy (λ (seen : Past). seen.origin.0) name_cmp (with_seen b s.origin (seen_of journal s) (past_at schema journal ss))
-    go true later = rising_put (λ (seen : Past). seen.origin.0) name_cmp nat_list_cmp_total (record { origin = s.origin; number = seen_of journal s }) (past_at schema journal ss) later
+    go : (b : Bool) → RisesBy (λ (seen : PastEntry). seen.origin.0) name_cmp (past_at schema journal ss) → RisesBy (λ (seen : PastEntry). seen.origin.0) name_cmp (with_seen b s.origin (seen_of journal s) (past_at schema journal ss))
+    go true later = rising_put (λ (seen : PastEntry). seen.origin.0) name_cmp nat_list_cmp_total (record { origin = s.origin; number = seen_of journal s }) (past_at schema journal ss) later
     go false later = later
 
-each_seen : (site : SiteName) (past : List Past) → PastHasForm past → AllByRecursion (IsOther site) past → AllByRecursion (IsSeen site) past
+each_seen : (site : SiteName) (past : List PastEntry) → PastHasForm past → AllByRecursion (IsOther site) past → AllByRecursion (IsPastEntry site) past
 each_seen site [] form others = tt
 each_seen site (s ∷ past) form others =
     (record { origin = form.0.origin; another = others.0.another; from_one = others.0.from_one; number_fits = form.0.number }, each_seen site past form.1 others.1)
@@ -185,7 +185,7 @@ each_seen site (s ∷ past) form others =
 -- ---- what a site had seen
 
 module _ (schema : Schema) (shape : HasShape schema) (site : SiteName) (ss : List SenderState) (declared : origins ss ≡ senders_of schema site) where
-  pub IsPast-past_at : (journal : List Entry) → PastHasForm (past_at schema journal ss) → IsPast site (past_at schema journal ss)
+  pub IsPast-past_at : (journal : List Entry) → PastHasForm (past_at schema journal ss) → IsCausalPast site (past_at schema journal ss)
   IsPast-past_at journal form =
       let few = length-past_at schema journal ss (senders_to schema.sites (site_named schema site)) declared (says_senders schema shape (site_named schema site)) in
       record {
@@ -195,13 +195,13 @@ module _ (schema : Schema) (shape : HasShape schema) (site : SiteName) (ss : Lis
         rise = rising_past_at schema journal ss;
       }
 
-  one_more : (b : Bool) (es : List Entry) (pasts : List (List Past)) → AllByRecursion (λ (past : List Past). PastHasForm past → IsPast site past) pasts
-      → AllByRecursion (λ (past : List Past). PastHasForm past → IsPast site past) (with_one b (past_at schema es ss) pasts)
+  one_more : (b : Bool) (es : List Entry) (pasts : List (List PastEntry)) → AllByRecursion (λ (past : List PastEntry). PastHasForm past → IsCausalPast site past) pasts
+      → AllByRecursion (λ (past : List PastEntry). PastHasForm past → IsCausalPast site past) (with_one b (past_at schema es ss) pasts)
   one_more true es pasts later = (IsPast-past_at es, later)
   one_more false es pasts later = later
 
   -- so it is before each transaction that it queued
-  pub ArePasts-pasts_after : (here : Here) (journal : List Entry) → AllByRecursion (λ (past : List Past). PastHasForm past → IsPast site past) (pasts_after schema here ss journal)
+  pub ArePasts-pasts_after : (here : Here) (journal : List Entry) → AllByRecursion (λ (past : List PastEntry). PastHasForm past → IsCausalPast site past) (pasts_after schema here ss journal)
   ArePasts-pasts_after here [] = tt
   ArePasts-pasts_after here (Local number txn ∷ es) = (IsPast-past_at es, ArePasts-pasts_after here es)
   ArePasts-pasts_after here (Done o p onward txn ∷ es) = one_more (went_onward here onward) es _ (ArePasts-pasts_after here es)

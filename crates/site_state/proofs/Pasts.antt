@@ -18,7 +18,7 @@ use Rattle.deferred_queue.proofs.Sites.{is_same_site-true}
 use Rattle.site_state.specs.declared.entry.Entry.{Entry}
 use Rattle.site_state.specs.declared.entry.Entry.TheVariants.{Local, Done, Error, Executed, Dropped, Refreshed}
 use Rattle.site_state.specs.declared.arrival.Arrival.{Arrival}
-use Rattle.site_state.specs.State.{SenderState, SiteState, is_master_site, sender_of, at_sender, arrived_in, arrived_at, beside}
+use Rattle.site_state.specs.State.{SenderState, SiteState, is_master_site, sender_of, at_sender, arrived_in, arrived_at, arrival_beside}
 use Rattle.site_state.specs.Journal.{finished, is_position}
 use Rattle.site_state.specs.Streams.{with_one, went_onward, onward_txn, queue_after}
 use Rattle.site_state.specs.Pasts.{greatest_finished, seen_of, with_seen, past_at, pasts_after}
@@ -28,11 +28,11 @@ use Rattle.site_state.proofs.Stepping.{MayFollow, IsTaken, with_entry, is_positi
 
 -- ---- what is finished has arrived
 
-find_put : (a : Arrival) (p : ℕ) (xs : List Arrival) → find_at (beside p) xs ≢ None → find_at (beside p) (put_at (beside a.position) a xs) ≢ None
+find_put : (a : Arrival) (p : ℕ) (xs : List Arrival) → find_at (arrival_beside p) xs ≢ None → find_at (arrival_beside p) (put_at (arrival_beside a.position) a xs) ≢ None
 find_put a p xs there = go (nat_cmp a.position p) refl
   where
     Goal : Type 0
-    Goal = find_at (beside p) (put_at (beside a.position) a xs) ≢ None
+    Goal = find_at (arrival_beside p) (put_at (arrival_beside a.position) a xs) ≢ None
 
     other : nat_cmp a.position p ≢ Equal → Goal
     other off = rw (find_put_other (λ (a : Arrival). a.position) nat_cmp nat_cmp_total a p xs off) there
@@ -40,8 +40,8 @@ find_put a p xs there = go (nat_cmp a.position p) refl
     go : (o : Ordering) → nat_cmp a.position p ≡ o → Goal
     go Less is = other (λ e. absurd (cc (e, is)))
     go Equal is = λ none.
-        let own : find_at (beside p) (put_at (beside a.position) a xs) ≡ Some a =
-        subst (λ q. find_at (beside q) (put_at (beside a.position) a xs) ≡ Some a) (exact_unsigned a.position p is) (find_put_own (λ (a : Arrival). a.position) nat_cmp nat_cmp_total a xs) in
+        let own : find_at (arrival_beside p) (put_at (arrival_beside a.position) a xs) ≡ Some a =
+        subst (λ q. find_at (arrival_beside q) (put_at (arrival_beside a.position) a xs) ≡ Some a) (exact_unsigned a.position p is) (find_put_own (λ (a : Arrival). a.position) nat_cmp nat_cmp_total a xs) in
         absurd (cc (own, none))
     go Greater is = other (λ e. absurd (cc (e, is)))
 
@@ -51,8 +51,8 @@ arrived_at-put origin from p a [] there = there
 arrived_at-put origin from p a (s ∷ ss) there = go (is_same_site s.origin from) (is_same_site s.origin origin) refl (arrived_at-put origin from p a ss) there
   where
     go : (b c : Bool) → is_same_site s.origin origin ≡ c → (arrived_at origin p ss ≢ None → arrived_at origin p (at_sender from (with_arrival a) ss) ≢ None)
-        → find_at (beside p) (arrived_in (cond (is_same_site s.origin origin) (Some s) (sender_of origin ss))) ≢ None
-        → find_at (beside p) (arrived_in (sender_of origin (cond b (with_arrival a s ∷ ss) (s ∷ at_sender from (with_arrival a) ss)))) ≢ None
+        → find_at (arrival_beside p) (arrived_in (cond (is_same_site s.origin origin) (Some s) (sender_of origin ss))) ≢ None
+        → find_at (arrival_beside p) (arrived_in (sender_of origin (cond b (with_arrival a s ∷ ss) (s ∷ at_sender from (with_arrival a) ss)))) ≢ None
     go true true is later there = rw is (find_put a p s.arrived (rw is at there))
     go true false is later there = rw is (rw is at there)
     go false true is later there = rw is (rw is at there)
@@ -79,12 +79,12 @@ finished_have_arrived x (Some (Refreshed moment)) follows arrived = arrived
 -- ---- what arrives wasn't seen before
 
 greatest_finished-put : (origin : SiteName) (es : List Entry) (a : Arrival) (xs : List Arrival) → finished origin es a.position ≡ false
-    → greatest_finished origin es (put_at (beside a.position) a xs) ≡ greatest_finished origin es xs
+    → greatest_finished origin es (put_at (arrival_beside a.position) a xs) ≡ greatest_finished origin es xs
 greatest_finished-put origin es a [] is = rw is refl
-greatest_finished-put origin es a (x ∷ xs) is = go (beside a.position x) refl (greatest_finished-put origin es a xs is)
+greatest_finished-put origin es a (x ∷ xs) is = go (arrival_beside a.position x) refl (greatest_finished-put origin es a xs is)
   where
-    go : (o : Ordering) → beside a.position x ≡ o → greatest_finished origin es (put_at (beside a.position) a xs) ≡ greatest_finished origin es xs
-        → greatest_finished origin es (put_here o a x xs (put_at (beside a.position) a xs)) ≡ greatest_finished origin es (x ∷ xs)
+    go : (o : Ordering) → arrival_beside a.position x ≡ o → greatest_finished origin es (put_at (arrival_beside a.position) a xs) ≡ greatest_finished origin es xs
+        → greatest_finished origin es (put_here o a x xs (put_at (arrival_beside a.position) a xs)) ≡ greatest_finished origin es (x ∷ xs)
     go Less e later = ap (max (cond (finished origin es x.position) x.number 0)) later
     go Equal e later = let same : x.position ≡ a.position = exact_unsigned x.position a.position e in rw (same, is) refl
     go Greater e later = rw is (omega arith)
@@ -98,7 +98,7 @@ past_at-put schema es from a (s ∷ ss) is = go (is_same_site s.origin from) ref
         → past_at schema es (cond b (with_arrival a s ∷ ss) (s ∷ at_sender from (with_arrival a) ss)) ≡ past_at schema es (s ∷ ss)
     go true own later =
         let unseen : finished s.origin es a.position ≡ false = rw (is_same_site-true s.origin from own) is in
-        let same : greatest_finished s.origin es (put_at (beside a.position) a s.arrived) ≡ greatest_finished s.origin es s.arrived = greatest_finished-put s.origin es a s.arrived unseen in
+        let same : greatest_finished s.origin es (put_at (arrival_beside a.position) a s.arrived) ≡ greatest_finished s.origin es s.arrived = greatest_finished-put s.origin es a s.arrived unseen in
         rw same refl
     go false own later = ap (with_seen (is_master_site schema s.origin && nat_lt 0 (seen_of es s)) s.origin (seen_of es s)) later
 

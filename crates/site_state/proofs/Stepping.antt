@@ -22,7 +22,7 @@ use Rattle.site_state.specs.declared.entry.Entry.TheVariants.{Local, Done, Error
 use Rattle.error_queue.specs.declared.entry.ErrorEntry.{ErrorEntry}
 use Rattle.site_state.specs.declared.answers.Why.TheVariants as why
 use Rattle.site_state.specs.declared.arrival.Arrival.{Arrival}
-use Rattle.site_state.specs.State.{SiteState, sender_of, arrived_in, arrived_at, beside, opened_of}
+use Rattle.site_state.specs.State.{SiteState, sender_of, arrived_in, arrived_at, arrival_beside, opened_of}
 use Rattle.site_state.specs.Journal.{finished, low_water, error_at, is_position}
 use Rattle.site_state.specs.Streams.{queue_after, queue_of, stream_in, stream_to, dep_at}
 use Rattle.site_state.specs.Ready.{is_due, stale_found}
@@ -107,11 +107,11 @@ commit_steps statements x = go (block_at statements x)
     go (Err stop) = steps_same x
 
 -- what is found at a position has it
-pub found_at : (position : ℕ) (xs : List Arrival) (a : Arrival) → find_at (beside position) xs ≡ Some a → a.position ≡ position
+pub found_at : (position : ℕ) (xs : List Arrival) (a : Arrival) → find_at (arrival_beside position) xs ≡ Some a → a.position ≡ position
 found_at position [] a found = absurd (cc found)
-found_at position (x ∷ xs) a found = go (beside position x) refl (found_at position xs a) found
+found_at position (x ∷ xs) a found = go (arrival_beside position x) refl (found_at position xs a) found
   where
-    go : (o : Ordering) → beside position x ≡ o → (find_at (beside position) xs ≡ Some a → a.position ≡ position) → found_here o x (find_at (beside position) xs) ≡ Some a → a.position ≡ position
+    go : (o : Ordering) → arrival_beside position x ≡ o → (find_at (arrival_beside position) xs ≡ Some a → a.position ≡ position) → found_here o x (find_at (arrival_beside position) xs) ≡ Some a → a.position ≡ position
     go Less is later here = later here
     go Equal is later here = let same : x ≡ a = cc here in rw (← same) (exact_unsigned x.position position is)
     go Greater is later here = absurd (cc here)
@@ -151,11 +151,11 @@ is_position-true origin o position p is = go (is_same_site o origin) refl (p == 
     go true site false at is = cc
     go false site c at is = cc
 
-unless_settled : (settled : Bool) (origin : SiteName) (position : ℕ) (es : List Entry) (e : ErrorEntry)
+unless_cleared : (settled : Bool) (origin : SiteName) (position : ℕ) (es : List Entry) (e : ErrorEntry)
     → (error_at origin position es ≡ Some e → (e.origin ≡ origin) × (e.position ≡ position)) → cond settled None (error_at origin position es) ≡ Some e
     → (e.origin ≡ origin) × (e.position ≡ position)
-unless_settled true origin position es e later here = absurd (cc here)
-unless_settled false origin position es e later here = later here
+unless_cleared true origin position es e later here = absurd (cc here)
+unless_cleared false origin position es e later here = later here
 
 -- an error that is found is the one of this position
 pub error_found : (origin : SiteName) (position : ℕ) (journal : List Entry) (e : ErrorEntry) → error_at origin position journal ≡ Some e → (e.origin ≡ origin) × (e.position ≡ position)
@@ -168,8 +168,8 @@ error_found origin position (Error o p call error txn ∷ es) e found = go (is_p
         → cond b (Some (record { origin = o; position = p; call = call; error = error; txn = txn })) (error_at origin position es) ≡ Some e → (e.origin ≡ origin) × (e.position ≡ position)
     go true is later here = let same : record { origin = o; position = p; call = call; error = error; txn = txn } ≡ e = cc here in rw (← same) (is_position-true origin o position p is)
     go false is later here = later here
-error_found origin position (Executed o p onward txn ∷ es) e found = unless_settled (is_position origin position o p) origin position es e (error_found origin position es e) found
-error_found origin position (Dropped o p ∷ es) e found = unless_settled (is_position origin position o p) origin position es e (error_found origin position es e) found
+error_found origin position (Executed o p onward txn ∷ es) e found = unless_cleared (is_position origin position o p) origin position es e (error_found origin position es e) found
+error_found origin position (Dropped o p ∷ es) e found = unless_cleared (is_position origin position o p) origin position es e (error_found origin position es e) found
 error_found origin position (Refreshed moment ∷ es) e found = error_found origin position es e found
 
 error_stands : (origin : SiteName) (position : ℕ) (journal : List Entry) (e : ErrorEntry) → error_at origin position journal ≡ Some e → error_at e.origin e.position journal ≢ None

@@ -4,8 +4,8 @@ use Rattle.std.specs.Prelude.{◌≡◌, ℕ, ◌+◌, nat_lt, nat_le, cond, Lis
 use Rattle.rep_values.specs.declared.name.SiteName.{SiteName}
 use Rattle.rep_schema.specs.declared.schema.Schema.{Schema}
 use Rattle.rep_calls.specs.declared.call.Txn.{Txn}
-use Rattle.rep_calls.specs.declared.past.Past.{Past}
-use Rattle.deferred_queue.specs.declared.cargo.Cargo.{Cargo}
+use Rattle.rep_calls.specs.declared.past.PastEntry.{PastEntry}
+use Rattle.deferred_queue.specs.declared.queued_txn.QueuedTxn.{QueuedTxn}
 use Rattle.deferred_queue.specs.declared.destination.Destination.{Destination}
 use Rattle.deferred_queue.specs.Streams.{Deferred, Mark, at_position}
 use Rattle.site_state.specs.State.{DestinationState, SiteState, destination_of}
@@ -23,15 +23,15 @@ abbrev pub place_for : Schema → Txn → List Txn → DestinationState → Opti
 place_for schema txn older d = place_since schema txn older d.site d.opened
 
 -- what the queue keeps under a number: nothing up to the last one that is purged
-abbrev pub cargo_kept : ℕ → ℕ → Txn → Option (List Past) → Option Cargo
-cargo_kept purged number txn past = cond (nat_le number purged) None (Some (record { txn = txn; past = past_in past }))
+abbrev pub queued_txn_kept : ℕ → ℕ → Txn → Option (List PastEntry) → Option QueuedTxn
+queued_txn_kept purged number txn past = cond (nat_le number purged) None (Some (record { txn = txn; past = past_in past }))
 
 -- what the queue's crate has of transactions, the newest first, of which the first so many are purged, and of what the
 -- site had seen before them
-abbrev pub deferred_in : Schema → List DestinationState → ℕ → List (List Past) → List Txn → List Deferred
+abbrev pub deferred_in : Schema → List DestinationState → ℕ → List (List PastEntry) → List Txn → List Deferred
 deferred_in schema destinations purged pasts [] = []
 deferred_in schema destinations purged pasts (txn ∷ older) = record {
-  cargo = cargo_kept purged (length older + 1) txn (at_position (length older + 1) pasts);
+  cargo = queued_txn_kept purged (length older + 1) txn (at_position (length older + 1) pasts);
   to = filter_map (place_for schema txn older) destinations;
 } ∷ deferred_in schema destinations purged pasts older
 
@@ -40,8 +40,8 @@ abbrev pub deferred_of : SiteState → List Deferred
 deferred_of x = deferred_in x.schema x.destinations x.purged (pasts_of x) (queue_of x)
 
 -- and of its marks
-abbrev pub marks_of : SiteState → List Mark
-marks_of x = map (λ (d : DestinationState). record { site = d.site; acked = d.acked }) x.destinations
+abbrev pub deferred_marks : SiteState → List Mark
+deferred_marks x = map (λ (d : DestinationState). record { site = d.site; acked = d.acked }) x.destinations
 
 -- no two destinations are the same site
 abbrev pub StandApart : List DestinationState → Type 0

@@ -18,7 +18,7 @@ use Rattle.site_state.specs.Contents.{content_of}
 use Rattle.site_state.specs.Streams.{queue_of}
 
 -- what applying a transaction asks of a schema; each that breaks no rule has it
-pub record IsKeyed (schema : Schema) : Type 0 where
+pub record SchemaIsKeyed (schema : Schema) : Type 0 where
   pub shape : HasShape schema
   pub keys : HasKeys schema
   pub apart : KeysStandAlone schema
@@ -53,13 +53,13 @@ abbrev pub AreWithin : Schema → List Snapshot → Type 0
 AreWithin schema snapshots = AllByRecursion (λ (s : Snapshot). s.table < length schema.tables) snapshots
 
 -- no table has two snapshots
-abbrev pub AreApart : List Snapshot → Type 0
-AreApart [] = Unit {0}
-AreApart (s ∷ ss) = AllByRecursion (λ (t : Snapshot). t.table ≢ s.table) ss × AreApart ss
+abbrev pub SnapshotsApart : List Snapshot → Type 0
+SnapshotsApart [] = Unit {0}
+SnapshotsApart (s ∷ ss) = AllByRecursion (λ (t : Snapshot). t.table ≢ s.table) ss × SnapshotsApart ss
 
 -- tables and counters are those of the schema, and what is queued, arrived or journalled fits it
 pub record SiteFits (x : SiteState) : Type 0 where
-  pub keyed : IsKeyed x.schema
+  pub keyed : SchemaIsKeyed x.schema
   pub content : IsContent x.schema (content_of x)
   pub queued : AllByRecursion (TxnFits x.schema) (queue_of x)
   pub senders : SendersFit x.schema x.senders

@@ -3,7 +3,7 @@ use Rattle.std.specs.Prelude.{ℕ, ◌+◌, not, cond, List, [], ◌∷◌, map,
 use Rattle.std.specs.List.{range_with_len}
 use Rattle.rep_values.specs.declared.name.SiteName.{SiteName}
 use Rattle.rep_schema.specs.Sites.{senders_of}
-use Rattle.rep_calls.specs.declared.past.Past.{Past}
+use Rattle.rep_calls.specs.declared.past.PastEntry.{PastEntry}
 use Rattle.deferred_queue.specs.Streams.{is_same_site}
 use Rattle.local_txn.specs.declared.local.Here.{Here}
 use Rattle.error_queue.specs.declared.entry.ErrorEntry.{ErrorEntry}
@@ -34,20 +34,20 @@ abbrev pub site_first : SiteName → ℕ → SiteState → SiteState
 site_first origin number x = record x { senders = at_sender origin (with_first number) x.senders }
 
 -- the number that is given for a name, 0 where none is
-abbrev pub number_for : SiteName → List Past → ℕ
+abbrev pub number_for : SiteName → List PastEntry → ℕ
 number_for name [] = 0
 number_for name (given ∷ more) = cond (is_same_site given.origin name) given.number (number_for name more)
 
 -- a sender from whose queue so much is in the rows that a site begins with
-abbrev pub sender_from : List Past → SiteName → SenderState
+abbrev pub sender_from : List PastEntry → SiteName → SenderState
 sender_from firsts origin = record { origin = origin; first = number_for origin firsts; arrived = [] }
 
 -- a site that begins with the present rows of another one, when the masters had queued so much
-abbrev pub site_copy : SiteState → Here → List Past → SiteState
+abbrev pub site_copy : SiteState → Here → List PastEntry → SiteState
 site_copy source here firsts = record (new_site source.schema here [] [] (tables_of source)) { senders = map (sender_from firsts) (senders_of source.schema here.site) }
 
 -- how many of the positions 1 to a last one aren't finished
-abbrev pub unfinished_of : SiteState → Past → ℕ
+abbrev pub unfinished_of : SiteState → PastEntry → ℕ
 unfinished_of x last = count_by (λ p. not (finished last.origin x.journal p)) (range_with_len 1 last.number)
 
 -- how many errors of masters' transactions stand
@@ -56,5 +56,5 @@ master_errors x = count_by (λ (e : ErrorEntry). is_master_site x.schema e.origi
 
 -- what hinders a join at a site, of each origin its last position for that site: the unfinished positions, and the errors
 -- of masters' transactions that stand
-abbrev pub unfinished : List Past → SiteState → ℕ
+abbrev pub unfinished : List PastEntry → SiteState → ℕ
 unfinished last x = sum (map (unfinished_of x) last) + master_errors x

@@ -22,13 +22,13 @@ finishes origin position (Dropped o p) = false
 finishes origin position (Refreshed moment) = false
 
 -- an entry settles the error of a position: it is executed or dropped
-abbrev pub settles : SiteName → ℕ → Entry → Bool
-settles origin position (Local number txn) = false
-settles origin position (Done o p onward txn) = false
-settles origin position (Error o p call error txn) = false
-settles origin position (Executed o p onward txn) = is_position origin position o p
-settles origin position (Dropped o p) = is_position origin position o p
-settles origin position (Refreshed moment) = false
+abbrev pub clears_error : SiteName → ℕ → Entry → Bool
+clears_error origin position (Local number txn) = false
+clears_error origin position (Done o p onward txn) = false
+clears_error origin position (Error o p call error txn) = false
+clears_error origin position (Executed o p onward txn) = is_position origin position o p
+clears_error origin position (Dropped o p) = is_position origin position o p
+clears_error origin position (Refreshed moment) = false
 
 -- a position of a sender is finished
 abbrev pub finished : SiteName → List Entry → ℕ → Bool

@@ -4,7 +4,7 @@ use Rattle.std.specs.List.{list_all}
 use Rattle.rep_lists.specs.Rising.{put_at}
 use Rattle.rep_values.specs.declared.name.SiteName.{SiteName}
 use Rattle.rep_calls.specs.declared.call.Txn.{Txn}
-use Rattle.rep_calls.specs.declared.past.Past.{Past}
+use Rattle.rep_calls.specs.declared.past.PastEntry.{PastEntry}
 use Rattle.conflict_detect.specs.FitTests.{txn_fits}
 use Rattle.deferred_queue.specs.Streams.{is_same_site, at_position}
 use Rattle.packet_code.specs.declared.packet.Packet.{Packet}
@@ -12,7 +12,7 @@ use Rattle.packet_code.specs.declared.packet.Packet.TheVariants.{Carry, Mark}
 use Rattle.site_state.specs.declared.answers.Accepted.{Accepted}
 use Rattle.site_state.specs.declared.answers.Accepted.TheVariants as accepted
 use Rattle.site_state.specs.declared.arrival.Arrival.{Arrival}
-use Rattle.site_state.specs.State.{SenderState, DestinationState, SiteState, is_master_site, sender_of, at_sender, beside, arrived_at, destination_of, at_destination, opened_of}
+use Rattle.site_state.specs.State.{SenderState, DestinationState, SiteState, is_master_site, sender_of, at_sender, arrival_beside, arrived_at, destination_of, at_destination, opened_of}
 use Rattle.site_state.specs.Journal.{low_water}
 use Rattle.site_state.specs.Streams.{stream_to, dep_at}
 use Rattle.site_state.specs.Pasts.{pasts_of}
@@ -24,25 +24,25 @@ count_opened None = 0
 count_opened (Some opened) = opened
 
 -- the queue number of a position of the stream to a destination
-abbrev pub number_at : SiteName → ℕ → SiteState → ℕ
-number_at to position x = count_opened (opened_of to x) + position
+abbrev pub stream_number : SiteName → ℕ → SiteState → ℕ
+stream_number to position x = count_opened (opened_of to x) + position
 
-abbrev pub past_in : Option (List Past) → List Past
+abbrev pub past_in : Option (List PastEntry) → List PastEntry
 past_in None = []
 past_in (Some past) = past
 
 -- what the site had seen before the transaction of a queue number
-abbrev pub past_before : ℕ → SiteState → List Past
+abbrev pub past_before : ℕ → SiteState → List PastEntry
 past_before number x = past_in (at_position number (pasts_of x))
 
 -- the packet that carries a transaction at a position of the stream to a destination
 abbrev pub carry_of : SiteName → ℕ → SiteState → Txn → Packet
-carry_of to position x txn = Carry x.here.site to (number_at to position x) position (dep_at x.schema position (stream_to to x))
-    (past_before (number_at to position x) x) txn
+carry_of to position x txn = Carry x.here.site to (stream_number to position x) position (dep_at x.schema position (stream_to to x))
+    (past_before (stream_number to position x) x) txn
 
 abbrev pub packet_found : SiteName → ℕ → SiteState → Option Txn → Option Packet
 packet_found to position x None = None
-packet_found to position x (Some txn) = cond (nat_le (number_at to position x) x.purged) None (Some (carry_of to position x txn))
+packet_found to position x (Some txn) = cond (nat_le (stream_number to position x) x.purged) None (Some (carry_of to position x txn))
 
 -- the packet of a position of the stream to a destination; none where the position wasn't given or is purged
 abbrev pub site_packet : SiteName → ℕ → SiteState → Option Packet
@@ -55,7 +55,7 @@ mark_of to x = Mark x.here.site to (low_water to x.journal)
 -- ---- what is taken in
 
 -- a past names this site, or a master among the senders
-abbrev pub is_known_past : SiteState → Past → Bool
+abbrev pub is_known_past : SiteState → PastEntry → Bool
 is_known_past x seen = is_same_site seen.origin x.here.site || (is_master_site x.schema seen.origin && is_some (sender_of seen.origin x.senders))
 
 -- a packet isn't for this site, is from no sender or destination, has a call that doesn't fit the schema or a past of an
@@ -68,7 +68,7 @@ is_foreign (Mark from to mark) x =
 
 -- one arrival more
 abbrev pub with_arrival : Arrival → SenderState → SenderState
-with_arrival a s = record { origin = s.origin; first = s.first; arrived = put_at (beside a.position) a s.arrived }
+with_arrival a s = record { origin = s.origin; first = s.first; arrived = put_at (arrival_beside a.position) a s.arrived }
 
 -- what came is kept, unless its position arrived before
 abbrev pub arrived_by : Option Arrival → SiteName → Arrival → SiteState → SiteState

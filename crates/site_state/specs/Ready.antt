@@ -3,20 +3,20 @@ use Rattle.std.specs.Prelude.{ℕ, ◌==◌, ◌&&◌, ◌||◌, Bool, nat_lt, n
 use Rattle.std.specs.List.{list_all}
 use Rattle.rep_lists.specs.Rising.{find_at}
 use Rattle.rep_values.specs.declared.name.SiteName.{SiteName}
-use Rattle.rep_calls.specs.declared.past.Past.{Past}
+use Rattle.rep_calls.specs.declared.past.PastEntry.{PastEntry}
 use Rattle.deferred_queue.specs.Streams.{is_same_site}
 use Rattle.site_state.specs.declared.answers.Why.{Why}
 use Rattle.site_state.specs.declared.answers.Why.TheVariants as why
 use Rattle.site_state.specs.declared.arrival.Arrival.{Arrival}
-use Rattle.site_state.specs.State.{SenderState, SiteState, sender_of, beside, arrived_in, first_in, arrived_at}
+use Rattle.site_state.specs.State.{SenderState, SiteState, sender_of, arrival_beside, arrived_in, first_in, arrived_at}
 use Rattle.site_state.specs.Journal.{finished, low_water}
 
-abbrev pub number_in : Option Arrival → ℕ
-number_in None = 0
-number_in (Some a) = a.number
+abbrev pub arrival_number : Option Arrival → ℕ
+arrival_number None = 0
+arrival_number (Some a) = a.number
 
 abbrev pub covered_at : ℕ → Option SenderState → ℕ
-covered_at low sender = cond (low == 0) (first_in sender) (number_in (find_at (beside low) (arrived_in sender)))
+covered_at low sender = cond (low == 0) (first_in sender) (arrival_number (find_at (arrival_beside low) (arrived_in sender)))
 
 -- the covered number of a sender: the queue number of the transaction at its low-water mark, or its first number where
 -- that mark is 0
@@ -24,7 +24,7 @@ abbrev pub covered : SiteName → SiteState → ℕ
 covered origin x = covered_at (low_water origin x.journal) (sender_of origin x.senders)
 
 -- what was seen of a master is covered: it is this site itself, or its covered number is at least that
-abbrev pub is_covered : SiteState → Past → Bool
+abbrev pub is_covered : SiteState → PastEntry → Bool
 is_covered x seen = is_same_site seen.origin x.here.site || nat_le seen.number (covered seen.origin x)
 
 -- an arrival is due: its dependency number is at most the low-water mark, and all of its past is covered

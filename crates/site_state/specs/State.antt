@@ -77,8 +77,8 @@ at_sender origin change [] = []
 at_sender origin change (s ∷ ss) = cond (is_same_site s.origin origin) (change s ∷ ss) (s ∷ at_sender origin change ss)
 
 -- where an arrival stands beside a position
-abbrev pub beside : ℕ → Arrival → Ordering
-beside position a = nat_cmp a.position position
+abbrev pub arrival_beside : ℕ → Arrival → Ordering
+arrival_beside position a = nat_cmp a.position position
 
 abbrev pub arrived_in : Option SenderState → List Arrival
 arrived_in None = []
@@ -90,7 +90,7 @@ first_in (Some s) = s.first
 
 -- what arrived from a sender at a position
 abbrev pub arrived_at : SiteName → ℕ → List SenderState → Option Arrival
-arrived_at origin position senders = find_at (beside position) (arrived_in (sender_of origin senders))
+arrived_at origin position senders = find_at (arrival_beside position) (arrived_in (sender_of origin senders))
 
 -- what arrived from a sender, in rising order of position
 abbrev pub arrivals : SiteName → SiteState → List Arrival

@@ -1,6 +1,6 @@
 //! What arrived from a sender.
 
-use rep_calls::{Past, Txn};
+use rep_calls::{PastEntry, Txn};
 use rep_lists::Items;
 
 /// What came from a sender: its position in the stream, its number in the sender's queue, the position that it depends on, 0
@@ -10,6 +10,6 @@ pub struct Arrival {
     pub position: u64,
     pub number: u64,
     pub dep: u64,
-    pub past: Items<Past>,
+    pub past: Items<PastEntry>,
     pub txn: Txn,
 }

@@ -28,7 +28,7 @@ use Rattle.site_state.specs.Passes.{effect_here, finished_by, applied_unless, si
 use Rattle.site_state.specs.Errors.{effect_of_error, executed_by, executed_found, site_execute, dropped_found, site_drop}
 use Rattle.site_state.specs.Purges.{site_purge}
 use Rattle.site_state.specs.Joining.{site_open}
-use Rattle.site_state.specs.Fits.{IsKeyed}
+use Rattle.site_state.specs.Fits.{SchemaIsKeyed}
 use Rattle.site_state.proofs.FittingBlocks.{block_applied}
 use Rattle.site_state.proofs.FittingSites.{arrived_has, error_has}
 use Rattle.event_laws.specs.Fitting.{FitsHere}
@@ -36,7 +36,7 @@ use Rattle.snapshot_laws.proofs.Moves.{Quiet, Moves}
 
 -- what a call asks of a site
 pub record CanCall (x : SiteState) : Type 0 where
-  pub keyed : IsKeyed x.schema
+  pub keyed : SchemaIsKeyed x.schema
   pub fits : FitsHere x
 
 -- ---- what changes no row

@@ -8,7 +8,7 @@ use Rattle.rep_schema.specs.declared.schema.Column.{Column}
 use Rattle.rep_schema.specs.declared.change.Change.{Change}
 use Rattle.rep_schema.specs.Tables.{Cells, Rows, columns_of, key_of, row_cmp, find_row, rows_of, AreTables}
 use Rattle.rep_schema.specs.Groups.{are_same}
-use Rattle.rep_schema.specs.Changes.{made_in, made, row_like, IsChange, LeadsTo}
+use Rattle.rep_schema.specs.Changes.{after_change_in, after_change, row_like, IsChange, LeadsTo}
 use Rattle.rep_schema.proofs.FoundRows.{find_row-put_other, find_row-take_other, key_of-found}
 use Rattle.rep_schema.proofs.TakingBack.{AreTables-made}
 use Rattle.site_state.specs.Notes.{key_between, key_changed, keys_changed}
@@ -28,7 +28,7 @@ module _ (schema : Schema) (table : ℕ) where
   columns = columns_of schema table
 
   find_row-made_in : (before after : Option Cells) (rows : Rows) (key : Cells) → IsRising (row_cmp columns) rows → IfSome after (λ row. row_like columns row rows ≡ before) → key_between schema table before after ≢ key
-      → find_row columns key (made_in columns before after rows) ≡ find_row columns key rows
+      → find_row columns key (after_change_in columns before after rows) ≡ find_row columns key rows
   find_row-made_in None (Some row) rows key rising there other = find_row-put_other columns row key rows other
   find_row-made_in (Some old) (Some row) rows key rising there other = find_row-put_other columns row key rows (λ e. other (key_of-found columns (key_of columns row) old rows there ∙ e))
   find_row-made_in (Some row) None rows key rising there other = find_row-take_other columns (key_of columns row) key rows rising other
@@ -36,12 +36,12 @@ module _ (schema : Schema) (table : ℕ) where
 
 module _ (schema : Schema) where
   find_row-made : (change : Change) (tables : List Rows) (table : ℕ) (key : Cells) → AreTables schema tables → IsChange schema change tables → (change.table ≡ table → key_changed schema change ≢ key)
-      → find_row (columns_of schema table) key (rows_of (made schema change tables) table) ≡ find_row (columns_of schema table) key (rows_of tables table)
+      → find_row (columns_of schema table) key (rows_of (after_change schema change tables) table) ≡ find_row (columns_of schema table) key (rows_of tables table)
   find_row-made change tables table key are is other =
       rows_of-set (λ rows. find_row (columns_of schema table) key rows ≡ find_row (columns_of schema table) key (rows_of tables table)) tables change.table table
-      (made_in (columns_of schema change.table) change.before change.after (rows_of tables change.table))
+      (after_change_in (columns_of schema change.table) change.before change.after (rows_of tables change.table))
       refl
-      (λ e below. subst (λ t. find_row (columns_of schema t) key (made_in (columns_of schema change.table) change.before change.after (rows_of tables change.table)) ≡ find_row (columns_of schema t) key (rows_of tables t)) e
+      (λ e below. subst (λ t. find_row (columns_of schema t) key (after_change_in (columns_of schema change.table) change.before change.after (rows_of tables change.table)) ≡ find_row (columns_of schema t) key (rows_of tables t)) e
       (find_row-made_in schema change.table change.before change.after (rows_of tables change.table) key (are.each change.table is.table).rising is.after (other e)))
 
   -- a key that isn't among those of changes isn't that of the first, nor among those of the others
@@ -63,5 +63,5 @@ module _ (schema : Schema) where
   find_row-led [] earlier later table key are leads none = ap (λ (tables : List Rows). find_row (columns_of schema table) key (rows_of tables table)) (sym leads)
   find_row-led (change ∷ changes) earlier later table key are leads none =
       let both = first_unchanged table key change changes none in
-      find_row-led changes (made schema change earlier) later table key (AreTables-made schema change earlier are leads.0) leads.1 both.1
+      find_row-led changes (after_change schema change earlier) later table key (AreTables-made schema change earlier are leads.0) leads.1 both.1
       ∙ find_row-made change earlier table key are leads.0 both.0

@@ -5,13 +5,13 @@ use Rattle.rep_schema.specs.declared.schema.Schema.{Schema}
 use Rattle.site_state.specs.State.{SiteState}
 use Rattle.site_state.specs.Steps.{begun}
 use Rattle.site_state.specs.Purges.{site_purge_log}
-use Rattle.event_laws.specs.Core.{Core, site_of}
+use Rattle.event_laws.specs.Cluster.{Cluster, site_of}
 use Rattle.event_laws.specs.Events.{Event, without, refreshed, begun_after, run}
 use Rattle.snapshot_laws.specs.Starts.{IsSnapshotStart}
 use Rattle.snapshot_laws.proofs.Moves.{all_weaker}
-use Rattle.snapshot_laws.proofs.KeepingUp.{KeepsUp, own_moves, fewer_begun, begin_master, purge_master, purge_own}
+use Rattle.snapshot_laws.proofs.SnapshotsKeepUp.{KeepsUp, own_moves, fewer_begun, begin_master, purge_master, purge_own}
 use Rattle.snapshot_laws.proofs.Calls.{begun_quiet}
-use Rattle.snapshot_laws.proofs.Keeping.{HaveTables, SitesKeepUp, Keeps, keep_up_changed, moves_keep}
+use Rattle.snapshot_laws.proofs.SitesKeepUp.{HaveTables, SitesKeepUp, Keeps, keep_up_changed, moves_keep}
 use Rattle.snapshot_laws.proofs.Begun.{is_among-more, is_among-without}
 use Rattle.snapshot_laws.proofs.Refreshing.{refresh_keeps}
 use Rattle.snapshot_laws.proofs.RunsFit.{SitesFit}
@@ -58,5 +58,5 @@ module _ (schema : Schema) where
   becomes_keeps_up xs names _ _ fit (events.Joins site source) all = with_joined_keeps_up schema xs names fit.have all site source
 
   -- so it is after every list of events
-  pub run_keeps_up : (start : Core) (es : List Event) → IsSnapshotStart schema start → SitesKeepUp schema (run es start).sites (run es start).begun
+  pub run_keeps_up : (start : Cluster) (es : List Event) → IsSnapshotStart schema start → SitesKeepUp schema (run es start).sites (run es start).begun
   run_keeps_up start es is = run_becomes schema (SitesKeepUp schema) becomes_keeps_up start is.fit es (start_keeps_up schema start is)

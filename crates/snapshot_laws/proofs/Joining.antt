@@ -7,16 +7,16 @@ use Rattle.deferred_queue.specs.Streams.{is_same_site}
 use Rattle.site_state.specs.State.{SiteState}
 use Rattle.site_state.specs.Making.{master_here}
 use Rattle.site_state.specs.Joining.{site_open, site_copy}
-use Rattle.event_laws.specs.Core.{site_of}
+use Rattle.event_laws.specs.Cluster.{site_of}
 use Rattle.event_laws.specs.Joins.{queue_counts, copied, with_joined}
 use Rattle.event_laws.specs.Events.{master_of, found_site}
 use Rattle.event_laws.proofs.Sites.{found_or, site_of-joined}
 use Rattle.event_laws.proofs.NewSites.{open_to_each_keeps}
-use Rattle.site_state.specs.Fits.{AreApart}
+use Rattle.site_state.specs.Fits.{SnapshotsApart}
 use Rattle.snapshot_laws.proofs.Moves.{all_weaker}
-use Rattle.snapshot_laws.proofs.KeepingUp.{KeepsUp, AllKeepUp, master_moves, own_moves}
+use Rattle.snapshot_laws.proofs.SnapshotsKeepUp.{KeepsUp, AllKeepUp, master_moves, own_moves}
 use Rattle.snapshot_laws.proofs.Calls.{open_quiet}
-use Rattle.snapshot_laws.proofs.Keeping.{HaveTables, KeepUpWith, SiteKeepsUp, KeepsUpAt, SitesKeepUp, master_in, found_keeps_up}
+use Rattle.snapshot_laws.proofs.SitesKeepUp.{HaveTables, KeepUpWith, SiteKeepsUp, KeepsUpAt, SitesKeepUp, master_in, found_keeps_up}
 
 -- one that joins has no snapshots
 pub snapshots-copied : (sites : List SiteState) (source : SiteState) (site : SiteName) → (copied sites source site).snapshots ≡ []
@@ -52,7 +52,7 @@ module _ (schema : Schema) (sites : List SiteState) (begun : List SiteName) (hav
     with_joined_keeps_up name = rw (site_of-joined name (site_open site) sites new (λ y. refl)) (go (site_of name sites) refl)
       where
         fresh : (b : Bool) → KeepsUpAt schema ys begun (cond b (Some new) None)
-        fresh true = record { apart = subst AreApart (sym (snapshots-copied sites source site)) tt; snapshots = none_keep_up (master_in schema ys new) new (snapshots-copied sites source site) }
+        fresh true = record { apart = subst SnapshotsApart (sym (snapshots-copied sites source site)) tt; snapshots = none_keep_up (master_in schema ys new) new (snapshots-copied sites source site) }
         fresh false = tt
 
         go : (o : Option SiteState) → site_of name sites ≡ o → KeepsUpAt schema ys begun (found_or (site_of name (new ∷ [])) (option_map (site_open site) o))

@@ -5,10 +5,10 @@ pub mod ChangedRows
 pub mod Moves
 pub mod Parents
 pub mod ParentKeys
-pub mod KeepingUp
-pub mod Settling
+pub mod SnapshotsKeepUp
+pub mod UpToDate
 pub mod Calls
-pub mod Keeping
+pub mod SitesKeepUp
 pub mod Begun
 pub mod Refreshing
 pub mod RunsFit

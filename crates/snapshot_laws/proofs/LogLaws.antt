@@ -16,7 +16,7 @@ use Rattle.site_state.specs.Steps.{begun}
 use Rattle.site_state.specs.Purges.{log_purged, purged_where, site_purge_log}
 use Rattle.site_state.specs.Making.{master_here}
 use Rattle.site_state.specs.Joining.{site_open, site_copy}
-use Rattle.event_laws.specs.Core.{Core, site_of, at_site}
+use Rattle.event_laws.specs.Cluster.{Cluster, site_of, at_site}
 use Rattle.event_laws.specs.Joins.{queue_counts, copied, with_joined}
 use Rattle.event_laws.specs.Events.{without, refreshed, begun_after, run}
 use Rattle.event_laws.proofs.Sites.{KeepsHere, found_or, site_of-joined}
@@ -26,7 +26,7 @@ use Rattle.event_laws.proofs.NewSites.{open_to_each_keeps}
 use Rattle.snapshot_laws.specs.Starts.{IsNewLog}
 use Rattle.snapshot_laws.specs.Logs.{IsNotedSince, AreNotedSince, NotedAreAbovePurged}
 use Rattle.snapshot_laws.proofs.Moves.{all_map, all_weaker, Moves}
-use Rattle.snapshot_laws.proofs.Keeping.{site_of-at_site}
+use Rattle.snapshot_laws.proofs.SitesKeepUp.{site_of-at_site}
 use Rattle.snapshot_laws.proofs.Begun.{is_among-more, is_among-without, is_among-gone, is_among-refresh}
 use Rattle.snapshot_laws.proofs.Refreshing.{refreshed_here}
 use Rattle.snapshot_laws.proofs.RunsFit.{SitesFit}
@@ -202,7 +202,7 @@ pub noted_are_above_purged : NotedAreAbovePurged
 noted_are_above_purged schema start es is site x there master =
     all_weaker (LogHolds (is_among w.begun site) x.moment) (AreNotedSince x.moment) x.logs (λ log one. one.noted) (subst (LogsHoldAt w.begun site) there (held site) master)
   where
-    w : Core
+    w : Cluster
     w = run es start
 
     held : AllLogsHold (run es start).sites (run es start).begun

@@ -9,7 +9,7 @@ use Rattle.snapshot_query.specs.declared.snapshot.Snapshot.{Snapshot}
 use Rattle.site_state.specs.State.{SiteState}
 use Rattle.site_state.specs.Contents.{tables_of}
 use Rattle.site_state.specs.Notes.{logged_in, touched_in}
-use Rattle.site_state.specs.Fits.{AreApart}
+use Rattle.site_state.specs.Fits.{SnapshotsApart}
 
 -- ---- lists
 
@@ -46,12 +46,12 @@ Moves schema begun x y = Quiet x y ⊎ Changes schema begun x y
 
 -- ---- of the snapshots alone
 
-apart_touched : (schema : Schema) (changes : List Change) (ss : List Snapshot) → AreApart ss → AreApart (map (touched_in schema changes) ss)
+apart_touched : (schema : Schema) (changes : List Change) (ss : List Snapshot) → SnapshotsApart ss → SnapshotsApart (map (touched_in schema changes) ss)
 apart_touched schema changes [] apart = tt
 apart_touched schema changes (s ∷ ss) apart =
     (all_map (λ (t : Snapshot). t.table ≢ s.table) (λ (t : Snapshot). t.table ≢ s.table) (touched_in schema changes) ss (λ t other. other) apart.0, apart_touched schema changes ss apart.1)
 
-pub apart_moves : (schema : Schema) (b : Bool) (x y : SiteState) → Moves schema b x y → AreApart x.snapshots → AreApart y.snapshots
+pub apart_moves : (schema : Schema) (b : Bool) (x y : SiteState) → Moves schema b x y → SnapshotsApart x.snapshots → SnapshotsApart y.snapshots
 apart_moves schema b x y (inl q) apart = rw q.snapshots apart
 apart_moves schema b x y (inr c) apart = rw c.snapshots (apart_touched schema c.changes x.snapshots apart)
 

@@ -29,12 +29,12 @@ module _ (schema : Schema) (moment : ℕ) (changes : List Change) where
   parent_old mark logs (Some p) old = rw (← purged_of-logged schema moment changes p.table logs) old
 
   -- a row that doesn't wait after changes didn't before, and is picked as it was
-  pub settled-logged : (earlier later : List Rows) (query : Query) (mark : ℕ) (logs : List LogState) → AreTables schema earlier → LeadsTo schema changes earlier later → mark < moment
+  pub up_to_date-logged : (earlier later : List Rows) (query : Query) (mark : ℕ) (logs : List LogState) → AreTables schema earlier → LeadsTo schema changes earlier later → mark < moment
       → (parent : Option Parent) → IsParentLogged logs parent → (found : Option Cells) → is_waiting parent (parents_above (map (logged_in schema moment changes) logs) mark parent) found ≡ false
       → (is_waiting parent (parents_above logs mark parent) found ≡ false) × (shown_by (picks_by schema later query parent) found ≡ shown_by (picks_by schema earlier query parent) found)
-  settled-logged earlier later query mark logs are leads less parent there None settled = (refl, refl)
-  settled-logged earlier later query mark logs are leads less None there (Some row) settled = (refl, refl)
-  settled-logged earlier later query mark logs are leads less (Some p) there (Some row) settled =
+  up_to_date-logged earlier later query mark logs are leads less parent there None settled = (refl, refl)
+  up_to_date-logged earlier later query mark logs are leads less None there (Some row) settled = (refl, refl)
+  up_to_date-logged earlier later query mark logs are leads less (Some p) there (Some row) settled =
       let both = told-logged schema moment changes p.table mark (parent_key p row) logs there less settled in
       (both.1, ap (λ (o : Option Cells). cond (found_matches p.tests o) (Some row) None) (find_row-led schema changes earlier later p.table (parent_key p row) are leads both.0))
 
@@ -68,8 +68,8 @@ module _ (at moment : ℕ) where
   parent_old-purged mark logs (Some p) old = purged_of-purged p.table mark logs old
 
   -- and a row that doesn't wait then didn't before
-  pub settled-purged : (mark : ℕ) (logs : List LogState) (parent : Option Parent) (found : Option Cells) → IsParentOld (map (purged_where at moment) logs) mark parent
+  pub up_to_date-purged : (mark : ℕ) (logs : List LogState) (parent : Option Parent) (found : Option Cells) → IsParentOld (map (purged_where at moment) logs) mark parent
       → is_waiting parent (parents_above (map (purged_where at moment) logs) mark parent) found ≡ false → is_waiting parent (parents_above logs mark parent) found ≡ false
-  settled-purged mark logs parent None old settled = refl
-  settled-purged mark logs None (Some row) old settled = refl
-  settled-purged mark logs (Some p) (Some row) old settled = (told-purged at moment p.table mark (parent_key p row) logs old settled).1
+  up_to_date-purged mark logs parent None old settled = refl
+  up_to_date-purged mark logs None (Some row) old settled = refl
+  up_to_date-purged mark logs (Some p) (Some row) old settled = (told-purged at moment p.table mark (parent_key p row) logs old settled).1

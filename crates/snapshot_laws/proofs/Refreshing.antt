@@ -12,18 +12,18 @@ use Rattle.snapshot_query.specs.Parents.{picks, rule_rows}
 use Rattle.site_state.specs.State.{SiteState, is_among}
 use Rattle.site_state.specs.Contents.{tables_of}
 use Rattle.site_state.specs.Refreshes.{with_tables, renewed, site_refresh}
-use Rattle.event_laws.specs.Core.{site_of}
+use Rattle.event_laws.specs.Cluster.{site_of}
 use Rattle.event_laws.specs.Rules.{rows_ruled}
 use Rattle.event_laws.specs.Events.{master_of, found_site, refreshed, without_found, begun_after}
 use Rattle.event_laws.proofs.Sites.{KeepsHere, found_name}
 use Rattle.event_laws.proofs.Happening.{IsRefreshed, refreshed_is}
 use Rattle.event_laws.proofs.Happening as happening
 use Rattle.event_laws.proofs.DeclaredSites.{refreshed_names}
-use Rattle.site_state.specs.Fits.{AreApart}
+use Rattle.site_state.specs.Fits.{SnapshotsApart}
 use Rattle.snapshot_laws.specs.Refreshed.{IsRuled, RefreshedTablesAreTheRules}
 use Rattle.snapshot_laws.proofs.Moves.{all_map, all_weaker}
-use Rattle.snapshot_laws.proofs.KeepingUp.{KeepsUp, AllKeepUp, fewer_begun}
-use Rattle.snapshot_laws.proofs.Keeping.{HaveTables, master_in, Keeps}
+use Rattle.snapshot_laws.proofs.SnapshotsKeepUp.{KeepsUp, AllKeepUp, fewer_begun}
+use Rattle.snapshot_laws.proofs.SitesKeepUp.{HaveTables, master_in, Keeps}
 use Rattle.snapshot_laws.proofs.Begun.{is_among-gone, is_among-refresh}
 
 -- ---- the tables that a refresh makes
@@ -36,7 +36,7 @@ module _ (schema : Schema) (shows : List Rows) where
       ∙ get_or-set_other tables s.table k (rule_rows schema shows s) [] (λ e. apart.0 (sym e))
 
   -- each snapshot's table has the rows that it picks
-  pub rows_are_ruled : (ss : List Snapshot) (tables : List Rows) → AreApart ss → AllByRecursion (λ (s : Snapshot). s.table < length tables) ss
+  pub rows_are_ruled : (ss : List Snapshot) (tables : List Rows) → SnapshotsApart ss → AllByRecursion (λ (s : Snapshot). s.table < length tables) ss
       → AllByRecursion (λ (s : Snapshot). rows_of (with_tables (rows_ruled schema shows ss) tables) s.table ≡ rule_rows schema shows s) ss
   rows_are_ruled [] tables apart within = tt
   rows_are_ruled (s ∷ ss) tables apart within = (
@@ -48,7 +48,7 @@ module _ (schema : Schema) (shows : List Rows) where
   )
 
 -- where each snapshot's table is there it has the rows that it picks
-pub all_ruled : (x : SiteState) (master : List Rows) (moment : ℕ) → AreApart x.snapshots → AllByRecursion (λ (s : Snapshot). s.table < length (tables_of x)) x.snapshots
+pub all_ruled : (x : SiteState) (master : List Rows) (moment : ℕ) → SnapshotsApart x.snapshots → AllByRecursion (λ (s : Snapshot). s.table < length (tables_of x)) x.snapshots
     → AllByRecursion (IsRuled x.schema master moment (tables_of (site_refresh (rows_ruled x.schema master x.snapshots) moment x))) (map (renewed moment) x.snapshots)
 all_ruled x master moment apart within = all_map
     (λ (s : Snapshot). rows_of (with_tables (rows_ruled x.schema master x.snapshots) (tables_of x)) s.table ≡ rule_rows x.schema master s)
@@ -62,7 +62,7 @@ refreshed_tables_are_the_rules x master moment number within apart = record {
   others = λ table none. rows_of-elsewhere x.schema master x.snapshots (tables_of x) table none;
 }
 
-apart_renewed : (moment : ℕ) (ss : List Snapshot) → AreApart ss → AreApart (map (renewed moment) ss)
+apart_renewed : (moment : ℕ) (ss : List Snapshot) → SnapshotsApart ss → SnapshotsApart (map (renewed moment) ss)
 apart_renewed moment [] apart = tt
 apart_renewed moment (s ∷ ss) apart =
     (all_map (λ (t : Snapshot). t.table ≢ s.table) (λ (t : Snapshot). t.table ≢ s.table) (renewed moment) ss (λ t other. other) apart.0, apart_renewed moment ss apart.1)
@@ -103,7 +103,7 @@ module _ (schema : Schema) where
     refreshed-master x _ is happening.Not = refl
     refreshed-master x _ is (happening.From master found isnt) = absurd (cc (is, isnt))
 
-    apart_by : (x y : SiteState) → IsRefreshed sites x y → AreApart x.snapshots → AreApart y.snapshots
+    apart_by : (x y : SiteState) → IsRefreshed sites x y → SnapshotsApart x.snapshots → SnapshotsApart y.snapshots
     apart_by x _ happening.Not apart = apart
     apart_by x _ (happening.From master found isnt) apart = apart_renewed master.moment x.snapshots apart
 
@@ -148,7 +148,7 @@ module _ (schema : Schema) where
     none_keep_up : (n y : SiteState) → y.snapshots ≡ [] → AllKeepUp schema later n y y.snapshots
     none_keep_up n y none = subst (AllKeepUp schema later n y) (sym none) tt
 
-    own_by : (x m n y : SiteState) → IsRefreshed sites x y → site_of name sites ≡ Some x → master_in schema sites x ≡ Some m → AreApart x.snapshots → AllKeepUp schema begun m x x.snapshots → (x.snapshots ≡ []) ⊎ (n ≡ m)
+    own_by : (x m n y : SiteState) → IsRefreshed sites x y → site_of name sites ≡ Some x → master_in schema sites x ≡ Some m → SnapshotsApart x.snapshots → AllKeepUp schema begun m x x.snapshots → (x.snapshots ≡ []) ⊎ (n ≡ m)
         → AllKeepUp schema later n x x.snapshots → AllKeepUp schema later n y y.snapshots
     own_by x m n _ happening.Not at_x there apart up stays new = new
     own_by x m n y (happening.From master found isnt) at_x there apart up (inl none) new = none_keep_up n _ (ap (map (renewed master.moment)) none)

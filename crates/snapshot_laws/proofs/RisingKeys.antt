@@ -16,7 +16,7 @@ use Rattle.site_state.specs.Steps.{begun}
 use Rattle.site_state.specs.Purges.{site_purge_log}
 use Rattle.site_state.specs.Joining.{site_open}
 use Rattle.site_state.proofs.RisingKeys.{rising-with_keys}
-use Rattle.event_laws.specs.Core.{Core, site_of, at_site}
+use Rattle.event_laws.specs.Cluster.{Cluster, site_of, at_site}
 use Rattle.event_laws.specs.Joins.{copied, with_joined}
 use Rattle.event_laws.specs.Events.{refreshed, run}
 use Rattle.event_laws.proofs.Sites.{KeepsHere, found_all, found_or, site_of-joined}
@@ -25,7 +25,7 @@ use Rattle.event_laws.proofs.Happening as happening
 use Rattle.snapshot_laws.specs.Starts.{master_at, StartsFrom, StartsWithSnapshots, IsSnapshotStart}
 use Rattle.snapshot_laws.specs.Laws.{KeysRise, SnapshotKeysRise}
 use Rattle.snapshot_laws.proofs.Moves.{all_map, all_weaker, Moves}
-use Rattle.snapshot_laws.proofs.Keeping.{site_of-at_site}
+use Rattle.snapshot_laws.proofs.SitesKeepUp.{site_of-at_site}
 use Rattle.snapshot_laws.proofs.Refreshing.{refreshed_here}
 use Rattle.snapshot_laws.proofs.Joining.{snapshots-copied}
 use Rattle.snapshot_laws.proofs.RunsFit.{SitesFit}
@@ -94,7 +94,7 @@ becomes_touched schema xs names _ _ fit (events.Joins site source) all = touched
 
 -- ---- from the start
 
-starts_touched : (schema : Schema) (start : Core) → IsSnapshotStart schema start → TouchedRiseIn start.sites
+starts_touched : (schema : Schema) (start : Cluster) → IsSnapshotStart schema start → TouchedRiseIn start.sites
 starts_touched schema start is site = go (site_of site start.sites) refl
   where
     shown : (o : Option SiteState) (x : SiteState) (s : Snapshot) → StartsFrom o x s → TouchedRises s

@@ -6,7 +6,7 @@ use Rattle.rep_lists.proofs.Rising.{rising_put, rising_take}
 use Rattle.rep_values.specs.Order.{key_cmp}
 use Rattle.rep_values.specs.OrderLaws.{key_cmp_total}
 use Rattle.rep_schema.specs.declared.schema.Column.{Column}
-use Rattle.rep_schema.specs.Tables.{Cells, Rows, key_of, beside, row_cmp, find_row, put_row}
+use Rattle.rep_schema.specs.Tables.{Cells, Rows, key_of, row_beside, row_cmp, find_row, put_row}
 use Rattle.rep_schema.specs.Shown.{shown_by}
 use Rattle.rep_schema.specs.Groups.{are_same}
 use Rattle.rep_schema.proofs.FoundRows.{find_row-put_own, find_row-put_other, find_row-take_own, find_row-take_other, rows_from_finds, key_of-found}
@@ -17,7 +17,7 @@ use Rattle.snapshot_laws.proofs.Keys.{both_fail, same_key, same_own}
 
 module _ (columns : List Column) (test : Cells → Bool) (master : Rows) (rises : IsRising (row_cmp columns) master) where
   rising-with_row : (key : Cells) (found : Option Cells) (rows : Rows) → IsRising (row_cmp columns) rows → IsRising (row_cmp columns) (with_row columns key found rows)
-  rising-with_row key None rows rising = rising_take (key_of columns) key_cmp key_cmp_total (beside columns key) rows rising
+  rising-with_row key None rows rising = rising_take (key_of columns) key_cmp key_cmp_total (row_beside columns key) rows rising
   rising-with_row key (Some row) rows rising = rising_put (key_of columns) key_cmp key_cmp_total row rows rising
 
   -- what is shown under a key has it

@@ -13,7 +13,7 @@ use Rattle.site_state.specs.Errors.{site_execute, site_drop}
 use Rattle.site_state.specs.Purges.{site_purge, site_purge_log}
 use Rattle.site_state.proofs.Stepping.{commit_steps, apply_steps, execute_steps, drop_steps}
 use Rattle.site_state.proofs.Changing.{accept_later}
-use Rattle.event_laws.specs.Core.{Core, site_of, at_site}
+use Rattle.event_laws.specs.Cluster.{Cluster, site_of, at_site}
 use Rattle.event_laws.specs.Joins.{may_join, with_joined, joined_by, joined}
 use Rattle.event_laws.specs.Events.{Event, Commit, SetClock, Send, SendMark, Deliver, Begin, Apply, Execute, Drop, Purge, PurgeLog, Refresh, Join, receiver, delivered, without, may_apply, applied_where, refreshed, begun_after, happens, run}
 use Rattle.event_laws.specs.Fitting.{IsFitStart}
@@ -33,17 +33,17 @@ module _ (schema : Schema) where
     Refreshes : (name : SiteName) → Becomes sites names (at_site name (refreshed sites) sites) (begun_after name (site_of name sites) names)
     Joins : (site : SiteName) (source : SiteState) → Becomes sites names (with_joined sites source site) names
 
-  calls : (w : Core) (name : SiteName) (change : SiteState → SiteState) → SitesFit schema w.sites → KeepsHere change → ((x : SiteState) → site_of name w.sites ≡ Some x → CanCall x → Moves x.schema (is_among w.begun name) x (change x))
+  calls : (w : Cluster) (name : SiteName) (change : SiteState → SiteState) → SitesFit schema w.sites → KeepsHere change → ((x : SiteState) → site_of name w.sites ≡ Some x → CanCall x → Moves x.schema (is_among w.begun name) x (change x))
       → Becomes w.sites w.begun (at_site name change w.sites) w.begun
   calls w name change fit here moves = Calls name change here
       (λ x at_x. subst (λ (s : Schema). Moves s (is_among w.begun name) x (change x)) (fit.of_schema name x at_x) (moves x at_x (fit.can name x at_x)))
 
-  delivered_becomes : (w : Core) → SitesFit schema w.sites → (packet : Option Packet) → Becomes w.sites w.begun (delivered packet w.sites) w.begun
+  delivered_becomes : (w : Cluster) → SitesFit schema w.sites → (packet : Option Packet) → Becomes w.sites w.begun (delivered packet w.sites) w.begun
   delivered_becomes w fit None = Stays
   delivered_becomes w fit (Some packet) = calls w (receiver packet) (site_accept packet) fit (λ x. (accept_later packet x).here) (λ x at_x can. inl (accept_quiet packet x))
 
   -- where a position may be applied at a master, a pass was begun
-  begun_there : (w : Core) (name : SiteName) (x : SiteState) → may_apply name w ≡ true → site_of name w.sites ≡ Some x → x.here.is_master ≡ true → is_among w.begun name ≡ true
+  begun_there : (w : Cluster) (name : SiteName) (x : SiteState) → may_apply name w ≡ true → site_of name w.sites ≡ Some x → x.here.is_master ≡ true → is_among w.begun name ≡ true
   begun_there w name x may at_x master = go (is_among w.begun name) x.here.is_master (rw at_x at may) master
     where
       go : (b c : Bool) → (b || not c) ≡ true → c ≡ true → b ≡ true
@@ -51,7 +51,7 @@ module _ (schema : Schema) where
       go false true may is = absurd (cc may)
       go false false may is = absurd (cc is)
 
-  applied_becomes : (w : Core) (site origin : SiteName) (position : ℕ) → SitesFit schema w.sites → (b : Bool) → may_apply site w ≡ b → Becomes w.sites w.begun (applied_where b site origin position w.sites) w.begun
+  applied_becomes : (w : Cluster) (site origin : SiteName) (position : ℕ) → SitesFit schema w.sites → (b : Bool) → may_apply site w ≡ b → Becomes w.sites w.begun (applied_where b site origin position w.sites) w.begun
   applied_becomes w site origin position fit true may = calls w site (site_apply origin position) fit (λ x. (apply_steps origin position x).here)
       (λ x at_x. apply_moves (is_among w.begun site) origin position x (begun_there w site x may at_x))
   applied_becomes w site origin position fit false may = Stays
@@ -69,7 +69,7 @@ module _ (schema : Schema) where
       go None (Some x) = by x (may_join sites x site)
 
   -- every event is of one of these kinds
-  happens_becomes : (e : Event) (w : Core) → SitesFit schema w.sites → Becomes w.sites w.begun (happens e w).sites (happens e w).begun
+  happens_becomes : (e : Event) (w : Cluster) → SitesFit schema w.sites → Becomes w.sites w.begun (happens e w).sites (happens e w).begun
   happens_becomes (Commit site statements) w fit = calls w site (site_commit statements) fit (λ x. (commit_steps statements x).here) (λ x at_x. commit_moves (is_among w.begun site) statements x)
   happens_becomes (SetClock site clock) w fit = calls w site (site_clock clock) fit (λ x. refl) (λ x at_x can. inl (clock_quiet clock x))
   happens_becomes (Send from to position) w fit = Stays
@@ -87,7 +87,7 @@ module _ (schema : Schema) where
   -- what each kind keeps where the sites fit holds after every list of events
   pub run_becomes : (P : List SiteState → List SiteName → Type 0)
       → ((xs : List SiteState) (names : List SiteName) (ys : List SiteState) (later : List SiteName) → SitesFit schema xs → Becomes xs names ys later → P xs names → P ys later)
-      → (start : Core) → IsFitStart schema start → (events : List Event) → P start.sites start.begun → P (run events start).sites (run events start).begun
+      → (start : Cluster) → IsFitStart schema start → (events : List Event) → P start.sites start.begun → P (run events start).sites (run events start).begun
   run_becomes P keeps start is [] holds = holds
   run_becomes P keeps start is (e ∷ events) holds =
       keeps (run events start).sites (run events start).begun (happens e (run events start)).sites (happens e (run events start)).begun

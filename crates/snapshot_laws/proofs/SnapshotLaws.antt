@@ -15,11 +15,11 @@ use Rattle.site_state.specs.State.{LogState, SiteState}
 use Rattle.site_state.specs.Contents.{tables_of}
 use Rattle.site_state.specs.Notes.{purged_of, is_too_young}
 use Rattle.site_state.specs.Refreshes.{renewed, site_refresh}
-use Rattle.event_laws.specs.Core.{Core, site_of, at_site}
+use Rattle.event_laws.specs.Cluster.{Cluster, site_of, at_site}
 use Rattle.event_laws.specs.Rules.{rows_ruled, is_purged_above, has_young_parents, is_young}
 use Rattle.event_laws.specs.Events.{Event, master_of, found_site, refreshed_from, refreshed, run}
-use Rattle.site_state.specs.Fits.{AreApart}
-use Rattle.snapshot_laws.specs.Waiting.{unsettled_keys, IsParentOld}
+use Rattle.site_state.specs.Fits.{SnapshotsApart}
+use Rattle.snapshot_laws.specs.Waiting.{outdated_keys, IsParentOld}
 use Rattle.snapshot_laws.specs.Pending.{pending_table, pending_rows}
 use Rattle.snapshot_laws.specs.Starts.{master_at, IsSnapshotStart}
 use Rattle.snapshot_laws.specs.Laws.{OthersAreShown, OtherKeysAreTheMasters, FastIsComplete, ShowsTheMaster, RefreshedIsTheRule, ParentsRise, PendingParentsRise}
@@ -27,9 +27,9 @@ use Rattle.snapshot_laws.proofs.Keys.{neither, has_key-with_keys, told}
 use Rattle.snapshot_laws.proofs.RowsFromKeys.{rows_from_keys-filter}
 use Rattle.snapshot_laws.proofs.Moves.{all_weaker}
 use Rattle.snapshot_laws.proofs.ParentKeys.{rising_parents}
-use Rattle.snapshot_laws.proofs.KeepingUp.{KeepsUp, AllKeepUp}
-use Rattle.snapshot_laws.proofs.Settling.{is_settled}
-use Rattle.snapshot_laws.proofs.Keeping.{site_of-at_site, KeepUpWith, SiteKeepsUp, master_in, found_keeps_up}
+use Rattle.snapshot_laws.proofs.SnapshotsKeepUp.{KeepsUp, AllKeepUp}
+use Rattle.snapshot_laws.proofs.UpToDate.{is_up_to_date}
+use Rattle.snapshot_laws.proofs.SitesKeepUp.{site_of-at_site, KeepUpWith, SiteKeepsUp, master_in, found_keeps_up}
 use Rattle.snapshot_laws.proofs.Refreshing.{all_ruled, masters_tables, within_tables, refreshed_here}
 use Rattle.snapshot_laws.proofs.RunsFit.{SitesFit, run_fits}
 use Rattle.snapshot_laws.proofs.Events.{run_keeps_up}
@@ -49,7 +49,7 @@ module _ (begun : List SiteName) (m x : SiteState) where
   others_shown s up young = record {
     shows = λ key none.
         let old = neither (is_too_young m.logs s) (has_young_parents m.logs s) young in
-        let both = is_settled x.schema m.logs (tables_of m) s key none in
+        let both = is_up_to_date x.schema m.logs (tables_of m) s key none in
         let own = has_key-with_keys key (told s.table s.mark m.logs) s.touched both.0 in
         up.others key (not_above s.mark (purged_of s.table m.logs) old.0) (parents_not_above m.logs s.mark s.parent old.1) own.0 own.1 both.1;
   }
@@ -58,7 +58,7 @@ module _ (begun : List SiteName) (m x : SiteState) where
   pending_is : (s : Snapshot) → AreTables x.schema (tables_of m) → AreTables x.schema (tables_of x) → KeepsUp x.schema begun m x s → is_young m.logs s ≡ false
       → pending_table m x s ≡ record { table = s.table; rows = rule_rows x.schema (tables_of m) s }
   pending_is s are_m are_x up young = ap (λ (rows : Rows). record { table = s.table; rows = rows })
-      (rows_from_keys-filter (columns_of x.schema s.table) (picks x.schema (tables_of m) s) (rows_of (tables_of m) s.table) (are_m.each s.table up.within).rising (unsettled_keys x.schema m.logs (tables_of m) s) (rows_of (tables_of x) s.table)
+      (rows_from_keys-filter (columns_of x.schema s.table) (picks x.schema (tables_of m) s) (rows_of (tables_of m) s.table) (are_m.each s.table up.within).rising (outdated_keys x.schema m.logs (tables_of m) s) (rows_of (tables_of x) s.table)
       (are_x.each s.table up.within).rising (others_shown s up young))
 
   all_pending : (ss : List Snapshot) → AreTables x.schema (tables_of m) → AreTables x.schema (tables_of x) → AllKeepUp x.schema begun m x ss → AllByRecursion (λ (s : Snapshot). is_young m.logs s ≡ false) ss
@@ -67,14 +67,14 @@ module _ (begun : List SiteName) (m x : SiteState) where
   all_pending (s ∷ ss) are_m are_x up young = rw (pending_is s are_m are_x up.0 young.0, all_pending ss are_m are_x up.1 young.1) refl
 
   -- after a refresh its table has the rows that it picks
-  refreshed_all : AreTables x.schema (tables_of x) → AreApart x.snapshots → AllKeepUp x.schema begun m x x.snapshots
+  refreshed_all : AreTables x.schema (tables_of x) → SnapshotsApart x.snapshots → AllKeepUp x.schema begun m x x.snapshots
       → AllByRecursion (ShowsTheMaster m (site_refresh (rows_ruled x.schema (tables_of m) x.snapshots) m.moment x)) (map (renewed m.moment) x.snapshots)
   refreshed_all are apart up = all_ruled x (tables_of m) m.moment apart (within_tables x.schema begun m x (tables_of x) are x.snapshots up)
 
 -- ---- a site of a run and its master
 
-module _ (schema : Schema) (start : Core) (events : List Event) (is : IsSnapshotStart schema start) where
-  abbrev w : Core
+module _ (schema : Schema) (start : Cluster) (events : List Event) (is : IsSnapshotStart schema start) where
+  abbrev w : Cluster
   w = run events start
 
   fit : SitesFit schema w.sites

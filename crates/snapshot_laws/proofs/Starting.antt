@@ -12,15 +12,15 @@ use Rattle.site_state.specs.declared.entry.Entry.{Entry}
 use Rattle.site_state.specs.State.{SiteState, is_among}
 use Rattle.site_state.specs.Contents.{journal_content, tables_of}
 use Rattle.site_state.specs.Fits.{AreWithin}
-use Rattle.event_laws.specs.Core.{Core, site_of}
+use Rattle.event_laws.specs.Cluster.{Cluster, site_of}
 use Rattle.event_laws.specs.Rules.{IsParentWithin}
 use Rattle.event_laws.specs.Events.{master_of, found_site}
 use Rattle.event_laws.specs.Starts.{IsNewSite}
 use Rattle.event_laws.specs.Fitting.{StartsFit}
 use Rattle.event_laws.proofs.Sites.{found_all}
 use Rattle.snapshot_laws.specs.Starts.{StartsShown, StartsFrom, StartsWithSnapshots, IsSnapshotStart}
-use Rattle.snapshot_laws.proofs.KeepingUp.{KeepsUp, AllKeepUp}
-use Rattle.snapshot_laws.proofs.Keeping.{KeepUpWith, SitesKeepUp, KeepsUpAt}
+use Rattle.snapshot_laws.proofs.SnapshotsKeepUp.{KeepsUp, AllKeepUp}
+use Rattle.snapshot_laws.proofs.SitesKeepUp.{KeepUpWith, SitesKeepUp, KeepsUpAt}
 use Rattle.snapshot_laws.proofs.RunsFit.{run_fits}
 
 module _ (schema : Schema) where
@@ -28,7 +28,7 @@ module _ (schema : Schema) where
   tables_of-new : (x : SiteState) → IsNewSite schema x → tables_of x ≡ x.base
   tables_of-new x new = ap (λ (j : List Entry). (journal_content x.schema x.here.site x.base j).tables) new.journal
 
-  module _ (start : Core) (is : IsSnapshotStart schema start) where
+  module _ (start : Cluster) (is : IsSnapshotStart schema start) where
     shown_keeps_up : (m x : SiteState) (s : Snapshot) → IsNewSite schema m → IsNewSite schema x → AreTables schema (tables_of m) → s.table < length schema.tables → StartsShown m x s → KeepsUp schema start.begun m x s
     shown_keeps_up m x s new_m new are within shows = record {
       master = shows.master;

@@ -15,7 +15,7 @@ use Rattle.site_state.specs.Contents.{tables_of}
 use Rattle.site_state.specs.Notes.{pending_keys}
 use Rattle.site_state.specs.Making.{new_site}
 use Rattle.site_state.proofs.WorkedSites.{a, s, master, snapshot_of, number_column, key_column, table_t, n, at_first}
-use Rattle.event_laws.specs.Core.{Core, site_of}
+use Rattle.event_laws.specs.Cluster.{Cluster, site_of}
 use Rattle.event_laws.specs.Rules.{rows_ruled, is_young}
 use Rattle.event_laws.specs.Events.{Commit, Send, SendMark, Deliver, Begin, Apply, PurgeLog, Refresh, run}
 use Rattle.snapshot_laws.specs.Pending.{pending_rows}
@@ -47,7 +47,7 @@ site_a = at_first schema all_rows a
 abbrev pub site_s : SiteState
 site_s = new_site schema (record { site = s; is_master = false; tables = true ∷ [] }) [] (zone_1 ∷ []) (rows_of_zone_1 ∷ [])
 
-abbrev pub start : Core
+abbrev pub start : Cluster
 start = record { sites = site_a ∷ site_s ∷ []; sent = []; begun = [] }
 
 -- ---- what is shown of the master and the snapshot's site
@@ -57,22 +57,22 @@ of_both other f None x = other
 of_both other f (Some m) None = other
 of_both other f (Some m) (Some x) = f m x
 
-abbrev both : {X : Type 0} → X → (SiteState → SiteState → X) → Core → X
+abbrev both : {X : Type 0} → X → (SiteState → SiteState → X) → Cluster → X
 both other f w = of_both other f (site_of a w.sites) (site_of s w.sites)
 
-abbrev made_rows : Core → List TableRows
+abbrev made_rows : Cluster → List TableRows
 made_rows w = both [] pending_rows w
 
-abbrev queried_rows : Core → List TableRows
+abbrev queried_rows : Cluster → List TableRows
 queried_rows w = both [] (λ m x. rows_ruled x.schema (tables_of m) x.snapshots) w
 
-abbrev pending : Core → List Cells
+abbrev pending : Cluster → List Cells
 pending w = both [] (λ m x. flat_map (pending_keys m.logs) x.snapshots) w
 
-abbrev are_too_young : Core → List Bool
+abbrev are_too_young : Cluster → List Bool
 are_too_young w = both [] (λ m x. map (is_young m.logs) x.snapshots) w
 
-abbrev snapshot_rows : Core → List Rows
+abbrev snapshot_rows : Cluster → List Rows
 snapshot_rows w = both [] (λ m x. tables_of x) w
 
 abbrev of_table : Rows → List TableRows
@@ -85,7 +85,7 @@ set_column column k value = Update (record { 0 = codes "T" }) (literal.Num (pos 
 
 -- ---- a row that comes into the zone is put, and one that leaves it is taken
 
-abbrev zones_changed : Core
+abbrev zones_changed : Cluster
 zones_changed = run (Commit a (set_column (codes "ZONE") 1 2 ∷ set_column (codes "ZONE") 3 1 ∷ []) ∷ []) start
 
 moved_rows_are_pending : pending zones_changed ≡ (n 1 ∷ []) ∷ (n 3 ∷ []) ∷ []
@@ -99,7 +99,7 @@ moved_rows_are_made = refl
 -- ---- a row left the zone at the master, and the snapshot's site changed it and another one, which stands in error: both
 -- keys are pending, though the log tells of only one of them
 
-abbrev both_changed : Core
+abbrev both_changed : Cluster
 both_changed = run (
     Deliver 0 ∷ SendMark a s ∷ Apply a s 1 ∷ Begin a ∷ Deliver 0 ∷ Send s a 1
     ∷ Commit s (set_column (codes "Q") 1 11 ∷ set_column (codes "Q") 2 21 ∷ []) ∷ Commit a (set_column (codes "ZONE") 1 2 ∷ []) ∷ []
@@ -115,7 +115,7 @@ masters_row_is_made = refl
 
 -- ---- a key that was purged may never have matched, so a log can be too young though every row is right
 
-abbrev other_zone_purged : Core
+abbrev other_zone_purged : Cluster
 other_zone_purged = run (PurgeLog a 0 ∷ Commit a (set_column (codes "Q") 3 31 ∷ []) ∷ []) start
 
 log_is_too_young : are_too_young other_zone_purged ≡ true ∷ []
@@ -132,7 +132,7 @@ rows_stand = refl
 
 -- ---- and where it did match, the pending keys don't make the rows
 
-abbrev own_zone_purged : Core
+abbrev own_zone_purged : Cluster
 own_zone_purged = run (PurgeLog a 0 ∷ Commit a (set_column (codes "Q") 1 11 ∷ []) ∷ []) start
 
 nothing_is_pending : pending own_zone_purged ≡ []

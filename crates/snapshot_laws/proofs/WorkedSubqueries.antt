@@ -21,7 +21,7 @@ use Rattle.site_state.specs.Notes.{pending_keys, purged_of, is_too_young}
 use Rattle.site_state.specs.Purges.{purge_log_answer}
 use Rattle.site_state.specs.Making.{master_here, new_site}
 use Rattle.site_state.proofs.WorkedSites.{a, s, master, snapshot_of, number_column, key_column, n}
-use Rattle.event_laws.specs.Core.{Core, site_of}
+use Rattle.event_laws.specs.Cluster.{Cluster, site_of}
 use Rattle.event_laws.specs.Rules.{rows_ruled, pending_parents, has_young_parents, is_young, refresh_ruled_answer}
 use Rattle.event_laws.specs.Events.{Commit, PurgeLog, Refresh, run}
 use Rattle.snapshot_laws.specs.Pending.{pending_rows}
@@ -63,7 +63,7 @@ site_a = new_site schema (master_here schema a) (true ∷ true ∷ []) [] ((two 
 abbrev pub site_s : SiteState
 site_s = new_site schema (record { site = s; is_master = false; tables = false ∷ true ∷ [] }) [] (orders ∷ []) ([] ∷ (three 1 7 10 ∷ []) ∷ [])
 
-abbrev pub start : Core
+abbrev pub start : Cluster
 start = record { sites = site_a ∷ site_s ∷ []; sent = []; begun = [] }
 
 -- ---- what is shown of the master and the snapshot's site
@@ -73,32 +73,32 @@ of_both other f None x = other
 of_both other f (Some m) None = other
 of_both other f (Some m) (Some x) = f m x
 
-abbrev both : {X : Type 0} → X → (SiteState → SiteState → X) → Core → X
+abbrev both : {X : Type 0} → X → (SiteState → SiteState → X) → Cluster → X
 both other f w = of_both other f (site_of a w.sites) (site_of s w.sites)
 
-abbrev made_rows : Core → List TableRows
+abbrev made_rows : Cluster → List TableRows
 made_rows w = both [] pending_rows w
 
-abbrev ruled_rows : Core → List TableRows
+abbrev ruled_rows : Cluster → List TableRows
 ruled_rows w = both [] (λ m x. rows_ruled x.schema (tables_of m) x.snapshots) w
 
-abbrev keys : Core → List Cells
+abbrev keys : Cluster → List Cells
 keys w = both [] (λ m x. flat_map (pending_keys m.logs) x.snapshots) w
 
-abbrev parents : Core → List Cells
+abbrev parents : Cluster → List Cells
 parents w = both [] (λ m x. flat_map (pending_parents m.logs) x.snapshots) w
 
 abbrev none_counted : RefreshCount
 none_counted = record { keys = 0; rows = 0 }
 
 -- what a refresh by the master's logs answers
-abbrev count_of_refresh : Core → RefreshCount
+abbrev count_of_refresh : Cluster → RefreshCount
 count_of_refresh w = both none_counted (λ m x. refresh_ruled_answer m.logs (rows_ruled x.schema (tables_of m) x.snapshots) x) w
 
-abbrev are_young : Core → List Bool
+abbrev are_young : Cluster → List Bool
 are_young w = both [] (λ m x. map (is_young m.logs) x.snapshots) w
 
-abbrev snapshot_rows : Core → List Rows
+abbrev snapshot_rows : Cluster → List Rows
 snapshot_rows w = both [] (λ m x. tables_of x) w
 
 abbrev of_table : ℕ → Rows → List TableRows
@@ -109,7 +109,7 @@ set_column table key column value = Update (record { 0 = table }) (literal.Num (
 
 -- ---- customers change their zones: no order is pending, but both customers are, and the orders change places
 
-abbrev zones_changed : Core
+abbrev zones_changed : Cluster
 zones_changed = run (Commit a (set_column (codes "CUST") 8 (codes "ZONE") 1 ∷ set_column (codes "CUST") 7 (codes "ZONE") 3 ∷ []) ∷ []) start
 
 no_keys_are_pending : keys zones_changed ≡ []
@@ -142,10 +142,10 @@ other_order_is_refreshed = refl
 
 -- ---- orders move to other customers, and the customers' log is purged: it is empty, and too young
 
-abbrev orders_moved : Core
+abbrev orders_moved : Cluster
 orders_moved = run (Commit a (set_column (codes "ORD") 1 (codes "CUST") 8 ∷ set_column (codes "ORD") 2 (codes "CUST") 9 ∷ []) ∷ []) start
 
-abbrev parents_purged : Core
+abbrev parents_purged : Cluster
 parents_purged = run (PurgeLog a 0 ∷ []) orders_moved
 
 own_keys_are_pending : keys orders_moved ≡ (n 1 ∷ []) ∷ (n 2 ∷ []) ∷ []
@@ -182,7 +182,7 @@ nothing_is_refreshed = refl
 
 -- ---- where a log that tells of a parent is purged, the keys that are pending don't make the rows
 
-abbrev zones_purged : Core
+abbrev zones_purged : Cluster
 zones_purged = run (PurgeLog a 0 ∷ []) zones_changed
 
 old_order_is_made : made_rows zones_purged ≡ of_table 1 (three 1 7 10 ∷ [])
@@ -191,7 +191,7 @@ old_order_is_made = refl
 
 -- ---- a customer goes and comes again, and one is new
 
-abbrev customers_changed : Core
+abbrev customers_changed : Cluster
 customers_changed = run (
     Commit a (Insert (record { 0 = codes "CUST" }) (literal.Num (pos 9) ∷ literal.Num (pos 1) ∷ []) ∷ Delete (record { 0 = codes "CUST" }) (literal.Num (pos 7) ∷ []) ∷ [])
     ∷ Commit a (set_column (codes "ORD") 2 (codes "CUST") 9 ∷ []) ∷ []
@@ -223,7 +223,7 @@ workers_of_zone_1 = record {
   touched = [];
 }
 
-abbrev pub workers : Core
+abbrev pub workers : Cluster
 workers = record {
   sites = new_site workers_schema (master_here workers_schema a) (true ∷ []) [] ((three 1 1 1 ∷ three 2 1 2 ∷ three 3 2 1 ∷ []) ∷ [])
       ∷ new_site workers_schema (record { site = s; is_master = false; tables = true ∷ [] }) [] (workers_of_zone_1 ∷ []) ((three 1 1 1 ∷ three 2 1 2 ∷ []) ∷ [])
@@ -233,7 +233,7 @@ workers = record {
 }
 
 -- the boss of 3 comes into zone 1
-abbrev boss_changed : Core
+abbrev boss_changed : Cluster
 boss_changed = run (Commit a (set_column (codes "EMP") 2 (codes "ZONE") 1 ∷ []) ∷ []) workers
 
 row_and_parent_are_pending : keys boss_changed ≡ parents boss_changed

@@ -11,25 +11,25 @@ use Rattle.snapshot_query.specs.Parents.{picks}
 use Rattle.site_state.specs.State.{LogState, SiteState}
 use Rattle.site_state.specs.Contents.{tables_of}
 use Rattle.site_state.specs.Notes.{pending_keys}
-use Rattle.event_laws.specs.Core.{Core, site_of}
+use Rattle.event_laws.specs.Cluster.{Cluster, site_of}
 use Rattle.event_laws.specs.Rules.{rows_ruled, pending_parents, is_young, IsParentWithin}
 use Rattle.event_laws.specs.Events.{Event, Refresh, run}
 use Rattle.fast_refresh.specs.Showing.{ShowsOthers}
-use Rattle.snapshot_laws.specs.Waiting.{unsettled_keys}
+use Rattle.snapshot_laws.specs.Waiting.{outdated_keys}
 use Rattle.snapshot_laws.specs.Pending.{pending_rows}
 use Rattle.snapshot_laws.specs.Starts.{master_at, IsSnapshotStart}
 use Rattle.snapshot_laws.specs.Refreshed.{IsRuled}
 
 -- so it is with every master and each site that has snapshots of it, after every list of events
 abbrev pub WithEveryMaster : (SiteState → SiteState → Type 0) → Type 0
-WithEveryMaster Holds = (schema : Schema) (start : Core) (events : List Event) → IsSnapshotStart schema start → (site : SiteName) (x m : SiteState)
+WithEveryMaster Holds = (schema : Schema) (start : Cluster) (events : List Event) → IsSnapshotStart schema start → (site : SiteName) (x m : SiteState)
     → site_of site (run events start).sites ≡ Some x → master_at (run events start).sites x ≡ Some m → Holds m x
 
 -- where no log that it goes by is too young, a snapshot's table has under each settled key what the snapshot shows of the
 -- master's row
 abbrev pub OthersAreShown : SiteState → SiteState → Snapshot → Type 0
 OthersAreShown m x s = is_young m.logs s ≡ false
-    → ShowsOthers (columns_of x.schema s.table) (picks x.schema (tables_of m) s) (unsettled_keys x.schema m.logs (tables_of m) s) (rows_of (tables_of m) s.table) (rows_of (tables_of x) s.table)
+    → ShowsOthers (columns_of x.schema s.table) (picks x.schema (tables_of m) s) (outdated_keys x.schema m.logs (tables_of m) s) (rows_of (tables_of m) s.table) (rows_of (tables_of x) s.table)
 
 abbrev pub OtherKeysAreTheMasters : Type 0
 OtherKeysAreTheMasters = WithEveryMaster (λ m x. AllByRecursion (OthersAreShown m x) x.snapshots)
@@ -44,7 +44,7 @@ ShowsTheMaster m y s = IsRuled y.schema (tables_of m) m.moment (tables_of y) s
 
 -- so it is after every refresh of a snapshot site
 abbrev pub RefreshedIsTheRule : Type 0
-RefreshedIsTheRule = (schema : Schema) (start : Core) (events : List Event) → IsSnapshotStart schema start → (site : SiteName) (x m y : SiteState)
+RefreshedIsTheRule = (schema : Schema) (start : Cluster) (events : List Event) → IsSnapshotStart schema start → (site : SiteName) (x m y : SiteState)
     → site_of site (run events start).sites ≡ Some x → master_at (run events start).sites x ≡ Some m → x.here.is_master ≡ false
     → site_of site (run (Refresh site ∷ events) start).sites ≡ Some y → AllByRecursion (ShowsTheMaster m y) y.snapshots
 
@@ -56,7 +56,7 @@ pub record KeysRise (s : Snapshot) : Type 0 where
 
 -- so it is with each snapshot of every site, after every list of events
 abbrev pub SnapshotKeysRise : Type 0
-SnapshotKeysRise = (schema : Schema) (start : Core) (events : List Event) → IsSnapshotStart schema start → (site : SiteName) (x : SiteState)
+SnapshotKeysRise = (schema : Schema) (start : Cluster) (events : List Event) → IsSnapshotStart schema start → (site : SiteName) (x : SiteState)
     → site_of site (run events start).sites ≡ Some x → AllByRecursion KeysRise x.snapshots
 
 -- the table of a snapshot's parents is there, and the keys of its pending parents rise: each comes once

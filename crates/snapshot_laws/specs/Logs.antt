@@ -4,7 +4,7 @@ use Rattle.std.specs.List.{AllByRecursion}
 use Rattle.rep_values.specs.declared.name.SiteName.{SiteName}
 use Rattle.rep_schema.specs.declared.schema.Schema.{Schema}
 use Rattle.site_state.specs.State.{LoggedKey, LogState, SiteState}
-use Rattle.event_laws.specs.Core.{Core, site_of}
+use Rattle.event_laws.specs.Cluster.{Cluster, site_of}
 use Rattle.event_laws.specs.Events.{Event, run}
 use Rattle.snapshot_laws.specs.Starts.{IsLogStart}
 
@@ -18,5 +18,5 @@ AreNotedSince moment log = AllByRecursion (IsNotedSince log.purged moment) log.k
 
 -- so it is with each log of every master, from new logs on
 abbrev pub NotedAreAbovePurged : Type 0
-NotedAreAbovePurged = (schema : Schema) (start : Core) (events : List Event) → IsLogStart schema start → (site : SiteName) (x : SiteState)
+NotedAreAbovePurged = (schema : Schema) (start : Cluster) (events : List Event) → IsLogStart schema start → (site : SiteName) (x : SiteState)
     → site_of site (run events start).sites ≡ Some x → x.here.is_master ≡ true → AllByRecursion (AreNotedSince x.moment) x.logs

@@ -8,7 +8,7 @@ use Rattle.snapshot_query.specs.Parents.{picks}
 use Rattle.site_state.specs.declared.rows.TableRows.{TableRows}
 use Rattle.site_state.specs.State.{SiteState}
 use Rattle.site_state.specs.Contents.{tables_of}
-use Rattle.snapshot_laws.specs.Waiting.{unsettled_keys}
+use Rattle.snapshot_laws.specs.Waiting.{outdated_keys}
 
 -- rows with this one under a key, or with none there
 abbrev pub with_row : List Column → Cells → Option Cells → Rows → Rows
@@ -24,7 +24,7 @@ rows_from_keys columns test master (key ∷ keys) rows = rows_from_keys columns 
 abbrev pub pending_table : SiteState → SiteState → Snapshot → TableRows
 pending_table m x s = record {
   table = s.table;
-  rows = rows_from_keys (columns_of x.schema s.table) (picks x.schema (tables_of m) s) (rows_of (tables_of m) s.table) (unsettled_keys x.schema m.logs (tables_of m) s) (rows_of (tables_of x) s.table);
+  rows = rows_from_keys (columns_of x.schema s.table) (picks x.schema (tables_of m) s) (rows_of (tables_of m) s.table) (outdated_keys x.schema m.logs (tables_of m) s) (rows_of (tables_of x) s.table);
 }
 
 -- and of all snapshots of a site

@@ -8,7 +8,7 @@ use Rattle.snapshot_query.specs.Parents.{rule_rows}
 use Rattle.site_state.specs.State.{SiteState}
 use Rattle.site_state.specs.Contents.{tables_of}
 use Rattle.site_state.specs.Refreshes.{site_refresh}
-use Rattle.site_state.specs.Fits.{AreApart, AreWithin}
+use Rattle.site_state.specs.Fits.{SnapshotsApart, AreWithin}
 use Rattle.event_laws.specs.Rules.{rows_ruled}
 
 -- a snapshot's table has the rows that it picks of the master's, its mark is a moment, and nothing is touched
@@ -25,5 +25,5 @@ pub record ShowsTables (master : List Rows) (moment : ℕ) (x y : SiteState) : T
 -- a site with as many tables as its schema, of which no two snapshots are of one table, shows a master's tables when it has got the
 -- rows that its snapshots pick of them
 abbrev pub RefreshedTablesAreTheRules : Type 0
-RefreshedTablesAreTheRules = (x : SiteState) (master : List Rows) (moment : ℕ) → length (tables_of x) ≡ length x.schema.tables → AreWithin x.schema x.snapshots → AreApart x.snapshots
+RefreshedTablesAreTheRules = (x : SiteState) (master : List Rows) (moment : ℕ) → length (tables_of x) ≡ length x.schema.tables → AreWithin x.schema x.snapshots → SnapshotsApart x.snapshots
     → ShowsTables master moment x (site_refresh (rows_ruled x.schema master x.snapshots) moment x)

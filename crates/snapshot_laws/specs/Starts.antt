@@ -9,8 +9,8 @@ use Rattle.snapshot_query.specs.declared.snapshot.Snapshot.{Snapshot}
 use Rattle.snapshot_query.specs.Parents.{rule_rows}
 use Rattle.site_state.specs.State.{LogState, SiteState}
 use Rattle.site_state.specs.Notes.{log_of}
-use Rattle.site_state.specs.Fits.{AreApart}
-use Rattle.event_laws.specs.Core.{Core}
+use Rattle.site_state.specs.Fits.{SnapshotsApart}
+use Rattle.event_laws.specs.Cluster.{Cluster}
 use Rattle.event_laws.specs.Rules.{IsParentWithin, IsParentLogged}
 use Rattle.event_laws.specs.Events.{master_of, found_site}
 use Rattle.event_laws.specs.Fitting.{IsFitStart}
@@ -38,11 +38,11 @@ StartsFrom None x s = ⊥
 StartsFrom (Some m) x s = StartsShown m x s
 
 pub record StartsWithSnapshots (sites : List SiteState) (x : SiteState) : Type 0 where
-  pub apart : AreApart x.snapshots
+  pub apart : SnapshotsApart x.snapshots
   pub shown : AllByRecursion (StartsFrom (master_at sites x) x) x.snapshots
 
 -- the sites fit, each snapshot shows its master's table, and no pass was begun
-pub record IsSnapshotStart (schema : Schema) (w : Core) : Type 0 where
+pub record IsSnapshotStart (schema : Schema) (w : Cluster) : Type 0 where
   pub fit : IsFitStart schema w
   pub sites : AllByRecursion (StartsWithSnapshots w.sites) w.sites
   pub begun : w.begun ≡ []
@@ -52,7 +52,7 @@ abbrev pub IsNewLog : LogState → Type 0
 IsNewLog log = (log.keys ≡ []) × (log.purged ≡ 0)
 
 -- the sites fit, their logs are new, and no pass was begun
-pub record IsLogStart (schema : Schema) (w : Core) : Type 0 where
+pub record IsLogStart (schema : Schema) (w : Cluster) : Type 0 where
   pub fit : IsFitStart schema w
   pub logs : AllByRecursion (λ (x : SiteState). AllByRecursion IsNewLog x.logs) w.sites
   pub begun : w.begun ≡ []

@@ -32,8 +32,8 @@ waiting_keys columns parent parents rows = map (key_of columns) (filter (waits_f
 
 -- the keys that aren't settled by a master's logs and tables: a snapshot's pending keys, and those of the rows that wait for its
 -- pending parents
-abbrev pub unsettled_keys : Schema → List LogState → List Rows → Snapshot → List Cells
-unsettled_keys schema logs tables s = pending_keys logs s ++ waiting_keys (columns_of schema s.table) s.parent (pending_parents logs s) (rows_of tables s.table)
+abbrev pub outdated_keys : Schema → List LogState → List Rows → Snapshot → List Cells
+outdated_keys schema logs tables s = pending_keys logs s ++ waiting_keys (columns_of schema s.table) s.parent (pending_parents logs s) (rows_of tables s.table)
 
 -- ---- the log of the parents
 

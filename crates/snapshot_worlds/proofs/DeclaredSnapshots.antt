@@ -9,7 +9,7 @@ use Rattle.deferred_queue.specs.Streams.{is_same_site}
 use Rattle.deferred_queue.proofs.Sites.{is_same_site-true, is_same_site-refl, eq_true}
 use Rattle.snapshot_query.specs.declared.parent.Parent.{Parent}
 use Rattle.snapshot_query.specs.declared.snapshot.Snapshot.{Snapshot}
-use Rattle.site_state.specs.Fits.{AreApart}
+use Rattle.site_state.specs.Fits.{SnapshotsApart}
 use Rattle.snapshot_laws.proofs.Moves.{all_weaker}
 use Rattle.world_state.specs.declared.declared_snapshot.DeclaredSnapshot.{DeclaredSnapshot}
 use Rattle.world_state.specs.Declaring.{is_snapshot_of, has_snapshot}
@@ -89,11 +89,11 @@ none_of (d ∷ ds) site table none = go (is_same_site d.site site) refl (none_of
     go false is later = later
 
 -- no table has two of them
-pub apart_at : (ds : List DeclaredSnapshot) (site : SiteName) → AreDeclaredOnce ds → AreApart (snapshots_at ds site)
+pub apart_at : (ds : List DeclaredSnapshot) (site : SiteName) → AreDeclaredOnce ds → SnapshotsApart (snapshots_at ds site)
 apart_at [] site once = tt
 apart_at (d ∷ ds) site once = go (is_same_site d.site site) refl (apart_at ds site once.1)
   where
-    go : (b : Bool) → is_same_site d.site site ≡ b → AreApart (snapshots_at ds site) → AreApart (map as_made (cond b (d ∷ filter (is_at site) ds) (filter (is_at site) ds)))
+    go : (b : Bool) → is_same_site d.site site ≡ b → SnapshotsApart (snapshots_at ds site) → SnapshotsApart (map as_made (cond b (d ∷ filter (is_at site) ds) (filter (is_at site) ds)))
     go true is later = (none_of ds site d.table (subst (λ (n : SiteName). has_snapshot ds n d.table ≡ false) (is_same_site-true d.site site is) once.0), later)
     go false is later = later
 

@@ -17,7 +17,7 @@ use Rattle.deferred_queue.proofs.Sites.{is_same_site-true}
 use Rattle.site_state.specs.State.{SiteState, is_master_site}
 use Rattle.site_state.specs.Making.{is_late_master}
 use Rattle.site_state.proofs.SchemaSites.{AreApart, are_apart, find_holds, any_found, place_found}
-use Rattle.event_laws.specs.Core.{site_of}
+use Rattle.event_laws.specs.Cluster.{site_of}
 use Rattle.event_laws.specs.Events.{master_of}
 use Rattle.world_state.specs.declared.declared_snapshot.DeclaredSnapshot.{DeclaredSnapshot}
 use Rattle.world_state.specs.Making.{site_made, entry_made, is_early}

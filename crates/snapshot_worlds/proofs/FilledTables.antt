@@ -23,12 +23,12 @@ use Rattle.rep_schema.specs.Fitting.{fits_kind, row_fits}
 use Rattle.rep_schema.specs.Kinds.{is_stamp, is_site_kind, is_filled, is_plain, is_key_at, has_kind}
 use Rattle.rep_schema.specs.Sites.{first_master}
 use Rattle.rep_schema.proofs.FittingTests.{row_test}
-use Rattle.rep_schema.proofs.KeptTables.{any_from_none}
+use Rattle.rep_schema.proofs.TableSteps.{any_from_none}
 use Rattle.schema_rules.specs.KeyRules.{is_well_keyed}
 use Rattle.schema_rules.specs.ConstraintRules.{has_plain_columns}
-use Rattle.schema_rules.specs.Soundness.{IsSound}
+use Rattle.schema_rules.specs.Soundness.{KeepsAllRules}
 use Rattle.schema_rules.specs.Rules.{broken_rule}
-use Rattle.schema_rules.proofs.SoundRules.{IsSound-unbroken}
+use Rattle.schema_rules.proofs.SoundRules.{KeepsAllRules-unbroken}
 use Rattle.rep_laws.proofs.SoundSchemas.{passes}
 use Rattle.local_txn.specs.Filled.{Filling, value_filled, filled_from, filled_row, everywhere}
 use Rattle.local_txn.specs.BaseRows.{filled_tables, IsNotFilled, FillsFreely}
@@ -49,7 +49,7 @@ unfilled_where_key k key allowed is_key =
     let unstamped : not (is_stamp k) ≡ true = rw is_key at allowed in
     rw (is_key, not-true (is_stamp k) unstamped, and_right (is_site_kind k) false refl) refl
 
-module _ (schema : Schema) (sound : IsSound schema) where
+module _ (schema : Schema) (sound : KeepsAllRules schema) where
   keys_unfilled : (table place : ℕ) (column : Column) → slice_get (columns_of schema table) place ≡ Some column → column.key ≡ true → is_filled column ≡ false
   keys_unfilled table place column there is_key = go (slice_get schema.tables table) refl there
     where
@@ -199,4 +199,4 @@ AreTables-rows_made schema base unbroken are = go (first_master schema)
   where
     go : (master : Option SiteEntry) → AreTables schema (filled_by master schema base)
     go None = are
-    go (Some master) = AreTables-filled schema base master.name (fills_freely schema ((IsSound-unbroken schema).1 unbroken)) are
+    go (Some master) = AreTables-filled schema base master.name (fills_freely schema ((KeepsAllRules-unbroken schema).1 unbroken)) are

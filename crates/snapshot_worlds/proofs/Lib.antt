@@ -6,8 +6,8 @@ mod Entries
 mod Logging
 mod DeclaredSnapshots
 pub mod Starting
-mod Holding
-pub mod Staying
+mod SnapshotsHold
+pub mod DeclaredStays
 mod Declaring
 pub mod Scripts
 mod WorkedSnapshots

@@ -18,9 +18,9 @@ use Rattle.rep_declare.specs.Shaping.{table_shaped}
 use Rattle.rep_declare.proofs.DeclaredTables.{AreTables-declared}
 use Rattle.schema_rules.specs.Rules.{broken_rule}
 use Rattle.local_txn.specs.BaseRows.{base_refusal}
-use Rattle.event_laws.specs.Core.{Core, site_of}
+use Rattle.event_laws.specs.Cluster.{Cluster, site_of}
 use Rattle.event_laws.specs.Events.{run}
-use Rattle.event_laws.specs.Waiting.{AreMeshed}
+use Rattle.event_laws.specs.Waiting.{SitesLinkAsDeclared}
 use Rattle.site_state.specs.State.{SiteState}
 use Rattle.script_parse.specs.declared.command.Command.{Command}
 use Rattle.script_parse.specs.declared.command.Command.TheVariants as command
@@ -43,7 +43,7 @@ use Rattle.world_laws.specs.Scripts.{script_world}
 use Rattle.world_laws.specs.Reached.{IsInSetup, IsOfScript, InSetup, Behind}
 use Rattle.world_laws.proofs.SiteSteps.{run-append}
 use Rattle.world_laws.proofs.Pieces.{none_lead, steps_are_events}
-use Rattle.world_laws.proofs.Starting.{made_simulates, made_meshed}
+use Rattle.world_laws.proofs.Starting.{made_simulates, made_linked}
 use Rattle.world_laws.proofs.Scripts.{HasShape-no_schema, step_of_script}
 use Rattle.snapshot_worlds.specs.WellDeclared.{AreDeclaredOnce, AreParentsWithin, DeclaresWell, ScriptsDeclareWell}
 use Rattle.snapshot_worlds.specs.Starts.{start_of}
@@ -53,19 +53,19 @@ use Rattle.snapshot_worlds.specs.Worlds.{InWorlds, InScripts}
 use Rattle.snapshot_worlds.specs.Reached.{DeclaresSoFar, GoesOn, IsOfSnapshots, Declares, Goes}
 use Rattle.snapshot_worlds.proofs.WrittenRows.{AreTables-with_row}
 use Rattle.snapshot_worlds.proofs.Starting.{made_snapshot_start, made_log_start}
-use Rattle.snapshot_worlds.proofs.Holding.{holds, refreshes_show}
-use Rattle.snapshot_worlds.proofs.Staying.{Stays, IsPlain, plain_stays, refused_stays, step_schema}
+use Rattle.snapshot_worlds.proofs.SnapshotsHold.{holds, refreshes_show}
+use Rattle.snapshot_worlds.proofs.DeclaredStays.{Stays, IsPlain, plain_stays, refused_stays, step_schema}
 use Rattle.snapshot_worlds.proofs.Declaring.{shapes_no_rows, of_tables-declared, parents_within-declared, HasSnapshots, has_snapshots-push, declares_well}
 
 -- ---- behind Setup
 
 -- where events lead on and the schema stays, a world goes on
-pub goes_on : (old new : WorldState) → new.schema ≡ old.schema → ((v : Core) → Simulates old v → Leads new v) → GoesOn old → GoesOn new
+pub goes_on : (old new : WorldState) → new.schema ≡ old.schema → ((v : Cluster) → Simulates old v → Leads new v) → GoesOn old → GoesOn new
 goes_on old new same leads g = let a = leads (run g.leads.events g.start) g.leads.simulates in record {
   start = g.start;
   snapshots = subst (λ (s : Schema). IsSnapshotStart s g.start) (sym same) g.snapshots;
   logs = subst (λ (s : Schema). IsLogStart s g.start) (sym same) g.logs;
-  meshed = subst (λ (s : Schema). AreMeshed s g.start.sites) (sym same) g.meshed;
+  meshed = subst (λ (s : Schema). SitesLinkAsDeclared s g.start.sites) (sym same) g.meshed;
   leads = record { events = a.events ++ g.leads.events; simulates = subst (Simulates new) (sym (run-append a.events g.leads.events g.start)) a.simulates };
 }
 
@@ -82,7 +82,7 @@ made_goes_on w well = record {
   start = start_of (world_made w);
   snapshots = made_snapshot_start w well;
   logs = made_log_start w well;
-  meshed = made_meshed w well.sound.sound.shape;
+  meshed = made_linked w well.sound.sound.shape;
   leads = none_lead (world_made w) (start_of (world_made w)) (made_simulates w);
 }
 

@@ -14,7 +14,7 @@ use Rattle.snapshot_query.specs.Parents.{rule_rows}
 use Rattle.site_state.specs.State.{SiteState}
 use Rattle.site_state.specs.Notes.{log_of}
 use Rattle.site_state.specs.Making.{is_late_master, new_log, tables_in}
-use Rattle.site_state.specs.Fits.{AreApart}
+use Rattle.site_state.specs.Fits.{SnapshotsApart}
 use Rattle.event_laws.specs.Rules.{IsParentWithin}
 use Rattle.event_laws.specs.Events.{master_of, found_site}
 use Rattle.event_laws.specs.Fitting.{IsFitStart}
@@ -69,7 +69,7 @@ module _ (w : WorldState) (well : DeclaresWell w) where
     new : AllByRecursion (IsNew (length w.schema.tables)) (snapshots_at w.snapshots site)
     new = each_at (λ (d : DeclaredSnapshot). d.table < length w.schema.tables) (IsNew (length w.schema.tables)) w.snapshots site (λ d below. (below, refl, refl)) well.sound.snapshots
 
-    apart : AreApart (snapshots_at w.snapshots site)
+    apart : SnapshotsApart (snapshots_at w.snapshots site)
     apart = apart_at w.snapshots site well.once
 
     within : AllByRecursion (λ (s : Snapshot). IsParentWithin w.schema s.parent) (snapshots_at w.snapshots site)

@@ -11,7 +11,7 @@ use Rattle.schema_rules.specs.Rules.{broken_rule}
 use Rattle.site_state.specs.State.{SiteState, LogState}
 use Rattle.site_state.specs.Notes.{pending_keys}
 use Rattle.site_state.proofs.WorkedSites.{a, s, n, row, set_to}
-use Rattle.event_laws.specs.Core.{site_of}
+use Rattle.event_laws.specs.Cluster.{site_of}
 use Rattle.script_parse.specs.declared.command.Command.{Command}
 use Rattle.script_parse.specs.declared.command.Command.TheVariants as command
 use Rattle.script_parse.specs.declared.command.Refresh.TheVariants as how

@@ -22,7 +22,7 @@ use Rattle.rep_schema.specs.Kinds.{is_filled, is_of_kind, is_site_kind, value_in
 use Rattle.rep_schema.specs.Named.{is_table, table_place}
 use Rattle.rep_schema.specs.Entries.{plain_table}
 use Rattle.rep_schema.proofs.FittingTests.{row_test}
-use Rattle.rep_schema.proofs.KeptTables.{IsTable-put, AreTables-set}
+use Rattle.rep_schema.proofs.TableSteps.{IsTable-put, AreTables-set}
 use Rattle.rep_lists.proofs.Places.{found_at}
 use Rattle.unique_resolve.specs.Settling.{is_held}
 use Rattle.unique_resolve.proofs.HeldValues.{held_test}

@@ -2,8 +2,8 @@
 use Rattle.std.specs.Prelude.{◌<◌, length}
 use Rattle.std.specs.List.{AllByRecursion}
 use Rattle.rep_schema.specs.Tables.{AreTables}
-use Rattle.event_laws.specs.Core.{Core}
-use Rattle.event_laws.specs.Waiting.{AreMeshed}
+use Rattle.event_laws.specs.Cluster.{Cluster}
+use Rattle.event_laws.specs.Waiting.{SitesLinkAsDeclared}
 use Rattle.world_state.specs.declared.declared_snapshot.DeclaredSnapshot.{DeclaredSnapshot}
 use Rattle.world_state.specs.World.{WorldState}
 use Rattle.world_laws.specs.Simulation.{Leads}
@@ -21,10 +21,10 @@ pub record DeclaresSoFar (w : WorldState) : Type 0 where
 
 -- behind Setup events lead here from where the laws of snapshots and of logs begin, with sites as the schema declares them
 pub record GoesOn (w : WorldState) : Type 0 where
-  pub start : Core
+  pub start : Cluster
   pub snapshots : IsSnapshotStart w.schema start
   pub logs : IsLogStart w.schema start
-  pub meshed : AreMeshed w.schema start.sites
+  pub meshed : SitesLinkAsDeclared w.schema start.sites
   pub leads : Leads w start
 
 -- a world of some script: in Setup, or behind it

@@ -8,12 +8,12 @@ use Rattle.snapshot_query.specs.Parents.{picks}
 use Rattle.site_state.specs.declared.rows.TableRows.{TableRows}
 use Rattle.site_state.specs.State.{SiteState}
 use Rattle.site_state.specs.Contents.{tables_of}
-use Rattle.site_state.specs.Fits.{IsKeyed, AreApart, AreWithin}
-use Rattle.event_laws.specs.Core.{site_of}
+use Rattle.site_state.specs.Fits.{SchemaIsKeyed, SnapshotsApart, AreWithin}
+use Rattle.event_laws.specs.Cluster.{site_of}
 use Rattle.event_laws.specs.Rules.{rows_ruled}
 use Rattle.event_laws.specs.Events.{master_of, found_site}
 use Rattle.fast_refresh.specs.Showing.{ShowsOthers}
-use Rattle.snapshot_laws.specs.Waiting.{unsettled_keys}
+use Rattle.snapshot_laws.specs.Waiting.{outdated_keys}
 use Rattle.snapshot_laws.specs.Laws.{KeysRise, ParentsRise}
 use Rattle.snapshot_laws.specs.Logs.{AreNotedSince}
 use Rattle.world_state.specs.World.{WorldState}
@@ -28,7 +28,7 @@ master_in site w = found_site w.sites (master_of w.schema site)
 -- a snapshot's table has, under each key that is settled by the master's logs, what the snapshot shows of the master's
 -- row
 abbrev pub IsShown : SiteState → SiteState → Snapshot → Type 0
-IsShown m x s = ShowsOthers (columns_of x.schema s.table) (picks x.schema (tables_of m) s) (unsettled_keys x.schema m.logs (tables_of m) s) (rows_of (tables_of m) s.table) (rows_of (tables_of x) s.table)
+IsShown m x s = ShowsOthers (columns_of x.schema s.table) (picks x.schema (tables_of m) s) (outdated_keys x.schema m.logs (tables_of m) s) (rows_of (tables_of m) s.table) (rows_of (tables_of x) s.table)
 
 abbrev pub OthersAreShown : SiteState → SiteState → Type 0
 OthersAreShown m x = AllByRecursion (IsShown m x) x.snapshots
@@ -37,13 +37,13 @@ OthersAreShown m x = AllByRecursion (IsShown m x) x.snapshots
 -- is a table; the tables of parents are there, and each pending parent comes once; and where no log is too young the others are
 -- shown
 pub record CanRefreshFrom (m x : SiteState) : Type 0 where
-  pub keyed : IsKeyed x.schema
+  pub keyed : SchemaIsKeyed x.schema
   pub no_master : x.here.is_master ≡ false
   pub schema : m.schema ≡ x.schema
   pub tables : AreTables x.schema (tables_of x)
   pub master : AreTables x.schema (tables_of m)
   pub within : AreWithin x.schema x.snapshots
-  pub apart : AreApart x.snapshots
+  pub apart : SnapshotsApart x.snapshots
   pub picked : AllByRecursion (λ (t : TableRows). IsTable x.schema t.table t.rows) (rows_ruled x.schema (tables_of m) x.snapshots)
   pub parents : AllByRecursion (ParentsRise x.schema m) x.snapshots
   pub others : young_step m.logs x.snapshots ≡ None → OthersAreShown m x

@@ -1,13 +1,13 @@
 -- Where the laws of snapshots begin.
 use Rattle.std.specs.Prelude.{[]}
-use Rattle.event_laws.specs.Core.{Core}
+use Rattle.event_laws.specs.Cluster.{Cluster}
 use Rattle.world_state.specs.World.{WorldState}
 use Rattle.world_state.specs.Making.{world_made}
 use Rattle.snapshot_laws.specs.Starts.{IsSnapshotStart, IsLogStart}
 use Rattle.snapshot_worlds.specs.WellDeclared.{DeclaresWell}
 
 -- a world's sites, where nothing was sent and no pass was begun
-abbrev pub start_of : WorldState → Core
+abbrev pub start_of : WorldState → Cluster
 start_of w = record { sites = w.sites; sent = []; begun = [] }
 
 -- the sites that Setup's end makes fit, and each snapshot shows its master's table

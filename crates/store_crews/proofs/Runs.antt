@@ -8,7 +8,7 @@ use Rattle.site_state.proofs.Stepping.{apply_steps}
 use mathlib.Core.Bool.{true≢false}
 use Rattle.rep_values.specs.declared.name.SiteName.{SiteName}
 use Rattle.rep_schema.specs.declared.schema.Schema.{Schema}
-use Rattle.rep_schema.proofs.KeptTables.{AreTables-empty}
+use Rattle.rep_schema.proofs.TableSteps.{AreTables-empty}
 use Rattle.rep_calls.specs.declared.statement.Statement.{Statement}
 use Rattle.rep_calls.specs.declared.call.Txn.{Txn}
 use Rattle.packet_code.specs.declared.packet.Packet.{Packet}
@@ -24,9 +24,9 @@ use Rattle.site_state.specs.Streams.{stream_to}
 use Rattle.deferred_queue.specs.Streams.{at_position}
 use Rattle.event_laws.specs.Starts.{IsNewSite}
 use Rattle.site_state.specs.Commits.{site_commit, block_at, committed_by, committed}
-use Rattle.site_state.specs.Packets.{site_packet, packet_found, carry_of, number_at, site_accept, is_foreign, taken_unless, taken_in, arrived_by}
+use Rattle.site_state.specs.Packets.{site_packet, packet_found, carry_of, stream_number, site_accept, is_foreign, taken_unless, taken_in, arrived_by}
 use Rattle.site_state.specs.DeclaredSites.{IsDeclared}
-use Rattle.event_laws.specs.Core.{at_site}
+use Rattle.event_laws.specs.Cluster.{at_site}
 use Rattle.event_laws.specs.Events.{Event, run, receiver}
 use Rattle.event_laws.specs.Events.Event.{Commit, Send, Deliver, Begin, Apply}
 use Rattle.event_laws.specs.Fitting.{StartsFit}
@@ -103,7 +103,7 @@ packet_goes to position x packet is = go (at_position position (stream_to to x))
 
     go : (t : Option Txn) → packet_found to position x t ≡ Some packet → receiver packet ≡ to
     go None is = absurd (cc is)
-    go (Some txn) is = by txn (nat_le (number_at to position x) x.purged) is
+    go (Some txn) is = by txn (nat_le (stream_number to position x) x.purged) is
 
 pub two_deliver : TwoDeliver
 two_deliver from to position packet a is = record {

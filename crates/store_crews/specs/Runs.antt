@@ -15,7 +15,7 @@ use Rattle.site_state.specs.Making.{new_site}
 use Rattle.site_state.specs.Commits.{site_commit}
 use Rattle.site_state.specs.Packets.{site_packet, site_accept}
 use Rattle.rep_laws.specs.Commuting.{IsSound}
-use Rattle.event_laws.specs.Core.{Core, site_of}
+use Rattle.event_laws.specs.Cluster.{Cluster, site_of}
 use Rattle.event_laws.specs.Events.{Event, run}
 use Rattle.event_laws.specs.Fitting.{IsFitStart}
 use Rattle.event_laws.specs.Declared.{AreDeclared}
@@ -29,7 +29,7 @@ pub record Two : Type 0 where
 -- after some events of a fit start the two sites are there
 pub record AreInARun (from to : SiteState) : Type 0 where
   pub schema : Schema
-  pub start : Core
+  pub start : Cluster
   pub events : List Event
   pub fit : IsFitStart schema start
   pub declared : AreDeclared schema start.sites

@@ -12,10 +12,10 @@ use Rattle.script_parse.specs.Laws.{ReadsAgain}
 use Rattle.script_parse.specs.Spelled.{spelled, IsName, IsSmall}
 use Rattle.script_parse.specs.Parsed.{command_of}
 use Rattle.storm_script.specs.declared.ways.Way.{Way}
-use Rattle.storm_script.specs.Draws.{drawn, behind}
+use Rattle.storm_script.specs.Draws.{drawn, state_behind}
 use Rattle.storm_script.specs.Sites.{site_at, ways, way_at}
 use Rattle.storm_script.specs.Opening.{declarations, row_line, row_lines, opening}
-use Rattle.storm_script.specs.Rounds.{stock_update, transaction, fated_push, three_fates, drawn_push, round, behind_round, rounds}
+use Rattle.storm_script.specs.Rounds.{stock_update, transaction, fated_push, three_fates, drawn_push, storm_round, behind_round, storm_rounds}
 use Rattle.storm_script.specs.Closing.{clear_line, push_line, closing}
 use Rattle.storm_script.specs.Storm.{storm_commands}
 use Rattle.storm_script.specs.Laws.{IsLine, most_rounds, StormsAreLines, StormsReadAgain}
@@ -152,9 +152,9 @@ transaction_is_lines i site id within named below =
     (record { named = tt; formed = named }, (update_is_line i id within below, (record { named = tt; formed = tt }, tt)))
 
 drawn_push_is_lines : (x : ℕ) → AllByRecursion IsLine (drawn_push x)
-drawn_push_is_lines x = go (way_at (drawn 6 (behind 1 x))) (way_named (drawn 6 (behind 1 x)))
+drawn_push_is_lines x = go (way_at (drawn 6 (state_behind 1 x))) (way_named (drawn 6 (state_behind 1 x)))
   where
-    go : (w : Way) → IsNamed w → AllByRecursion IsLine (fated_push w (three_fates (behind 1 x)))
+    go : (w : Way) → IsNamed w → AllByRecursion IsLine (fated_push w (three_fates (state_behind 1 x)))
     go w named = (record { named = tt; formed = (named.0, named.1, (λ e. cc)) }, (record { named = tt; formed = named }, tt))
 
 drawn_below : (bound x : ℕ) → 0 < bound → drawn bound x < bound
@@ -162,21 +162,21 @@ unfolding drawn
 drawn_below bound x some = mod_below _ bound some
 
 -- each command of a round is a line's
-pub round_is_lines : (i x : ℕ) → i ≤ most_rounds → AllByRecursion IsLine (round i x)
-unfolding round
+pub round_is_lines : (i x : ℕ) → i ≤ most_rounds → AllByRecursion IsLine (storm_round i x)
+unfolding storm_round
 round_is_lines i x within =
-    all_append IsLine (transaction i (site_at (drawn 3 (behind 1 x))) (drawn 100 (behind 2 x))) (if i % 10 == 0 then drawn_push (behind 2 x) else [])
-    (transaction_is_lines i (site_at (drawn 3 (behind 1 x))) (drawn 100 (behind 2 x)) within (site_named (drawn 3 (behind 1 x))) (drawn_below 100 (behind 2 x) (omega arith)))
+    all_append IsLine (transaction i (site_at (drawn 3 (state_behind 1 x))) (drawn 100 (state_behind 2 x))) (if i % 10 == 0 then drawn_push (state_behind 2 x) else [])
+    (transaction_is_lines i (site_at (drawn 3 (state_behind 1 x))) (drawn 100 (state_behind 2 x)) within (site_named (drawn 3 (state_behind 1 x))) (drawn_below 100 (state_behind 2 x) (omega arith)))
     (go (i % 10 == 0))
   where
-    go : (b : Bool) → AllByRecursion IsLine (if b then drawn_push (behind 2 x) else [])
-    go true = drawn_push_is_lines (behind 2 x)
+    go : (b : Bool) → AllByRecursion IsLine (if b then drawn_push (state_behind 2 x) else [])
+    go true = drawn_push_is_lines (state_behind 2 x)
     go false = tt
 
-rounds_are_lines : (left i x : ℕ) → i + left ≤ most_rounds + 1 → AllByRecursion IsLine (rounds left i x)
+rounds_are_lines : (left i x : ℕ) → i + left ≤ most_rounds + 1 → AllByRecursion IsLine (storm_rounds left i x)
 rounds_are_lines zero i x within = tt
 rounds_are_lines (suc left) i x within =
-    all_append IsLine (round i x) (rounds left (i + 1) (behind_round i x)) (round_is_lines i x (omega arith)) (rounds_are_lines left (i + 1) (behind_round i x) (omega arith))
+    all_append IsLine (storm_round i x) (storm_rounds left (i + 1) (behind_round i x)) (round_is_lines i x (omega arith)) (rounds_are_lines left (i + 1) (behind_round i x) (omega arith))
 
 -- The closing.
 
@@ -195,8 +195,8 @@ closing_is_lines =
 
 pub storms_are_lines : StormsAreLines
 storms_are_lines seed count within =
-    all_append IsLine opening (rounds count 1 seed ++ closing) opening_is_lines
-    (all_append IsLine (rounds count 1 seed) closing (rounds_are_lines count 1 seed (omega arith)) closing_is_lines)
+    all_append IsLine opening (storm_rounds count 1 seed ++ closing) opening_is_lines
+    (all_append IsLine (storm_rounds count 1 seed) closing (rounds_are_lines count 1 seed (omega arith)) closing_is_lines)
 
 reads : ReadsAgain → (c : Command) → IsLine c → command_of (spelled c) ≡ Ok c
 reads law c line = law c line.formed

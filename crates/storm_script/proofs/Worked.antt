@@ -9,7 +9,7 @@ use Rattle.script_parse.specs.declared.command.Command.TheVariants as command
 use Rattle.script_parse.specs.Parts.{site_of, table_of, to_value, by_amount}
 use Rattle.storm_script.specs.Draws.{next_draw, drawn}
 use Rattle.storm_script.specs.Opening.{opening}
-use Rattle.storm_script.specs.Rounds.{round, behind_round}
+use Rattle.storm_script.specs.Rounds.{storm_round, behind_round}
 use Rattle.storm_script.specs.Closing.{closing}
 use Rattle.storm_script.specs.Storm.{storm_commands}
 
@@ -19,22 +19,22 @@ decimal_1 = decimal_digit 1 (omega arith)
 decimal_10 : decimal 10 ≡ codes "10"
 decimal_10 = decimal-digits_of 10 (omega arith) (omega arith)
 
-first_round : round 1 7 ≡
+first_round : storm_round 1 7 ≡
     command.Txn (site_of (codes "C")) ∷
     command.Statement (statement.Update (table_of (codes "STOCK")) (literal.Words (codes "A") ∷ literal.Num (pos 31) ∷ [])
     (by_amount (codes "QTY") (negsuc 2) ∷ to_value (codes "TOP") (literal.Num (pos 1)) ∷ to_value (codes "NAME") (literal.Words (codes "n1")) ∷ [])) ∷
     command.Commit ∷ []
-unfolding next_draw drawn round
+unfolding next_draw drawn storm_round
 first_round = rw decimal_1 refl
 
-tenth_round : round 10 7 ≡
+tenth_round : storm_round 10 7 ≡
     command.Txn (site_of (codes "C")) ∷
     command.Statement (statement.Update (table_of (codes "STOCK")) (literal.Words (codes "A") ∷ literal.Num (pos 31) ∷ [])
     (by_amount (codes "QTY") (negsuc 2) ∷ to_value (codes "TOP") (literal.Num (pos 10)) ∷ to_value (codes "NAME") (literal.Words (codes "n10")) ∷ [])) ∷
     command.Commit ∷
     command.Fates (site_of (codes "B")) (site_of (codes "C")) (fate.Lose ∷ fate.Lose ∷ fate.Late ∷ []) ∷
     command.Push (site_of (codes "B")) (site_of (codes "C")) None ∷ []
-unfolding next_draw drawn round
+unfolding next_draw drawn storm_round
 tenth_round = rw decimal_10 refl
 
 two_draws : behind_round 1 7 ≡ 17628806926561717905
@@ -54,5 +54,5 @@ unfolding closing
 closing_has_12_commands = refl
 
 storm_of_20_rounds : length (storm_commands 7 20) ≡ 193
-unfolding next_draw drawn opening round behind_round closing
+unfolding next_draw drawn opening storm_round behind_round closing
 storm_of_20_rounds = refl

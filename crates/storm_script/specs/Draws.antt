@@ -10,6 +10,6 @@ unfoldable pub drawn : ℕ → ℕ → ℕ
 drawn bound x = (x / 2 ^ 33) % bound
 
 -- the state behind so many draws
-abbrev pub behind : ℕ → ℕ → ℕ
-behind zero x = x
-behind (suc n) x = behind n (next_draw x)
+abbrev pub state_behind : ℕ → ℕ → ℕ
+state_behind zero x = x
+state_behind (suc n) x = state_behind n (next_draw x)

@@ -9,7 +9,7 @@ use Rattle.script_parse.specs.declared.command.Command.{Command}
 use Rattle.script_parse.specs.declared.command.Command.TheVariants as command
 use Rattle.script_parse.specs.Parts.{to_value, by_amount}
 use Rattle.storm_script.specs.declared.ways.Way.{Way}
-use Rattle.storm_script.specs.Draws.{drawn, behind}
+use Rattle.storm_script.specs.Draws.{drawn, state_behind}
 use Rattle.storm_script.specs.Sites.{site_at, way_at, fate_at}
 use Rattle.storm_script.specs.Opening.{stock}
 
@@ -37,23 +37,23 @@ fated_push w fated = command.Fates w.from w.to fated ∷ command.Push w.from w.t
 
 -- the fates that three draws name
 abbrev pub three_fates : ℕ → List Fate
-three_fates x = fate_at (drawn 4 (behind 1 x)) ∷ fate_at (drawn 4 (behind 2 x)) ∷ fate_at (drawn 4 (behind 3 x)) ∷ []
+three_fates x = fate_at (drawn 4 (state_behind 1 x)) ∷ fate_at (drawn 4 (state_behind 2 x)) ∷ fate_at (drawn 4 (state_behind 3 x)) ∷ []
 
 -- a push in the direction that the first draw names, with the fates of the next three
 abbrev pub drawn_push : ℕ → List Command
-drawn_push x = fated_push (way_at (drawn 6 (behind 1 x))) (three_fates (behind 1 x))
+drawn_push x = fated_push (way_at (drawn 6 (state_behind 1 x))) (three_fates (state_behind 1 x))
 
 -- what round i does, by the state before its draws: the first names the site, and the second the row
-unfoldable pub round : ℕ → ℕ → List Command
-round i x =
-    transaction i (site_at (drawn 3 (behind 1 x))) (drawn 100 (behind 2 x)) ++
-    (if i % 10 == 0 then drawn_push (behind 2 x) else [])
+unfoldable pub storm_round : ℕ → ℕ → List Command
+storm_round i x =
+    transaction i (site_at (drawn 3 (state_behind 1 x))) (drawn 100 (state_behind 2 x)) ++
+    (if i % 10 == 0 then drawn_push (state_behind 2 x) else [])
 
 -- the state behind its draws
 unfoldable pub behind_round : ℕ → ℕ → ℕ
-behind_round i x = if i % 10 == 0 then behind 6 x else behind 2 x
+behind_round i x = if i % 10 == 0 then state_behind 6 x else state_behind 2 x
 
 -- so many rounds from round i on
-abbrev pub rounds : ℕ → ℕ → ℕ → List Command
-rounds zero i x = []
-rounds (suc left) i x = round i x ++ rounds left (i + 1) (behind_round i x)
+abbrev pub storm_rounds : ℕ → ℕ → ℕ → List Command
+storm_rounds zero i x = []
+storm_rounds (suc left) i x = storm_round i x ++ storm_rounds left (i + 1) (behind_round i x)

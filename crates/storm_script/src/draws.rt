@@ -1,7 +1,7 @@
 //! The numbers that a storm draws.
 ghost use Rattle.std.specs.Prelude.{◌≡◌, ◌<◌, IfOk};
-ghost use Rattle.storm_script.specs.Draws.{next_draw, drawn, behind};
-ghost use Rattle.storm_script.specs.Rounds.{three_fates, round, behind_round};
+ghost use Rattle.storm_script.specs.Draws.{next_draw, drawn, state_behind};
+ghost use Rattle.storm_script.specs.Rounds.{three_fates, storm_round, behind_round};
 
 use crate::rounds::{add_fated_push, transaction};
 use crate::ways::{fate_at, site_at, way_at};
@@ -33,7 +33,7 @@ impl Draws {
 
     // The fates of three packets.
     fn draw_fates(&mut self) -> [Fate; 3]
-        ensures state { self.new.state ≡ behind 3 self.old.state }
+        ensures state { self.new.state ≡ state_behind 3 self.old.state }
         ensures value { result ≡ three_fates self.old.state }
     {
         let first = fate_at(self.draw(4));
@@ -44,7 +44,7 @@ impl Draws {
 
     /// The commands of the round of a number, which counts from 1. The numbers are drawn first, whether there is memory or not.
     pub fn round(&mut self, alloc: Global, number: u32) -> Result<Vec<Command>, NoMemory>
-        ensures commands { IfOk result (λ commands. commands.items ≡ round number self.old.state) }
+        ensures commands { IfOk result (λ commands. commands.items ≡ storm_round number self.old.state) }
         ensures state { self.new.state ≡ behind_round number self.old.state }
     {
         let site = site_at(self.draw(3));

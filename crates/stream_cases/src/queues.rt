@@ -5,7 +5,7 @@ use crate::told::text;
 use case_lines::{CaseStop, Words, push_past, read_past};
 use deferred_queue::{Destination, Place, Queue, Queued, Sent, are_apart};
 use packet_code::Body;
-use rep_calls::{Call, Past, Txn};
+use rep_calls::{Call, PastEntry, Txn};
 use rep_lists::{Items, NoMemory};
 use rep_values::{Key, Name, SiteName, Value};
 use script_lex::Symbol;
@@ -81,7 +81,7 @@ fn queued(
     alloc: Global,
     queue: &mut Queue,
     txn: Txn,
-    past: Items<Past>,
+    past: Items<PastEntry>,
     to: &[Destination],
 ) -> Result<Option<u64>, NoMemory> {
     queue.reserve()?;
@@ -114,7 +114,7 @@ fn read_site_and_number(words: &mut Words) -> Result<(SiteName, u64), CaseStop> 
 }
 
 /// What was seen, behind these words.
-fn with_past(alloc: Global, words: String, past: &[Past]) -> Result<String, CaseStop> {
+fn with_past(alloc: Global, words: String, past: &[PastEntry]) -> Result<String, CaseStop> {
     let mut out = words;
     push_past(&mut out, alloc, past)?;
     Ok(out)

@@ -4,6 +4,6 @@ mod Walking
 mod Searching
 mod NoParent
 mod Families
-mod Settled
+mod UpToDate
 mod WorkedRules
 mod WorkedChildren

@@ -8,7 +8,7 @@ use Rattle.rep_lists.proofs.Rising.{rising_put, rising_take}
 use Rattle.rep_values.specs.Order.{key_cmp}
 use Rattle.rep_values.specs.OrderLaws.{key_cmp_total}
 use Rattle.rep_schema.specs.declared.schema.Column.{Column}
-use Rattle.rep_schema.specs.Tables.{Cells, Rows, key_of, beside, row_cmp, find_row, put_row, take_row}
+use Rattle.rep_schema.specs.Tables.{Cells, Rows, key_of, row_beside, row_cmp, find_row, put_row, take_row}
 use Rattle.rep_schema.specs.Shown.{shown_by}
 use Rattle.rep_schema.specs.Groups.{are_same}
 use Rattle.rep_schema.proofs.ValuesAt.{are_same-Decides}
@@ -91,7 +91,7 @@ module _ (columns : List Column) where
 
   pub renews-take : (key : Cells) (rows : Rows) → IsRising (row_cmp columns) rows → Renews columns (λ other. None) (key ∷ []) rows (take_row columns key rows)
   renews-take key rows rising = record {
-    rising = rising_take (key_of columns) key_cmp key_cmp_total (beside columns key) rows rising;
+    rising = rising_take (key_of columns) key_cmp key_cmp_total (row_beside columns key) rows rising;
     there = λ other has. subst (λ (k : Cells). find_row columns k (take_row columns key rows) ≡ None) (sym (only_key other key has)) (find_row-take_own columns key rows rising);
     elsewhere = λ other none. find_row-take_other columns key other rows rising (other_key other key none);
   }

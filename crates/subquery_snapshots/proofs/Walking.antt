@@ -12,9 +12,9 @@ use Rattle.rep_values.specs.Order.{key_cmp}
 use Rattle.rep_values.specs.OrderLaws.{key_cmp_total}
 use Rattle.rep_schema.specs.declared.schema.Schema.{Schema}
 use Rattle.rep_schema.specs.declared.schema.Column.{Column}
-use Rattle.rep_schema.specs.Tables.{Cells, Rows, columns_of, key_of, beside, row_cmp, find_row, rows_of}
+use Rattle.rep_schema.specs.Tables.{Cells, Rows, columns_of, key_of, row_beside, row_cmp, find_row, rows_of}
 use Rattle.rep_schema.specs.Groups.{values_at}
-use Rattle.rep_schema.proofs.SameValues.{beside-own}
+use Rattle.rep_schema.proofs.SameValues.{row_beside-own}
 use Rattle.rep_schema.proofs.ValuesAt.{are_same-Decides}
 use Rattle.rep_schema.proofs.FilteredRows.{all_filter, rising_filter}
 use Rattle.snapshot_query.specs.declared.parent.Parent.{Parent}
@@ -70,9 +70,9 @@ module _ (columns : List Column) where
   -- what is behind a row that stands above a key stands above it too
   pub above_then : (above : Option Cells) (x y : Cells) → row_cmp columns x y ≡ Less → is_above columns above x ≡ true → is_above columns above y ≡ true
   above_then None x y less is = refl
-  above_then (Some key) x y less is = go (beside columns key x) refl is
+  above_then (Some key) x y less is = go (row_beside columns key x) refl is
     where
-      go : (o : Ordering) → beside columns key x ≡ o → is_gt o ≡ true → is_gt (beside columns key y) ≡ true
+      go : (o : Ordering) → row_beside columns key x ≡ o → is_gt o ≡ true → is_gt (row_beside columns key y) ≡ true
       go Less place is = absurd (cc is)
       go Equal place is = absurd (cc is)
       go Greater place is =
@@ -81,7 +81,7 @@ module _ (columns : List Column) where
 
   -- a row doesn't stand above its own key, and none before it does, but all behind it do
   not_above_own : (x : Cells) → is_above columns (Some (key_of columns x)) x ≡ false
-  not_above_own x = ap is_gt (beside-own columns (key_of columns x) x refl)
+  not_above_own x = ap is_gt (row_beside-own columns (key_of columns x) x refl)
 
   not_above_later : (w x : Cells) → row_cmp columns w x ≡ Less → is_above columns (Some (key_of columns x)) w ≡ false
   not_above_later w x less = ap is_gt less
@@ -117,7 +117,7 @@ module _ (columns : List Column) where
   all_found : (rows : Rows) → IsRising (row_cmp columns) rows → AllByRecursion (λ row. find_row columns (key_of columns row) rows ≡ Some row) rows
   all_found [] rising = tt
   all_found (x ∷ xs) rising = (
-    rw (beside-own columns (key_of columns x) x refl) refl,
+    rw (row_beside-own columns (key_of columns x) x refl) refl,
     past xs rising.0 (all_found xs rising.1),
   )
     where

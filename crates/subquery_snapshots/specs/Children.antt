@@ -2,7 +2,7 @@
 use Rattle.std.specs.Prelude.{ℕ, Bool, true, List, length, filter, find, sum_by, Option, Some, None}
 use Rattle.std.specs.Ordering.{is_gt}
 use Rattle.rep_schema.specs.declared.schema.Column.{Column}
-use Rattle.rep_schema.specs.Tables.{Cells, Rows, beside}
+use Rattle.rep_schema.specs.Tables.{Cells, Rows, row_beside}
 use Rattle.rep_schema.specs.Groups.{values_at, are_same}
 
 -- a row has these values in some columns, as a child has the key of its parent
@@ -20,7 +20,7 @@ child_count columns parents rows = sum_by (λ parent. length (children columns p
 -- a row stands above a key; where there is no key, each does
 abbrev pub is_above : List Column → Option Cells → Cells → Bool
 is_above columns None row = true
-is_above columns (Some key) row = is_gt (beside columns key row)
+is_above columns (Some key) row = is_gt (row_beside columns key row)
 
 -- the rows above a key
 abbrev pub rows_above : List Column → Option Cells → Rows → Rows

@@ -8,7 +8,7 @@ use Rattle.rep_schema.specs.Shown.{shown_by}
 use Rattle.rep_schema.specs.Tables.{Cells, Rows, columns_of, key_of, find_row, rows_of}
 use Rattle.fast_refresh.specs.Showing.{has_key}
 use Rattle.subquery_snapshots.specs.declared.rule.Rule.{Rule}
-use Rattle.subquery_snapshots.specs.Rules.{rule_picks, waits, ShowsSettled}
+use Rattle.subquery_snapshots.specs.Rules.{rule_picks, waits, ShowsUpToDate}
 
 -- keys in rising order are distinct
 abbrev pub RisingKeysAreDistinct : Type 0
@@ -16,13 +16,13 @@ RisingKeysAreDistinct = (keys : List Cells) → IsRising key_cmp keys → AreDis
 
 -- a row of the table that is settled, its key being none of these and its parent neither, stands among the rows exactly where the
 -- rule picks it; and under a key that is none of these and no row's of the table, no row stands there
-pub record AreSettled (schema : Schema) (tables : List Rows) (table : ℕ) (rule : Rule) (keys parents : List Cells) (rows : Rows) : Type 0 where
+pub record AreUpToDate (schema : Schema) (tables : List Rows) (table : ℕ) (rule : Rule) (keys parents : List Cells) (rows : Rows) : Type 0 where
   pub picked : (row : Cells) → find_row (columns_of schema table) (key_of (columns_of schema table) row) (rows_of tables table) ≡ Some row
       → has_key (key_of (columns_of schema table) row) keys ≡ false → waits rule parents row ≡ false
       → find_row (columns_of schema table) (key_of (columns_of schema table) row) rows ≡ shown_by (rule_picks schema tables rule) (Some row)
   pub absent : (key : Cells) → has_key key keys ≡ false → find_row (columns_of schema table) key (rows_of tables table) ≡ None → find_row (columns_of schema table) key rows ≡ None
 
 -- such rows show what is settled
-abbrev pub SettledRowsAreShown : Type 0
-SettledRowsAreShown = (schema : Schema) (tables : List Rows) (table : ℕ) (rule : Rule) (keys parents : List Cells) (rows : Rows)
-    → AreSettled schema tables table rule keys parents rows → ShowsSettled schema tables table rule keys parents rows
+abbrev pub UpToDateRowsAreShown : Type 0
+UpToDateRowsAreShown = (schema : Schema) (tables : List Rows) (table : ℕ) (rule : Rule) (keys parents : List Cells) (rows : Rows)
+    → AreUpToDate schema tables table rule keys parents rows → ShowsUpToDate schema tables table rule keys parents rows

@@ -47,6 +47,6 @@ abbrev pub waiting_keys : List Column → Rule → List Cells → Rows → List 
 waiting_keys columns rule parents rows = map (key_of columns) (waiting_rows rule parents rows)
 
 -- under each settled key, which is none of these and not that of a row that waits, rows have what the rule shows of the table's row
-abbrev pub ShowsSettled : Schema → List Rows → ℕ → Rule → List Cells → List Cells → Rows → Type 0
-ShowsSettled schema tables table rule keys parents rows =
+abbrev pub ShowsUpToDate : Schema → List Rows → ℕ → Rule → List Cells → List Cells → Rows → Type 0
+ShowsUpToDate schema tables table rule keys parents rows =
     ShowsOthers (columns_of schema table) (rule_picks schema tables rule) (keys ++ waiting_keys (columns_of schema table) rule parents (rows_of tables table)) (rows_of tables table) rows

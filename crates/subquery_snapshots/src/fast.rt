@@ -4,7 +4,7 @@ ghost use Rattle.rep_lists.specs.Rising.{IsRising};
 ghost use Rattle.rep_schema.specs.Shape.{AreDistinct};
 ghost use Rattle.rep_schema.specs.Tables.{columns_of, row_cmp, key_of, rows_of, IsTable, AreTables};
 ghost use Rattle.snapshot_query.specs.Parents.{has_parent};
-ghost use Rattle.subquery_snapshots.specs.Rules.{rule_picks, rows_picked, rows_of_parents, waiting_rows, waiting_keys, IsKeyedTable, IsRuleWithin, ShowsSettled};
+ghost use Rattle.subquery_snapshots.specs.Rules.{rule_picks, rows_picked, rows_of_parents, waiting_rows, waiting_keys, IsKeyedTable, IsRuleWithin, ShowsUpToDate};
 ghost use Rattle.subquery_snapshots.specs.Children.{children, child_count};
 ghost use Rattle.subquery_snapshots.specs.Renewing.{RenewsBy};
 
@@ -185,7 +185,7 @@ pub fn rows_fast<M: ChildView>(
     requires schema { M.schema master.old ≡ schema.now }
     requires master { AreTables schema.now (M.tables master.old) }
     requires older { IsRising (row_cmp (columns_of schema.now table)) older.now }
-    requires settled { ShowsSettled schema.now (M.tables master.old) table rule.now keys.now parents.now older.now }
+    requires settled { ShowsUpToDate schema.now (M.tables master.old) table rule.now keys.now parents.now older.now }
     requires apart { AreDistinct parents.now }
     ensures rows { IfOk result (λ rows. rows ≡ rows_picked schema.now (M.tables master.old) table rule.now) }
     ensures table { IfOk result (λ rows. IsTable schema.now table rows) }

@@ -1,7 +1,7 @@
 //! Rows in rising order of key, among which rows are put and taken.
 ghost use Rattle.std.specs.Prelude.{◌≡◌, ◌+◌, ◌≤◌, [], ◌∷◌, vec_len, vec_capacity, IfSome, IfOk, IfErr, OnOk};
 ghost use Rattle.rep_lists.specs.Rising.{IsRising, IsThere, IsGap};
-ghost use Rattle.rep_schema.specs.Tables.{beside, row_cmp, key_of, put_row, take_row};
+ghost use Rattle.rep_schema.specs.Tables.{row_beside, row_cmp, key_of, put_row, take_row};
 ghost use Rattle.subquery_snapshots.specs.Renewing.{Renews};
 
 use rep_lists::{Copies, NoMemory, insert_in_room};
@@ -24,12 +24,12 @@ pub(crate) fn copy_rows(alloc: Global, rows: &[Row]) -> Result<Vec<Row>, NoMemor
 /// The place of the row with a key, or else the place where it would stand.
 fn search(rows: &[Row], columns: &[Column], key: &[Value]) -> Result<usize, usize>
     requires { IsRising (row_cmp columns.now) rows.now }
-    ensures found { IfOk result (IsThere (beside columns.now key.now) rows.now) }
-    ensures absent { IfErr result (IsGap (beside columns.now key.now) rows.now) }
+    ensures found { IfOk result (IsThere (row_beside columns.now key.now) rows.now) }
+    ensures absent { IfErr result (IsGap (row_beside columns.now key.now) rows.now) }
 {
     rows.binary_search_by(
         |row: &Row| -> Ordering
-            ensures { result ≡ beside columns.entry.now key.entry.now row.now }
+            ensures { result ≡ row_beside columns.entry.now key.entry.now row.now }
         { compare_row(columns, key, row.values()) },
     )
 }
@@ -37,8 +37,8 @@ fn search(rows: &[Row], columns: &[Column], key: &[Value]) -> Result<usize, usiz
 /// The place of the row with another row's key, or else the place where that one would stand.
 fn search_like(rows: &[Row], columns: &[Column], like: &[Value]) -> Result<usize, usize>
     requires { IsRising (row_cmp columns.now) rows.now }
-    ensures found { IfOk result (IsThere (beside columns.now (key_of columns.now like.now)) rows.now) }
-    ensures absent { IfErr result (IsGap (beside columns.now (key_of columns.now like.now)) rows.now) }
+    ensures found { IfOk result (IsThere (row_beside columns.now (key_of columns.now like.now)) rows.now) }
+    ensures absent { IfErr result (IsGap (row_beside columns.now (key_of columns.now like.now)) rows.now) }
 {
     rows.binary_search_by(
         |row: &Row| -> Ordering

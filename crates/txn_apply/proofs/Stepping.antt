@@ -14,9 +14,9 @@ use Rattle.rep_calls.specs.declared.call.Call.{Call}
 use Rattle.conflict_detect.specs.Fits.{table_of, CallFits}
 use Rattle.unique_resolve.specs.Numbers.{Numbers, has_sequences, kept_numbers, put_back}
 use Rattle.txn_effects.specs.Calls.{HasKeys, KeysStandAlone, Effect, call_effect}
-use Rattle.rep_schema.specs.Putting.{made_all}
+use Rattle.rep_schema.specs.Putting.{after_changes}
 use Rattle.txn_effects.specs.Laws.{IsApplied}
-use Rattle.rep_schema.proofs.Making.{made_all-append, room_for-length}
+use Rattle.rep_schema.proofs.Making.{after_changes-append, room_for-length}
 use Rattle.txn_effects.proofs.TransactionEffects.{IsApplied-then, IsApplied-call_effect}
 use Rattle.txn_effects.proofs.RoomForChanges.{room_for-call_effect_elsewhere}
 
@@ -42,7 +42,7 @@ put_back-kept schema before now still = go (has_sequences schema) still
 
 module _ (schema : Schema) (origin : SiteName) (shape : HasShape schema) (keys : HasKeys schema) (apart : KeysStandAlone schema) (calls : List Call) (fit : AllByRecursion (CallFits schema) calls)
     (before now : List Rows) (numbers : Numbers) (done : List Change) (i : ℕ) (call : Call) (below : i < length calls) (is : call ≡ get_or calls i call)
-    (at : now ≡ made_all schema done before) (applied : IsApplied schema before (record { changes = done; numbers = numbers })) where
+    (at : now ≡ after_changes schema done before) (applied : IsApplied schema before (record { changes = done; numbers = numbers })) where
   -- the call fits
   pub CallFits-here : CallFits schema call
   CallFits-here = subst (CallFits schema) (sym is) (each_at (CallFits schema) calls i call below fit)
@@ -57,5 +57,5 @@ module _ (schema : Schema) (origin : SiteName) (shape : HasShape schema) (keys :
       let first : IsApplied schema now one = IsApplied-call_effect schema origin shape keys apart call now numbers one AreTables-now applied.counters CallFits-here gives in
       IsApplied-then schema before (record { changes = done; numbers = numbers }) one applied (subst (λ (ts : List Rows). IsApplied schema ts one) at first)
 
-  pub made_all-more : (changes : List Change) → made_all schema changes now ≡ made_all schema (done ++ changes) before
-  made_all-more changes = ap (made_all schema changes) at ∙ sym (made_all-append schema done changes before)
+  pub made_all-more : (changes : List Change) → after_changes schema changes now ≡ after_changes schema (done ++ changes) before
+  made_all-more changes = ap (after_changes schema changes) at ∙ sym (after_changes-append schema done changes before)

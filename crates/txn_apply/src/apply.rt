@@ -7,7 +7,7 @@ ghost use Rattle.rep_schema.specs.Changes.{HaveLed, LeadsTo, room_for};
 ghost use Rattle.conflict_detect.specs.Fits.{table_of, TxnFits};
 ghost use Rattle.unique_resolve.specs.Numbers.{AreCounters, has_sequences, put_back};
 ghost use Rattle.txn_effects.specs.Calls.{HasKeys, KeysStandAlone, call_effect};
-ghost use Rattle.rep_schema.specs.Putting.{made_all, changes_of};
+ghost use Rattle.rep_schema.specs.Putting.{after_changes, changes_of};
 ghost use Rattle.txn_effects.specs.Transactions.{txn_effect};
 ghost use Rattle.txn_effects.specs.Laws.{IsChecked};
 ghost use Rattle.txn_apply.specs.Stops.{CallStopsAs, CallsAs, CanCall, StopsAs};
@@ -74,7 +74,7 @@ fn apply_in_room<R: RowStore>(
     requires able { CanCall (R.schema store.old) (R.tables store.old) counters.old call.now }
     requires few { rows < 2 ^ 32 }
     ensures ok { IfOk result (λ change. CallsAs (call_effect (R.schema store.old) (R.tables store.old) counters.old origin.now call.now) (changes_of change) counters.new) }
-    ensures tables { IfOk result (λ change. R.tables store.new ≡ made_all (R.schema store.old) (changes_of change) (R.tables store.old)) }
+    ensures tables { IfOk result (λ change. R.tables store.new ≡ after_changes (R.schema store.old) (changes_of change) (R.tables store.old)) }
     ensures err { IfErr result (CallStopsAs (call_effect (R.schema store.old) (R.tables store.old) counters.old origin.now call.now)) }
     ensures still { has_sequences (R.schema store.old) ≡ false → counters.new ≡ counters.old }
     ensures same { OnErr result (R.tables store.new ≡ R.tables store.old) }
@@ -107,7 +107,7 @@ pub fn apply_txn<R: RowStore>(
     requires few { length txn.now.calls ≤ 1000 }
     ensures ok { IfOk result (λ applied. txn_effect (R.schema store.old) origin.now txn.now (R.tables store.old) counters.old
         ≡ Ok (record { changes = applied.changes.rows; numbers = counters.new })) }
-    ensures tables { IfOk result (λ applied. R.tables store.new ≡ made_all (R.schema store.old) applied.changes.rows (R.tables store.old)) }
+    ensures tables { IfOk result (λ applied. R.tables store.new ≡ after_changes (R.schema store.old) applied.changes.rows (R.tables store.old)) }
     ensures leads { IfOk result (λ applied. LeadsTo (R.schema store.old) applied.changes.rows (R.tables store.old) (R.tables store.new)) }
     ensures were { AreTables (R.schema store.old) (R.tables store.old) }
     ensures differ { IfOk result (λ applied. AllByRecursion (λ change. change.before ≢ change.after) applied.changes.rows) }

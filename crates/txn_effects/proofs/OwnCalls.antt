@@ -10,7 +10,7 @@ use Rattle.rep_schema.specs.Shape.{HasShape}
 use Rattle.rep_schema.specs.Tables.{Cells, Rows, columns_of, key_of, rows_of, RowFits, IsUniqueRow, AreTables}
 use Rattle.rep_schema.specs.Groups.{are_same}
 use Rattle.rep_schema.specs.Checks.{failed_check}
-use Rattle.rep_schema.specs.Changes.{made, row_like, IsChange, LeadsTo}
+use Rattle.rep_schema.specs.Changes.{after_change, row_like, IsChange, LeadsTo}
 use Rattle.rep_schema.proofs.TakingBack.{AreTables-made}
 use Rattle.rep_schema.proofs.Leading.{ChangeFits-from_IsChange}
 use Rattle.rep_schema.proofs.FoundRows.{found_row, key_of-found}
@@ -26,7 +26,7 @@ use Rattle.unique_resolve.proofs.FreeSettlements.{not_true, settlement_of-free}
 use Rattle.txn_effects.specs.Parts.{result_then, settled_parts}
 use Rattle.rep_schema.specs.Putting.{changes_between}
 use Rattle.txn_effects.specs.Calls.{RowEffect, settled_effect, Effect, call_effect}
-use Rattle.txn_effects.specs.Transactions.{behind, calls_effect}
+use Rattle.txn_effects.specs.Transactions.{effect_behind, calls_effect}
 use Rattle.txn_effects.specs.Laws.{IsChecked}
 use Rattle.txn_effects.proofs.TransactionEffects.{calls_effect-Ok}
 use Rattle.txn_effects.proofs.OwnParts.{settled_parts-own}
@@ -90,6 +90,6 @@ pub calls_effect-own : (schema : Schema) (origin : SiteName) (numbers : Numbers)
 calls_effect-own schema origin numbers number [] tables later shape are lead differ checked = refl
 calls_effect-own schema origin numbers number (change ∷ changes) tables later shape are lead differ checked =
     let one = call_effect-own schema tables origin numbers change are shape lead.0 differ.0 checked.0 in
-    let rest = calls_effect-own schema origin numbers (number + 1) changes (made schema change tables) later shape (AreTables-made schema change tables are lead.0) lead.1 differ.1 checked.1 in
+    let rest = calls_effect-own schema origin numbers (number + 1) changes (after_change schema change tables) later shape (AreTables-made schema change tables are lead.0) lead.1 differ.1 checked.1 in
     calls_effect-Ok schema origin (call_of schema change) tables numbers number (map (call_of schema) changes) (record { changes = change ∷ []; numbers = numbers }) one
-    ∙ ap (behind (change ∷ [])) rest
+    ∙ ap (effect_behind (change ∷ [])) rest

@@ -17,12 +17,12 @@ use Rattle.rep_calls.specs.declared.call.Call.{Call}
 use Rattle.rep_calls.specs.declared.call.Txn.{Txn}
 use Rattle.conflict_detect.specs.Fits.{table_of, CallFits}
 use Rattle.unique_resolve.specs.Numbers.{Numbers, AreCounters}
-use Rattle.rep_schema.specs.Putting.{is_unchanged, changes_between, made_all}
+use Rattle.rep_schema.specs.Putting.{is_unchanged, changes_between, after_changes}
 use Rattle.txn_effects.specs.Calls.{HasKeys, KeysStandAlone, row_named, RowEffect, row_effect, Effect, call_effect}
-use Rattle.txn_effects.specs.Transactions.{Failure, failing_at, behind, calls_effect, txn_effect}
+use Rattle.txn_effects.specs.Transactions.{Failure, failing_at, effect_behind, calls_effect, txn_effect}
 use Rattle.txn_effects.specs.Laws.{CanApply, IsChecked, IsApplied}
 use Rattle.txn_effects.proofs.Results.{result_then-Ok}
-use Rattle.rep_schema.proofs.Making.{is_unchanged-Decides, made_all-append}
+use Rattle.rep_schema.proofs.Making.{is_unchanged-Decides, after_changes-append}
 use Rattle.txn_effects.proofs.CallEffects.{AreCounters-row_effect, IsChange-row_effect, IsChecked-row_effect}
 
 -- each of some values and of others behind them
@@ -31,20 +31,20 @@ each_append P [] ys first rest = rest
 each_append P (x ∷ xs) ys first rest = (first.0, each_append P xs ys first.1 rest)
 
 -- no changes before others change nothing
-pub behind-none : (result : Result Effect Failure) → behind [] result ≡ result
-behind-none (Ok effect) = refl
-behind-none (Err failure) = refl
+pub effect_behind-none : (result : Result Effect Failure) → effect_behind [] result ≡ result
+effect_behind-none (Ok effect) = refl
+effect_behind-none (Err failure) = refl
 
 -- changes before changes before others
-pub behind-behind : (changes others : List Change) (result : Result Effect Failure) → behind changes (behind others result) ≡ behind (changes ++ others) result
-behind-behind changes others (Ok effect) = ap (λ cs. Ok (record { changes = cs; numbers = effect.numbers })) (sym (append_assoc changes others effect.changes))
-behind-behind changes others (Err failure) = refl
+pub effect_behind-behind : (changes others : List Change) (result : Result Effect Failure) → effect_behind changes (effect_behind others result) ≡ effect_behind (changes ++ others) result
+effect_behind-behind changes others (Ok effect) = ap (λ cs. Ok (record { changes = cs; numbers = effect.numbers })) (sym (append_assoc changes others effect.changes))
+effect_behind-behind changes others (Err failure) = refl
 
 -- where something comes out behind earlier changes, it came out before
-pub behind-Ok : (changes : List Change) (result : Result Effect Failure) (effect : Effect) → behind changes result ≡ Ok effect
+pub effect_behind-Ok : (changes : List Change) (result : Result Effect Failure) (effect : Effect) → effect_behind changes result ≡ Ok effect
     → (later : Effect) × (result ≡ Ok later) × (record { changes = changes ++ later.changes; numbers = later.numbers } ≡ effect)
-behind-Ok changes (Ok later) effect gives = (later, refl, cc)
-behind-Ok changes (Err failure) effect gives = cc
+effect_behind-Ok changes (Ok later) effect gives = (later, refl, cc)
+effect_behind-Ok changes (Err failure) effect gives = cc
 
 pub failing_at-Ok : {A : Type 0} (number : ℕ) (result : Result A ApplyError) (a : A) → failing_at number result ≡ Ok a → result ≡ Ok a
 failing_at-Ok number (Ok b) a gives = cc
@@ -54,7 +54,7 @@ module _ (schema : Schema) (origin : SiteName) where
   module _ (call : Call) (tables : List Rows) (numbers : Numbers) (number : ℕ) (calls : List Call) where
     -- a call that succeeds, and what the calls behind it do then
     pub calls_effect-Ok : (one : Effect) → call_effect schema tables numbers origin call ≡ Ok one
-        → calls_effect schema origin number (call ∷ calls) tables numbers ≡ behind one.changes (calls_effect schema origin (number + 1) calls (made_all schema one.changes tables) one.numbers)
+        → calls_effect schema origin number (call ∷ calls) tables numbers ≡ effect_behind one.changes (calls_effect schema origin (number + 1) calls (after_changes schema one.changes tables) one.numbers)
     calls_effect-Ok one gives = rw gives refl
 
     -- where a call fails, the calls behind it do nothing
@@ -64,14 +64,14 @@ module _ (schema : Schema) (origin : SiteName) where
 
   -- what the calls so far have done, by the tables and counters now: what the calls behind them do from there decides
   module _ (calls : List Call) (tables now : List Rows) (numbers now_numbers : Numbers) (done : List Change) (i : ℕ)
-      (so_far : calls_effect schema origin 1 calls tables numbers ≡ behind done (calls_effect schema origin (i + 1) (drop i calls) now now_numbers)) where
+      (so_far : calls_effect schema origin 1 calls tables numbers ≡ effect_behind done (calls_effect schema origin (i + 1) (drop i calls) now now_numbers)) where
     -- one more call that succeeds
     pub so_far-Ok : (call : Call) (one : Effect) → drop i calls ≡ call ∷ drop (i + 1) calls → call_effect schema now now_numbers origin call ≡ Ok one
         → calls_effect schema origin 1 calls tables numbers
-        ≡ behind (done ++ one.changes) (calls_effect schema origin (i + 1 + 1) (drop (i + 1) calls) (made_all schema one.changes now) one.numbers)
+        ≡ effect_behind (done ++ one.changes) (calls_effect schema origin (i + 1 + 1) (drop (i + 1) calls) (after_changes schema one.changes now) one.numbers)
     so_far-Ok call one here gives =
-        so_far ∙ ap (behind done) (rw here (calls_effect-Ok call now now_numbers (i + 1) (drop (i + 1) calls) one gives))
-        ∙ behind-behind done one.changes (calls_effect schema origin (i + 1 + 1) (drop (i + 1) calls) (made_all schema one.changes now) one.numbers)
+        so_far ∙ ap (effect_behind done) (rw here (calls_effect-Ok call now now_numbers (i + 1) (drop (i + 1) calls) one gives))
+        ∙ effect_behind-behind done one.changes (calls_effect schema origin (i + 1 + 1) (drop (i + 1) calls) (after_changes schema one.changes now) one.numbers)
 
     -- one that fails
     pub so_far-Err : (call : Call) (error : ApplyError) → drop i calls ≡ call ∷ drop (i + 1) calls → call_effect schema now now_numbers origin call ≡ Err error
@@ -87,12 +87,12 @@ pub IsApplied-none : (schema : Schema) (tables : List Rows) (numbers : Numbers) 
 IsApplied-none schema tables numbers are counters = record { leads = refl; differ = tt; checked = tt; are = are; counters = counters }
 
 -- what leads to tables, and then on to others
-pub IsApplied-then : (schema : Schema) (tables : List Rows) (one later : Effect) → IsApplied schema tables one → IsApplied schema (made_all schema one.changes tables) later
+pub IsApplied-then : (schema : Schema) (tables : List Rows) (one later : Effect) → IsApplied schema tables one → IsApplied schema (after_changes schema one.changes tables) later
     → IsApplied schema tables (record { changes = one.changes ++ later.changes; numbers = later.numbers })
 IsApplied-then schema tables one later first rest =
-    let whole = made_all-append schema one.changes later.changes tables in
+    let whole = after_changes-append schema one.changes later.changes tables in
     record {
-      leads = rw whole (LeadsTo-append schema one.changes later.changes tables (made_all schema one.changes tables) (made_all schema later.changes (made_all schema one.changes tables)) first.leads rest.leads);
+      leads = rw whole (LeadsTo-append schema one.changes later.changes tables (after_changes schema one.changes tables) (after_changes schema later.changes (after_changes schema one.changes tables)) first.leads rest.leads);
       differ = each_append (λ (change : Change). change.before ≢ change.after) one.changes later.changes first.differ rest.differ;
       checked = each_append (IsChecked schema) one.changes later.changes first.checked rest.checked;
       are = rw whole rest.are;
@@ -141,13 +141,13 @@ module _ (schema : Schema) (origin : SiteName) (shape : HasShape schema) (keys :
       subst (IsApplied schema tables) is (IsApplied-none schema tables numbers are counters)
   IsApplied-calls_effect number (call ∷ calls) tables numbers effect are counters fit gives =
       let some = result_then-Ok (failing_at number (call_effect schema tables numbers origin call))
-      (λ (x : Effect). behind x.changes (calls_effect schema origin (number + 1) calls (made_all schema x.changes tables) x.numbers)) effect gives in
+      (λ (x : Effect). effect_behind x.changes (calls_effect schema origin (number + 1) calls (after_changes schema x.changes tables) x.numbers)) effect gives in
       let one : Effect = some.0 in
       let first = IsApplied-call_effect call tables numbers one are counters fit.0 (failing_at-Ok number (call_effect schema tables numbers origin call) one some.1) in
-      let rest = behind-Ok one.changes (calls_effect schema origin (number + 1) calls (made_all schema one.changes tables) one.numbers) effect some.2 in
+      let rest = effect_behind-Ok one.changes (calls_effect schema origin (number + 1) calls (after_changes schema one.changes tables) one.numbers) effect some.2 in
       subst (IsApplied schema tables) rest.2
       (IsApplied-then schema tables one rest.0 first
-      (IsApplied-calls_effect (number + 1) calls (made_all schema one.changes tables) one.numbers rest.0 first.are first.counters fit.1 rest.1))
+      (IsApplied-calls_effect (number + 1) calls (after_changes schema one.changes tables) one.numbers rest.0 first.are first.counters fit.1 rest.1))
 
 -- a transaction that succeeds leads by its changes from the tables before it to those after it
 pub IsApplied-txn_effect : (schema : Schema) (origin : SiteName) (txn : Txn) (tables : List Rows) (numbers : Numbers) (effect : Effect)

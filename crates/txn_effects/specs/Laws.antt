@@ -13,7 +13,7 @@ use Rattle.rep_calls.specs.declared.call.Txn.{Txn}
 use Rattle.conflict_detect.specs.Fits.{TxnFits}
 use Rattle.unique_resolve.specs.Numbers.{Numbers, AreCounters}
 use Rattle.txn_effects.specs.Calls.{HasKeys, KeysStandAlone, Effect}
-use Rattle.rep_schema.specs.Putting.{made_all}
+use Rattle.rep_schema.specs.Putting.{after_changes}
 use Rattle.txn_effects.specs.Transactions.{txn_effect}
 
 -- a schema with shape and keys, which are in no group, its tables, its counters, and a transaction that fits it
@@ -32,10 +32,10 @@ IsChecked schema change = IfSome change.after (λ row. failed_check schema chang
 -- what a transaction that succeeds leaves: its changes lead to the tables after it, each of them changed a row, which
 -- meets the checks, and there is still a counter for each constraint
 pub record IsApplied (schema : Schema) (tables : List Rows) (effect : Effect) : Type 0 where
-  pub leads : LeadsTo schema effect.changes tables (made_all schema effect.changes tables)
+  pub leads : LeadsTo schema effect.changes tables (after_changes schema effect.changes tables)
   pub differ : AllByRecursion (λ change. change.before ≢ change.after) effect.changes
   pub checked : AllByRecursion (IsChecked schema) effect.changes
-  pub are : AreTables schema (made_all schema effect.changes tables)
+  pub are : AreTables schema (after_changes schema effect.changes tables)
   pub counters : AreCounters schema effect.numbers
 
 abbrev pub TransactionsLeadToTheirTables : Type 0

@@ -5,7 +5,7 @@ use Rattle.rep_values.specs.declared.refusal.ApplyError.{ApplyError}
 use Rattle.rep_schema.specs.declared.schema.Schema.{Schema}
 use Rattle.rep_schema.specs.declared.change.Change.{Change}
 use Rattle.rep_schema.specs.Tables.{Rows}
-use Rattle.rep_schema.specs.Putting.{made_all}
+use Rattle.rep_schema.specs.Putting.{after_changes}
 use Rattle.rep_calls.specs.declared.call.Call.{Call}
 use Rattle.rep_calls.specs.declared.call.Txn.{Txn}
 use Rattle.unique_resolve.specs.Numbers.{Numbers}
@@ -22,15 +22,15 @@ failing_at call (Ok a) = Ok a
 failing_at call (Err error) = Err (record { call = call; error = error })
 
 -- earlier changes before the later ones
-abbrev pub behind : List Change → Result Effect Failure → Result Effect Failure
-behind changes (Ok effect) = Ok (record { changes = changes ++ effect.changes; numbers = effect.numbers })
-behind changes (Err failure) = Err failure
+abbrev pub effect_behind : List Change → Result Effect Failure → Result Effect Failure
+effect_behind changes (Ok effect) = Ok (record { changes = changes ++ effect.changes; numbers = effect.numbers })
+effect_behind changes (Err failure) = Err failure
 
 -- what calls from an origin do one after the other, the first of them having a number
 abbrev pub calls_effect : Schema → SiteName → ℕ → List Call → List Rows → Numbers → Result Effect Failure
 calls_effect schema origin number [] tables numbers = Ok (record { changes = []; numbers = numbers })
 calls_effect schema origin number (call ∷ calls) tables numbers = result_then (failing_at number (call_effect schema tables numbers origin call))
-    (λ effect. behind effect.changes (calls_effect schema origin (number + 1) calls (made_all schema effect.changes tables) effect.numbers))
+    (λ effect. effect_behind effect.changes (calls_effect schema origin (number + 1) calls (after_changes schema effect.changes tables) effect.numbers))
 
 -- what a transaction from an origin does to tables and counters: the changes of all its calls, or the first call that
 -- fails and nothing else
@@ -39,7 +39,7 @@ txn_effect schema origin txn tables numbers = calls_effect schema origin 1 txn.c
 
 -- the tables after a transaction; the ones from before where it fails
 abbrev pub tables_by : Schema → Result Effect Failure → List Rows → List Rows
-tables_by schema (Ok effect) tables = made_all schema effect.changes tables
+tables_by schema (Ok effect) tables = after_changes schema effect.changes tables
 tables_by schema (Err failure) tables = tables
 
 -- the counters after a transaction; the ones from before where it fails

@@ -7,12 +7,12 @@ use Rattle.rep_values.specs.declared.refusal.ApplyError.{ApplyError}
 use Rattle.rep_schema.specs.declared.schema.Schema.{Schema}
 use Rattle.rep_schema.specs.declared.change.Change.{Change}
 use Rattle.rep_schema.specs.Tables.{Cells, Rows}
-use Rattle.rep_schema.specs.Putting.{made_all, is_unchanged, changes_between}
+use Rattle.rep_schema.specs.Putting.{after_changes, is_unchanged, changes_between}
 use Rattle.rep_calls.specs.declared.call.Call.{Call}
 use Rattle.unique_resolve.specs.Numbers.{Numbers}
 use Rattle.conflict_detect.specs.Fits.{table_of}
 use Rattle.txn_effects.specs.Calls.{RowEffect, row_named, row_effect, Effect, call_effect}
-use Rattle.txn_effects.specs.Transactions.{Failure, failing_at, behind, calls_effect}
+use Rattle.txn_effects.specs.Transactions.{Failure, failing_at, effect_behind, calls_effect}
 use Rattle.txn_effects.proofs.Results.{result_then-Ok}
 
 one_at_most : (table : ℕ) (before after : Option Cells) → length (changes_between table before after) ≤ 1
@@ -39,7 +39,7 @@ few-call_effect schema origin number call tables numbers one gives =
     succeeds (Err error) is = absurd (cc is)
 
 -- what is behind earlier changes and succeeds has them and its own
-more_changes : (changes : List Change) (r : Result Effect Failure) (effect : Effect) → behind changes r ≡ Ok effect → (n : ℕ) → ((later : Effect) → r ≡ Ok later → length later.changes ≤ n) → length effect.changes ≤ length changes + n
+more_changes : (changes : List Change) (r : Result Effect Failure) (effect : Effect) → effect_behind changes r ≡ Ok effect → (n : ℕ) → ((later : Effect) → r ≡ Ok later → length later.changes ≤ n) → length effect.changes ≤ length changes + n
 more_changes changes (Ok later) effect is n few =
     let same : record { changes = changes ++ later.changes; numbers = later.numbers } ≡ effect = cc is in
     subst (λ (e : Effect). length e.changes ≤ length changes + n) same (omega (arith, few later refl, length-append changes later.changes))
@@ -52,9 +52,9 @@ few_changes schema origin number [] tables numbers effect gives =
     subst (λ (e : Effect). length e.changes ≤ 0) is (omega arith)
 few_changes schema origin number (call ∷ calls) tables numbers effect gives =
     let some = result_then-Ok (failing_at number (call_effect schema tables numbers origin call))
-    (λ (x : Effect). behind x.changes (calls_effect schema origin (number + 1) calls (made_all schema x.changes tables) x.numbers)) effect gives in
+    (λ (x : Effect). effect_behind x.changes (calls_effect schema origin (number + 1) calls (after_changes schema x.changes tables) x.numbers)) effect gives in
     let one : Effect = some.0 in
     let own = few-call_effect schema origin number call tables numbers one some.1 in
-    let all = more_changes one.changes (calls_effect schema origin (number + 1) calls (made_all schema one.changes tables) one.numbers) effect some.2 (length calls)
-    (λ later. few_changes schema origin (number + 1) calls (made_all schema one.changes tables) one.numbers later) in
+    let all = more_changes one.changes (calls_effect schema origin (number + 1) calls (after_changes schema one.changes tables) one.numbers) effect some.2 (length calls)
+    (λ later. few_changes schema origin (number + 1) calls (after_changes schema one.changes tables) one.numbers later) in
     omega (arith, own, all)

@@ -9,9 +9,9 @@ use Rattle.rep_lists.proofs.Rising.{all_put}
 use Rattle.rep_lists.proofs.Each.{each_then}
 use Rattle.rep_schema.specs.declared.schema.Schema.{Schema}
 use Rattle.rep_schema.specs.declared.schema.Column.{Column}
-use Rattle.rep_schema.specs.Tables.{Cells, Rows, columns_of, constraint_columns_of, key_of, beside, find_row, put_row, rows_of, picked, RowFits, IsUniqueRow, AreTables}
+use Rattle.rep_schema.specs.Tables.{Cells, Rows, columns_of, constraint_columns_of, key_of, row_beside, find_row, put_row, rows_of, picked, RowFits, IsUniqueRow, AreTables}
 use Rattle.rep_schema.specs.Changes.{row_like}
-use Rattle.rep_schema.proofs.KeptTables.{any_from_none}
+use Rattle.rep_schema.proofs.TableSteps.{any_from_none}
 use Rattle.rep_schema.proofs.FoundRows.{found_row, key_of-found, find_row-put_own, find_row-put_other}
 use Rattle.rep_calls.specs.declared.call.Call.{Call}
 use Rattle.conflict_detect.specs.Fits.{table_of}
@@ -108,7 +108,7 @@ module _ (schema : Schema) (whole : List Rows) where
       rows = λ t. elim (cases_eq t table) [
         | inl same ↦
             let here : AllByRecursion (IsThere table) (rows_of after table) =
-            subst (AllByRecursion (IsThere table)) (sym rows_of-after) (all_put (beside columns (key_of columns row)) (IsThere table) row (rows_of some table) there_too (is.rows table)) in
+            subst (AllByRecursion (IsThere table)) (sym rows_of-after) (all_put (row_beside columns (key_of columns row)) (IsThere table) row (rows_of some table) there_too (is.rows table)) in
             subst (λ j. AllByRecursion (IsThere j) (rows_of after j)) (sym same) here
         | inr other ↦ subst (AllByRecursion (IsThere t)) (sym (rows_of-elsewhere t other)) (is.rows t)
       ];

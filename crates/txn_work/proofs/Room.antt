@@ -7,7 +7,7 @@ use Rattle.std.proofs.lemmas.List.Sums.{sum_by-append}
 use Rattle.rep_schema.specs.declared.schema.Schema.{Schema}
 use Rattle.rep_schema.specs.declared.change.Change.{Change}
 use Rattle.rep_schema.specs.Tables.{Cells, Rows}
-use Rattle.rep_schema.specs.Changes.{made, LeadsTo, room_for}
+use Rattle.rep_schema.specs.Changes.{after_change, LeadsTo, room_for}
 use Rattle.rep_schema.proofs.Leading.{room_for-append}
 use Rattle.txn_work.specs.Making.{changes_in}
 
@@ -61,4 +61,4 @@ room_for-drop t (suc n) (change ∷ changes) = omega (arith, room_for-drop t n c
 -- changes that lead from tables of a schema are of its tables
 pub each_in_schema : (schema : Schema) (changes : List Change) (earlier later : List Rows) → LeadsTo schema changes earlier later → AllByRecursion (λ change. change.table < length schema.tables) changes
 each_in_schema schema [] earlier later lead = tt
-each_in_schema schema (change ∷ changes) earlier later lead = (lead.0.table, each_in_schema schema changes (made schema change earlier) later lead.1)
+each_in_schema schema (change ∷ changes) earlier later lead = (lead.0.table, each_in_schema schema changes (after_change schema change earlier) later lead.1)

@@ -1,8 +1,8 @@
 //! Row changes made on a store.
 ghost use Rattle.std.specs.Prelude.{◌≡◌, ℕ, ◌+◌, ◌<◌, ◌≤◌, [], ◌∷◌, length, slice_index, OnOk, OnErr};
 ghost use Rattle.std.specs.List.{AllByRecursion};
-ghost use Rattle.rep_schema.specs.Changes.{made, IsChange, LeadsTo, room_for};
-ghost use Rattle.rep_schema.specs.Putting.{made_all};
+ghost use Rattle.rep_schema.specs.Changes.{after_change, IsChange, LeadsTo, room_for};
+ghost use Rattle.rep_schema.specs.Putting.{after_changes};
 ghost use Rattle.txn_work.specs.Making.{changes_in};
 
 use rep_lists::NoMemory;
@@ -26,7 +26,7 @@ pub fn make_room<R: RowStore>(store: &mut R, changes: &Changes) -> Result<(), No
 fn make_change<R: RowStore>(store: &mut R, change: Change)
     requires is { IsChange (R.schema store.old) change (R.tables store.old) }
     requires room { 1 ≤ slice_index (R.spare store.old) change.table }
-    ensures tables { R.tables store.new ≡ made (R.schema store.old) change (R.tables store.old) }
+    ensures tables { R.tables store.new ≡ after_change (R.schema store.old) change (R.tables store.old) }
     ensures schema { R.schema store.new ≡ R.schema store.old }
     ensures room { (t : ℕ) → slice_index (R.spare store.old) t + room_for t (change ∷ []) ≤ slice_index (R.spare store.new) t + changes_in t (change ∷ []) }
 {
@@ -51,9 +51,9 @@ fn make_change<R: RowStore>(store: &mut R, change: Change)
 /// Makes changes that lead on from a store's rows, the first one first. It takes no memory, since there is room for
 /// them; and then there is room to take them back.
 pub fn make_changes<R: RowStore>(store: &mut R, changes: Changes)
-    requires leads { LeadsTo (R.schema store.old) changes.rows (R.tables store.old) (made_all (R.schema store.old) changes.rows (R.tables store.old)) }
+    requires leads { LeadsTo (R.schema store.old) changes.rows (R.tables store.old) (after_changes (R.schema store.old) changes.rows (R.tables store.old)) }
     requires room { (t : ℕ) → changes_in t changes.rows ≤ slice_index (R.spare store.old) t }
-    ensures tables { R.tables store.new ≡ made_all (R.schema store.old) changes.rows (R.tables store.old) }
+    ensures tables { R.tables store.new ≡ after_changes (R.schema store.old) changes.rows (R.tables store.old) }
     ensures schema { R.schema store.new ≡ R.schema store.old }
     ensures room { (t : ℕ) → room_for t changes.rows ≤ slice_index (R.spare store.new) t }
 {
@@ -64,8 +64,8 @@ pub fn make_changes<R: RowStore>(store: &mut R, changes: Changes)
 
 /// Makes changes that lead on from a store's rows: all of them, or none where there is no memory.
 pub fn redo<R: RowStore>(store: &mut R, changes: Changes) -> Result<(), NoMemory>
-    requires { LeadsTo (R.schema store.old) changes.rows (R.tables store.old) (made_all (R.schema store.old) changes.rows (R.tables store.old)) }
-    ensures ok { OnOk result (R.tables store.new ≡ made_all (R.schema store.old) changes.rows (R.tables store.old)) }
+    requires { LeadsTo (R.schema store.old) changes.rows (R.tables store.old) (after_changes (R.schema store.old) changes.rows (R.tables store.old)) }
+    ensures ok { OnOk result (R.tables store.new ≡ after_changes (R.schema store.old) changes.rows (R.tables store.old)) }
     ensures room { OnOk result ((t : ℕ) → room_for t changes.rows ≤ slice_index (R.spare store.new) t) }
     ensures kept { OnErr result (R.tables store.new ≡ R.tables store.old) }
     ensures schema { R.schema store.new ≡ R.schema store.old }

@@ -15,14 +15,14 @@ use Rattle.unique_resolve.specs.declared.settled.Settled.TheVariants.{Fits, Drop
 use Rattle.unique_resolve.specs.Settling.{TableOutcome, go_on, settled_one, settled_each}
 
 -- an outcome with further numbers before its own
-abbrev pub behind : List ℕ → TableOutcome → TableOutcome
-behind numbers outcome = record { settled = outcome.settled; numbers = numbers ++ outcome.numbers }
+abbrev pub outcome_behind : List ℕ → TableOutcome → TableOutcome
+outcome_behind numbers outcome = record { settled = outcome.settled; numbers = numbers ++ outcome.numbers }
 
 -- one constraint more, of those from a place on
 module _ (columns : List Column) (rows : Rows) (origin : SiteName) (constraints : List Constraint) (numbers : List ℕ) (i : ℕ) (c : Constraint) (row : Cells)
     (there : slice_get constraints i ≡ Some c) (long : length numbers ≡ length constraints) (settled : Settled) (number : ℕ)
     (one : settled_one columns rows origin c row (get_or numbers i 0) ≡ record { settled = settled; number = number })
-    (whole : TableOutcome) (rest : whole ≡ behind (take i numbers) (settled_each columns rows origin (drop i constraints) (drop i numbers) row)) where
+    (whole : TableOutcome) (rest : whole ≡ outcome_behind (take i numbers) (settled_each columns rows origin (drop i constraints) (drop i numbers) row)) where
   in_numbers : i < length numbers
   in_numbers = omega (arith, slice_get_within constraints i c there, long)
 
@@ -46,7 +46,7 @@ module _ (columns : List Column) (rows : Rows) (origin : SiteName) (constraints 
 
   -- one that fits, behind which the others go on
   pub each-fits : (after : Cells) → settled ≡ Fits after
-      → whole ≡ behind (take (i + 1) (set numbers i number)) (settled_each columns rows origin (drop (i + 1) constraints) (drop (i + 1) (set numbers i number)) after)
+      → whole ≡ outcome_behind (take (i + 1) (set numbers i number)) (settled_each columns rows origin (drop (i + 1) constraints) (drop (i + 1) (set numbers i number)) after)
   each-fits after fits =
       let next : i + 1 ≡ suc i = omega arith in
       let front : take (i + 1) (set numbers i number) ≡ take i numbers ++ number ∷ [] = rw next (take-suc-set numbers i number in_numbers) in

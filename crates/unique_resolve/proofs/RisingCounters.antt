@@ -13,9 +13,9 @@ use Rattle.rep_schema.specs.declared.schema.UniqueMethod.TheVariants as method
 use Rattle.rep_schema.specs.Tables.{Cells, Rows, columns_of, constraints_in, constraints_of, key_of, find_row, rows_of}
 use Rattle.unique_resolve.specs.declared.settled.Settled.{Settled}
 use Rattle.unique_resolve.specs.declared.settled.Settled.TheVariants.{Fits, Dropped, Conflict}
-use Rattle.unique_resolve.specs.Numbers.{Numbers, raised, is_sequence, has_sequence, has_sequence_in}
+use Rattle.unique_resolve.specs.Numbers.{Numbers, number_raised, is_sequence, has_sequence, has_sequence_in}
 use Rattle.unique_resolve.specs.Appending.{appended}
-use Rattle.unique_resolve.specs.Settling.{is_held, helping, Outcome, or_following, settled_by, settled_one, go_on, settled_each, key_methods_in, key_taken, with_numbers, settlement_of}
+use Rattle.unique_resolve.specs.Settling.{is_held, helping, ConstraintOutcome, or_following, settled_by, settled_one, go_on, settled_each, key_methods_in, key_taken, with_numbers, settlement_of}
 use Rattle.unique_resolve.specs.Laws.{IsNoLower, CountersNeverFall, OtherCountersStandStill, CountersStandStillWithoutSequences}
 
 -- a number of 64 bits doesn't fall, and stays one
@@ -31,10 +31,10 @@ Rises-trans a b c first next low =
     let two = next one.bits in
     record { least = omega (arith, one.least, two.least); bits = two.bits }
 
-Rises-raised : (n : ℕ) → Rises n (raised n)
+Rises-raised : (n : ℕ) → Rises n (number_raised n)
 Rises-raised n low = record { least = grind (arith, low); bits = grind (arith, low) }
 
-Rises-or_following : (number : ℕ) (later : Outcome) (helped : Option Cells) (now : ℕ) → Rises number now → Rises number later.number → Rises number (or_following helped now later).number
+Rises-or_following : (number : ℕ) (later : ConstraintOutcome) (helped : Option Cells) (now : ℕ) → Rises number now → Rises number later.number → Rises number (or_following helped now later).number
 Rises-or_following number later None now rises rest = rest
 Rises-or_following number later (Some row) now rises rest = rises
 
@@ -46,9 +46,9 @@ module _ (columns : List Column) (rows : Rows) (origin : SiteName) where
       Rises-or_following number (settled_by columns constraint rows origin methods row number)
       (helping columns constraint.columns rows (appended columns constraint.columns column origin.0 row)) number (Rises-same number) (Rises-settled_by constraint row methods number)
   Rises-settled_by constraint row (method.AppendSequence column ∷ methods) number =
-      Rises-or_following number (settled_by columns constraint rows origin methods row (raised number))
-      (helping columns constraint.columns rows (appended columns constraint.columns column (decimal (raised number)) row)) (raised number) (Rises-raised number)
-      (Rises-trans number (raised number) (settled_by columns constraint rows origin methods row (raised number)).number (Rises-raised number) (Rises-settled_by constraint row methods (raised number)))
+      Rises-or_following number (settled_by columns constraint rows origin methods row (number_raised number))
+      (helping columns constraint.columns rows (appended columns constraint.columns column (decimal (number_raised number)) row)) (number_raised number) (Rises-raised number)
+      (Rises-trans number (number_raised number) (settled_by columns constraint rows origin methods row (number_raised number)).number (Rises-raised number) (Rises-settled_by constraint row methods (number_raised number)))
 
   Rises-settled_one : (constraint : Constraint) (row : Cells) (number : ℕ) → Rises number (settled_one columns rows origin constraint row number).number
   Rises-settled_one constraint row number = go (is_held columns constraint.columns rows row)

@@ -22,7 +22,7 @@ use Rattle.rep_schema.specs.Shape.{key_name, ShareNone, HasTableShape, HasShape}
 use Rattle.rep_schema.proofs.Shapes.{table_shape}
 use Rattle.unique_resolve.specs.declared.settled.Settled.{Settled}
 use Rattle.unique_resolve.specs.declared.settled.Settled.TheVariants.{Fits, Dropped, Conflict}
-use Rattle.unique_resolve.specs.Numbers.{Numbers, AreCounters, first_numbers, raised}
+use Rattle.unique_resolve.specs.Numbers.{Numbers, AreCounters, first_numbers, number_raised}
 use Rattle.unique_resolve.specs.Appending.{may_change, appended}
 use Rattle.unique_resolve.specs.Laws.{IsLengthened, may_grow}
 use Rattle.unique_resolve.specs.Settling.{is_held, helping, or_following, settled_by, settled_one, TableOutcome, go_on, settled_each, is_discard, key_methods_in, key_taken, Settlement, with_numbers, settlement_of}
@@ -109,14 +109,14 @@ module _ (columns : List Column) (constraint : Constraint) (rows : Rows) (origin
       go None helps e later = later e
       go (Some one) helps e later = let same : one ≡ after = cc in IsFree-helping column origin.0 after (helps ∙ ap Some same)
   IsFree-settled_by (method.AppendSequence column ∷ methods) number after fit =
-      go (helping columns constraint.columns rows (appended columns constraint.columns column (decimal (raised number)) row)) refl fit (IsFree-settled_by methods (raised number) after)
+      go (helping columns constraint.columns rows (appended columns constraint.columns column (decimal (number_raised number)) row)) refl fit (IsFree-settled_by methods (number_raised number) after)
     where
-      go : (helped : Option Cells) → helping columns constraint.columns rows (appended columns constraint.columns column (decimal (raised number)) row) ≡ helped
-          → (or_following helped (raised number) (settled_by columns constraint rows origin methods row (raised number))).settled ≡ Fits after
-          → ((settled_by columns constraint rows origin methods row (raised number)).settled ≡ Fits after → IsFree columns constraint.columns rows row after)
+      go : (helped : Option Cells) → helping columns constraint.columns rows (appended columns constraint.columns column (decimal (number_raised number)) row) ≡ helped
+          → (or_following helped (number_raised number) (settled_by columns constraint rows origin methods row (number_raised number))).settled ≡ Fits after
+          → ((settled_by columns constraint rows origin methods row (number_raised number)).settled ≡ Fits after → IsFree columns constraint.columns rows row after)
           → IsFree columns constraint.columns rows row after
       go None helps e later = later e
-      go (Some one) helps e later = let same : one ≡ after = cc in IsFree-helping column (decimal (raised number)) after (helps ∙ ap Some same)
+      go (Some one) helps e later = let same : one ≡ after = cc in IsFree-helping column (decimal (number_raised number)) after (helps ∙ ap Some same)
 
   -- and one that fits as it is
   IsFree-settled_one : (number : ℕ) (after : Cells) → (settled_one columns rows origin constraint row number).settled ≡ Fits after → IsFree columns constraint.columns rows row after

@@ -20,8 +20,8 @@ abbrev pub first_numbers : Schema → Numbers
 first_numbers schema = map (λ table. replicate (length table.constraints) 0) schema.tables
 
 -- one more; the last number stands still
-abbrev pub raised : ℕ → ℕ
-raised number = min (number + 1) 18446744073709551615
+abbrev pub number_raised : ℕ → ℕ
+number_raised number = min (number + 1) 18446744073709551615
 
 -- append-sequence, which alone raises a counter
 abbrev pub is_sequence : UniqueMethod → Bool

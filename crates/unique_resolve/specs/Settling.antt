@@ -13,7 +13,7 @@ use Rattle.rep_schema.specs.Tables.{Cells, Rows, columns_of, constraints_of, key
 use Rattle.rep_schema.specs.Groups.{values_at, are_same}
 use Rattle.unique_resolve.specs.declared.settled.Settled.{Settled}
 use Rattle.unique_resolve.specs.declared.settled.Settled.TheVariants.{Fits, Dropped, Conflict}
-use Rattle.unique_resolve.specs.Numbers.{Numbers, raised}
+use Rattle.unique_resolve.specs.Numbers.{Numbers, number_raised}
 use Rattle.unique_resolve.specs.Appending.{appended}
 
 -- a row with another key has the same values at these places
@@ -26,30 +26,30 @@ helping columns places rows None = None
 helping columns places rows (Some row) = cond (is_held columns places rows row) None (Some row)
 
 -- what becomes of a row, and one counter
-pub record Outcome : Type 0 where
+pub record ConstraintOutcome : Type 0 where
   pub settled : Settled
   pub number : ℕ
 
 -- the row that helps, or what the following methods give
-abbrev pub or_following : Option Cells → ℕ → Outcome → Outcome
+abbrev pub or_following : Option Cells → ℕ → ConstraintOutcome → ConstraintOutcome
 or_following None number following = following
 or_following (Some row) number following = record { settled = Fits row; number = number }
 
 -- the methods of a violated constraint, in sequence, from an origin: discard gives the row up; an append helps where the
 -- text doesn't get too long and the constraint holds then, and else leaves the row; the counter rises each time
 -- append-sequence is tried
-abbrev pub settled_by : List Column → Constraint → Rows → SiteName → List UniqueMethod → Cells → ℕ → Outcome
+abbrev pub settled_by : List Column → Constraint → Rows → SiteName → List UniqueMethod → Cells → ℕ → ConstraintOutcome
 settled_by columns constraint rows origin [] row number = record { settled = Conflict constraint.name; number = number }
 settled_by columns constraint rows origin (method.Discard ∷ methods) row number = record { settled = Dropped; number = number }
 settled_by columns constraint rows origin (method.AppendSite column ∷ methods) row number =
     or_following (helping columns constraint.columns rows (appended columns constraint.columns column origin.0 row)) number
     (settled_by columns constraint rows origin methods row number)
 settled_by columns constraint rows origin (method.AppendSequence column ∷ methods) row number =
-    or_following (helping columns constraint.columns rows (appended columns constraint.columns column (decimal (raised number)) row)) (raised number)
-    (settled_by columns constraint rows origin methods row (raised number))
+    or_following (helping columns constraint.columns rows (appended columns constraint.columns column (decimal (number_raised number)) row)) (number_raised number)
+    (settled_by columns constraint rows origin methods row (number_raised number))
 
 -- one constraint: a row that doesn't violate it fits
-abbrev pub settled_one : List Column → Rows → SiteName → Constraint → Cells → ℕ → Outcome
+abbrev pub settled_one : List Column → Rows → SiteName → Constraint → Cells → ℕ → ConstraintOutcome
 settled_one columns rows origin constraint row number = cond (is_held columns constraint.columns rows row)
     (settled_by columns constraint rows origin constraint.methods row number)
     (record { settled = Fits row; number = number })

@@ -10,7 +10,7 @@ use Rattle.unique_resolve.specs.declared.trying.Tried.{Tried}
 use Rattle.unique_resolve.specs.declared.trying.Tried.TheVariants.{Helps, GivesUp, Fails}
 use Rattle.unique_resolve.specs.declared.trying.Ruling.{Ruling}
 use Rattle.unique_resolve.specs.declared.trying.Ruling.TheVariants as ruling
-use Rattle.unique_resolve.specs.Settling.{Outcome}
+use Rattle.unique_resolve.specs.Settling.{ConstraintOutcome}
 
 -- a row that is to be put into a table of a schema
 pub record IsAsked (schema : Schema) (table : ℕ) (row : Cells) : Type 0 where
@@ -37,7 +37,7 @@ tried_by true = Helps
 tried_by false = Fails
 
 -- a method that helps or gives the row up settles the constraint, and else the following ones do
-abbrev pub followed : Tried → Cells → ℕ → Outcome → Outcome
+abbrev pub followed : Tried → Cells → ℕ → ConstraintOutcome → ConstraintOutcome
 followed Helps row number following = record { settled = Fits row; number = number }
 followed GivesUp row number following = record { settled = Dropped; number = number }
 followed Fails row number following = following

@@ -11,12 +11,12 @@ use Rattle.net_plan.specs.Directions.{Direction, is_between, direction_of, at_di
 use Rattle.site_state.specs.declared.arrival.Arrival.{Arrival}
 use Rattle.site_state.specs.State.{SiteState}
 use Rattle.site_state.specs.Ready.{is_ready, first_ready_in}
-use Rattle.event_laws.specs.Core.{site_of, at_site}
+use Rattle.event_laws.specs.Cluster.{site_of, at_site}
 use Rattle.world_state.specs.World.{WorldState}
 use Rattle.world_state.specs.Rounds.{is_ready_here, passed_where_ready, round, rounds}
-use Rattle.world_state.specs.Pushes.{taken_each, taken_one, emptied, world_take, world_deliver, world_send, world_send_each}
+use Rattle.world_state.specs.Pushes.{taken_each, taken_one, emptied, world_deliver_one, world_deliver, world_send, world_send_each}
 use Rattle.world_laws.specs.Simulation.{WasSent, AreEvents}
-use Rattle.world_laws.specs.Places.{place_of}
+use Rattle.world_laws.specs.Places.{site_place}
 use Rattle.world_laws.proofs.Links.{at_carries, way_sent, delivered_carries}
 use Rattle.world_laws.proofs.SiteSteps.{Runs, taken_runs}
 use Rattle.world_laws.proofs.Pieces.{runs_lead, links_lead}
@@ -55,8 +55,8 @@ taken_each-one to [] sites = refl
 taken_each-one to (packet ∷ packets) sites = refl
 
 -- a delivery leaves what all of them lead to
-pub take_then_deliver : (from to : SiteName) (w : WorldState) → world_deliver from to (world_take from to w) ≡ world_deliver from to w
-take_then_deliver from to w =
+pub deliver_one_then_all : (from to : SiteName) (w : WorldState) → world_deliver from to (world_deliver_one from to w) ≡ world_deliver from to w
+deliver_one_then_all from to w =
     rw (on_way_between-delivered from to w.net, emptied-delivered from to w.net, first_between-first from to w.net, taken_each-one to (on_way_between from to w.net) w.sites) refl
 
 emptied-none : (from to : SiteName) (net : List Direction) → on_way_between from to net ≡ [] → at_direction from to emptied net ≡ net
@@ -76,8 +76,8 @@ pub deliver_none : (from to : SiteName) (w : WorldState) → on_way_between from
 deliver_none from to w none = rw (none, emptied-none from to w.net none) refl
 
 -- one delivery is a list of events by itself, so what stops there is too
-pub take_leads : (from to : SiteName) → AreEvents (world_take from to)
-take_leads from to w v s = runs_lead w (world_take from to w) v s refl
+pub deliver_one_leads : (from to : SiteName) → AreEvents (world_deliver_one from to)
+deliver_one_leads from to w v s = runs_lead w (world_deliver_one from to w) v s refl
     (at_carries v.sent from to delivered w.net (λ d same carries. delivered_carries v.sent d carries) s.net)
     (taken_one to (first_of packets) v.sites) (one packets (way_sent v.sent from to w.net s.net))
     (rw (first_between-first from to w.net) (ap (taken_one to (first_of packets)) (sym s.sites)))
@@ -125,22 +125,22 @@ ready_first origin x (a ∷ arrived) all = go (nat_lt 0 a.position) (grind (arit
 -- ---- a site's place
 
 -- a site is the one at its place
-pub site_of-place : (name : SiteName) (xs : List SiteState) → site_of name xs ≡ slice_get xs (place_of name xs)
+pub site_of-place : (name : SiteName) (xs : List SiteState) → site_of name xs ≡ slice_get xs (site_place name xs)
 site_of-place name [] = refl
 site_of-place name (y ∷ ys) = go (is_same_site y.here.site name) (site_of-place name ys)
   where
-    go : (b : Bool) → site_of name ys ≡ slice_get ys (place_of name ys) → cond b (Some y) (site_of name ys) ≡ slice_get (y ∷ ys) (cond (not b) (1 + place_of name ys) 0)
+    go : (b : Bool) → site_of name ys ≡ slice_get ys (site_place name ys) → cond b (Some y) (site_of name ys) ≡ slice_get (y ∷ ys) (cond (not b) (1 + site_place name ys) 0)
     go true later = refl
-    go false later = let one : 1 + place_of name ys ≡ suc (place_of name ys) = omega arith in rw one later
+    go false later = let one : 1 + site_place name ys ≡ suc (site_place name ys) = omega arith in rw one later
 
 -- what changes at that place changes at the site
-pub slice_set-place : (name : SiteName) (change : SiteState → SiteState) (xs : List SiteState) (x : SiteState) → slice_get xs (place_of name xs) ≡ Some x → slice_set xs (place_of name xs) (change x) ≡ at_site name change xs
+pub slice_set-place : (name : SiteName) (change : SiteState → SiteState) (xs : List SiteState) (x : SiteState) → slice_get xs (site_place name xs) ≡ Some x → slice_set xs (site_place name xs) (change x) ≡ at_site name change xs
 slice_set-place name change [] x found = refl
 slice_set-place name change (y ∷ ys) x found = go (is_same_site y.here.site name) found (slice_set-place name change ys x)
   where
-    go : (b : Bool) → slice_get (y ∷ ys) (cond (not b) (1 + place_of name ys) 0) ≡ Some x → (slice_get ys (place_of name ys) ≡ Some x → slice_set ys (place_of name ys) (change x) ≡ at_site name change ys)
-        → slice_set (y ∷ ys) (cond (not b) (1 + place_of name ys) 0) (change x) ≡ cond b (change y ∷ ys) (y ∷ at_site name change ys)
+    go : (b : Bool) → slice_get (y ∷ ys) (cond (not b) (1 + site_place name ys) 0) ≡ Some x → (slice_get ys (site_place name ys) ≡ Some x → slice_set ys (site_place name ys) (change x) ≡ at_site name change ys)
+        → slice_set (y ∷ ys) (cond (not b) (1 + site_place name ys) 0) (change x) ≡ cond b (change y ∷ ys) (y ∷ at_site name change ys)
     go true found later = let same : y ≡ x = cc found in ap (λ (z : SiteState). change z ∷ ys) (sym same)
     go false found later =
-        let one : 1 + place_of name ys ≡ suc (place_of name ys) = omega arith in
+        let one : 1 + site_place name ys ≡ suc (site_place name ys) = omega arith in
         rw one (ap (λ (zs : List SiteState). y ∷ zs) (later (subst (λ (k : ℕ). slice_get (y ∷ ys) k ≡ Some x) one found)))

@@ -42,11 +42,11 @@ use Rattle.site_state.proofs.LowWater.{finished-append}
 use Rattle.site_state.proofs.SchemaSites.{found_any}
 use Rattle.site_state.proofs.Stepping.{Steps, clock_steps, begun_steps, purge_log_steps, commit_steps, apply_steps, execute_steps, drop_steps}
 use Rattle.site_state.proofs.Changing.{accept_later}
-use Rattle.event_laws.specs.Core.{Core, site_of, at_site}
+use Rattle.event_laws.specs.Cluster.{Cluster, site_of, at_site}
 use Rattle.event_laws.specs.Joins.{copied, may_join, with_joined, joined_by, joined}
 use Rattle.event_laws.specs.Events.{Event, Commit, SetClock, Send, SendMark, Deliver, Begin, Apply, Execute, Drop, Purge, PurgeLog, Refresh, Join, receiver, delivered, may_apply, applied_where, refreshed, happens, run}
 use Rattle.event_laws.specs.Starts.{IsNewSite, IsStart}
-use Rattle.event_laws.specs.Waiting.{AreMeshed}
+use Rattle.event_laws.specs.Waiting.{SitesLinkAsDeclared}
 use Rattle.event_laws.proofs.Sites.{KeepsHere, at_split, found_or, site_of-joined, found_all}
 use Rattle.event_laws.proofs.Happening.{IsRefreshed, here-IsRefreshed, refreshed_is}
 use Rattle.event_laws.proofs.Happening as happening
@@ -218,7 +218,7 @@ joined_failed sites site from all = go (site_of site sites) (site_of from sites)
     go None None = all
     go None (Some source) = by source (may_join sites source site)
 
-module _ (schema : Schema) (w : Core) (met : AreMet schema w.sites w.sent) (all : EachHasFailed w.sites) where
+module _ (schema : Schema) (w : Cluster) (met : AreMet schema w.sites w.sent) (all : EachHasFailed w.sites) where
   refresh_at : (site : SiteName) (x : SiteState) → site_of site w.sites ≡ Some x → HasFailed x → HasFailed (refreshed w.sites x)
   refresh_at site x found failed =
       let meets : SiteMeets w.sites site x = subst (MeetsAt w.sites site) found (met.meets.each site) in
@@ -247,6 +247,6 @@ module _ (schema : Schema) (w : Core) (met : AreMet schema w.sites w.sent) (all 
   happens_failed (Refresh site) = at_failed site (refreshed w.sites) w.sites (λ x. here-IsRefreshed w.sites x (refreshed w.sites x) (refreshed_is w.sites x)) (refresh_at site) all
   happens_failed (Join site source) = joined_failed w.sites site source all
 
-pub run_failed : (schema : Schema) (start : Core) (events : List Event) → IsStart schema start → AreMeshed schema start.sites → EachHasFailed (run events start).sites
+pub run_failed : (schema : Schema) (start : Cluster) (events : List Event) → IsStart schema start → SitesLinkAsDeclared schema start.sites → EachHasFailed (run events start).sites
 run_failed schema start [] is meshed = λ site x found. rw (found_all (IsNewSite schema) site start.sites x is.sites found).journal tt
 run_failed schema start (e ∷ events) is meshed = happens_failed schema (run events start) (run_met schema start events is meshed) (run_failed schema start events is meshed) e

@@ -6,10 +6,10 @@ use Rattle.rep_values.specs.declared.name.SiteName.{SiteName}
 use Rattle.rep_schema.specs.declared.schema.Schema.{Schema}
 use Rattle.rep_schema.specs.declared.schema.SiteEntry.{SiteEntry}
 use Rattle.rep_schema.specs.Tables.{Rows, AreTables}
-use Rattle.rep_schema.proofs.KeptTables.{AreTables-empty}
+use Rattle.rep_schema.proofs.TableSteps.{AreTables-empty}
 use Rattle.deferred_queue.specs.Streams.{is_same_site}
 use Rattle.site_state.specs.Fits.{AreWithin}
-use Rattle.event_laws.specs.Core.{site_of}
+use Rattle.event_laws.specs.Cluster.{site_of}
 use Rattle.event_laws.specs.Fitting.{StartsFit, IsFitStart}
 use Rattle.event_laws.proofs.QueryTables.{AreTables-rows_ruled}
 use Rattle.event_laws.proofs.FittingSites.{every_site_fits}

@@ -10,8 +10,8 @@ use Rattle.packet_code.specs.declared.packet.Packet.{Packet}
 use Rattle.net_plan.specs.Directions.{Direction, at_direction, on_way_between, is_up, released, with_sent, with_link, with_fates, without_fates}
 use Rattle.site_state.specs.State.{SiteState}
 use Rattle.site_state.specs.Streams.{stream_to}
-use Rattle.site_state.specs.Packets.{number_at, carry_of, packet_found}
-use Rattle.event_laws.specs.Core.{Core, site_of, at_site}
+use Rattle.site_state.specs.Packets.{stream_number, carry_of, packet_found}
+use Rattle.event_laws.specs.Cluster.{Cluster, site_of, at_site}
 use Rattle.event_laws.specs.Joins.{joined}
 use Rattle.event_laws.specs.Events.{Event, receiver, with_packet, packet_from, mark_from, refreshed, happens, run}
 use Rattle.event_laws.specs.Events as event
@@ -24,8 +24,8 @@ use Rattle.script_parse.specs.declared.command.ParentWords.{ParentWords}
 use Rattle.script_parse.specs.declared.command.TestWords.{TestWords}
 use Rattle.world_state.specs.World.{WorldState, with_site}
 use Rattle.world_state.specs.Declaring.{with_snapshot_at, tests_in}
-use Rattle.world_state.specs.Rounds.{site_settle}
-use Rattle.world_state.specs.Pushes.{world_release, sent_on, world_send, world_send_each, positions_above, world_send_above, taken_each, emptied, world_deliver, world_settle, world_send_mark, world_bring_mark, world_answer, pushed_in, world_push}
+use Rattle.world_state.specs.Rounds.{site_until_quiet}
+use Rattle.world_state.specs.Pushes.{world_release, sent_on, world_send, world_send_each, positions_above, world_send_above, taken_each, emptied, world_deliver, world_until_quiet, world_send_mark, world_deliver_mark, world_return_mark, pushed_in, world_push}
 use Rattle.world_state.specs.Blocks.{closed, is_commit, committed_block, world_commit}
 use Rattle.world_state.specs.CallBlocks.{sent_to}
 use Rattle.world_state.specs.Phases.{is_setup}
@@ -33,7 +33,7 @@ use Rattle.world_state.specs.Refusals.{world_refusal}
 use Rattle.world_state.specs.Steps.{resumed, world_refresh, log_purged_at, is_up_word, world_done, left_by, world_refused}
 use Rattle.world_laws.specs.Simulation.{CarriesSent, Simulates, Leads, AreEvents, StepsAreEvents, StepsAreEventsHoweverRefused}
 use Rattle.world_laws.proofs.Links.{net_more, at_carries, way_sent, released_carries, emptied_carries, sent_carries}
-use Rattle.world_laws.proofs.SiteSteps.{run-append, Runs, taken_runs, SiteRuns, does_runs, settle_does}
+use Rattle.world_laws.proofs.SiteSteps.{run-append, Runs, taken_runs, SiteRuns, does_runs, until_quiet_does}
 
 -- ---- nothing, and one thing and then another
 
@@ -51,22 +51,22 @@ then_lead change next first second w v s = go (first w v s)
         record { events = b.events ++ a.events; simulates = subst (Simulates (next (change w))) (sym (run-append b.events a.events v)) b.simulates }
 
 -- a change of what no event looks at
-beside_lead : (w y : WorldState) (v : Core) → Simulates w v → is_setup y.phase ≡ false → y.sites ≡ w.sites → y.net ≡ w.net → Leads y v
+beside_lead : (w y : WorldState) (v : Cluster) → Simulates w v → is_setup y.phase ≡ false → y.sites ≡ w.sites → y.net ≡ w.net → Leads y v
 beside_lead w y v s behind sites net = record { events = []; simulates = record { behind = behind; sites = sites ∙ s.sites; net = rw net s.net } }
 
 -- events that send nothing, beside a change of the links
-pub runs_lead : (w y : WorldState) (v : Core) → Simulates w v → y.phase ≡ w.phase → AreCarried v.sent y.net → (ys : List SiteState) → Runs v ys → ys ≡ y.sites → Leads y v
+pub runs_lead : (w y : WorldState) (v : Cluster) → Simulates w v → y.phase ≡ w.phase → AreCarried v.sent y.net → (ys : List SiteState) → Runs v ys → ys ≡ y.sites → Leads y v
 runs_lead w y v s phase net ys r same = record {
   events = r.events;
   simulates = record { behind = ap is_setup phase ∙ s.behind; sites = sym (r.sites ∙ same); net = subst (λ (sent : List Packet). AreCarried sent y.net) (sym r.sent) net };
 }
 
 -- one event that sends nothing
-one_lead : (w y : WorldState) (v : Core) (e : Event) → Simulates w v → y.phase ≡ w.phase → y.net ≡ w.net → (happens e v).sites ≡ y.sites → (happens e v).sent ≡ v.sent → Leads y v
+one_lead : (w y : WorldState) (v : Cluster) (e : Event) → Simulates w v → y.phase ≡ w.phase → y.net ≡ w.net → (happens e v).sites ≡ y.sites → (happens e v).sent ≡ v.sent → Leads y v
 one_lead w y v e s phase net sites sent = runs_lead w y v s phase (rw net s.net) (happens e v).sites (record { events = e ∷ []; sites = refl; sent = sent }) sites
 
 -- a change of the links alone
-pub links_lead : (w : WorldState) (net : List Direction) (v : Core) → Simulates w v → AreCarried v.sent net → Leads (record w { net = net }) v
+pub links_lead : (w : WorldState) (net : List Direction) (v : Cluster) → Simulates w v → AreCarried v.sent net → Leads (record w { net = net }) v
 links_lead w net v s carried = record { events = []; simulates = record { behind = s.behind; sites = s.sites; net = carried } }
 
 -- what one site does
@@ -85,7 +85,7 @@ packet_goes to position (Some x) packet is = go (at_position position (stream_to
 
     go : (t : Option Txn) → packet_found to position x t ≡ Some packet → receiver packet ≡ to
     go None is = absurd (cc is)
-    go (Some txn) is = by txn (nat_le (number_at to position x) x.purged) is
+    go (Some txn) is = by txn (nat_le (stream_number to position x) x.purged) is
 
 mark_goes : (to : SiteName) (o : Option SiteState) (packet : Packet) → mark_from to o ≡ Some packet → receiver packet ≡ to
 mark_goes to None packet is = absurd (cc is)
@@ -95,7 +95,7 @@ mark_goes to (Some x) packet is = ap receiver (sym (some_is is))
     some_is is = cc is
 
 -- an event that sends one packet at most, which goes on the way, is held or is lost
-packet_lead : (w : WorldState) (v : Core) (e : Event) (from to : SiteName) (found : Option Packet) → Simulates w v → ((packet : Packet) → found ≡ Some packet → receiver packet ≡ to)
+packet_lead : (w : WorldState) (v : Cluster) (e : Event) (from to : SiteName) (found : Option Packet) → Simulates w v → ((packet : Packet) → found ≡ Some packet → receiver packet ≡ to)
     → (happens e v).sites ≡ v.sites → (happens e v).sent ≡ with_packet found v.sent → Leads (record w { net = sent_on found from to w.net }) v
 packet_lead w v e from to found s goes sites sent = record {
   events = e ∷ [];
@@ -128,22 +128,22 @@ deliver_leads from to w v s = runs_lead w (world_deliver from to w) v s refl (at
     (taken_each to (on_way_between from to w.net) v.sites) (taken_runs to (on_way_between from to w.net) v (way_sent v.sent from to w.net s.net))
     (ap (taken_each to (on_way_between from to w.net)) (sym s.sites))
 
-pub settle_leads : (from to : SiteName) → AreEvents (world_settle from to)
-settle_leads from to = site_leads to (site_settle from) (settle_does to from)
+pub until_quiet_leads : (from to : SiteName) → AreEvents (world_until_quiet from to)
+until_quiet_leads from to = site_leads to (site_until_quiet from) (until_quiet_does to from)
 
 pub send_mark_leads : (from to : SiteName) → AreEvents (world_send_mark from to)
 send_mark_leads from to w v s = packet_lead w v (event.SendMark from to) from to (mark_from to (site_of from w.sites)) s
     (mark_goes to (site_of from w.sites)) refl (ap (λ (xs : List SiteState). with_packet (mark_from to (site_of from xs)) v.sent) (sym s.sites))
 
-pub bring_mark_leads : (from to : SiteName) → AreEvents (world_bring_mark from to)
-bring_mark_leads from to = then_lead (λ w. world_send_mark from to (world_release from to w)) (world_deliver from to)
+pub deliver_mark_leads : (from to : SiteName) → AreEvents (world_deliver_mark from to)
+deliver_mark_leads from to = then_lead (λ w. world_send_mark from to (world_release from to w)) (world_deliver from to)
     (then_lead (world_release from to) (world_send_mark from to) (release_leads from to) (send_mark_leads from to)) (deliver_leads from to)
 
-pub answer_leads : (from to : SiteName) → AreEvents (world_answer from to)
-answer_leads from to w v s = go (is_up from to w.net)
+pub return_mark_leads : (from to : SiteName) → AreEvents (world_return_mark from to)
+return_mark_leads from to w v s = go (is_up from to w.net)
   where
-    go : (b : Bool) → Leads (cond b (world_bring_mark from to w) w) v
-    go true = bring_mark_leads from to w v s
+    go : (b : Bool) → Leads (cond b (world_deliver_mark from to w) w) v
+    go true = deliver_mark_leads from to w v s
     go false = none_lead w v s
 
 pub pushed_in_leads : (from to : SiteName) (count : Option ℕ) → AreEvents (pushed_in from to count)
@@ -151,8 +151,8 @@ pushed_in_leads from to count = then_lead (λ w. world_send_above from to count 
     (then_lead (world_release from to) (world_send_above from to count) (release_leads from to) (send_above_leads from to count)) (deliver_leads from to)
 
 pub push_leads : (from to : SiteName) (count : Option ℕ) → AreEvents (world_push from to count)
-push_leads from to count = then_lead (λ w. world_settle from to (pushed_in from to count w)) (world_answer to from)
-    (then_lead (pushed_in from to count) (world_settle from to) (pushed_in_leads from to count) (settle_leads from to)) (answer_leads to from)
+push_leads from to count = then_lead (λ w. world_until_quiet from to (pushed_in from to count w)) (world_return_mark to from)
+    (then_lead (pushed_in from to count) (world_until_quiet from to) (pushed_in_leads from to count) (until_quiet_leads from to)) (return_mark_leads to from)
 
 -- ---- the other commands
 
@@ -173,7 +173,7 @@ pub join_leads : (site source : SiteName) → AreEvents (λ w. record w { sites 
 join_leads site source w v s = one_lead w (record w { sites = joined site source w.sites }) v (event.Join site source) s refl refl (ap (joined site source) (sym s.sites)) refl
 
 -- one event changes one site
-one_site : (site : SiteName) (change : SiteState → SiteState) (e : Event) → ((v : Core) → (happens e v).sites ≡ at_site site change v.sites) → ((v : Core) → (happens e v).sent ≡ v.sent) → AreEvents (with_site site change)
+one_site : (site : SiteName) (change : SiteState → SiteState) (e : Event) → ((v : Cluster) → (happens e v).sites ≡ at_site site change v.sites) → ((v : Cluster) → (happens e v).sent ≡ v.sent) → AreEvents (with_site site change)
 one_site site change e sites sent w v s = one_lead w (with_site site change w) v e s refl refl (sites v ∙ ap (at_site site change) (sym s.sites)) (sent v)
 
 purge_log_leads : (site : SiteName) (table : Option ℕ) → AreEvents (log_purged_at site table)
@@ -185,7 +185,7 @@ same_carried : (sent : List Packet) (from to : SiteName) (change : Direction →
 same_carried sent from to change net keeps all = at_carries sent from to change net (λ d same carries. keeps d carries) all
 
 -- behind Setup a resumption is no end of Setup
-resumed_leads : (now : Phase) (w : WorldState) (v : Core) → w.phase ≡ now → Simulates w v → Leads (resumed now w) v
+resumed_leads : (now : Phase) (w : WorldState) (v : Cluster) → w.phase ≡ now → Simulates w v → Leads (resumed now w) v
 resumed_leads phase.Setup w v is s = let setup : is_setup w.phase ≡ true = ap is_setup is in absurd (cc (setup, s.behind))
 resumed_leads phase.Running w v is s = none_lead w v s
 resumed_leads phase.Suspended w v is s = beside_lead w (record w { phase = phase.Running }) v s refl refl refl

@@ -8,7 +8,7 @@ use Rattle.site_state.specs.State.{SiteState, arrivals}
 use Rattle.site_state.specs.Steps.{begun, count_where}
 use Rattle.site_state.specs.Passes.{site_apply, apply_each, site_pass, added_count}
 use Rattle.site_state.proofs.Stepping.{with_entry, Steps, apply_steps}
-use Rattle.world_state.specs.Rounds.{has_ready, passed_where_ready, round, rounds, sender_names, arrived_count, site_rounds, site_settle}
+use Rattle.world_state.specs.Rounds.{has_ready, passed_where_ready, round, rounds, sender_names, arrived_count, site_rounds, site_until_quiet}
 
 -- a later journal has as many entries of a kind at least
 abbrev pub Grows : (Entry → Bool) → SiteState → SiteState → Type 0
@@ -59,6 +59,6 @@ pub site_rounds_grow : (test : Entry → Bool) (x : SiteState) → Grows test x 
 site_rounds_grow test x = rounds_grow test (arrived_count x.senders) (sender_names x.senders) x
 
 -- what a push adds at its receiver is what its pass adds, and then its rounds
-pub added_count-settle : (test : Entry → Bool) (origin : SiteName) (x : SiteState)
-    → added_count test x (site_settle origin x) ≡ added_count test x (site_pass origin x) + added_count test (site_pass origin x) (site_settle origin x)
-added_count-settle test origin x = added_count-then test x (site_pass origin x) (site_settle origin x) (pass_grows test origin x) (site_rounds_grow test (site_pass origin x))
+pub added_count-until_quiet : (test : Entry → Bool) (origin : SiteName) (x : SiteState)
+    → added_count test x (site_until_quiet origin x) ≡ added_count test x (site_pass origin x) + added_count test (site_pass origin x) (site_until_quiet origin x)
+added_count-until_quiet test origin x = added_count-then test x (site_pass origin x) (site_until_quiet origin x) (pass_grows test origin x) (site_rounds_grow test (site_pass origin x))

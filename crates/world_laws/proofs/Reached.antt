@@ -7,7 +7,7 @@ use Rattle.std.proofs.Math.Bool.{Bool-set}
 use Rattle.rep_schema.specs.Shape.{HasShape}
 use Rattle.event_laws.specs.Events.{run}
 use Rattle.event_laws.specs.Marks.{MarksAreLow, PurgedIsFinished, AreWellNumbered}
-use Rattle.event_laws.specs.Orders.{AreFinishedOnce, AreSettledOnce}
+use Rattle.event_laws.specs.Orders.{AreFinishedOnce, AreClearedOnce}
 use Rattle.script_parse.specs.declared.command.Command.{Command}
 use Rattle.world_state.specs.World.{WorldState}
 use Rattle.world_state.specs.Making.{world_made}
@@ -18,7 +18,7 @@ use Rattle.world_laws.specs.Worlds.{EachIsSent, AreFrom1, EachWaitsForNothing, W
 use Rattle.world_laws.specs.Reached.{Reaches, IsReached}
 use Rattle.world_laws.proofs.SiteSteps.{run-append}
 use Rattle.world_laws.proofs.Pieces.{none_lead, steps_are_events}
-use Rattle.world_laws.proofs.Starting.{core_of, made_start, made_simulates, made_meshed}
+use Rattle.world_laws.proofs.Starting.{core_of, made_start, made_simulates, made_linked}
 use Rattle.world_laws.proofs.WorldLaws.{world_holds}
 
 -- a piece of a line keeps it
@@ -44,7 +44,7 @@ made_reached w shape = ∣ record {
   schema = w.schema;
   start = core_of (world_made w);
   is = made_start w;
-  meshed = made_meshed w shape;
+  meshed = made_linked w shape;
   leads = none_lead (world_made w) (core_of (world_made w)) (made_simulates w);
 } ∣₁
 
@@ -68,8 +68,8 @@ reached_numbered w reached = λ site origin x found p q a b at_a at_b less share
 pub reached_once : (w : WorldState) → IsReached w → AreFinishedOnce w.sites
 reached_once w reached = λ site origin position. ∥∥₁_elim reached (λ x y. le_prop x y) (λ r. (holds_of w r).once site origin position)
 
-pub reached_settled : (w : WorldState) → IsReached w → AreSettledOnce w.sites
-reached_settled w reached = λ site origin position. ∥∥₁_elim reached (λ x y. le_prop x y) (λ r. (holds_of w r).settled site origin position)
+pub reached_until_quiet : (w : WorldState) → IsReached w → AreClearedOnce w.sites
+reached_until_quiet w reached = λ site origin position. ∥∥₁_elim reached (λ x y. le_prop x y) (λ r. (holds_of w r).settled site origin position)
 
 -- in the loop of a push each position has its packet
 pub reached_packets : (w : WorldState) → IsReached w → EachIsSent w.sites

@@ -13,7 +13,7 @@ use Rattle.site_state.specs.declared.entry.Entry.{Entry}
 use Rattle.site_state.specs.declared.answers.Why.{Why}
 use Rattle.site_state.specs.declared.answers.Why.TheVariants as why
 use Rattle.site_state.specs.declared.arrival.Arrival.{Arrival}
-use Rattle.site_state.specs.State.{SenderState, SiteState, sender_of, arrived_in, arrived_at, arrivals, beside}
+use Rattle.site_state.specs.State.{SenderState, SiteState, sender_of, arrived_in, arrived_at, arrivals, arrival_beside}
 use Rattle.site_state.specs.Journal.{finished, is_position}
 use Rattle.site_state.specs.Ready.{is_due, stale_found, stale_of, is_ready}
 use Rattle.site_state.specs.Steps.{begun, count_where}
@@ -183,7 +183,7 @@ origin_any : (f : SiteName → Bool) (origin : SiteName) (position : ℕ) (ss : 
 origin_any f origin position [] a found is = absurd (cc found)
 origin_any f origin position (s ∷ ss) a found is = go (is_same_site s.origin origin) refl found (origin_any f origin position ss a)
   where
-    go : (b : Bool) → is_same_site s.origin origin ≡ b → find_at (beside position) (arrived_in (cond b (Some s) (sender_of origin ss))) ≡ Some a
+    go : (b : Bool) → is_same_site s.origin origin ≡ b → find_at (arrival_beside position) (arrived_in (cond b (Some s) (sender_of origin ss))) ≡ Some a
         → (arrived_at origin position ss ≡ Some a → f origin ≡ true → list_any f (sender_names ss) ≡ true) → (f s.origin || list_any f (sender_names ss)) ≡ true
     go true same found later = or_left (f s.origin) (list_any f (sender_names ss)) (rw (is_same_site-true s.origin origin same) is)
     go false same found later = or_right (f s.origin) (list_any f (sender_names ss)) (later found is)

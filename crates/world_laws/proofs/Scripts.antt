@@ -10,10 +10,10 @@ use Rattle.rep_values.specs.RefusalSteps.{refused, first_refusal}
 use Rattle.rep_values.proofs.RefusalSteps.{or_then-None, refused_not-None}
 use Rattle.rep_schema.specs.Shape.{HasShape, no_schema}
 use Rattle.rep_schema.specs.Named.{table_place}
-use Rattle.rep_declare.specs.Refusals.{refusal_of}
+use Rattle.rep_declare.specs.Refusals.{declare_refusal}
 use Rattle.rep_declare.proofs.DeclaredShapes.{HasShape-declared}
 use Rattle.site_state.proofs.SchemaSites.{own_is_no_sender}
-use Rattle.event_laws.specs.Core.{Core, site_of}
+use Rattle.event_laws.specs.Cluster.{Cluster, site_of}
 use Rattle.event_laws.specs.Events.{run}
 use Rattle.world_state.specs.declared.phase.Phase.{Phase}
 use Rattle.world_state.specs.declared.phase.Phase.TheVariants as phase
@@ -36,7 +36,7 @@ use Rattle.world_laws.specs.Reached.{Reaches, IsInSetup, IsOfScript, InSetup, Be
 use Rattle.world_laws.proofs.SiteSteps.{run-append}
 use Rattle.world_laws.proofs.Pieces.{none_lead, steps_are_events}
 use Rattle.world_laws.proofs.Pushes.{pushes_leave_nothing_ready}
-use Rattle.world_laws.proofs.Starting.{core_of, made_start, made_simulates, made_meshed}
+use Rattle.world_laws.proofs.Starting.{core_of, made_start, made_simulates, made_linked}
 use Rattle.world_laws.proofs.WorldLaws.{holds_as_run, world_holds}
 use Rattle.world_laws.proofs.RefusedLines.{refused_leaves, refused_block}
 
@@ -80,7 +80,7 @@ made_reaches w shape = record {
   schema = w.schema;
   start = core_of (world_made w);
   is = made_start w;
-  meshed = made_meshed w shape;
+  meshed = made_linked w shape;
   leads = none_lead (world_made w) (core_of (world_made w)) (made_simulates w);
 }
 
@@ -101,7 +101,7 @@ done_in_setup number (command.Declare declaration) w named in_setup passes = InS
   sites = in_setup.sites;
   block = in_setup.block;
   shape = HasShape-declared declaration w.schema in_setup.shape named
-      (or_then-None (refusal_of w.schema declaration) None (or_then-None (declaring_step declaration w) _ (or_then-None (declare_step declaration w) _ passes).1).1).0;
+      (or_then-None (declare_refusal w.schema declaration) None (or_then-None (declaring_step declaration w) _ (or_then-None (declare_step declaration w) _ passes).1).1).0;
 })
 done_in_setup number (command.Snapshot site table parent tests) w named in_setup passes = with_snapshot_in_setup w site (table_place w.schema table) parent (tests_in tests) in_setup
 done_in_setup number (command.Row table values) w named in_setup passes = InSetup (record { setup = in_setup.setup; sites = in_setup.sites; block = in_setup.block; shape = in_setup.shape })
@@ -167,7 +167,7 @@ script_is lines named = steps_of_script 1 lines first_world named first_of_scrip
 
 -- ---- the laws
 
-abbrev no_core : Core
+abbrev no_core : Cluster
 no_core = record { sites = []; sent = []; begun = [] }
 
 pub of_script_holds : (w : WorldState) → IsOfScript w → WorldHolds w

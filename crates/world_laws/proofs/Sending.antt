@@ -11,10 +11,10 @@ use Rattle.packet_code.specs.declared.packet.Packet.{Packet}
 use Rattle.site_state.specs.declared.arrival.Arrival.{Arrival}
 use Rattle.site_state.specs.State.{SenderState, SiteState, sender_of, arrived_in, acked_of, opened_of}
 use Rattle.site_state.specs.Streams.{stream_to, stream_in, queue_of}
-use Rattle.site_state.specs.Packets.{count_opened, number_at, packet_found, site_packet}
+use Rattle.site_state.specs.Packets.{count_opened, stream_number, packet_found, site_packet}
 use Rattle.site_state.proofs.Changing.{PurgedIsAcked}
-use Rattle.event_laws.specs.Core.{site_of}
-use Rattle.event_laws.proofs.Holding.{SentBy, ArrivalHolds, SendersHold, HoldsAt, Holds}
+use Rattle.event_laws.specs.Cluster.{site_of}
+use Rattle.event_laws.proofs.RunInvariants.{SentBy, ArrivalHolds, SendersHold, HoldsAt, Holds}
 use Rattle.world_laws.specs.Worlds.{EachIsSent, AreFrom1}
 
 position_there : {X : Type 0} (p : ℕ) (xs : List X) → 0 < p → p ≤ length xs → at_position p xs ≢ None
@@ -28,15 +28,15 @@ position_there p (x ∷ xs) above le = go (p == length xs + 1) refl (position_th
 packet_there : (to : SiteName) (position : ℕ) (x : SiteState) → PurgedIsAcked x → acked_of to x < position → position ≤ length (stream_to to x) → site_packet to position x ≢ None
 packet_there to position x h above le = by_open (opened_of to x) refl
   where
-    kept : (txn : Txn) → nat_le (number_at to position x) x.purged ≡ false → packet_found to position x (Some txn) ≢ None
+    kept : (txn : Txn) → nat_le (stream_number to position x) x.purged ≡ false → packet_found to position x (Some txn) ≢ None
     kept txn is = rw is (λ none. absurd (cc none))
 
-    by : nat_le (number_at to position x) x.purged ≡ false → (t : Option Txn) → at_position position (stream_to to x) ≡ t → packet_found to position x t ≢ None
+    by : nat_le (stream_number to position x) x.purged ≡ false → (t : Option Txn) → at_position position (stream_to to x) ≡ t → packet_found to position x t ≢ None
     by is None at = absurd (position_there position (stream_to to x) (omega (arith, above)) le at)
     by is (Some txn) at = kept txn is
 
-    under : (count : ℕ) → opened_of to x ≡ Some count → nat_le (number_at to position x) x.purged ≡ false
-    under count is = let number : number_at to position x ≡ count + position = ap (λ o. count_opened o + position) is in rw number (grind (arith, nat_tests, above, h.acked to count is))
+    under : (count : ℕ) → opened_of to x ≡ Some count → nat_le (stream_number to position x) x.purged ≡ false
+    under count is = let number : stream_number to position x ≡ count + position = ap (λ o. count_opened o + position) is in rw number (grind (arith, nat_tests, above, h.acked to count is))
 
     by_open : (o : Option ℕ) → opened_of to x ≡ o → site_packet to position x ≢ None
     by_open None is = let none : length (stream_to to x) ≡ 0 = ap (λ o. length (stream_in o (queue_of x))) is in absurd (omega (arith, above, le, none))

@@ -17,25 +17,25 @@ use Rattle.error_queue.specs.declared.entry.ErrorEntry.{ErrorEntry}
 use Rattle.site_state.specs.declared.entry.Entry.{Entry}
 use Rattle.site_state.specs.declared.entry.Entry.TheVariants.{Local, Done, Error, Executed, Dropped, Refreshed}
 use Rattle.site_state.specs.declared.arrival.Arrival.{Arrival}
-use Rattle.site_state.specs.State.{SenderState, SiteState, sender_of, beside, arrived_in, arrived_at}
-use Rattle.site_state.specs.Journal.{is_position, finishes, settles, finished, error_at}
+use Rattle.site_state.specs.State.{SenderState, SiteState, sender_of, arrival_beside, arrived_in, arrived_at}
+use Rattle.site_state.specs.Journal.{is_position, finishes, clears_error, finished, error_at}
 use Rattle.site_state.specs.Streams.{stream_to}
 use Rattle.site_state.specs.Steps.{count_where}
 use Rattle.site_state.specs.Errors.{errors_from, errors_of}
 use Rattle.site_state.proofs.LowWater.{finished-append}
 use Rattle.site_state.proofs.Stepping.{found_at, arrived_has, is_position-true, error_found, IsSent}
-use Rattle.event_laws.specs.Core.{Core, site_of}
+use Rattle.event_laws.specs.Cluster.{Cluster, site_of}
 use Rattle.event_laws.specs.Events.{Event, run}
 use Rattle.event_laws.specs.Starts.{IsStart, InEveryRun}
 use Rattle.event_laws.specs.Marks.{journal_in}
 use Rattle.event_laws.specs.Orders.{FollowsEarlier, FollowsIn, EntryFollows, IsInOrder}
-use Rattle.event_laws.specs.Waiting.{AreMeshed}
-use Rattle.event_laws.proofs.Holding.{SentBy, SiteHolds, HoldsAt}
+use Rattle.event_laws.specs.Waiting.{SitesLinkAsDeclared}
+use Rattle.event_laws.proofs.RunInvariants.{SentBy, SiteHolds, HoldsAt}
 use Rattle.event_laws.proofs.MarkLaws.{arrived_was_sent}
 use Rattle.event_laws.proofs.OrderLaws.{are_finished_once, earlier_comes_first}
 use Rattle.event_laws.proofs.Meeting.{SiteMeets, MeetsAt}
 use Rattle.event_laws.proofs.Waiting.{AreMet, run_met}
-use Rattle.world_laws.specs.Errors.{IsWholeError, EachErrorIsWhole, EachUnsettledErrorStands}
+use Rattle.world_laws.specs.Errors.{IsWholeError, EachErrorIsWhole, EachUnclearedErrorStands}
 use Rattle.world_laws.proofs.Failures.{FailedSo, AllFailedSo, is_position-own, finished_here, run_failed}
 
 -- ---- an error that stands has its entry
@@ -49,9 +49,9 @@ pub record HasEntry (origin : SiteName) (position : ℕ) (journal : List Entry) 
 has_behind : (origin : SiteName) (position : ℕ) (entry : Entry) (es : List Entry) (e : ErrorEntry) → HasEntry origin position es e → HasEntry origin position (entry ∷ es) e
 has_behind origin position entry es e has = record { since = entry ∷ has.since; before = has.before; is = ap (λ rest. entry ∷ rest) has.is }
 
-unless_settled : (b : Bool) (o : Option ErrorEntry) (e : ErrorEntry) → cond b None o ≡ Some e → o ≡ Some e
-unless_settled true o e found = absurd (cc found)
-unless_settled false o e found = found
+unless_cleared : (b : Bool) (o : Option ErrorEntry) (e : ErrorEntry) → cond b None o ≡ Some e → o ≡ Some e
+unless_cleared true o e found = absurd (cc found)
+unless_cleared false o e found = found
 
 pub has_entry : (origin : SiteName) (position : ℕ) (journal : List Entry) (e : ErrorEntry) → error_at origin position journal ≡ Some e → HasEntry origin position journal e
 has_entry origin position [] e found = absurd (cc found)
@@ -67,9 +67,9 @@ has_entry origin position (Error o p call error txn ∷ es) e found = go (is_pos
         subst (HasEntry origin position (Error o p call error txn ∷ es)) here (record { since = []; before = es; is = rw (same.0, same.1) refl })
     go false is later found = has_behind origin position (Error o p call error txn) es e (later found)
 has_entry origin position (Executed o p onward txn ∷ es) e found =
-    has_behind origin position (Executed o p onward txn) es e (has_entry origin position es e (unless_settled (is_position origin position o p) (error_at origin position es) e found))
+    has_behind origin position (Executed o p onward txn) es e (has_entry origin position es e (unless_cleared (is_position origin position o p) (error_at origin position es) e found))
 has_entry origin position (Dropped o p ∷ es) e found =
-    has_behind origin position (Dropped o p) es e (has_entry origin position es e (unless_settled (is_position origin position o p) (error_at origin position es) e found))
+    has_behind origin position (Dropped o p) es e (has_entry origin position es e (unless_cleared (is_position origin position o p) (error_at origin position es) e found))
 has_entry origin position (Refreshed moment ∷ es) e found = has_behind origin position (Refreshed moment) es e (has_entry origin position es e found)
 
 -- ---- and is in the queue, where its transaction arrived
@@ -85,9 +85,9 @@ module _ (P : ErrorEntry → Type 0) where
 
   -- what holds of each error of a sender's arrivals holds of the one of an arrival that is found
   of_arrivals : (h : Arrival → Option ErrorEntry) (position : ℕ) (arrived : List Arrival) (a : Arrival) (e : ErrorEntry) → AllByRecursion P (filter_map h arrived)
-      → find_at (beside position) arrived ≡ Some a → h a ≡ Some e → P e
+      → find_at (arrival_beside position) arrived ≡ Some a → h a ≡ Some e → P e
   of_arrivals h position [] a e all found is = absurd (cc found)
-  of_arrivals h position (b ∷ bs) a e all found is = go (beside position b) (λ later there. of_arrivals h position bs a e later there is) found
+  of_arrivals h position (b ∷ bs) a e all found is = go (arrival_beside position b) (λ later there. of_arrivals h position bs a e later there is) found
     where
       others : (o : Option ErrorEntry) → AllByRecursion P (cons_option o (filter_map h bs)) → AllByRecursion P (filter_map h bs)
       others None all = all
@@ -97,7 +97,7 @@ module _ (P : ErrorEntry → Type 0) where
       own None is all = absurd (cc is)
       own (Some x) is all = let same : x ≡ e = cc is in subst P same all.0
 
-      go : (o : Ordering) → (AllByRecursion P (filter_map h bs) → find_at (beside position) bs ≡ Some a → P e) → found_here o b (find_at (beside position) bs) ≡ Some a → P e
+      go : (o : Ordering) → (AllByRecursion P (filter_map h bs) → find_at (arrival_beside position) bs ≡ Some a → P e) → found_here o b (find_at (arrival_beside position) bs) ≡ Some a → P e
       go Less later found = later (others (h b) all) found
       go Equal later found = let same : b ≡ a = cc found in own (h b) (ap h same ∙ is) all
       go Greater later found = absurd (cc found)
@@ -108,7 +108,7 @@ module _ (P : ErrorEntry → Type 0) where
   of_senders journal origin position (s ∷ ss) a e all found is =
       go (is_same_site s.origin origin) refl (λ there. of_senders journal origin position ss a e (rest_of (errors_from journal s) (flat_map (errors_from journal) ss) all) there is) found
     where
-      go : (b : Bool) → is_same_site s.origin origin ≡ b → (arrived_at origin position ss ≡ Some a → P e) → find_at (beside position) (arrived_in (cond b (Some s) (sender_of origin ss))) ≡ Some a → P e
+      go : (b : Bool) → is_same_site s.origin origin ≡ b → (arrived_at origin position ss ≡ Some a → P e) → find_at (arrival_beside position) (arrived_in (cond b (Some s) (sender_of origin ss))) ≡ Some a → P e
       go true own later found = of_arrivals (λ (c : Arrival). error_at s.origin c.position journal) position s.arrived a e (first_of (errors_from journal s) (flat_map (errors_from journal) ss) all) found
           (rw (is_same_site-true s.origin origin own, found_at position s.arrived a found) is)
       go false own later found = later found
@@ -124,7 +124,7 @@ entry_failed schema site base (s ∷ since) e before failed = entry_failed schem
 
 -- ---- it is whole
 
-pub errors_are_whole : (schema : Schema) (start : Core) (events : List Event) → IsStart schema start → AreMeshed schema start.sites → EachErrorIsWhole (run events start).sites
+pub errors_are_whole : (schema : Schema) (start : Cluster) (events : List Event) → IsStart schema start → SitesLinkAsDeclared schema start.sites → EachErrorIsWhole (run events start).sites
 errors_are_whole schema start events is meshed site origin position x e found stands = go (site_of origin sites) refl follows
   where
     sites : List SiteState
@@ -214,11 +214,11 @@ module _ (origin : SiteName) (position call : ℕ) (error : ApplyError) (txn : T
   fewer true n once = let few : n + 1 ≤ 1 = once in omega (arith, few)
   fewer false n once = once
 
-  not_settled : (b c : Bool) (o : Option ErrorEntry) → (b || c) ≡ false → (c ≡ false → o ≡ Some the_error) → cond b None o ≡ Some the_error
-  not_settled true c o none later = absurd (cc none)
-  not_settled false c o none later = later none
+  not_cleared : (b c : Bool) (o : Option ErrorEntry) → (b || c) ≡ false → (c ≡ false → o ≡ Some the_error) → cond b None o ≡ Some the_error
+  not_cleared true c o none later = absurd (cc none)
+  not_cleared false c o none later = later none
 
-  stands_since : (since : List Entry) → finishing since ≤ 1 → list_any (settles origin position) since ≡ false → error_at origin position (with_error since) ≡ Some the_error
+  stands_since : (since : List Entry) → finishing since ≤ 1 → list_any (clears_error origin position) since ≡ false → error_at origin position (with_error since) ≡ Some the_error
   stands_since [] once none = rw (is_position-own origin position) refl
   stands_since (Local number other ∷ since) once none = stands_since since once none
   stands_since (Done o p onward other ∷ since) once none = stands_since since (fewer (is_position origin position o p) (finishing since) once) none
@@ -229,13 +229,13 @@ module _ (origin : SiteName) (position call : ℕ) (error : ApplyError) (txn : T
       go true once later = let few : finishing since + 1 ≤ 1 = once in absurd (omega (arith, few, finishing-some since))
       go false once later = later once
   stands_since (Executed o p onward other ∷ since) once none =
-      not_settled (is_position origin position o p) (list_any (settles origin position) since) (error_at origin position (with_error since)) none (stands_since since once)
+      not_cleared (is_position origin position o p) (list_any (clears_error origin position) since) (error_at origin position (with_error since)) none (stands_since since once)
   stands_since (Dropped o p ∷ since) once none =
-      not_settled (is_position origin position o p) (list_any (settles origin position) since) (error_at origin position (with_error since)) none (stands_since since once)
+      not_cleared (is_position origin position o p) (list_any (clears_error origin position) since) (error_at origin position (with_error since)) none (stands_since since once)
   stands_since (Refreshed moment ∷ since) once none = stands_since since once none
 
-pub unsettled_errors_stand : InEveryRun EachUnsettledErrorStands
-unsettled_errors_stand schema start events is site origin position call error txn since before x found journal none =
+pub uncleared_errors_stand : InEveryRun EachUnclearedErrorStands
+uncleared_errors_stand schema start events is site origin position call error txn since before x found journal none =
     subst (λ (es : List Entry). error_at origin position es ≡ Some standing) (sym journal) (stands_since origin position call error txn before since once none)
   where
     standing : ErrorEntry

@@ -16,10 +16,10 @@ use Rattle.site_state.specs.State.{SenderState, DestinationState, SiteState, is_
 use Rattle.site_state.specs.Making.{is_late_master, master_here, new_sender, new_destination}
 use Rattle.site_state.specs.DeclaredSites.{IsDeclared}
 use Rattle.site_state.proofs.SchemaSites.{AreApart, are_apart, found_any, any_found, sender_has_destination}
-use Rattle.event_laws.specs.Core.{Core, site_of}
+use Rattle.event_laws.specs.Cluster.{Cluster, site_of}
 use Rattle.event_laws.specs.Starts.{IsNewSite, IsStart}
 use Rattle.event_laws.specs.Declared.{AreDeclared}
-use Rattle.event_laws.specs.Waiting.{IsFirst, AreFirsts, StreamsMeet, AbsentAreClosed, AreMeshed}
+use Rattle.event_laws.specs.Waiting.{IsFirstNumber, AreFirsts, StreamsMeet, AbsentAreClosed, SitesLinkAsDeclared}
 use Rattle.event_laws.proofs.NewSites.{new_site_is_new}
 use Rattle.world_state.specs.declared.declared_snapshot.DeclaredSnapshot.{DeclaredSnapshot}
 use Rattle.world_state.specs.World.{WorldState}
@@ -28,7 +28,7 @@ use Rattle.world_laws.specs.Simulation.{Simulates}
 use Rattle.world_laws.proofs.Links.{new_carries}
 
 -- a world's sites, where nothing was sent and no pass was begun
-abbrev pub core_of : WorldState → Core
+abbrev pub core_of : WorldState → Cluster
 core_of w = record { sites = w.sites; sent = []; begun = [] }
 
 -- ---- new sites
@@ -206,7 +206,7 @@ module _ (w : WorldState) (shape : HasShape w.schema) where
       = ap (λ (y : SiteState). y.destinations) (sym m.made) ∙ made_destinations w.schema rows w.snapshots m.entry.name m.entry.master ∙ ap (λ (n : SiteName). map (new_destination w.schema) (destinations_of w.schema n)) m.named in
       ap (λ (ds : List DestinationState). opened_in (destination_of site ds)) same ∙ opened_in-new w.schema (destinations_of w.schema origin) site
 
-  first_of_sender : (site origin : SiteName) → is_late_master w.schema site ≡ false → is_among (senders_of w.schema site) origin ≡ true → (o : Option SiteState) → site_of origin sites ≡ o → IsFirst o site 0
+  first_of_sender : (site origin : SiteName) → is_late_master w.schema site ≡ false → is_among (senders_of w.schema site) origin ≡ true → (o : Option SiteState) → site_of origin sites ≡ o → IsFirstNumber o site 0
   first_of_sender site origin early among None found = refl
   first_of_sender site origin early among (Some o) found =
       let opened : opened_of site o ≡ Some 0 = opened_by site o origin found ∙ is_open in (opened, omega arith)
@@ -215,7 +215,7 @@ module _ (w : WorldState) (shape : HasShape w.schema) where
       is_open = rw (sender_has_destination w.schema shape site origin among, early) refl
 
   firsts : (site : SiteName) → is_late_master w.schema site ≡ false → (names : List SiteName) → AllByRecursion (λ (n : SiteName). is_among (senders_of w.schema site) n ≡ true) names
-      → AllByRecursion (λ (s : SenderState). IsFirst (site_of s.origin sites) site s.first) (map new_sender names)
+      → AllByRecursion (λ (s : SenderState). IsFirstNumber (site_of s.origin sites) site s.first) (map new_sender names)
   firsts site early [] among = tt
   firsts site early (n ∷ ns) among = (first_of_sender site n early among.0 (site_of n sites) refl, firsts site early ns among.1)
 
@@ -228,7 +228,7 @@ module _ (w : WorldState) (shape : HasShape w.schema) where
           let m = made_of site x found in
           let same : x.senders ≡ map new_sender (senders_of w.schema site)
           = ap (λ (y : SiteState). y.senders) (sym m.made) ∙ made_senders w.schema rows w.snapshots m.entry.name m.entry.master ∙ ap (λ (n : SiteName). map new_sender (senders_of w.schema n)) m.named in
-          subst (λ (ss : List SenderState). AllByRecursion (λ (s : SenderState). IsFirst (site_of s.origin sites) site s.first) ss) (sym same) (firsts site m.early (senders_of w.schema site) (among_themselves (senders_of w.schema site)))
+          subst (λ (ss : List SenderState). AllByRecursion (λ (s : SenderState). IsFirstNumber (site_of s.origin sites) site s.first) ss) (sym same) (firsts site m.early (senders_of w.schema site) (among_themselves (senders_of w.schema site)))
 
   pub made_absent_closed : AbsentAreClosed w.schema sites
   made_absent_closed site absent x found late gone = opened_by absent x site found ∙ closed (is_among (destinations_of w.schema site) absent)
@@ -238,5 +238,5 @@ module _ (w : WorldState) (shape : HasShape w.schema) where
       closed false = refl
 
 -- the sites that Setup's end makes agree on where streams begin
-pub made_meshed : (w : WorldState) → HasShape w.schema → AreMeshed w.schema (world_made w).sites
-made_meshed w shape = record { declared = made_declared w shape; streams = made_streams_meet w shape; closed = made_absent_closed w shape }
+pub made_linked : (w : WorldState) → HasShape w.schema → SitesLinkAsDeclared w.schema (world_made w).sites
+made_linked w shape = record { declared = made_declared w shape; streams = made_streams_meet w shape; closed = made_absent_closed w shape }

@@ -14,7 +14,7 @@ use Rattle.site_state.specs.State.{SiteState, is_among}
 use Rattle.site_state.specs.Contents.{tables_of}
 use Rattle.site_state.specs.Refreshes.{site_refresh}
 use Rattle.site_state.specs.Making.{is_late_master}
-use Rattle.event_laws.specs.Core.{site_of}
+use Rattle.event_laws.specs.Cluster.{site_of}
 use Rattle.event_laws.specs.Quiet.{unquiet_at, is_quiet_at, are_quiet}
 use Rattle.event_laws.specs.Joins.{with_joined, joined}
 use Rattle.event_laws.specs.Rules.{rows_ruled}

@@ -11,11 +11,11 @@ use Rattle.site_state.specs.declared.entry.Entry.{Entry}
 use Rattle.site_state.specs.declared.entry.Entry.TheVariants.{Error}
 use Rattle.site_state.specs.declared.arrival.Arrival.{Arrival}
 use Rattle.site_state.specs.State.{SiteState, arrived_at}
-use Rattle.site_state.specs.Journal.{settles, error_at}
+use Rattle.site_state.specs.Journal.{clears_error, error_at}
 use Rattle.site_state.specs.Contents.{journal_content}
 use Rattle.site_state.specs.Streams.{queue_after, stream_to}
 use Rattle.site_state.specs.Errors.{errors_of}
-use Rattle.event_laws.specs.Core.{site_of}
+use Rattle.event_laws.specs.Cluster.{site_of}
 
 -- an error of a position at a site: it is in the error queue, and the journal has its entry; its transaction, with all its calls, is
 -- the one that the origin has at that position for the site, and the one that arrived there; on the tables and counters that the
@@ -44,7 +44,7 @@ EachErrorIsWhole sites = (site origin : SiteName) (position : ℕ) (x : SiteStat
     → IsWholeError sites site origin position x e
 
 -- each error of a site's journal stands, with its whole transaction, where nothing since has executed or dropped it
-abbrev pub EachUnsettledErrorStands : List SiteState → Type 0
-EachUnsettledErrorStands sites = (site origin : SiteName) (position call : ℕ) (error : ApplyError) (txn : Txn) (since before : List Entry) (x : SiteState) → site_of site sites ≡ Some x
-    → x.journal ≡ since ++ Error origin position call error txn ∷ before → list_any (settles origin position) since ≡ false
+abbrev pub EachUnclearedErrorStands : List SiteState → Type 0
+EachUnclearedErrorStands sites = (site origin : SiteName) (position call : ℕ) (error : ApplyError) (txn : Txn) (since before : List Entry) (x : SiteState) → site_of site sites ≡ Some x
+    → x.journal ≡ since ++ Error origin position call error txn ∷ before → list_any (clears_error origin position) since ≡ false
     → error_at origin position x.journal ≡ Some (record { origin = origin; position = position; call = call; error = error; txn = txn })

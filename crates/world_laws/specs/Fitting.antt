@@ -5,7 +5,7 @@ use Rattle.rep_values.specs.declared.name.SiteName.{SiteName}
 use Rattle.rep_schema.specs.Tables.{AreTables}
 use Rattle.rep_laws.specs.Commuting.{IsSound}
 use Rattle.site_state.specs.State.{SiteState, is_master_site}
-use Rattle.event_laws.specs.Core.{site_of}
+use Rattle.event_laws.specs.Cluster.{site_of}
 use Rattle.event_laws.specs.Fitting.{FitsHere}
 use Rattle.event_laws.specs.Confluence.{CanPassInAnyOrder}
 use Rattle.script_parse.specs.declared.command.Command.{Command}

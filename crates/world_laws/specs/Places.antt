@@ -6,5 +6,5 @@ use Rattle.deferred_queue.specs.Streams.{is_same_site}
 use Rattle.site_state.specs.State.{SiteState}
 
 -- the place of the first site of a name; their end where none has it
-abbrev pub place_of : SiteName → List SiteState → ℕ
-place_of name xs = position_or_len (λ (x : SiteState). is_same_site x.here.site name) xs
+abbrev pub site_place : SiteName → List SiteState → ℕ
+site_place name xs = position_or_len (λ (x : SiteState). is_same_site x.here.site name) xs

@@ -2,9 +2,9 @@
 use Rattle.std.specs.Prelude.{◌≡◌, true, [], None}
 use Rattle.rep_schema.specs.declared.schema.Schema.{Schema}
 use Rattle.rep_schema.specs.Shape.{HasShape}
-use Rattle.event_laws.specs.Core.{Core}
+use Rattle.event_laws.specs.Cluster.{Cluster}
 use Rattle.event_laws.specs.Starts.{IsStart}
-use Rattle.event_laws.specs.Waiting.{AreMeshed}
+use Rattle.event_laws.specs.Waiting.{SitesLinkAsDeclared}
 use Rattle.world_state.specs.World.{WorldState}
 use Rattle.world_state.specs.Phases.{is_setup}
 use Rattle.world_laws.specs.Simulation.{Leads}
@@ -12,9 +12,9 @@ use Rattle.world_laws.specs.Simulation.{Leads}
 -- some start of a schema, with sites as the schema declares them, and some events from it
 pub record Reaches (w : WorldState) : Type 0 where
   pub schema : Schema
-  pub start : Core
+  pub start : Cluster
   pub is : IsStart schema start
-  pub meshed : AreMeshed schema start.sites
+  pub meshed : SitesLinkAsDeclared schema start.sites
   pub leads : Leads w start
 
 abbrev pub IsReached : WorldState → Type 0

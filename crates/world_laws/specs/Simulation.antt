@@ -5,7 +5,7 @@ use Rattle.rep_values.specs.declared.name.SiteName.{SiteName}
 use Rattle.rep_values.specs.declared.refusal.Refusal.{Refusal}
 use Rattle.packet_code.specs.declared.packet.Packet.{Packet}
 use Rattle.net_plan.specs.Directions.{Direction}
-use Rattle.event_laws.specs.Core.{Core}
+use Rattle.event_laws.specs.Cluster.{Cluster}
 use Rattle.event_laws.specs.Events.{Event, receiver, run}
 use Rattle.script_parse.specs.declared.command.Command.{Command}
 use Rattle.world_state.specs.World.{WorldState}
@@ -24,19 +24,19 @@ pub record CarriesSent (sent : List Packet) (d : Direction) : Type 0 where
   pub on_way : AllByRecursion (WasSent sent d.to) d.on_way
 
 -- a world behind Setup has these sites, and its links carry what was sent
-pub record Simulates (w : WorldState) (v : Core) : Type 0 where
+pub record Simulates (w : WorldState) (v : Cluster) : Type 0 where
   pub behind : is_setup w.phase ≡ false
   pub sites : w.sites ≡ v.sites
   pub net : AllByRecursion (CarriesSent v.sent) w.net
 
 -- events lead from there to what a world simulates
-pub record Leads (w : WorldState) (v : Core) : Type 0 where
+pub record Leads (w : WorldState) (v : Cluster) : Type 0 where
   pub events : List Event
   pub simulates : Simulates w (run events v)
 
 -- what is done to a world is a list of events, beside changes of the phase, the block, the links and what is declared
 abbrev pub AreEvents : (WorldState → WorldState) → Type 0
-AreEvents change = (w : WorldState) (v : Core) → Simulates w v → Leads (change w) v
+AreEvents change = (w : WorldState) (v : Cluster) → Simulates w v → Leads (change w) v
 
 -- each line behind Setup is
 abbrev pub StepsAreEvents : Type 0

@@ -9,9 +9,9 @@ use Rattle.site_state.specs.State.{SiteState, arrivals, acked_of}
 use Rattle.site_state.specs.Streams.{stream_to}
 use Rattle.site_state.specs.Packets.{site_packet}
 use Rattle.site_state.specs.Ready.{is_ready}
-use Rattle.event_laws.specs.Core.{site_of}
+use Rattle.event_laws.specs.Cluster.{site_of}
 use Rattle.event_laws.specs.Marks.{MarksAreLow, PurgedIsFinished, AreWellNumbered}
-use Rattle.event_laws.specs.Orders.{AreFinishedOnce, AreSettledOnce, EarlierComesFirst}
+use Rattle.event_laws.specs.Orders.{AreFinishedOnce, AreClearedOnce, EarlierComesFirst}
 use Rattle.event_laws.specs.Waiting.{StreamsMeet, IsDelivered, PassesFinishNothing, NothingWaits}
 use Rattle.join_laws.specs.Streams.{ArrivalsAreOfStreams}
 use Rattle.script_parse.specs.declared.command.Command.{Command}
@@ -19,7 +19,7 @@ use Rattle.world_state.specs.World.{WorldState}
 use Rattle.world_state.specs.Making.{world_made}
 use Rattle.world_state.specs.Pushes.{world_push}
 use Rattle.world_state.specs.Steps.{world_steps}
-use Rattle.world_laws.specs.Errors.{EachErrorIsWhole, EachUnsettledErrorStands}
+use Rattle.world_laws.specs.Errors.{EachErrorIsWhole, EachUnclearedErrorStands}
 
 -- every site can make a pass for every sender
 abbrev pub EachCanPass : List SiteState → Type 0
@@ -43,14 +43,14 @@ pub record WorldHolds (w : WorldState) : Type 0 where
   pub purged : PurgedIsFinished w.sites
   pub numbered : AreWellNumbered w.sites
   pub once : AreFinishedOnce w.sites
-  pub settled : AreSettledOnce w.sites
+  pub settled : AreClearedOnce w.sites
   pub order : EarlierComesFirst w.sites
   pub passes : EachCanPass w.sites
   pub packets : EachIsSent w.sites
   pub from_1 : AreFrom1 w.sites
   pub waits : EachWaitsForNothing w.sites
   pub errors : EachErrorIsWhole w.sites
-  pub unsettled : EachUnsettledErrorStands w.sites
+  pub unsettled : EachUnclearedErrorStands w.sites
   pub streams : StreamsMeet w.sites
   pub arrived : ArrivalsAreOfStreams w.sites
 

@@ -12,14 +12,14 @@ use Rattle.deferred_queue.specs.Streams.{is_same_site}
 use Rattle.deferred_queue.proofs.Sites.{is_same_site-true, is_same_site-refl}
 use Rattle.site_state.specs.State.{SiteState}
 use Rattle.site_state.specs.Steps.{begun}
-use Rattle.event_laws.specs.Core.{site_of, at_site}
+use Rattle.event_laws.specs.Cluster.{site_of, at_site}
 use Rattle.event_laws.specs.Events.{is_master_in}
 use Rattle.event_laws.proofs.Sites.{found_changed, found_name}
-use Rattle.join_laws.specs.Names.{AreApart}
+use Rattle.join_laws.specs.Names.{SitesApart}
 use Rattle.world_state.specs.World.{WorldState, is_there}
 use Rattle.world_state.specs.Phases.{is_running, has_block}
 use Rattle.world_state.specs.Pushes.{pushed_in}
-use Rattle.world_laws.specs.Places.{place_of}
+use Rattle.world_laws.specs.Places.{site_place}
 use Rattle.environment_lines.specs.Following.{IsBuilt}
 use Rattle.environment_push.specs.Lending.{live_phase_step, live_refusal, reaching, brought_from, live_opened, live_closed, given_back, PushEachInPart}
 use Rattle.environment_push.proofs.Delivering.{pushed_there}
@@ -67,13 +67,13 @@ module _ (lent : Option LentSite) (w : WorldState) (v : LentWorld) (seen : seen_
 -- ---- one site among the others
 
 -- where the site of a name was taken out none has that name
-alone_removed : (name : SiteName) (xs : List SiteState) → AreApart xs → site_of name (remove xs (place_of name xs)) ≡ None
+alone_removed : (name : SiteName) (xs : List SiteState) → SitesApart xs → site_of name (remove xs (site_place name xs)) ≡ None
 alone_removed name [] apart = refl
 alone_removed name (y ∷ ys) apart = go (is_same_site y.here.site name) refl (alone_removed name ys apart.1)
   where
-    go : (b : Bool) → is_same_site y.here.site name ≡ b → site_of name (remove ys (place_of name ys)) ≡ None → site_of name (remove (y ∷ ys) (cond (not b) (1 + place_of name ys) 0)) ≡ None
+    go : (b : Bool) → is_same_site y.here.site name ≡ b → site_of name (remove ys (site_place name ys)) ≡ None → site_of name (remove (y ∷ ys) (cond (not b) (1 + site_place name ys) 0)) ≡ None
     go true is later = subst (λ (n : SiteName). site_of n ys ≡ None) (is_same_site-true y.here.site name is) apart.0
-    go false is later = let one : 1 + place_of name ys ≡ suc (place_of name ys) = omega arith in rw one (rw is later)
+    go false is later = let one : 1 + site_place name ys ≡ suc (site_place name ys) = omega arith in rw one (rw is later)
 
 -- a site that was taken out and is put in again stands as before
 insert-removed : (xs : List SiteState) (place : ℕ) (x : SiteState) → slice_get xs place ≡ Some x → insert (remove xs place) place x ≡ xs
@@ -168,7 +168,7 @@ module _ (name : SiteName) (w y : WorldState) (built : IsBuilt w) (passes : live
   y_built : IsBuilt y
   y_built = subst IsBuilt (sym opened) (lendings_keep_worlds_built name w built passes)
 
-  module _ (place : ℕ) (is : place ≡ place_of name y.sites) (within : place < length y.sites) (site : SiteState) (found : site_of name y.sites ≡ Some site) (there : slice_get y.sites place ≡ Some site)
+  module _ (place : ℕ) (is : place ≡ site_place name y.sites) (within : place < length y.sites) (site : SiteState) (found : site_of name y.sites ≡ Some site) (there : slice_get y.sites place ≡ Some site)
       (x kept : SiteState) (read : x ≡ get_or y.sites place x) (kept_is : kept ≡ x) (others : List SiteState) (taken : others ≡ remove y.sites place) where
     abbrev taken_out : LentSite
     taken_out = record { name = name; place = place; opened = kept }

@@ -6,7 +6,7 @@ mod Choices
 mod Completeness
 mod Worlds
 mod Crews
-mod LiveKeeping
+mod LiveWorldsStay
 mod LiveLaws
 mod ReadNames
 mod OwnCounts

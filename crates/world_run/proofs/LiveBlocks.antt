@@ -29,7 +29,7 @@ use Rattle.world_run.specs.declared.live_part.OpenSession.{OpenSession}
 use Rattle.world_run.specs.declared.live_part.OpenPart.{OpenPart}
 use Rattle.world_run.specs.declared.live_part.LivePart.{LivePart}
 use Rattle.world_run.specs.declared.live_part.LivePart.TheVariants as part
-use Rattle.world_run.specs.LiveParts.{most_sessions, sessions_with, sessions_of, stated, block_ended, changed_by, in_session, taken, with_session, new_part, opened_unless, opened_in, as_part, session_in}
+use Rattle.world_run.specs.LiveParts.{most_sessions, sessions_with, sessions_of, stated, block_ended, changed_by, in_session, taken, with_session, new_part, opened_unless, part_opened, as_part, session_in}
 use Rattle.world_run.specs.LiveScripts.{LiveState, live_start, answered, plain_in, end_in, command_step, read_step, live_step}
 use Rattle.world_run.proofs.ReadNames.{NamesSite, parsed_names_site}
 use Rattle.world_run.proofs.OwnCounts.{IsSmall, first_small, more_small, step_small}
@@ -120,7 +120,7 @@ session_more n (part.Open p) within q is = go (nat_lt (length (sessions_of p)) m
     go false is = absurd (cc is)
 session_more n (part.Ended e) within q is = absurd (cc is)
 
-opened_more : (n : ℕ) (old : LivePart) (site : SiteName) (w : WorldState) (q : LivePart) → opened_in old site w ≡ Ok q → IsMore n q
+opened_more : (n : ℕ) (old : LivePart) (site : SiteName) (w : WorldState) (q : LivePart) → part_opened old site w ≡ Ok q → IsMore n q
 opened_more n part.NotYet site w q is = go (live_refusal site w) is
   where
     go : (o : Option Refusal) → opened_unless o site ≡ Ok q → IsMore n q
@@ -166,7 +166,7 @@ module _ (s : LiveState) (n : ℕ) (running : IsRunning n s) where
 
   command_does : n ≤ most_lines → (line : List ℕ) (c : LiveCommand) → live_parsed line ≡ Ok c → Does s n (λ turns. command_step turns s n c)
   command_does few line (live_command.Plain c) read = plain_does c (parsed_names_site line c ((keeps_commands line c).0 read)) s.part refl
-  command_does few line (live_command.Open site) read = answered_does (opened_in s.part site s.world) (opened_more n s.part site s.world)
+  command_does few line (live_command.Open site) read = answered_does (part_opened s.part site s.world) (opened_more n s.part site s.world)
   command_does few line live_command.Session read = answered_does (session_in s.part) (session_more n s.part running.blocks)
   command_does few line live_command.End read = end_does few s.part refl
 

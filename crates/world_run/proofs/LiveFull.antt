@@ -24,9 +24,9 @@ use Rattle.world_run.specs.Ended.{RanPart}
 use Rattle.world_run.specs.declared.live_part.OpenPart.{OpenPart}
 use Rattle.world_run.specs.declared.live_part.LivePart.{LivePart}
 use Rattle.world_run.specs.declared.live_part.LivePart.TheVariants as part
-use Rattle.world_run.specs.LiveParts.{sessions_of, taken, origins_of, opened_in, opened_unless, part_refusal, as_part, session_in, next_session, IsFullPart}
+use Rattle.world_run.specs.LiveParts.{sessions_of, taken, origins_of, part_opened, opened_unless, part_refusal, as_part, session_in, next_session, IsFullPart}
 use Rattle.world_run.specs.LiveScripts.{LiveState, live_start, answered, plain_in, end_in, read_step, live_step, end_of, FullIn, IsFull, allowed, known, known_by, RunsFully, ReportsFully}
-use Rattle.world_run.proofs.LiveKeeping.{LivesOn, live_at_end, opened_is_there}
+use Rattle.world_run.proofs.LiveWorldsStay.{LivesOn, live_at_end, opened_is_there}
 
 -- ---- a part that was run stays
 
@@ -68,7 +68,7 @@ end_goes turns (part.Ended e) s n = refl
 read_stops : (turns : List LiveTurn) (s : LiveState) (n : ℕ) (read : Result LiveCommand ℕ) → (read_step turns s n read).stops ≡ is_err read
 read_stops turns s n (Err rule) = refl
 read_stops turns s n (Ok (live_command.Plain c)) = plain_goes s.part s n c
-read_stops turns s n (Ok (live_command.Open site)) = answered_goes s n (opened_in s.part site s.world)
+read_stops turns s n (Ok (live_command.Open site)) = answered_goes s n (part_opened s.part site s.world)
 read_stops turns s n (Ok live_command.Session) = answered_goes s n (session_in s.part)
 read_stops turns s n (Ok live_command.End) = end_goes turns s.part s n
 
@@ -127,7 +127,7 @@ module _ (turns others : List LiveTurn) where
   same_alike : (s : LiveState) (n : ℕ) (read : Result LiveCommand ℕ) → IsBefore s.part → Alike (read_step turns s n read).state (read_step others s n read).state
   same_alike s n (Err rule) here = inl (refl, here)
   same_alike s n (Ok (live_command.Plain c)) here = inl (refl, plain_before s s.part n c here)
-  same_alike s n (Ok (live_command.Open site)) here = inl (refl, answered_before s n (opened_in s.part site s.world) (opened_before (part_refusal s.part site s.world) site) here)
+  same_alike s n (Ok (live_command.Open site)) here = inl (refl, answered_before s n (part_opened s.part site s.world) (opened_before (part_refusal s.part site s.world) site) here)
   same_alike s n (Ok live_command.Session) here = inl (refl, answered_before s n (session_in s.part) (session_before s.part) here)
   same_alike s n (Ok live_command.End) here = end_alike s s.part n here here
 

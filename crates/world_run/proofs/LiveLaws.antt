@@ -21,13 +21,13 @@ use Rattle.script_parse.specs.LiveLines.{as_plain}
 use Rattle.script_parse.specs.LiveLaws.{is_live}
 use Rattle.script_parse.proofs.LiveLinesAgain.{keeps_lines, keeps_commands}
 use Rattle.script_drive.specs.Lines.{most_lines, most_bytes, line_step}
-use Rattle.event_laws.specs.Core.{site_of}
+use Rattle.event_laws.specs.Cluster.{site_of}
 use Rattle.live_laws.specs.declared.turn.LiveTurn.{LiveTurn}
 use Rattle.world_state.specs.World.{WorldState}
 use Rattle.world_state.specs.Procs.{proc_of}
 use Rattle.world_state.specs.Steps.{world_step}
 use Rattle.procedure_worlds.proofs.QuietPushes.{push_leaves_none_ready}
-use Rattle.procedure_worlds.proofs.HoldingProcedures.{procedures_hold_of}
+use Rattle.procedure_worlds.proofs.ProceduresHold.{procedures_hold_of}
 use Rattle.environment_lines.specs.Following.{IsBuilt}
 use Rattle.environment_lines.specs.Reached.{HoldsOfConvergence}
 use Rattle.environment_lines.specs.Worlds.{ShowsItsMaster}
@@ -42,7 +42,7 @@ use Rattle.world_run.specs.declared.live_part.LivePart.TheVariants as part
 use Rattle.world_run.specs.LiveScripts.{LiveState, live_start, around, plain_in, read_step, live_step}
 use Rattle.world_run.specs.LiveLaws.{state_behind, LiveWorldsHold, is_outside, LinesOutsideAreAsBefore, ScriptsWithoutPartsPrintTheSame, state_at, IsDoneOutside, LiveLinesHold}
 use Rattle.world_run.proofs.Worlds.{parsed_short}
-use Rattle.world_run.proofs.LiveKeeping.{live_behind}
+use Rattle.world_run.proofs.LiveWorldsStay.{live_behind}
 
 -- ---- worlds
 

@@ -20,14 +20,14 @@ use Rattle.script_parse.specs.LiveLines.{live_parsed}
 use Rattle.script_drive.specs.Lines.{most_lines, most_bytes, line_step}
 use Rattle.site_state.specs.State.{SiteState, is_master_site, is_among}
 use Rattle.site_state.specs.Steps.{begun}
-use Rattle.event_laws.specs.Core.{Core, site_of}
+use Rattle.event_laws.specs.Cluster.{Cluster, site_of}
 use Rattle.event_laws.specs.Events.{Event, run}
 use Rattle.event_laws.specs.Starts.{IsStart}
-use Rattle.event_laws.specs.Waiting.{AreMeshed}
+use Rattle.event_laws.specs.Waiting.{SitesLinkAsDeclared}
 use Rattle.event_laws.proofs.Sites.{found_all}
 use Rattle.event_laws.proofs.MarkLaws.{run_schema}
-use Rattle.event_laws.proofs.OrderLaws.{are_finished_once, are_settled_once}
-use Rattle.join_laws.proofs.Streams.{arrivals_are_of_streams, meshes_stay}
+use Rattle.event_laws.proofs.OrderLaws.{are_finished_once, are_cleared_once}
+use Rattle.join_laws.proofs.Streams.{arrivals_are_of_streams, links_stay}
 use Rattle.live_laws.specs.declared.turn.LiveTurn.{LiveTurn}
 use Rattle.live_laws.specs.Turns.{IsFullRun}
 use Rattle.live_laws.specs.Printed.{IsPrintable}
@@ -45,25 +45,25 @@ use Rattle.world_run.specs.Ended.{RanPart}
 use Rattle.world_run.specs.declared.live_part.OpenPart.{OpenPart}
 use Rattle.world_run.specs.declared.live_part.LivePart.{LivePart}
 use Rattle.world_run.specs.declared.live_part.LivePart.TheVariants as part
-use Rattle.world_run.specs.LiveParts.{most_sessions, sessions_of, opened_in, session_in, origins_of, IsFullPart}
+use Rattle.world_run.specs.LiveParts.{most_sessions, sessions_of, part_opened, session_in, origins_of, IsFullPart}
 use Rattle.world_run.specs.LiveScripts.{LiveState, live_start, answered, plain_in, end_in, command_step, read_step, live_step, FullIn, PrintedTurnsAreKnown}
 use Rattle.world_run.proofs.ReadNames.{IsSiteName}
 use Rattle.world_run.proofs.OwnCounts.{HasName, AreNamed, KeepsCounts, keeps_then, pushed_keeps, site_keeps, IsSmall, kept_small}
 use Rattle.world_run.proofs.SentOnward.{runs_send_on}
 use Rattle.world_run.proofs.QueueBounds.{AreRun, positions_fit}
-use Rattle.world_run.proofs.LiveKeeping.{IsLive, LivesOn, start_live, live_kept, opened_behind}
+use Rattle.world_run.proofs.LiveWorldsStay.{IsLive, LivesOn, start_live, live_kept, opened_behind}
 use Rattle.world_run.proofs.LiveBlocks.{block_count, blocks_of-within, is_yet, part_blocks, IsRunning, start_running, Does, Halts, Goes, Ends, line_does}
 
 -- ---- the sites of a world
 
-run_is : (schema : Schema) (start : Core) (events : List Event) → IsStart schema start → AreMeshed schema start.sites → AreRun schema (run events start).sites
+run_is : (schema : Schema) (start : Cluster) (events : List Event) → IsStart schema start → SitesLinkAsDeclared schema start.sites → AreRun schema (run events start).sites
 run_is schema start events is meshed = record {
   shape = meshed.declared.shape;
-  declared = (meshes_stay schema start events is meshed).declared.each;
+  declared = (links_stay schema start events is meshed).declared.each;
   of_schema = run_schema schema start events is;
   sent = runs_send_on schema start events is;
   once = are_finished_once schema start events is;
-  settled = are_settled_once schema start events is;
+  settled = are_cleared_once schema start events is;
   streams = arrivals_are_of_streams schema start events is meshed;
   rising = every_site_has_rising_numbers schema start events is meshed;
 }
@@ -156,7 +156,7 @@ module _ (p : OpenPart) (w : WorldState) (built : IsBuilt w) (passes : live_refu
 -- a part that was run stays as it was
 command_stays : (turns : List LiveTurn) (s : LiveState) (n : ℕ) (e : RanPart) → s.part ≡ part.Ended e → (c : LiveCommand) → (command_step turns s n c).state.part ≡ part.Ended e
 command_stays turns s n e is (live_command.Plain c) = subst (λ (old : LivePart). (plain_in old s n c).state.part ≡ part.Ended e) (sym is) is
-command_stays turns s n e is (live_command.Open site) = subst (λ (old : LivePart). (answered s n (opened_in old site s.world)).state.part ≡ part.Ended e) (sym is) is
+command_stays turns s n e is (live_command.Open site) = subst (λ (old : LivePart). (answered s n (part_opened old site s.world)).state.part ≡ part.Ended e) (sym is) is
 command_stays turns s n e is live_command.Session = subst (λ (old : LivePart). (answered s n (session_in old)).state.part ≡ part.Ended e) (sym is) is
 command_stays turns s n e is live_command.End = subst (λ (old : LivePart). (end_in turns old s n).state.part ≡ part.Ended e) (sym is) is
 

@@ -29,7 +29,7 @@ use Rattle.world_run.specs.declared.live_part.OpenSession.{OpenSession}
 use Rattle.world_run.specs.LiveParts.{most_sessions, sessions_of, new_part, part_refusal, stated, block_ended, changed_by, taken, with_session, next_session}
 use Rattle.world_run.specs.LiveScripts.{LiveState, around, live_step, allowed, known_by}
 use Rattle.world_run.specs.LiveAnswers.{IsAnswered, IsRan}
-use Rattle.world_run.specs.LiveRunning.{world_in, answer_text, AnswersIn, IsRanIn, GoesOn}
+use Rattle.world_run.specs.LiveRunning.{world_in, answer_text, AnswersIn, IsRanIn, RunGoesOn}
 
 -- a script stands so
 abbrev at : WorldState → LivePart → Bool → LiveState
@@ -38,35 +38,35 @@ at w p json = record { world = w; part = p; json = json }
 module _ (w : WorldState) (json : Bool) (n : ℕ) where
   -- a line that every script may have, in an open part
   pub goes_taken : (c : Command) (p q : OpenPart) (refused : Option Refusal) → IsAnswered (taken n c p) p q refused
-      → GoesOn n (live_command.Plain c) (at w (part.Open p) json) (at w (part.Open q) json) (answer_text n refused)
+      → RunGoesOn n (live_command.Plain c) (at w (part.Open p) json) (at w (part.Open q) json) (answer_text n refused)
   goes_taken c p q None told turns may = (tt, rw told refl)
   goes_taken c p q (Some why) told turns may = (tt, rw (told.0, told.1) refl)
 
   -- around one
   pub goes_around : (c : Command) (p : LivePart) (w' : WorldState) (out : List ℕ) → ((q : OpenPart) → p ≢ part.Open q) → stepped_by w n (Ok c) ≡ goes w' out
-      → GoesOn n (live_command.Plain c) (at w p json) (at w' p json) out
+      → RunGoesOn n (live_command.Plain c) (at w p json) (at w' p json) out
   goes_around c part.NotYet w' out other step turns may = (tt, ap (around (at w part.NotYet json)) step)
   goes_around c (part.Open p) w' out other step turns may = absurd (other p refl)
   goes_around c (part.Ended e) w' out other step turns may = (may, ap (around (at w (part.Ended e) json)) step)
 
   -- a part is opened
-  pub goes_open : (site : SiteName) (p : LivePart) → part_refusal p site w ≡ None → GoesOn n (live_command.Open site) (at w p json) (at w (part.Open (new_part site)) json) []
+  pub goes_open : (site : SiteName) (p : LivePart) → part_refusal p site w ≡ None → RunGoesOn n (live_command.Open site) (at w p json) (at w (part.Open (new_part site)) json) []
   goes_open site part.NotYet passes turns may = (tt, rw passes refl)
   goes_open site (part.Open p) passes turns may = absurd (cc passes)
   goes_open site (part.Ended e) passes turns may = absurd (cc passes)
 
   -- or isn't
-  pub goes_unopened : (site : SiteName) (p : LivePart) (why : Refusal) → part_refusal p site w ≡ Some why → GoesOn n (live_command.Open site) (at w p json) (at w p json) (answer_text n (Some why))
+  pub goes_unopened : (site : SiteName) (p : LivePart) (why : Refusal) → part_refusal p site w ≡ Some why → RunGoesOn n (live_command.Open site) (at w p json) (at w p json) (answer_text n (Some why))
   goes_unopened site p why is turns may = (may, rw is refl)
 
   -- a session begins, or doesn't
   pub goes_session : (p q : OpenPart) (refused : Option Refusal) → IsAnswered (next_session p) p q refused
-      → GoesOn n live_command.Session (at w (part.Open p) json) (at w (part.Open q) json) (answer_text n refused)
+      → RunGoesOn n live_command.Session (at w (part.Open p) json) (at w (part.Open q) json) (answer_text n refused)
   goes_session p q None told turns may = (tt, rw told refl)
   goes_session p q (Some why) told turns may = (tt, rw (told.0, told.1) refl)
 
   -- a part is run
-  pub goes_end : (p : OpenPart) (v : LentWorld) (e : RanPart) (out : List ℕ) → IsRan json w p v e out → GoesOn n live_command.End (at w (part.Open p) json) (at v.world (part.Ended e) json) out
+  pub goes_end : (p : OpenPart) (v : LentWorld) (e : RanPart) (out : List ℕ) → IsRan json w p v e out → RunGoesOn n live_command.End (at w (part.Open p) json) (at v.world (part.Ended e) json) out
   goes_end p v e out ran turns may =
       let same : turns ≡ ran.turns = may ∙ ap (λ (e : RanPart). e.turns) ran.part in
       (tt, rw (same, ran.runs.behind, ran.part, ran.told) refl)
@@ -118,18 +118,18 @@ known_session w p q None told known =
 
 -- a line in an open part
 pub part_goes : (s : LiveState) (w : WorldState) (po : LivePart) (json : Bool) (n : ℕ) (c : Command) (p q : OpenPart) (out : List ℕ) → s ≡ at w po json → po ≡ part.Open p
-    → AnswersIn n (taken n c p) p q out → GoesOn n (live_command.Plain c) s (at w (part.Open q) json) out
+    → AnswersIn n (taken n c p) p q out → RunGoesOn n (live_command.Plain c) s (at w (part.Open q) json) out
 part_goes s w po json n c p q out stands is_open answers =
     rw (stands, is_open, answers.1.1) (goes_taken w json n c p q answers.0 answers.1.0)
 
 -- the end of an open part
 pub end_goes : (s : LiveState) (w : WorldState) (po : LivePart) (json : Bool) (n : ℕ) (p : OpenPart) (new : Option LentWorld) (e : RanPart) (out : List ℕ) → s ≡ at w po json → po ≡ part.Open p
-    → IsRanIn json w p new e out → GoesOn n live_command.End s (at (world_in new) (part.Ended e) json) out
+    → IsRanIn json w p new e out → RunGoesOn n live_command.End s (at (world_in new) (part.Ended e) json) out
 end_goes s w po json n p new e out stands is_open ran =
     rw (stands, is_open, ran.1.0) (goes_end w json n p ran.0 e out ran.1.1)
 
 -- a line that gives a command
-pub live_step-goes : (s s' : LiveState) (n : ℕ) (line out : List ℕ) (c : LiveCommand) → live_parsed line ≡ Ok c → GoesOn n c s s' out → GoesBy live_step allowed s n line s' out
+pub live_step-goes : (s s' : LiveState) (n : ℕ) (line out : List ℕ) (c : LiveCommand) → live_parsed line ≡ Ok c → RunGoesOn n c s s' out → GoesBy live_step allowed s n line s' out
 unfolding live_step
 live_step-goes s s' n line out c read goes turns may = let went = goes turns may in (went.0, rw read went.1)
 

@@ -40,7 +40,7 @@ use Rattle.site_state.specs.Passes.{effect_here, finished_by, applied_unless, si
 use Rattle.site_state.specs.Errors.{effect_of_error, executed_by, executed_found, site_execute, dropped_found, site_drop}
 use Rattle.site_state.specs.Purges.{site_purge, site_purge_log}
 use Rattle.site_state.specs.Joining.{site_open}
-use Rattle.event_laws.specs.Core.{site_of, at_site}
+use Rattle.event_laws.specs.Cluster.{site_of, at_site}
 use Rattle.event_laws.specs.Events.{master_of, found_site, refreshed_from, refreshed}
 use Rattle.event_laws.specs.Joins.{open_to_each, copied, with_joined, may_join, joined_by, joined}
 use Rattle.world_state.specs.declared.phase.Phase.{Phase}
@@ -50,8 +50,8 @@ use Rattle.world_state.specs.declared.declared_snapshot.DeclaredSnapshot.{Declar
 use Rattle.world_state.specs.World.{WorldState, first_world, with_site}
 use Rattle.world_state.specs.Declaring.{with_snapshot_at, tests_in}
 use Rattle.world_state.specs.Blocks.{closed, committed_block, is_commit}
-use Rattle.world_state.specs.Rounds.{has_ready, passed_where_ready, round, rounds, sender_names, arrived_count, site_settle}
-use Rattle.world_state.specs.Pushes.{world_release, world_send, world_send_each, positions_above, world_send_above, taken_each, world_settle, world_send_mark, world_bring_mark, world_answer, pushed_in, world_push}
+use Rattle.world_state.specs.Rounds.{has_ready, passed_where_ready, round, rounds, sender_names, arrived_count, site_until_quiet}
+use Rattle.world_state.specs.Pushes.{world_release, world_send, world_send_each, positions_above, world_send_above, taken_each, world_until_quiet, world_send_mark, world_deliver_mark, world_return_mark, pushed_in, world_push}
 use Rattle.world_state.specs.CallBlocks.{sent_to}
 use Rattle.world_state.specs.Making.{is_early, rows_made, site_made, entry_made}
 use Rattle.world_state.specs.Refusals.{world_refusal}
@@ -145,8 +145,8 @@ own_rounds : (n : ℕ) (origins : List SiteName) → KeepsOwn (rounds n origins)
 own_rounds zero origins x = refl
 own_rounds (suc n) origins x = own_rounds n origins (round origins x) ∙ own_round origins x
 
-own_settle : (origin : SiteName) → KeepsOwn (site_settle origin)
-own_settle origin x = own_rounds (arrived_count (site_pass origin x).senders) (sender_names (site_pass origin x).senders) (site_pass origin x) ∙ own_each origin (arrivals origin x) (begun x)
+own_until_quiet : (origin : SiteName) → KeepsOwn (site_until_quiet origin)
+own_until_quiet origin x = own_rounds (arrived_count (site_pass origin x).senders) (sender_names (site_pass origin x).senders) (site_pass origin x) ∙ own_each origin (arrivals origin x) (begun x)
 
 own_execute : (origin : SiteName) (position : ℕ) → KeepsOwn (site_execute origin position)
 own_execute origin position x = go (error_at origin position x.journal)
@@ -228,13 +228,13 @@ pushed_keeps from to count w =
     let leaves : Leaves (world_release from to w) sent = sent_leaves from to (positions_above from to count (world_release from to w)) (world_release from to w) in
     record { own = own_taken to (on_way_between from to sent.net) sent.sites ∙ ap own_counts leaves.sites; schema = leaves.schema }
 
-answered_keeps : (from to : SiteName) (w : WorldState) → KeepsCounts w (world_answer from to w)
+answered_keeps : (from to : SiteName) (w : WorldState) → KeepsCounts w (world_return_mark from to w)
 answered_keeps from to w = go (is_up from to w.net)
   where
     marked : WorldState
     marked = world_send_mark from to (world_release from to w)
 
-    go : (b : Bool) → KeepsCounts w (cond b (world_bring_mark from to w) w)
+    go : (b : Bool) → KeepsCounts w (cond b (world_deliver_mark from to w) w)
     go true = record { own = own_taken to (on_way_between from to marked.net) w.sites; schema = refl }
     go false = record { own = refl; schema = refl }
 
@@ -246,7 +246,7 @@ push_keeps : (from to : SiteName) (count : Option ℕ) (w : WorldState) → Keep
 push_keeps from to count w =
     let come : WorldState = pushed_in from to count w in
     keeps_then w come (world_push from to count w) (pushed_keeps from to count w)
-    (keeps_then come (world_settle from to come) (world_push from to count w) (site_keeps to (site_settle from) come (own_settle from)) (answered_keeps to from (world_settle from to come)))
+    (keeps_then come (world_until_quiet from to come) (world_push from to count w) (site_keeps to (site_until_quiet from) come (own_until_quiet from)) (answered_keeps to from (world_until_quiet from to come)))
 
 -- ---- joins
 

@@ -23,14 +23,14 @@ use Rattle.deferred_queue.proofs.Positions.{found_position}
 use Rattle.site_state.specs.declared.arrival.Arrival.{Arrival}
 use Rattle.site_state.specs.declared.entry.Entry.{Entry}
 use Rattle.site_state.specs.declared.entry.Entry.TheVariants.{Local, Done, Error, Executed, Dropped, Refreshed}
-use Rattle.site_state.specs.State.{SenderState, SiteState, is_master_site, is_among, sender_of, arrived_in, beside, arrived_at, opened_of, first_number}
+use Rattle.site_state.specs.State.{SenderState, SiteState, is_master_site, is_among, sender_of, arrived_in, arrival_beside, arrived_at, opened_of, first_number}
 use Rattle.site_state.specs.Steps.{count_where}
-use Rattle.site_state.specs.Journal.{finishes, settles, finished}
+use Rattle.site_state.specs.Journal.{finishes, clears_error, finished}
 use Rattle.site_state.specs.Streams.{with_one, queue_after, queue_of, count_of, queued_behind, stream_in, stream_to}
 use Rattle.site_state.specs.DeclaredSites.{IsDeclared}
-use Rattle.event_laws.specs.Core.{site_of}
+use Rattle.event_laws.specs.Cluster.{site_of}
 use Rattle.event_laws.specs.Marks.{journal_in}
-use Rattle.event_laws.specs.Orders.{AreFinishedOnce, AreSettledOnce}
+use Rattle.event_laws.specs.Orders.{AreFinishedOnce, AreClearedOnce}
 use Rattle.event_laws.proofs.Sites.{found_name, found_all}
 use Rattle.join_laws.specs.Streams.{IsSentBy, ArrivalsAreOfStreams}
 use Rattle.live_laws.specs.RisingNumbers.{HasRisingNumbers}
@@ -140,7 +140,7 @@ of_names-lt (n ∷ ns) f g at less here among = go (is_same_site n at) refl amon
 
 -- how many entries are of a position, and how many of those of names up to one
 abbrev entries_at : List Entry → SiteName → ℕ → ℕ
-entries_at es origin position = count_where (finishes origin position) es + count_where (settles origin position) es
+entries_at es origin position = count_where (finishes origin position) es + count_where (clears_error origin position) es
 
 abbrev entries_of : List SiteName → ℕ → List Entry → ℕ
 entries_of names k es = of_names names (λ origin. to_position k (entries_at es origin))
@@ -156,7 +156,7 @@ count-here : (test : Entry → Bool) (e : Entry) (es : List Entry) → test e �
 count-here test e es is = subst (λ (b : Bool). count_where test es < cond b (count_where test es + 1) (count_where test es)) (sym is) (omega arith)
 
 entries-more : (e : Entry) (es : List Entry) (origin : SiteName) (p : ℕ) → entries_at es origin p ≤ entries_at (e ∷ es) origin p
-entries-more e es origin p = omega (arith, count-more (finishes origin p) e es, count-more (settles origin p) e es)
+entries-more e es origin p = omega (arith, count-more (finishes origin p) e es, count-more (clears_error origin p) e es)
 
 entries_of-more : (names : List SiteName) (k : ℕ) (e : Entry) (es : List Entry) → entries_of names k es ≤ entries_of names k (e ∷ es)
 entries_of-more names k e es = of_names-le names (λ n. to_position k (entries_at es n)) (λ n. to_position k (entries_at (e ∷ es) n)) (λ n. to_position-le k (entries_at es n) (entries_at (e ∷ es) n) (entries-more e es n))
@@ -194,7 +194,7 @@ module _ (schema : Schema) (names : List SiteName) (k : ℕ) (journal : List Ent
       let e : Entry = Done origin p onward txn in
       let is : finishes origin p e ≡ true = is_position-own origin p in
       one_more e es origin p onward (later origin p (ap (λ (b : Bool). b || finished origin es p) is)) sent.0
-      (omega (arith, count-here (finishes origin p) e es is, count-more (settles origin p) e es))
+      (omega (arith, count-here (finishes origin p) e es is, count-more (clears_error origin p) e es))
       (onward-within es (λ o q fin. later o q (or_right (finishes o q e) (finished o es q) fin)) sent.1)
   onward-within (Error origin p call error txn ∷ es) later sent =
       let e : Entry = Error origin p call error txn in
@@ -203,7 +203,7 @@ module _ (schema : Schema) (names : List SiteName) (k : ℕ) (journal : List Ent
   onward-within (Executed origin p onward txn ∷ es) later sent =
       let e : Entry = Executed origin p onward txn in
       one_more e es origin p onward (later origin p sent.0.1) sent.0.0
-      (omega (arith, count-here (settles origin p) e es (is_position-own origin p), count-more (finishes origin p) e es))
+      (omega (arith, count-here (clears_error origin p) e es (is_position-own origin p), count-more (finishes origin p) e es))
       (onward-within es later sent.1)
   onward-within (Dropped origin p ∷ es) later sent = omega (arith, onward-within es later sent.1, entries_of-more names k (Dropped origin p) es)
   onward-within (Refreshed moment ∷ es) later sent = omega (arith, onward-within es later sent.1, entries_of-more names k (Refreshed moment) es)
@@ -248,7 +248,7 @@ arrived_among origin p (s ∷ ss) there = go (is_same_site s.origin origin) ther
     names : List SiteName
     names = map (λ (t : SenderState). t.origin) ss
 
-    go : (b : Bool) → find_at (beside p) (arrived_in (cond b (Some s) (sender_of origin ss))) ≢ None → (arrived_at origin p ss ≢ None → is_among names origin ≡ true) → (b || is_among names origin) ≡ true
+    go : (b : Bool) → find_at (arrival_beside p) (arrived_in (cond b (Some s) (sender_of origin ss))) ≢ None → (arrived_at origin p ss ≢ None → is_among names origin ≡ true) → (b || is_among names origin) ≡ true
     go true there later = refl
     go false there later = later there
 
@@ -259,7 +259,7 @@ pub record AreRun (schema : Schema) (sites : List SiteState) : Type 0 where
   pub of_schema : AllByRecursion (λ (x : SiteState). x.schema ≡ schema) sites
   pub sent : AllByRecursion SendsOn sites
   pub once : AreFinishedOnce sites
-  pub settled : AreSettledOnce sites
+  pub settled : AreClearedOnce sites
   pub streams : ArrivalsAreOfStreams sites
   pub rising : (site : SiteName) (x : SiteState) → site_of site sites ≡ Some x → HasRisingNumbers x
 
@@ -299,7 +299,7 @@ module _ (schema : Schema) (sites : List SiteState) (are : AreRun schema sites) 
   few_at : (name : SiteName) (x : SiteState) → site_of name sites ≡ Some x → (origin : SiteName) (p : ℕ) → entries_at x.journal origin p ≤ 2
   few_at name x found origin p =
       let once : count_where (finishes origin p) x.journal ≤ 1 = subst (λ (o : Option SiteState). count_where (finishes origin p) (journal_in o) ≤ 1) found (are.once name origin p) in
-      let settled : count_where (settles origin p) x.journal ≤ 1 = subst (λ (o : Option SiteState). count_where (settles origin p) (journal_in o) ≤ 1) found (are.settled name origin p) in
+      let settled : count_where (clears_error origin p) x.journal ≤ 1 = subst (λ (o : Option SiteState). count_where (clears_error origin p) (journal_in o) ≤ 1) found (are.settled name origin p) in
       omega (arith, once, settled)
 
   -- so no queue is long

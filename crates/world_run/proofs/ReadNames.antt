@@ -13,7 +13,7 @@ use Rattle.script_lex.specs.declared.token.Token.{Token}
 use Rattle.script_lex.specs.declared.token.Token.TheVariants as token
 use Rattle.script_lex.specs.Lines.{lexed}
 use Rattle.script_words.specs.Words.{is_named, is_valued, is_chosen, choice_of}
-use Rattle.script_words.specs.Reading.{Reading, ◌>>=◌, at, taken, one, mark, row, ◌⊛◌, ◌⊘◌, optional, separated, some_of, ended}
+use Rattle.script_words.specs.Reading.{Reading, ◌>>=◌, at, taken, one, mark, row, ◌⊛◌, ◌⊘◌, optional, separated, one_or_more, ended}
 use Rattle.script_words.specs.Parts.{name, number, whole_number, value, choice}
 use Rattle.script_parse.specs.declared.heads.Declaring.{Declaring}
 use Rattle.script_parse.specs.declared.heads.Declaring.TheVariants as declaring
@@ -141,12 +141,12 @@ declarations_name : (d : Declaring) → Gives DeclaresName (declaration_of d)
 declarations_name declaring.Site = gives-site DeclaresName declare.Site (λ name is. is)
 declarations_name declaring.LateSite = gives-site DeclaresName declare.LateSite (λ name is. is)
 declarations_name declaring.SnapSite = gives-then DeclaresName (row declare.SnapSite ⊛ site) site (gives-site {B = SiteName → Declare} (λ f. (master : SiteName) → DeclaresName (f master)) declare.SnapSite (λ name is master. is))
-declarations_name declaring.Table = gives-2 DeclaresName declare.Table table (some_of is_named column) (λ a b. tt)
-declarations_name declaring.Group = gives-3 DeclaresName declare.Group table name (some_of is_named name) (λ a b c. tt)
+declarations_name declaring.Table = gives-2 DeclaresName declare.Table table (one_or_more is_named column) (λ a b. tt)
+declarations_name declaring.Group = gives-3 DeclaresName declare.Group table name (one_or_more is_named name) (λ a b c. tt)
 declarations_name declaring.Method = gives-3 DeclaresName declare.Method table name method (λ a b c. tt)
 declarations_name declaring.Priority = gives-3 DeclaresName declare.Priority name value number (λ a b c. tt)
 declarations_name declaring.SiteLevel = gives-2 DeclaresName declare.SiteLevel site number (λ a b. tt)
-declarations_name declaring.Unique = gives-3 DeclaresName declare.Unique table name (some_of is_named name) (λ a b c. tt)
+declarations_name declaring.Unique = gives-3 DeclaresName declare.Unique table name (one_or_more is_named name) (λ a b c. tt)
 declarations_name declaring.UniqueMethod = gives-3 DeclaresName declare.UniqueMethod table name unique_method (λ a b c. tt)
 declarations_name declaring.Check = gives-then DeclaresName (row declare.Check ⊛ table ⊛ name ⊛ name ⊛ choice rels) value
     (gives-then (λ f. (v : Literal) → DeclaresName (f v)) (row declare.Check ⊛ table ⊛ name ⊛ name) (choice rels)
@@ -163,9 +163,9 @@ fates_name ts c rest is = first (site ts) is
         cleared = gives-mark NamesSite (row (command.ClearFates from to)) (codes "clear") (gives-row NamesSite (command.ClearFates from to) tt)
 
         go : (b : Bool) → (y : Command) (end : List Token)
-            → (if b then (row (command.ClearFates from to) ⊘ codes "clear") us else (row (command.Fates from to) ⊛ some_of (is_chosen fates) (choice fates)) us) ≡ Ok (y, end) → NamesSite y
+            → (if b then (row (command.ClearFates from to) ⊘ codes "clear") us else (row (command.Fates from to) ⊛ one_or_more (is_chosen fates) (choice fates)) us) ≡ Ok (y, end) → NamesSite y
         go true y end is = cleared us y end is
-        go false y end is = gives-1 NamesSite (command.Fates from to) (some_of (is_chosen fates) (choice fates)) (λ a. tt) us y end is
+        go false y end is = gives-1 NamesSite (command.Fates from to) (one_or_more (is_chosen fates) (choice fates)) (λ a. tt) us y end is
 
     second : (from : SiteName) (o : Result (SiteName × List Token) ℕ) → (o >>= λ to. fates_behind from to.0 to.1) ≡ Ok (c, rest) → NamesSite c
     second from (Err e) is = absurd (cc is)
@@ -179,19 +179,19 @@ fates_name ts c rest is = first (site ts) is
 rows_name : (h : Head) → Gives NamesSite (row_of h)
 rows_name (head.Declare d) = gives-both DeclaresName NamesSite (row command.Declare) (declaration_of d) (gives-row (λ f. (d' : Declare) → DeclaresName d' → NamesSite (f d')) command.Declare (λ a named. named)) (declarations_name d)
 rows_name head.Snapshot = gives-3 NamesSite snapshot_of site table where_tests (λ a b c. tt)
-rows_name head.Subsnapshot = gives-then NamesSite (row subsnapshot_of ⊛ site ⊛ table ⊘ codes "parent" ⊛ table ⊘ codes "by" ⊛ some_of is_column_name name) where_tests
-    (gives-then (λ f. (tests : Option (List TestWords)) → NamesSite (f tests)) (row subsnapshot_of ⊛ site ⊛ table ⊘ codes "parent" ⊛ table ⊘ codes "by") (some_of is_column_name name)
+rows_name head.Subsnapshot = gives-then NamesSite (row subsnapshot_of ⊛ site ⊛ table ⊘ codes "parent" ⊛ table ⊘ codes "by" ⊛ one_or_more is_column_name name) where_tests
+    (gives-then (λ f. (tests : Option (List TestWords)) → NamesSite (f tests)) (row subsnapshot_of ⊛ site ⊛ table ⊘ codes "parent" ⊛ table ⊘ codes "by") (one_or_more is_column_name name)
     (gives-mark (λ f. (columns : List (List ℕ)) (tests : Option (List TestWords)) → NamesSite (f columns tests)) (row subsnapshot_of ⊛ site ⊛ table ⊘ codes "parent" ⊛ table) (codes "by")
     (gives-then (λ f. (columns : List (List ℕ)) (tests : Option (List TestWords)) → NamesSite (f columns tests)) (row subsnapshot_of ⊛ site ⊛ table ⊘ codes "parent") table
     (gives-mark (λ f. (parents : TableName) (columns : List (List ℕ)) (tests : Option (List TestWords)) → NamesSite (f parents columns tests)) (row subsnapshot_of ⊛ site ⊛ table) (codes "parent")
     (gives-2 (λ f. (parents : TableName) (columns : List (List ℕ)) (tests : Option (List TestWords)) → NamesSite (f parents columns tests)) subsnapshot_of site table (λ a b c d e. tt))))))
-rows_name head.Row = gives-2 NamesSite command.Row table (some_of is_valued value) (λ a b. tt)
+rows_name head.Row = gives-2 NamesSite command.Row table (one_or_more is_valued value) (λ a b. tt)
 rows_name head.Resume = gives-row NamesSite command.Resume tt
-rows_name head.Insert = gives-2 NamesSite insert_of table (some_of is_valued value) (λ a b. tt)
-rows_name head.Update = gives-then NamesSite (row update_of ⊛ table ⊛ some_of is_valued value ⊘ codes ":") (separated (codes ",") set_part)
-    (gives-mark (λ f. (sets : List Set) → NamesSite (f sets)) (row update_of ⊛ table ⊛ some_of is_valued value) (codes ":")
-    (gives-2 (λ f. (sets : List Set) → NamesSite (f sets)) update_of table (some_of is_valued value) (λ a b c. tt)))
-rows_name head.Delete = gives-2 NamesSite delete_of table (some_of is_valued value) (λ a b. tt)
+rows_name head.Insert = gives-2 NamesSite insert_of table (one_or_more is_valued value) (λ a b. tt)
+rows_name head.Update = gives-then NamesSite (row update_of ⊛ table ⊛ one_or_more is_valued value ⊘ codes ":") (separated (codes ",") set_part)
+    (gives-mark (λ f. (sets : List Set) → NamesSite (f sets)) (row update_of ⊛ table ⊛ one_or_more is_valued value) (codes ":")
+    (gives-2 (λ f. (sets : List Set) → NamesSite (f sets)) update_of table (one_or_more is_valued value) (λ a b c. tt)))
+rows_name head.Delete = gives-2 NamesSite delete_of table (one_or_more is_valued value) (λ a b. tt)
 rows_name head.Txn = gives-1 NamesSite command.Txn site (λ a. tt)
 rows_name head.Commit = gives-row NamesSite command.Commit tt
 rows_name head.Abandon = gives-row NamesSite command.Abandon tt

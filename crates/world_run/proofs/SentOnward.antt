@@ -30,7 +30,7 @@ use Rattle.site_state.specs.Passes.{effect_here, finished_by, applied_unless, si
 use Rattle.site_state.specs.Errors.{effect_of_error, executed_by, executed_found, site_execute, dropped_found, site_drop}
 use Rattle.site_state.specs.Purges.{site_purge, site_purge_log}
 use Rattle.site_state.specs.Joining.{site_open}
-use Rattle.event_laws.specs.Core.{Core, site_of}
+use Rattle.event_laws.specs.Cluster.{Cluster, site_of}
 use Rattle.event_laws.specs.Joins.{open_to_each, copied, with_joined, may_join, joined_by, joined}
 use Rattle.event_laws.specs.Events.{Event, Commit, SetClock, Send, SendMark, Deliver, Begin, Apply, Execute, Drop, Purge, PurgeLog, Refresh, Join, receiver, delivered, may_apply, applied_where, master_of, found_site, refreshed_from, refreshed, happens, run}
 use Rattle.event_laws.specs.Starts.{IsStart, IsNewSite}
@@ -61,9 +61,9 @@ SendsOn x = AllSentOn x.schema x.journal
 pub is_position-own : (origin : SiteName) (position : ℕ) → is_position origin position origin position ≡ true
 is_position-own origin position = rw (is_same_site-refl origin, eq_true position position refl) refl
 
-unless_settled : (b : Bool) (before : Option ErrorEntry) (e : ErrorEntry) (fin : Bool) → (before ≡ Some e → fin ≡ true) → cond b None before ≡ Some e → fin ≡ true
-unless_settled true before e fin later is = absurd (cc is)
-unless_settled false before e fin later is = later is
+unless_cleared : (b : Bool) (before : Option ErrorEntry) (e : ErrorEntry) (fin : Bool) → (before ≡ Some e → fin ≡ true) → cond b None before ≡ Some e → fin ≡ true
+unless_cleared true before e fin later is = absurd (cc is)
+unless_cleared false before e fin later is = later is
 
 error_is_finished : (origin : SiteName) (position : ℕ) (es : List Entry) (e : ErrorEntry) → error_at origin position es ≡ Some e → finished e.origin es e.position ≡ true
 error_is_finished origin position [] e is = absurd (cc is)
@@ -81,8 +81,8 @@ error_is_finished origin position (Error o p call error txn ∷ es) e is = go (i
         → finished e.origin (Error o p call error txn ∷ es) e.position ≡ true
     go true later is = let same : there ≡ e = cc is in subst (λ (f : ErrorEntry). finished f.origin (Error o p call error txn ∷ es) f.position ≡ true) same here
     go false later is = or_right (is_position e.origin e.position o p) (finished e.origin es e.position) (later is)
-error_is_finished origin position (Executed o p onward txn ∷ es) e is = unless_settled (is_position origin position o p) (error_at origin position es) e (finished e.origin es e.position) (error_is_finished origin position es e) is
-error_is_finished origin position (Dropped o p ∷ es) e is = unless_settled (is_position origin position o p) (error_at origin position es) e (finished e.origin es e.position) (error_is_finished origin position es e) is
+error_is_finished origin position (Executed o p onward txn ∷ es) e is = unless_cleared (is_position origin position o p) (error_at origin position es) e (finished e.origin es e.position) (error_is_finished origin position es e) is
+error_is_finished origin position (Dropped o p ∷ es) e is = unless_cleared (is_position origin position o p) (error_at origin position es) e (finished e.origin es e.position) (error_is_finished origin position es e) is
 error_is_finished origin position (Refreshed moment ∷ es) e is = error_is_finished origin position es e is
 
 -- ---- changes of a site
@@ -191,7 +191,7 @@ joined_send site source sites all = go (site_of site sites) (site_of source site
     go None None = all
     go None (Some x) = by x (may_join sites x site)
 
-happens_send : (e : Event) (w : Core) → All w.sites → All (happens e w).sites
+happens_send : (e : Event) (w : Cluster) → All w.sites → All (happens e w).sites
 happens_send (Commit site statements) w all = all_at SendsOn site (site_commit statements) w.sites (commit_sends statements) all
 happens_send (SetClock site clock) w all = all_at SendsOn site (site_clock clock) w.sites (λ x is. is) all
 happens_send (Send from to position) w all = all
@@ -211,6 +211,6 @@ start_sends schema [] all = tt
 start_sends schema (x ∷ xs) all = (subst (λ (es : List Entry). AllSentOn x.schema es) (sym all.0.journal) tt, start_sends schema xs all.1)
 
 -- after every list of events
-pub runs_send_on : (schema : Schema) (start : Core) (events : List Event) → IsStart schema start → AllByRecursion SendsOn (run events start).sites
+pub runs_send_on : (schema : Schema) (start : Cluster) (events : List Event) → IsStart schema start → AllByRecursion SendsOn (run events start).sites
 runs_send_on schema start [] is = start_sends schema start.sites is.sites
 runs_send_on schema start (e ∷ es) is = happens_send e (run es start) (runs_send_on schema start es is)

@@ -7,7 +7,7 @@ use Rattle.script_parse.specs.declared.command.Command.{Command}
 use Rattle.script_parse.specs.declared.command.Command.TheVariants as command
 use Rattle.script_parse.specs.declared.proc_line.ProcLine.TheVariants as proc_line
 use Rattle.script_parse.specs.Named.{NamesColumn}
-use Rattle.event_laws.specs.Core.{site_of}
+use Rattle.event_laws.specs.Cluster.{site_of}
 use Rattle.world_state.specs.declared.refused.Refused.{Refused}
 use Rattle.world_state.specs.World.{WorldState}
 use Rattle.world_state.specs.Procs.{proc_of}
@@ -16,10 +16,10 @@ use Rattle.world_state.specs.Steps.{world_done, world_refused, step_by, world_st
 use Rattle.procedure_worlds.proofs.QuietPushes.{push_leaves_none_ready}
 use Rattle.environment_lines.proofs.Worlds.{reported_pushes_leave_nothing_ready}
 use Rattle.environment_lines.specs.Following.{IsBuilt}
-use Rattle.environment_lines.specs.Known.{known_refusal}
-use Rattle.environment_lines.specs.Doing.{IsRefused, Does, AnswersKnown}
-use Rattle.environment_lines.proofs.Keeping.{lines_keep_built}
-use Rattle.environment_lines.proofs.KnownRefusals.{known_refused}
+use Rattle.environment_lines.specs.Precheck.{precheck_refusal}
+use Rattle.environment_lines.specs.Doing.{IsRefused, Does, AnswersPrecheck}
+use Rattle.environment_lines.proofs.BuiltWorlds.{lines_keep_built}
+use Rattle.environment_lines.proofs.Prechecks.{precheck_refused}
 use Rattle.environment_lines.specs.Worlds.{ShowsItsMaster}
 use Rattle.environment_lines.proofs.Worlds.{refreshes_show_of}
 use Rattle.environment_lines.proofs.Scripts.{of_snapshots}
@@ -28,25 +28,25 @@ use Rattle.environment_lines.proofs.TakenOver.{takes_over}
 use Rattle.world_run.specs.Reporting.{PushLeavesNothingReady, PushLeavesNoCallsReady, RefreshShowsTheQuery, JoinTakesOver}
 
 -- no refusal is known
-pub known-None : (number : ℕ) (c : Command) (w : WorldState) (result : Result Sheet Refused) → known_refusal c w ≡ None → AnswersKnown number c w result
+pub known-None : (number : ℕ) (c : Command) (w : WorldState) (result : Result Sheet Refused) → precheck_refusal c w ≡ None → AnswersPrecheck number c w result
 known-None number c w result none why is = absurd (cc (none, is))
 
 -- one is known, and answered
-pub known-Some : (number : ℕ) (c : Command) (w : WorldState) (told : Refusal) → known_refusal c w ≡ Some told → AnswersKnown number c w (Err (record { line = number; refusal = told }))
+pub known-Some : (number : ℕ) (c : Command) (w : WorldState) (told : Refusal) → precheck_refusal c w ≡ Some told → AnswersPrecheck number c w (Err (record { line = number; refusal = told }))
 known-Some number c w told is why known =
     let same : told ≡ why = cc (is, known) in
     ap (λ (refusal : Refusal). Err (record { line = number; refusal = refusal })) same
 
 -- it is left as a refused line leaves it
-module _ (number : ℕ) (c : Command) (w y seen : WorldState) (why : Refusal) (same : seen ≡ w) (is : known_refusal c seen ≡ Some why) (left : y ≡ world_refused c seen) where
+module _ (number : ℕ) (c : Command) (w y seen : WorldState) (why : Refusal) (same : seen ≡ w) (is : precheck_refusal c seen ≡ Some why) (left : y ≡ world_refused c seen) where
   pub refused_before : IsRefused number c w y (record { line = number; refusal = why })
   refused_before = subst (λ (v : WorldState). IsRefused number c v y (record { line = number; refusal = why })) same
-      (subst (λ (z : WorldState). IsRefused number c seen z (record { line = number; refusal = why })) (sym left) (known_refused number c seen why is))
+      (subst (λ (z : WorldState). IsRefused number c seen z (record { line = number; refusal = why })) (sym left) (precheck_refused number c seen why is))
 
   -- and is built
   pub refused_built : NamesColumn c → IsBuilt seen → IsBuilt y
   refused_built named built = subst IsBuilt (sym left)
-      (lines_keep_built number c seen (world_refused c seen) (Err (record { line = number; refusal = why })) named (inr (known_refused number c seen why is)) built)
+      (lines_keep_built number c seen (world_refused c seen) (Err (record { line = number; refusal = why })) named (inr (precheck_refused number c seen why is)) built)
 
 -- a line that was tried
 pub ready-done : (number : ℕ) (c : Command) (old new : WorldState) (result : Result Sheet Refused) → IsBuilt old → Does number c old new result → PushLeavesNothingReady c new result

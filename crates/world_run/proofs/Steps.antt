@@ -14,7 +14,7 @@ use Rattle.environment_lines.specs.Texts.{told_text}
 use Rattle.world_state.specs.World.{WorldState}
 use Rattle.world_state.specs.Refusals.{world_refusal}
 use Rattle.world_state.specs.Steps.{world_refused, step_by, told_by}
-use Rattle.environment_lines.specs.Doing.{IsDone, IsShort, IsRefused}
+use Rattle.environment_lines.specs.Doing.{IsDone, IsOutOfMemory, IsRefused}
 use Rattle.script_drive.specs.Lines.{StopsBy}
 use Rattle.world_run.specs.Scripts.{script_step}
 
@@ -35,7 +35,7 @@ script_step-refused w w' number line c r read refused = rw (read, refused.world)
 
 -- a line of which it was told that it was refused: it wasn't for want of memory
 pub script_step-told : (w w' : WorldState) (number : ℕ) (line : List ℕ) (c : Command) (r : Refused) → parsed line ≡ Ok c → is_memory r.refusal ≡ false
-    → IsShort number c w w' r ⊎ IsRefused number c w w' r → script_step w number line ≡ goes w' (refused_text r.line r.refusal)
+    → IsOutOfMemory number c w w' r ⊎ IsRefused number c w w' r → script_step w number line ≡ goes w' (refused_text r.line r.refusal)
 script_step-told w w' number line c r read told (inl short) = let memory = rw short.memory at told in absurd (cc memory)
 script_step-told w w' number line c r read told (inr refused) = script_step-refused w w' number line c r read refused
 

@@ -18,14 +18,14 @@ use Rattle.script_parse.specs.declared.proc_line.ProcLine.TheVariants as proc_li
 use Rattle.script_parse.specs.Named.{NamesColumn}
 use Rattle.script_parse.specs.Parsed.{parsed}
 use Rattle.script_parse.proofs.NamedLines.{parsed-Ok}
-use Rattle.event_laws.specs.Core.{site_of}
+use Rattle.event_laws.specs.Cluster.{site_of}
 use Rattle.world_state.specs.declared.refused.Refused.{Refused}
 use Rattle.world_state.specs.World.{WorldState, first_world}
 use Rattle.world_state.specs.Procs.{proc_of}
 use Rattle.world_state.specs.Refusals.{world_refusal}
 use Rattle.world_state.specs.Steps.{world_done, world_refused, world_step, step_by, told_by, told_line}
 use Rattle.procedure_worlds.proofs.QuietPushes.{push_leaves_none_ready}
-use Rattle.procedure_worlds.proofs.HoldingProcedures.{procedures_hold_of}
+use Rattle.procedure_worlds.proofs.ProceduresHold.{procedures_hold_of}
 use Rattle.environment_lines.proofs.Worlds.{of_script_holds, reported_pushes_leave_nothing_ready}
 use Rattle.environment_lines.proofs.Worlds.{snapshots_hold_of, refreshes_show_of}
 use Rattle.environment_lines.specs.Reached.{HoldsOfConvergence}
@@ -33,7 +33,7 @@ use Rattle.environment_lines.proofs.Scripts.{of_snapshots}
 use Rattle.environment_lines.specs.Following.{IsBuilt}
 use Rattle.environment_lines.specs.Texts.{world_text}
 use Rattle.environment_lines.specs.Worlds.{ShowsItsMaster}
-use Rattle.environment_lines.proofs.Keeping.{lines_keep_built, first_built}
+use Rattle.environment_lines.proofs.BuiltWorlds.{lines_keep_built, first_built}
 use Rattle.environment_lines.specs.Joining.{TakesOver}
 use Rattle.environment_lines.proofs.TakenOver.{step_takes_over}
 use Rattle.script_drive.specs.Lines.{most_lines, most_bytes, line_step}

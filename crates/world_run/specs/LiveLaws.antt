@@ -12,7 +12,7 @@ use Rattle.script_parse.specs.Parsed.{parsed}
 use Rattle.script_parse.specs.LiveLaws.{is_live}
 use Rattle.script_drive.specs.Lines.{most_lines, line_step}
 use Rattle.site_state.specs.State.{SiteState}
-use Rattle.event_laws.specs.Core.{site_of}
+use Rattle.event_laws.specs.Cluster.{site_of}
 use Rattle.proc_state.specs.State.{ProcState}
 use Rattle.live_laws.specs.declared.turn.LiveTurn.{LiveTurn}
 use Rattle.world_state.specs.Procs.{proc_of}

@@ -10,7 +10,7 @@ use Rattle.local_txn.specs.Locals.{most_statements}
 use Rattle.script_parse.specs.declared.command.Command.{Command}
 use Rattle.script_parse.specs.declared.command.Command.TheVariants as command
 use Rattle.site_state.specs.State.{SiteState, is_master_site}
-use Rattle.event_laws.specs.Core.{site_of}
+use Rattle.event_laws.specs.Cluster.{site_of}
 use Rattle.live_laws.specs.declared.turn.LiveTurn.{LiveTurn}
 use Rattle.live_laws.specs.declared.turn.Block.{Block}
 use Rattle.live_laws.specs.declared.turn.Session.{Session}
@@ -100,8 +100,8 @@ part_refusal (part.Open p) site w = Some refusal.WrongPhase
 part_refusal (part.Ended e) site w = Some refusal.WrongPhase
 
 -- a part is opened at a master
-abbrev pub opened_in : LivePart → SiteName → WorldState → Result LivePart Refusal
-opened_in old site w = opened_unless (part_refusal old site w) site
+abbrev pub part_opened : LivePart → SiteName → WorldState → Result LivePart Refusal
+part_opened old site w = opened_unless (part_refusal old site w) site
 
 abbrev pub as_part : Result OpenPart Refusal → Result LivePart Refusal
 as_part (Ok p) = Ok (part.Open p)

@@ -18,9 +18,9 @@ world_in None = first_world
 world_in (Some v) = v.world
 
 -- no master of it is lent out
-abbrev pub IsFree : Option LentWorld → Type 0
-IsFree None = Unit {0}
-IsFree (Some v) = v.lent ≡ None
+abbrev pub MasterIsFree : Option LentWorld → Type 0
+MasterIsFree None = Unit {0}
+MasterIsFree (Some v) = v.lent ≡ None
 
 -- what a line prints that goes into a part or is refused
 abbrev pub answer_text : ℕ → Option Refusal → List ℕ
@@ -36,5 +36,5 @@ abbrev pub IsRanIn : Bool → WorldState → OpenPart → Option LentWorld → R
 IsRanIn json before p world ended prints = (v : LentWorld) × ((world ≡ Some v) × IsRan json before p v ended prints)
 
 -- all turns that are allowed behind the command were so before it, and by each of them the run goes on so
-abbrev pub GoesOn : ℕ → LiveCommand → LiveState → LiveState → List ℕ → Type 0
-GoesOn number command old new prints = (turns : List LiveTurn) → allowed new turns → allowed old turns × (command_step turns old number command ≡ goes new prints)
+abbrev pub RunGoesOn : ℕ → LiveCommand → LiveState → LiveState → List ℕ → Type 0
+RunGoesOn number command old new prints = (turns : List LiveTurn) → allowed new turns → allowed old turns × (command_step turns old number command ≡ goes new prints)

@@ -24,7 +24,7 @@ use Rattle.environment_push.specs.Lending.{live_refusal}
 use Rattle.world_run.specs.Scripts.{stepped_by}
 use Rattle.world_run.specs.declared.live_part.LivePart.{LivePart}
 use Rattle.world_run.specs.declared.live_part.LivePart.TheVariants as part
-use Rattle.world_run.specs.LiveParts.{most_sessions, sessions_of, taken, opened_in, as_part, session_in, world_behind_part, IsFullPart}
+use Rattle.world_run.specs.LiveParts.{most_sessions, sessions_of, taken, part_opened, as_part, session_in, world_behind_part, IsFullPart}
 
 -- where a script stands: its world, its live part, and whether the turns of that are printed as JSON
 pub record LiveState : Type 0 where
@@ -69,7 +69,7 @@ end_in turns (part.Ended e) s number = answered s number (Err refusal.WrongPhase
 -- what a command does
 abbrev pub command_step : List LiveTurn → LiveState → ℕ → LiveCommand → Stepped LiveState
 command_step turns s number (live_command.Plain c) = plain_in s.part s number c
-command_step turns s number (live_command.Open site) = answered s number (opened_in s.part site s.world)
+command_step turns s number (live_command.Open site) = answered s number (part_opened s.part site s.world)
 command_step turns s number live_command.Session = answered s number (session_in s.part)
 command_step turns s number live_command.End = end_in turns s.part s number
 

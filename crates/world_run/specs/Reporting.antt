@@ -7,7 +7,7 @@ use Rattle.script_parse.specs.declared.command.Command.{Command}
 use Rattle.script_parse.specs.declared.command.Command.TheVariants as command
 use Rattle.script_parse.specs.declared.proc_line.ProcLine.TheVariants as proc_line
 use Rattle.site_state.specs.State.{SiteState}
-use Rattle.event_laws.specs.Core.{site_of}
+use Rattle.event_laws.specs.Cluster.{site_of}
 use Rattle.world_state.specs.declared.refused.Refused.{Refused}
 use Rattle.proc_state.specs.State.{ProcState}
 use Rattle.world_state.specs.World.{WorldState}

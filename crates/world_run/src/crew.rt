@@ -1,5 +1,5 @@
 //! A pass that several appliers make.
-ghost use Rattle.site_rounds.specs.Passing.{TakesPass, AnswersPass};
+ghost use Rattle.site_rounds.specs.Passing.{PassRequires, PassEnsures};
 
 use page_tables::PageTables;
 use parallel_apply::Workers;
@@ -23,8 +23,8 @@ pub fn crew_pass<X: Wait, W: Watch>(
     origin: &SiteName,
     watch: &W,
 ) -> Result<(Site<PageTables>, PassCount), (Site<PageTables>, NoMemory)>
-    requires { TakesPass origin.now site }
-    ensures { AnswersPass origin.now site result }
+    requires { PassRequires origin.now site }
+    ensures { PassEnsures origin.now site result }
 {
     if workers.is_empty() || !is_master_site(site.store().schema(), origin) {
         return Serial.pass(alloc, site, origin);

@@ -2,14 +2,14 @@
 ghost use Rattle.std.specs.Prelude.{◌≡◌, None};
 ghost use Rattle.script_parse.specs.Named.{NamesColumn};
 ghost use Rattle.environment_lines.specs.Following.{IsBuilt};
-ghost use Rattle.environment_lines.specs.Known.{known_refusal};
-ghost use Rattle.environment_lines.specs.Doing.{Does, AnswersKnown};
+ghost use Rattle.environment_lines.specs.Precheck.{precheck_refusal};
+ghost use Rattle.environment_lines.specs.Doing.{Does, AnswersPrecheck};
 
 use environment_calls::run_proc_line;
 use environment_lines::{
-    Environment, abandon, add_fates, add_row, add_snapshot, clear_fates, commit, declare,
+    WorldParts, abandon, add_fates, add_row, add_snapshot, clear_fates, commit, declare,
     drop_error, execute, join, open_block, purge, purge_log, refresh, resume, set_clock, set_link,
-    show, state, suspend,
+    show, add_statement, suspend,
 };
 use environment_push::push;
 use report_text::Lines;
@@ -20,7 +20,7 @@ use world_state::Refused;
 
 /// Runs a line that meets no refusal that is known before it is tried. Passes are made as it is told.
 pub fn run_line<P: Passing>(
-    environment: &mut Environment,
+    environment: &mut WorldParts,
     alloc: Global,
     passing: &P,
     line: u32,
@@ -29,7 +29,7 @@ pub fn run_line<P: Passing>(
     requires able { P.able passing.now }
     requires built { IsBuilt environment.old }
     requires named { NamesColumn command.now }
-    requires passes { known_refusal command.now environment.old ≡ None }
+    requires passes { precheck_refusal command.now environment.old ≡ None }
     ensures { Does line command.now environment.old environment.new result }
 {
     match command {
@@ -37,7 +37,7 @@ pub fn run_line<P: Passing>(
         Command::Declare(declaration) => declare(environment, alloc, line, declaration),
         Command::Row { table, values } => add_row(environment, alloc, line, table, values),
         Command::Resume => resume(environment, alloc, line),
-        Command::Statement(statement) => state(environment, alloc, line, statement),
+        Command::Statement(statement) => add_statement(environment, alloc, line, statement),
         Command::Txn { site } => open_block(environment, alloc, line, site),
         Command::Commit => commit(environment, alloc, line),
         Command::Abandon => abandon(environment, alloc, line),
@@ -76,7 +76,7 @@ pub fn run_line<P: Passing>(
 
 /// Runs a line, or leaves what a refused one leaves, where a refusal is known before it is tried.
 pub fn run_or_refuse<P: Passing>(
-    environment: &mut Environment,
+    environment: &mut WorldParts,
     alloc: Global,
     passing: &P,
     line: u32,
@@ -86,7 +86,7 @@ pub fn run_or_refuse<P: Passing>(
     requires built { IsBuilt environment.old }
     requires named { NamesColumn command.now }
     ensures does { Does line command.now environment.old environment.new result }
-    ensures known { AnswersKnown line command.now environment.old result }
+    ensures known { AnswersPrecheck line command.now environment.old result }
 {
     if let Some(refusal) = environment.refusal(command) {
         environment.refuse(command);

@@ -6,7 +6,7 @@ ghost use Rattle.script_parse.specs.LiveLines.{LiveNamesColumn};
 ghost use Rattle.world_run.specs.Scripts.{stepped_by};
 ghost use Rattle.world_run.specs.LiveParts.{part_refusal, taken};
 ghost use Rattle.world_run.specs.LiveScripts.{live_start, live_step, allowed, known, known_by};
-ghost use Rattle.world_run.specs.LiveRunning.{world_in, IsFree, answer_text, AnswersIn, IsRanIn, GoesOn};
+ghost use Rattle.world_run.specs.LiveRunning.{world_in, MasterIsFree, answer_text, AnswersIn, IsRanIn, RunGoesOn};
 
 use crate::live_end::{Ran, run_part};
 use crate::live_part::{LivePart, OpenPart};
@@ -36,13 +36,13 @@ pub struct LiveScript {
 impl Model for LiveScript {
     ghost use Rattle.world_run.specs.LiveParts.{part_refusal, taken};
     ghost use Rattle.world_run.specs.LiveScripts.{LiveState};
-    ghost use Rattle.world_run.specs.LiveRunning.{world_in, IsFree};
+    ghost use Rattle.world_run.specs.LiveRunning.{world_in, MasterIsFree};
 
     ghost Value = { LiveState };
 
     ghost view = { λ s. record { world = world_in s.world; part = s.part; json = s.json } };
 
-    ghost invariant = { λ s. IsFree s.world };
+    ghost invariant = { λ s. MasterIsFree s.world };
 }
 
 /// What a refused line prints.
@@ -89,9 +89,9 @@ fn run_open<S: Streaming>(
     part: OpenPart,
 ) -> Result<Ran, NoMemory>
     requires able { S.able streaming.now }
-    requires free { IsFree world.old }
+    requires free { MasterIsFree world.old }
     requires known { known_by (LivePart.Open part) (world_in world.old) }
-    ensures free { IsFree world.new }
+    ensures free { MasterIsFree world.new }
     ensures ran { IfOk result (λ ran. IsRanIn json (world_in world.old) part world.new ran.part ran.lines.bytes) }
 {
     let Some(mut kept) = mem::replace(world, None) else {
@@ -142,7 +142,7 @@ impl LiveScript {
         requires named { NamesColumn command.now }
         requires known { known self.old }
         ensures known { OnOk result (known self.new) }
-        ensures goes { IfOk result (λ lines. GoesOn number (LiveCommand.Plain command.now) self.old self.new lines.bytes) }
+        ensures goes { IfOk result (λ lines. RunGoesOn number (LiveCommand.Plain command.now) self.old self.new lines.bytes) }
     {
         if let LivePart::Open(part) = &mut self.part {
             return take_in(part, alloc, number, command);
@@ -170,7 +170,7 @@ impl LiveScript {
     fn open(&mut self, alloc: Global, number: u32, site: SiteName) -> Result<Lines, NoMemory>
         requires known { known self.old }
         ensures known { OnOk result (known self.new) }
-        ensures goes { IfOk result (λ lines. GoesOn number (LiveCommand.Open site) self.old self.new lines.bytes) }
+        ensures goes { IfOk result (λ lines. RunGoesOn number (LiveCommand.Open site) self.old self.new lines.bytes) }
     {
         match self.refusal_of_part(&site) {
             Ok(None) => {
@@ -186,7 +186,7 @@ impl LiveScript {
     fn begin_session(&mut self, alloc: Global, number: u32) -> Result<Lines, NoMemory>
         requires known { known self.old }
         ensures known { OnOk result (known self.new) }
-        ensures goes { IfOk result (λ lines. GoesOn number LiveCommand.Session self.old self.new lines.bytes) }
+        ensures goes { IfOk result (λ lines. RunGoesOn number LiveCommand.Session self.old self.new lines.bytes) }
     {
         let refusal = match &mut self.part {
             LivePart::Open(part) => part.begin_session(alloc)?,
@@ -205,7 +205,7 @@ impl LiveScript {
         requires able { S.able streaming.now }
         requires known { known self.old }
         ensures known { OnOk result (known self.new) }
-        ensures goes { IfOk result (λ lines. GoesOn number LiveCommand.End self.old self.new lines.bytes) }
+        ensures goes { IfOk result (λ lines. RunGoesOn number LiveCommand.End self.old self.new lines.bytes) }
     {
         match mem::replace(&mut self.part, LivePart::NotYet) {
             LivePart::Open(part) => {
@@ -232,7 +232,7 @@ impl LiveScript {
         requires named { LiveNamesColumn command }
         requires known { known self.old }
         ensures known { OnOk result (known self.new) }
-        ensures goes { IfOk result (λ lines. GoesOn number command self.old self.new lines.bytes) }
+        ensures goes { IfOk result (λ lines. RunGoesOn number command self.old self.new lines.bytes) }
     {
         match command {
             LiveCommand::Plain(command) => self.run_plain(alloc, number, &command),

@@ -6,7 +6,7 @@ ghost use Rattle.world_state.specs.World.{first_world};
 ghost use Rattle.script_drive.specs.Lines.{line_step};
 ghost use Rattle.script_drive.specs.Outcome.{Told};
 ghost use Rattle.script_drive.specs.Prompt.{ReadsPromptly};
-ghost use Rattle.site_rounds.specs.Passing.{TakesPass, AnswersPass};
+ghost use Rattle.site_rounds.specs.Passing.{PassRequires, PassEnsures};
 ghost use Rattle.world_run.specs.Completeness.{RunsToItsEnd};
 ghost use Rattle.world_run.specs.RunOf.{RunOf};
 ghost use Rattle.world_run.specs.Scripts.{script_step, EachLineHolds};
@@ -143,8 +143,8 @@ fn run_beside<X: Wait, S, K: Sink, R: Reader<S, K>, W: Watch>(
         (Site<PageTables>, PassCount),
         (Site<PageTables>, NoMemory),
     >
-        requires { TakesPass origin site }
-        ensures { AnswersPass origin site result }
+        requires { PassRequires origin site }
+        ensures { PassEnsures origin site result }
     { crew_pass(rt, alloc, workers, site, &origin, watch) };
     run_by(alloc, By { pass }, at_end, reader, source, sink)
 }

@@ -5,7 +5,7 @@ ghost use Rattle.world_state.specs.World.{first_world};
 ghost use Rattle.world_run.specs.Scripts.{script_step};
 
 use crate::world::World;
-use environment_lines::Environment;
+use environment_lines::WorldParts;
 use rep_lists::NoMemory;
 use rep_values::Refusal;
 use report_text::{Lines, MOST_LINE, refused_line};
@@ -60,7 +60,7 @@ pub(crate) fn told(alloc: Global, refused: &Refused) -> Result<Lines, NoMemory>
 }
 
 impl<P: Passing + Drop> LineRunner for Runner<P> {
-    type State = Environment;
+    type State = WorldParts;
 
     type Choices = ();
 

@@ -2,16 +2,16 @@
 ghost use Rattle.std.specs.Prelude.{◌≡◌, Some, None, option_copied, IfOk, IfErr, OnOk, OnErr};
 ghost use Rattle.script_parse.specs.Named.{NamesColumn};
 ghost use Rattle.rep_values.specs.declared.name.SiteName.{SiteName as SiteNameValue};
-ghost use Rattle.event_laws.specs.Core.{site_of};
+ghost use Rattle.event_laws.specs.Cluster.{site_of};
 ghost use Rattle.environment_lines.specs.Following.{IsBuilt};
 ghost use Rattle.world_state.specs.World.{first_world};
 ghost use Rattle.world_state.specs.Procs.{proc_of};
 ghost use Rattle.procedure_worlds.specs.Worlds.{ProceduresHold};
 ghost use Rattle.environment_lines.specs.Worlds.{WorldHolds};
-ghost use Rattle.environment_lines.specs.Doing.{Does, AnswersKnown};
+ghost use Rattle.environment_lines.specs.Doing.{Does, AnswersPrecheck};
 ghost use Rattle.environment_lines.specs.Worlds.{SnapshotsHold};
 ghost use Rattle.environment_lines.specs.Convergence.{ConvergenceHolds};
-ghost use Rattle.site_rounds.specs.Passing.{TakesPass, AnswersPass};
+ghost use Rattle.site_rounds.specs.Passing.{PassRequires, PassEnsures};
 ghost use Rattle.environment_push.specs.Lending.{live_refusal, reaching, live_opened, live_closed, given_back, PushEachInPart};
 ghost use Rattle.world_run.specs.Lent.{site_here, MayComeBack, MayComeBackFromTurns};
 ghost use Rattle.world_run.specs.Reporting.{PushLeavesNothingReady, PushLeavesNoCallsReady, RefreshShowsTheQuery, JoinTakesOver};
@@ -19,7 +19,7 @@ ghost use Rattle.world_run.specs.Reporting.{PushLeavesNothingReady, PushLeavesNo
 use crate::crew::crew_pass;
 use crate::lines::run_or_refuse;
 use environment_calls::proc_place_of;
-use environment_lines::{Environment, Site, convergence_holds, place_of};
+use environment_lines::{WorldParts, Site, convergence_holds, place_of};
 use environment_push::{live_close, live_open, live_refusal};
 use page_tables::PageTables;
 use parallel_apply::Workers;
@@ -42,7 +42,7 @@ use world_state::Refused;
 /// events at its sites lead to it. A master of it may be lent out for a live part, and nothing else is done until it comes back.
 #[derive(Drop)]
 pub struct World {
-    environment: Environment,
+    environment: WorldParts,
     lent: Option<Lent>,
 }
 
@@ -80,7 +80,7 @@ impl World {
         ensures free { IfOk result (λ world. world.lent ≡ None) }
     {
         Ok(World {
-            environment: Environment::make(alloc)?,
+            environment: WorldParts::make(alloc)?,
             lent: None,
         })
     }
@@ -102,7 +102,7 @@ impl World {
         requires named { NamesColumn command.now }
         ensures free { self.new.lent ≡ None }
         ensures does { Does line command.now self.old.world self.new.world result }
-        ensures known { AnswersKnown line command.now self.old.world result }
+        ensures known { AnswersPrecheck line command.now self.old.world result }
         ensures pushed { PushLeavesNothingReady command.now self.new.world result }
         ensures calls_pushed { PushLeavesNoCallsReady command.now self.new.world result }
         ensures refreshed { RefreshShowsTheQuery command.now self.old.world self.new.world result }
@@ -130,7 +130,7 @@ impl World {
         requires named { NamesColumn command.now }
         ensures free { self.new.lent ≡ None }
         ensures does { Does line command.now self.old.world self.new.world result }
-        ensures known { AnswersKnown line command.now self.old.world result }
+        ensures known { AnswersPrecheck line command.now self.old.world result }
         ensures pushed { PushLeavesNothingReady command.now self.new.world result }
         ensures calls_pushed { PushLeavesNoCallsReady command.now self.new.world result }
         ensures refreshed { RefreshShowsTheQuery command.now self.old.world self.new.world result }
@@ -144,8 +144,8 @@ impl World {
             (Site<PageTables>, PassCount),
             (Site<PageTables>, NoMemory),
         >
-            requires { TakesPass origin site }
-            ensures { AnswersPass origin site result }
+            requires { PassRequires origin site }
+            ensures { PassEnsures origin site result }
         { crew_pass(rt, alloc, workers, site, &origin, watch) };
         self.step_by(alloc, &By { pass }, line, command)
     }
@@ -163,7 +163,7 @@ impl World {
         requires named { NamesColumn command.now }
         ensures free { self.new.lent ≡ None }
         ensures does { Does line command.now self.old.world self.new.world result }
-        ensures known { AnswersKnown line command.now self.old.world result }
+        ensures known { AnswersPrecheck line command.now self.old.world result }
         ensures pushed { PushLeavesNothingReady command.now self.new.world result }
         ensures calls_pushed { PushLeavesNoCallsReady command.now self.new.world result }
         ensures refreshed { RefreshShowsTheQuery command.now self.old.world self.new.world result }

@@ -12,7 +12,7 @@ use Rattle.site_state.specs.Contents.{tables_of}
 use Rattle.site_state.specs.Commits.{commit_answer}
 use Rattle.site_state.specs.Purges.{purge_answer, purge_log_answer}
 use Rattle.site_state.specs.Refreshes.{refresh_complete_answer}
-use Rattle.event_laws.specs.Core.{site_of}
+use Rattle.event_laws.specs.Cluster.{site_of}
 use Rattle.event_laws.specs.Rules.{rows_ruled, refresh_ruled_answer}
 use Rattle.event_laws.specs.Events.{master_of, found_site}
 use Rattle.world_state.specs.declared.block.Block.{Block}
@@ -20,19 +20,19 @@ use Rattle.world_state.specs.World.{WorldState}
 use Rattle.world_state.specs.Refusals.{young_step}
 
 -- something of a site, 0 where it isn't there
-abbrev pub number_at : (SiteState → ℕ) → Option SiteState → ℕ
-number_at number None = 0
-number_at number (Some x) = number x
+abbrev pub number_there : (SiteState → ℕ) → Option SiteState → ℕ
+number_there number None = 0
+number_there number (Some x) = number x
 
 -- ---- commits
 
-abbrev pub number_of : Result ℕ LocalStop → ℕ
-number_of (Ok number) = number
-number_of (Err stop) = 0
+abbrev pub answered_number : Result ℕ LocalStop → ℕ
+answered_number (Ok number) = number
+answered_number (Err stop) = 0
 
 abbrev pub block_number : Option Block → WorldState → ℕ
 block_number None w = 0
-block_number (Some block) w = number_at (λ x. number_of (commit_answer block.statements x)) (site_of block.site w.sites)
+block_number (Some block) w = number_there (λ x. answered_number (commit_answer block.statements x)) (site_of block.site w.sites)
 
 -- the number under which the open block is queued, 0 where no row changes
 abbrev pub commit_number : WorldState → ℕ
@@ -42,11 +42,11 @@ commit_number w = block_number w.block w
 
 -- how many transactions a purge takes
 abbrev pub purge_count : SiteName → WorldState → ℕ
-purge_count site w = number_at purge_answer (site_of site w.sites)
+purge_count site w = number_there purge_answer (site_of site w.sites)
 
 -- how many keys a purge of a table's log takes
 abbrev pub log_purge_count : SiteName → ℕ → WorldState → ℕ
-log_purge_count site table w = number_at (purge_log_answer table) (site_of site w.sites)
+log_purge_count site table w = number_there (purge_log_answer table) (site_of site w.sites)
 
 -- ---- refreshes
 
@@ -84,4 +84,4 @@ row_count tables = sum (map length tables)
 
 -- how many rows a late master takes over from the site that it copies
 abbrev pub join_count : SiteName → WorldState → ℕ
-join_count source w = number_at (λ x. row_count (tables_of x)) (site_of source w.sites)
+join_count source w = number_there (λ x. row_count (tables_of x)) (site_of source w.sites)

@@ -9,13 +9,13 @@ use Rattle.script_parse.specs.declared.command.Command.{Command}
 use Rattle.script_parse.specs.declared.command.Command.TheVariants as command
 use Rattle.site_state.specs.State.{SiteState}
 use Rattle.site_state.specs.Commits.{site_commit, commit_answer}
-use Rattle.event_laws.specs.Core.{site_of}
+use Rattle.event_laws.specs.Cluster.{site_of}
 use Rattle.world_state.specs.declared.block.Block.{Block}
 use Rattle.world_state.specs.World.{WorldState, with_site}
 
 -- a block is opened at a site
-abbrev pub opened : SiteName → WorldState → WorldState
-opened site w = record w { block = Some (record { site = site; lines = []; statements = [] }) }
+abbrev pub block_opened : SiteName → WorldState → WorldState
+block_opened site w = record w { block = Some (record { site = site; lines = []; statements = [] }) }
 
 -- no block is open
 abbrev pub closed : WorldState → WorldState

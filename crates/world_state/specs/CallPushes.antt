@@ -64,8 +64,8 @@ calls_taken_one to None sites = sites
 calls_taken_one to (Some packet) sites = at_proc to (proc_accept packet) sites
 
 -- it takes in the first packet on the way, if there is one
-abbrev pub calls_take : SiteName → SiteName → Procs → Procs
-calls_take from to p = record p { sites = calls_taken_one to (first_between from to p.net) p.sites; net = at_direction from to delivered p.net }
+abbrev pub calls_deliver_one : SiteName → SiteName → Procs → Procs
+calls_deliver_one from to p = record p { sites = calls_taken_one to (first_between from to p.net) p.sites; net = at_direction from to delivered p.net }
 
 -- ---- what becomes of it
 
@@ -75,12 +75,12 @@ proc_passes [] x = x
 proc_passes (origin ∷ origins) x = proc_passes origins (proc_pass origin x)
 
 -- a pass for the sender that pushed, and then one for each sender
-abbrev pub proc_settle : SiteName → ProcState → ProcState
-proc_settle origin x = proc_passes (origin ∷ sender_names x.senders) x
+abbrev pub proc_until_quiet : SiteName → ProcState → ProcState
+proc_until_quiet origin x = proc_passes (origin ∷ sender_names x.senders) x
 
 -- the receiver settles what came
-abbrev pub calls_settle : SiteName → SiteName → Procs → Procs
-calls_settle from to p = record p { sites = at_proc to (proc_settle from) p.sites }
+abbrev pub calls_until_quiet : SiteName → SiteName → Procs → Procs
+calls_until_quiet from to p = record p { sites = at_proc to (proc_until_quiet from) p.sites }
 
 abbrev pub calls_mark_from : SiteName → Option ProcState → Option Packet
 calls_mark_from to None = None
@@ -91,12 +91,12 @@ abbrev pub calls_send_mark : SiteName → SiteName → Procs → Procs
 calls_send_mark from to p = record p { net = sent_on (calls_mark_from to (proc_of from p.sites)) from to p.net }
 
 -- what is held goes before it, and all is taken in
-abbrev pub calls_bring_mark : SiteName → SiteName → Procs → Procs
-calls_bring_mark from to p = calls_deliver from to (calls_send_mark from to (calls_release from to p))
+abbrev pub calls_deliver_mark : SiteName → SiteName → Procs → Procs
+calls_deliver_mark from to p = calls_deliver from to (calls_send_mark from to (calls_release from to p))
 
 -- where the link is down the mark is lost, and takes no fate
-abbrev pub calls_answer : Bool → SiteName → SiteName → Procs → Procs
-calls_answer up from to p = cond up (calls_bring_mark from to p) p
+abbrev pub calls_return_mark : Bool → SiteName → SiteName → Procs → Procs
+calls_return_mark up from to p = cond up (calls_deliver_mark from to p) p
 
 -- ---- the whole
 
@@ -107,7 +107,7 @@ calls_pushed_in from to p = calls_deliver from to (calls_send_above from to (cal
 -- what is held is released and what isn't acknowledged is sent; the receiver takes all in and settles it; and its mark goes
 -- back, where the link back is up
 abbrev pub calls_push : Bool → SiteName → SiteName → Procs → Procs
-calls_push up_back from to p = calls_answer up_back to from (calls_settle from to (calls_pushed_in from to p))
+calls_push up_back from to p = calls_return_mark up_back to from (calls_until_quiet from to (calls_pushed_in from to p))
 
 -- ---- what it tells
 
@@ -115,9 +115,9 @@ abbrev pub calls_count_in : ℕ → SiteName → Option ProcState → PushCount
 calls_count_in sent from None = record { sent = sent; done = 0; errors = 0; low = 0 }
 calls_count_in sent from (Some x) = record {
   sent = sent;
-  done = added_count is_done (as_site x) (as_site (proc_settle from x));
-  errors = added_count is_error (as_site x) (as_site (proc_settle from x));
-  low = low_water from (proc_settle from x).journal;
+  done = added_count is_done (as_site x) (as_site (proc_until_quiet from x));
+  errors = added_count is_error (as_site x) (as_site (proc_until_quiet from x));
+  low = low_water from (proc_until_quiet from x).journal;
 }
 
 -- the counts of a push of calls
@@ -126,7 +126,7 @@ calls_push_count from to p = calls_count_in (length (calls_positions from to p))
 
 abbrev pub calls_errors_in : SiteName → Option ProcState → List ErrorEntry
 calls_errors_in from None = []
-calls_errors_in from (Some x) = flat_map (errors_from (entries_since x.journal (proc_settle from x).journal)) (proc_settle from x).senders
+calls_errors_in from (Some x) = flat_map (errors_from (entries_since x.journal (proc_until_quiet from x).journal)) (proc_until_quiet from x).senders
 
 -- the errors that it brought, by sender as declared, then by position
 abbrev pub calls_push_errors : SiteName → SiteName → Procs → List ErrorEntry

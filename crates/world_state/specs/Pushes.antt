@@ -7,10 +7,10 @@ use Rattle.net_plan.specs.Directions.{Direction, at_direction, is_up, first_betw
 use Rattle.site_state.specs.State.{SiteState, acked_of}
 use Rattle.site_state.specs.Streams.{stream_to}
 use Rattle.site_state.specs.Packets.{site_accept}
-use Rattle.event_laws.specs.Core.{site_of, at_site}
+use Rattle.event_laws.specs.Cluster.{site_of, at_site}
 use Rattle.event_laws.specs.Events.{packet_from, mark_from}
 use Rattle.world_state.specs.World.{WorldState, with_site}
-use Rattle.world_state.specs.Rounds.{site_settle}
+use Rattle.world_state.specs.Rounds.{site_until_quiet}
 
 -- ---- what is sent
 
@@ -66,26 +66,26 @@ taken_one to None sites = sites
 taken_one to (Some packet) sites = at_site to (site_accept packet) sites
 
 -- it takes in the first packet on the way, if there is one
-abbrev pub world_take : SiteName → SiteName → WorldState → WorldState
-world_take from to w = record w { sites = taken_one to (first_between from to w.net) w.sites; net = at_direction from to delivered w.net }
+abbrev pub world_deliver_one : SiteName → SiteName → WorldState → WorldState
+world_deliver_one from to w = record w { sites = taken_one to (first_between from to w.net) w.sites; net = at_direction from to delivered w.net }
 
 -- ---- what becomes of it
 
 -- the receiver settles what came: a pass for the sender, and the rounds
-abbrev pub world_settle : SiteName → SiteName → WorldState → WorldState
-world_settle from to w = with_site to (site_settle from) w
+abbrev pub world_until_quiet : SiteName → SiteName → WorldState → WorldState
+world_until_quiet from to w = with_site to (site_until_quiet from) w
 
 -- the mark for what came from a site is sent to it
 abbrev pub world_send_mark : SiteName → SiteName → WorldState → WorldState
 world_send_mark from to w = record w { net = sent_on (mark_from to (site_of from w.sites)) from to w.net }
 
 -- what is held goes before it, and all is taken in
-abbrev pub world_bring_mark : SiteName → SiteName → WorldState → WorldState
-world_bring_mark from to w = world_deliver from to (world_send_mark from to (world_release from to w))
+abbrev pub world_deliver_mark : SiteName → SiteName → WorldState → WorldState
+world_deliver_mark from to w = world_deliver from to (world_send_mark from to (world_release from to w))
 
 -- where the direction is down the mark is lost, and takes no fate
-abbrev pub world_answer : SiteName → SiteName → WorldState → WorldState
-world_answer from to w = cond (is_up from to w.net) (world_bring_mark from to w) w
+abbrev pub world_return_mark : SiteName → SiteName → WorldState → WorldState
+world_return_mark from to w = cond (is_up from to w.net) (world_deliver_mark from to w) w
 
 -- ---- the whole
 
@@ -96,4 +96,4 @@ pushed_in from to count w = world_deliver from to (world_send_above from to coun
 -- what is held is released and what isn't acknowledged is sent; the receiver takes all in and settles it; and its mark goes
 -- back
 abbrev pub world_push : SiteName → SiteName → Option ℕ → WorldState → WorldState
-world_push from to count w = world_answer to from (world_settle from to (pushed_in from to count w))
+world_push from to count w = world_return_mark to from (world_until_quiet from to (pushed_in from to count w))

@@ -13,7 +13,7 @@ use Rattle.rep_schema.specs.declared.schema.Kind.{Kind}
 use Rattle.rep_schema.specs.Tables.{columns_of, key_columns}
 use Rattle.rep_schema.specs.Kinds.{is_some_and, takes_numbers}
 use Rattle.rep_schema.specs.Named.{has_column, column_named, table_place}
-use Rattle.rep_declare.specs.Refusals.{out_of_range, refusal_of}
+use Rattle.rep_declare.specs.Refusals.{out_of_range, declare_refusal}
 use Rattle.local_txn.specs.BaseRows.{base_refusal}
 use Rattle.snapshot_query.specs.declared.parent.Parent.{Parent}
 use Rattle.snapshot_query.specs.declared.snapshot.Snapshot.{Snapshot}
@@ -23,7 +23,7 @@ use Rattle.site_state.specs.Streams.{stream_to}
 use Rattle.site_state.specs.Notes.{log_of, purged_of, is_too_young}
 use Rattle.site_state.specs.Errors.{execute_refusal, drop_refusal}
 use Rattle.site_state.specs.Making.{is_late_master}
-use Rattle.event_laws.specs.Core.{site_of}
+use Rattle.event_laws.specs.Cluster.{site_of}
 use Rattle.event_laws.specs.Quiet.{unquiet_at}
 use Rattle.event_laws.specs.Events.{is_all_acked, master_of, found_site, is_master_in}
 use Rattle.script_parse.specs.declared.command.Refresh.{Refresh}
@@ -158,7 +158,7 @@ shown_step shown.Calls site w = unknown (proc_of site w.procs.sites)
 -- the steps of a line behind the phase
 abbrev pub further_steps : Command → WorldState → List (Option Refusal)
 further_steps command.Nothing w = []
-further_steps (command.Declare declaration) w = declaring_step declaration w ∷ refusal_of w.schema declaration ∷ []
+further_steps (command.Declare declaration) w = declaring_step declaration w ∷ declare_refusal w.schema declaration ∷ []
 further_steps (command.Snapshot site table parent tests) w = named_snapshot_steps w site table parent (tests_in tests)
 further_steps (command.Row table values) w = base_refusal w.schema w.base table values ∷ []
 further_steps command.Resume w = []

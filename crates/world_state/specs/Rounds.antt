@@ -42,5 +42,5 @@ abbrev pub site_rounds : SiteState → SiteState
 site_rounds x = rounds (arrived_count x.senders) (sender_names x.senders) x
 
 -- a pass for the sender that pushed, and the rounds
-abbrev pub site_settle : SiteName → SiteState → SiteState
-site_settle origin x = site_rounds (site_pass origin x)
+abbrev pub site_until_quiet : SiteName → SiteState → SiteState
+site_until_quiet origin x = site_rounds (site_pass origin x)

@@ -19,7 +19,7 @@ use Rattle.script_parse.specs.declared.command.Link.TheVariants as link
 use Rattle.world_state.specs.World.{WorldState, with_site}
 use Rattle.world_state.specs.Declaring.{with_declaration, with_snapshot, with_row, tests_in}
 use Rattle.world_state.specs.Making.{world_made}
-use Rattle.world_state.specs.Blocks.{opened, closed, with_statement, world_commit, is_commit, commit_line}
+use Rattle.world_state.specs.Blocks.{block_opened, closed, with_statement, world_commit, is_commit, commit_line}
 use Rattle.world_state.specs.CallBlocks.{calls_closed, sent_to, send_line}
 use Rattle.world_state.specs.ProcSteps.{procs_done}
 use Rattle.world_state.specs.Pushes.{world_push}
@@ -54,7 +54,7 @@ world_done number (command.Snapshot site table parent tests) w = with_snapshot s
 world_done number (command.Row table values) w = with_row table values w
 world_done number command.Resume w = resumed w.phase w
 world_done number (command.Statement statement) w = with_statement number statement w
-world_done number (command.Txn site) w = opened site w
+world_done number (command.Txn site) w = block_opened site w
 world_done number command.Commit w = world_commit w
 world_done number command.Abandon w = closed w
 world_done number (command.Push from to count) w = world_push from to count w

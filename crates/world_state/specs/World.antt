@@ -7,7 +7,7 @@ use Rattle.rep_schema.specs.Tables.{Rows}
 use Rattle.rep_schema.specs.Sites.{senders_of}
 use Rattle.net_plan.specs.Directions.{Direction}
 use Rattle.site_state.specs.State.{SiteState, is_among}
-use Rattle.event_laws.specs.Core.{site_of, at_site}
+use Rattle.event_laws.specs.Cluster.{site_of, at_site}
 use Rattle.world_state.specs.declared.phase.Phase.{Phase}
 use Rattle.world_state.specs.declared.phase.Phase.TheVariants as phase
 use Rattle.world_state.specs.declared.block.Block.{Block}

@@ -2,7 +2,7 @@
 ghost use Rattle.std.specs.Prelude.{◌≡◌, ◌⊎◌, ◌+◌, ◌<◌, ◌^◌, Some, None, IfErr, OnOk, OnErr};
 ghost use Rattle.rep_values.specs.declared.refusal.Refusal.TheVariants as refusal;
 ghost use Rattle.site_state.specs.Errors.{site_execute, execute_refusal, site_drop, drop_refusal};
-ghost use Rattle.site_core.specs.Applying.{refusal_of};
+ghost use Rattle.site_core.specs.Applying.{execute_stop_refusal};
 
 use super::Site;
 use crate::applying::apply_onward;
@@ -15,7 +15,7 @@ use txn_apply::ApplyStop;
 
 /// Why an error isn't executed.
 fn refusal_of(stop: ApplyStop) -> Refusal
-    ensures { result ≡ refusal_of stop }
+    ensures { result ≡ execute_stop_refusal stop }
 {
     match stop {
         ApplyStop::Failed { error, .. } => Refusal::StillFails(error),

@@ -15,7 +15,7 @@ ghost use Rattle.site_core.specs.Working.{EndsHere};
 use super::Site;
 use crate::applying::apply_arrival;
 use journal_steps::{Step, add_error, counted, inbox_from, place_from, reserve_position};
-use rep_calls::Past;
+use rep_calls::PastEntry;
 use rep_lists::{Items, NoMemory};
 use rep_schema::RowStore;
 use rep_values::SiteName;
@@ -30,7 +30,7 @@ impl<R: RowStore> Site<R> {
         &self,
         alloc: Global,
         origin: &SiteName,
-    ) -> Result<Option<Items<Past>>, NoMemory>
+    ) -> Result<Option<Items<PastEntry>>, NoMemory>
         ensures { IfOk result (λ past. past ≡ onward_past origin.now self.now) }
     {
         if !self.here.is_master

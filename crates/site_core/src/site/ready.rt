@@ -9,9 +9,9 @@ ghost use Rattle.site_core.specs.Looking.{NoneReady, Tells, IsNextReady};
 
 use super::Site;
 use crate::looking::{Look, Placed};
-use crate::seen::past_seen;
+use crate::seen::causal_past;
 use journal_steps::{inbox_from, origin_at};
-use rep_calls::Past;
+use rep_calls::PastEntry;
 use rep_lists::{Items, NoMemory};
 use rep_schema::RowStore;
 use rep_values::SiteName;
@@ -75,21 +75,21 @@ impl<R: RowStore> Site<R> {
     }
 
     /// What the site has seen of the masters among its senders, in rising order of names.
-    pub fn past(&self, alloc: Global) -> Result<Items<Past>, NoMemory>
+    pub fn past(&self, alloc: Global) -> Result<Items<PastEntry>, NoMemory>
         ensures { IfOk result (λ past. past ≡ past_of self.now) }
     {
-        past_seen(alloc, self.store.schema(), &self.inboxes)
+        causal_past(alloc, self.store.schema(), &self.inboxes)
     }
 
     /// Whether what was seen of a master is covered here.
-    fn is_covered(&self, seen: &Past) -> bool
+    fn is_covered(&self, seen: &PastEntry) -> bool
         ensures { result ≡ is_covered self.now seen.now }
     {
         seen.origin.0.is_same(&self.here.site.0) || seen.number <= self.covered(&seen.origin)
     }
 
     /// Whether all that was seen is covered here.
-    fn is_past_covered(&self, past: &[Past]) -> bool
+    fn is_past_covered(&self, past: &[PastEntry]) -> bool
         ensures { result ≡ list_all (is_covered self.now) past.now }
     {
         past.iter().all(|seen| self.is_covered(seen))

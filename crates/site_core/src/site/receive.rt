@@ -7,13 +7,13 @@ ghost use Rattle.site_state.specs.State.{sender_of, destination_of};
 ghost use Rattle.site_state.specs.Arrivals.{NamesOthers};
 ghost use Rattle.site_state.specs.Streams.{stream_to};
 ghost use Rattle.site_state.specs.Packets.{is_known_past, is_foreign, site_accept, accept_answer};
-ghost use Rattle.site_core.specs.Keeping.{IsSized};
+ghost use Rattle.site_core.specs.SiteInvariant.{IsSized};
 
 use super::Site;
 use conflict_detect::fits;
 use journal_steps::{inbox_from, place_from};
 use packet_code::Packet;
-use rep_calls::{Past, Txn};
+use rep_calls::{PastEntry, Txn};
 use rep_lists::{Items, NoMemory};
 use rep_schema::RowStore;
 use rep_values::SiteName;
@@ -46,7 +46,7 @@ impl<R: RowStore> Site<R> {
     }
 
     /// Whether a past names this site, or a master among the senders.
-    fn is_known_past(&self, seen: &Past) -> bool
+    fn is_known_past(&self, seen: &PastEntry) -> bool
         ensures { result ≡ is_known_past self.now seen.now }
     {
         seen.origin.0.is_same(&self.here.site.0)
@@ -54,14 +54,14 @@ impl<R: RowStore> Site<R> {
     }
 
     /// Whether each past names this site, or a master among the senders.
-    fn are_known_pasts(&self, past: &[Past]) -> bool
+    fn are_known_pasts(&self, past: &[PastEntry]) -> bool
         ensures { result ≡ list_all (is_known_past self.now) past.now }
     {
         past.iter().all(|seen| self.is_known_past(seen))
     }
 
     /// Whether a transaction isn't for this site, is from no sender, doesn't fit, or has a past of an unknown site.
-    fn is_foreign_carry(&self, from: &SiteName, to: &SiteName, past: &[Past], txn: &Txn) -> bool
+    fn is_foreign_carry(&self, from: &SiteName, to: &SiteName, past: &[PastEntry], txn: &Txn) -> bool
         ensures { (number position dep : ℕ) → result ≡ is_foreign (Carry from.now to.now number position dep past.now txn.now) self.now }
     {
         !to.0.is_same(&self.here.site.0)

@@ -1,6 +1,6 @@
 -- The law of errors.
 use Rattle.convergent_worlds.specs.Convergence.{EachErrorIsExcused}
-use Rattle.convergent_worlds.proofs.Holding.{excused_of}
+use Rattle.convergent_worlds.proofs.ConvergenceHolds.{excused_of}
 use Rattle.convergent_worlds.proofs.Scripts.{in_scripts, in_worlds}
 use Rattle.convergent_worlds.proofs.laws.errors_of_worlds_are_excused.Goals as goal
 

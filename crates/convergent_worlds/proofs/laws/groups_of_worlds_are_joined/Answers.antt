@@ -1,6 +1,6 @@
 -- The law of joins.
 use Rattle.convergent_worlds.specs.Convergence.{EachGroupIsJoined, EachGroupIsJoinedSince}
-use Rattle.convergent_worlds.proofs.Holding.{joined_of, since_of}
+use Rattle.convergent_worlds.proofs.ConvergenceHolds.{joined_of, since_of}
 use Rattle.convergent_worlds.proofs.Scripts.{in_scripts, in_worlds}
 use Rattle.convergent_worlds.proofs.laws.groups_of_worlds_are_joined.Goals as goal
 

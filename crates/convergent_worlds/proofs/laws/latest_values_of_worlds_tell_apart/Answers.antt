@@ -1,6 +1,6 @@
 -- The law of latest values.
 use Rattle.convergent_worlds.specs.Convergence.{EachHasGreatest}
-use Rattle.convergent_worlds.proofs.Holding.{greatest_of}
+use Rattle.convergent_worlds.proofs.ConvergenceHolds.{greatest_of}
 use Rattle.convergent_worlds.proofs.Scripts.{in_scripts, in_worlds}
 use Rattle.convergent_worlds.proofs.laws.latest_values_of_worlds_tell_apart.Goals as goal
 

@@ -1,6 +1,6 @@
 -- The law of agreement.
 use Rattle.convergent_worlds.specs.Convergence.{MastersAgreeWhenQuiet}
-use Rattle.convergent_worlds.proofs.Holding.{agree_of}
+use Rattle.convergent_worlds.proofs.ConvergenceHolds.{agree_of}
 use Rattle.convergent_worlds.proofs.Scripts.{in_scripts, in_worlds}
 use Rattle.convergent_worlds.proofs.laws.quiet_masters_of_worlds_agree.Goals as goal
 

@@ -1,7 +1,7 @@
 use Rattle.std.proofs.Common.{◌&&◌, not, reverse, sym, ap, ◌∙◌, rules}
 use Rattle.std.specs.List.{list_all}
 use Rattle.std.proofs.lemmas.Fn.{filter_same}
-use Rattle.deferred_queue.specs.Kept.{kept_of, has_passed}
+use Rattle.deferred_queue.specs.QueueState.{kept_of, has_passed}
 use Rattle.deferred_queue.specs.Spans.{is_covered}
 use Rattle.deferred_queue.proofs.Numbers.{filter-reverse}
 use Rattle.deferred_queue.proofs.Sweeping.{none_in_span, found_in_span}

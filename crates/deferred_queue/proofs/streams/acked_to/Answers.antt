@@ -1,5 +1,5 @@
 use Rattle.std.proofs.Common.{ap, ◌∙◌}
-use Rattle.deferred_queue.specs.Kept.{acked_found}
+use Rattle.deferred_queue.specs.QueueState.{acked_found}
 use Rattle.deferred_queue.proofs.Found.{acked_found-find}
 use Rattle.deferred_queue.proofs.streams.acked_to.Goals as goal
 

@@ -1,6 +1,6 @@
 use Rattle.std.proofs.Common.{length, sym, ap, ◌∙◌}
 use Rattle.std.proofs.lemmas.Bool.{leb-true, le-leb}
-use Rattle.deferred_queue.specs.Kept.{entries_found}
+use Rattle.deferred_queue.specs.QueueState.{entries_found}
 use Rattle.deferred_queue.proofs.Found.{entries_found-find, destination-find, destination-none}
 use Rattle.deferred_queue.proofs.streams.can_go.Goals as goal
 

@@ -2,7 +2,7 @@
 use Rattle.std.proofs.Common.{drop}
 use Rattle.std.specs.Prelude.{◌↔◌}
 use Rattle.std.specs.List.{AllByRecursion}
-use Rattle.deferred_queue.specs.Kept.{kept_of, CanGo}
+use Rattle.deferred_queue.specs.QueueState.{kept_of, CanGo}
 use Rattle.deferred_queue.proofs.streams.can_go_to_each.Given as goal
 
 abbrev pub invariant-loop-destination : goal.invariant-loop-destination

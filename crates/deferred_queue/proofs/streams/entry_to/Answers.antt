@@ -1,6 +1,6 @@
 use Rattle.std.proofs.Common.{ap, ◌∙◌}
 use Rattle.deferred_queue.specs.Streams.{at_position}
-use Rattle.deferred_queue.specs.Kept.{entries_found}
+use Rattle.deferred_queue.specs.QueueState.{entries_found}
 use Rattle.deferred_queue.proofs.Found.{entries_found-find}
 use Rattle.deferred_queue.proofs.streams.entry_to.Goals as goal
 

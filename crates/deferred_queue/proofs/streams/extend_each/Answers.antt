@@ -1,6 +1,6 @@
 use Rattle.std.proofs.Common.{◌-◌}
 use Rattle.rep_lists.proofs.Each.{each_at}
-use Rattle.deferred_queue.specs.Kept.{FallsFrom, Held, held_extended}
+use Rattle.deferred_queue.specs.QueueState.{FallsFrom, QueueState, held_extended}
 use Rattle.rep_lists.proofs.InPlace.{unchanged_yet, changed_more}
 use Rattle.deferred_queue.proofs.Room.{room_at}
 use Rattle.deferred_queue.proofs.streams.extend_each.Goals as goal
@@ -17,7 +17,7 @@ extend-requires-clause-later c =
     let initial = c.args.streams.now in
     let place = c.loop-stream.stream-index in
     rw (c.loop-stream.invariant, unchanged_yet (held_extended c.args.to.now c.args.number) initial place c.stream-item.result c.loop-stream-test.true)
-    (each_at (λ (h : Held). FallsFrom (c.args.number - 1) h.kept.entries) initial place c.stream-item.result c.loop-stream-test.true c.requires.later)
+    (each_at (λ (h : QueueState). FallsFrom (c.args.number - 1) h.kept.entries) initial place c.stream-item.result c.loop-stream-test.true c.requires.later)
 
 pub loop-stream-preserved : goal.loop-stream-preserved
 loop-stream-preserved c = changed_more (held_extended c.args.to.now c.args.number) c.args.streams.now c.loop-stream.streams c.loop-stream.stream-index c.stream-item.result c.extend.new.self

@@ -1,6 +1,6 @@
 -- The streams up to the place are extended.
 use Rattle.std.proofs.Common.{◌≡◌, ◌++◌, map, take, drop}
-use Rattle.deferred_queue.specs.Kept.{held_extended}
+use Rattle.deferred_queue.specs.QueueState.{held_extended}
 use Rattle.deferred_queue.proofs.streams.extend_each.Given as goal
 
 abbrev pub invariant-loop-stream : goal.invariant-loop-stream

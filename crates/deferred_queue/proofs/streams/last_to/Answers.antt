@@ -1,5 +1,5 @@
 use Rattle.std.proofs.Common.{length, ap, ◌∙◌}
-use Rattle.deferred_queue.specs.Kept.{entries_found}
+use Rattle.deferred_queue.specs.QueueState.{entries_found}
 use Rattle.deferred_queue.proofs.Found.{entries_found-find}
 use Rattle.deferred_queue.proofs.streams.last_to.Goals as goal
 

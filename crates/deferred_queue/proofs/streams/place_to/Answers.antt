@@ -1,5 +1,5 @@
 use Rattle.std.proofs.Common.{ap, ◌∙◌}
-use Rattle.deferred_queue.specs.Kept.{place_in, entries_found}
+use Rattle.deferred_queue.specs.QueueState.{place_in, entries_found}
 use Rattle.deferred_queue.proofs.Found.{entries_found-find}
 use Rattle.deferred_queue.proofs.streams.place_to.Goals as goal
 

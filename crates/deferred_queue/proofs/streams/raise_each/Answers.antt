@@ -1,4 +1,4 @@
-use Rattle.deferred_queue.specs.Kept.{held_raised}
+use Rattle.deferred_queue.specs.QueueState.{held_raised}
 use Rattle.rep_lists.proofs.InPlace.{changed_more}
 use Rattle.deferred_queue.proofs.streams.raise_each.Goals as goal
 

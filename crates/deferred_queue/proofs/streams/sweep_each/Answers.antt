@@ -1,4 +1,4 @@
-use Rattle.deferred_queue.specs.Kept.{held_swept}
+use Rattle.deferred_queue.specs.QueueState.{held_swept}
 use Rattle.rep_lists.proofs.InPlace.{changed_more}
 use Rattle.deferred_queue.proofs.streams.sweep_each.Goals as goal
 

@@ -1,6 +1,6 @@
 -- The streams up to the place are swept.
 use Rattle.std.proofs.Common.{◌≡◌, ◌++◌, map, take, drop}
-use Rattle.deferred_queue.specs.Kept.{held_swept}
+use Rattle.deferred_queue.specs.QueueState.{held_swept}
 use Rattle.deferred_queue.proofs.streams.sweep_each.Given as goal
 
 abbrev pub invariant-loop-stream : goal.invariant-loop-stream

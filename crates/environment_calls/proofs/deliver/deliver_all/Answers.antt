@@ -7,24 +7,24 @@ use Rattle.environment_calls.proofs.deliver.deliver_all.Goals as goal
 pub packets-init : goal.packets-init
 packets-init c = record { left = refl; travels = travel_none _ _ _ _ refl }
 
-pub take-requires : goal.take-requires
-take-requires c = travel_linked _ _ _ _ _ _ c.packets.invariant.travels c.requires
+pub deliver_one-requires : goal.deliver_one-requires
+deliver_one-requires c = travel_linked _ _ _ _ _ _ c.packets.invariant.travels c.requires
 
-pub returns-in_err-take-clause-travels : goal.returns-in_err-take-clause-travels
-returns-in_err-take-clause-travels c = travel_then _ _ _ _ _ c.packets.invariant.travels c.take.ensures.travels
+pub returns-in_err-deliver_one-clause-travels : goal.returns-in_err-deliver_one-clause-travels
+returns-in_err-deliver_one-clause-travels c = travel_then _ _ _ _ _ c.packets.invariant.travels c.deliver_one.ensures.travels
 
 pub returns-then-not-branch-clause-ok : goal.returns-then-not-branch-clause-ok
 returns-then-not-branch-clause-ok c =
-    c.in_ok-take.ensures.ok ∙ calls_deliver-end c.args.from.now c.args.to.now c.packets.procs (sym c.in_ok-take.ensures.some ∙ c.if-not-branch.true) ∙ c.packets.invariant.left
+    c.in_ok-deliver_one.ensures.ok ∙ calls_deliver-end c.args.from.now c.args.to.now c.packets.procs (sym c.in_ok-deliver_one.ensures.some ∙ c.if-not-branch.true) ∙ c.packets.invariant.left
 
 pub returns-then-not-branch-clause-travels : goal.returns-then-not-branch-clause-travels
-returns-then-not-branch-clause-travels c = travel_then _ _ _ _ _ c.packets.invariant.travels c.in_ok-take.ensures.travels
+returns-then-not-branch-clause-travels c = travel_then _ _ _ _ _ c.packets.invariant.travels c.in_ok-deliver_one.ensures.travels
 
 pub packets-smaller : goal.packets-smaller
-packets-smaller c = calls_way-shorter c.args.from.now c.args.to.now c.packets.procs _ c.in_ok-take.ensures.ok (sym c.in_ok-take.ensures.some ∙ c.if-not-branch.false)
+packets-smaller c = calls_way-shorter c.args.from.now c.args.to.now c.packets.procs _ c.in_ok-deliver_one.ensures.ok (sym c.in_ok-deliver_one.ensures.some ∙ c.if-not-branch.false)
 
 pub packets-preserved : goal.packets-preserved
 packets-preserved c = record {
-  left = calls_still-to_deliver c.args.from.now c.args.to.now c.packets.procs _ _ c.in_ok-take.ensures.ok c.packets.invariant.left;
-  travels = travel_then _ _ _ _ _ c.packets.invariant.travels c.in_ok-take.ensures.travels;
+  left = calls_still-to_deliver c.args.from.now c.args.to.now c.packets.procs _ _ c.in_ok-deliver_one.ensures.ok c.packets.invariant.left;
+  travels = travel_then _ _ _ _ _ c.packets.invariant.travels c.in_ok-deliver_one.ensures.travels;
 }

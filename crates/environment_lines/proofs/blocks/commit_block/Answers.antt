@@ -1,9 +1,9 @@
 use Rattle.std.proofs.Common.{inl, inr, sym, ap, ◌∙◌}
 use Rattle.std.proofs.lemmas.Result.{err_from_is_err_and}
-use Rattle.event_laws.specs.Core.{site_of}
+use Rattle.event_laws.specs.Cluster.{site_of}
 use Rattle.site_state.specs.Commits.{block_at, site_commit, commit_answer, commit_answer_by}
 use Rattle.world_state.specs.Blocks.{stop_in, stop_at_site}
-use Rattle.world_state.specs.Answers.{number_at, number_of}
+use Rattle.world_state.specs.Answers.{number_there, answered_number}
 use Rattle.world_laws.proofs.Finding.{at_none}
 use Rattle.environment.proofs.Written.{site_of-read, at_site-written}
 use Rattle.environment_lines.proofs.blocks.commit_block.Goals as goal
@@ -24,8 +24,8 @@ returns-clause-passes c =
 pub returns-clause-number : goal.returns-clause-number
 returns-clause-number c =
     let there = site_of-read _ _ _ _ _ c.deref.ensures.value c.in-Some.ensures c.index_mut.ensures.value in
-    sym (ap (number_at (λ x. number_of (commit_answer c.args.block.now.statements x))) there
-    ∙ ap number_of (ap (λ statements. commit_answer statements c.index_mut.result.now) (sym c.as_slice.ensures) ∙ c.in_ok-number.ensures.number))
+    sym (ap (number_there (λ x. answered_number (commit_answer c.args.block.now.statements x))) there
+    ∙ ap answered_number (ap (λ statements. commit_answer statements c.index_mut.result.now) (sym c.as_slice.ensures) ∙ c.in_ok-number.ensures.number))
 
 pub returns-in_err-number-clause-err : goal.returns-in_err-number-clause-err
 returns-in_err-number-clause-err c =

@@ -5,7 +5,7 @@ use Rattle.rep_schema.specs.declared.schema.Schema.{Schema}
 use Rattle.rep_schema.specs.Named.{table_place}
 use Rattle.site_state.specs.Purges.{site_purge_log, purge_log_answer}
 use Rattle.world_state.specs.World.{WorldState}
-use Rattle.world_state.specs.Answers.{number_at}
+use Rattle.world_state.specs.Answers.{number_there}
 use Rattle.world_state.specs.Steps.{log_purged_at}
 use Rattle.environment.specs.Texts.{log_purged_text}
 use Rattle.environment.proofs.Written.{site_of-world, with_site-written}
@@ -24,6 +24,6 @@ returns c =
       world = with_site-written _ _ _ _ _ _ c.environment.view_is c.deref.ensures.value c.in-Some.ensures c.index_mut.ensures.value (site_purge_log number) c.purge_log-count.new.self c.purge_log-count.ensures.site
           ∙ sym (ap (λ o. log_purged_at c.args.master.now o c.args.environment.now) place);
       text = printed_alone _ _ _ _ c.in-Ok.ensures.bytes c.purge_log_line.ensures.bytes
-          (ap (purge_log_text c.args.master.now.0 c.args.table.now.0) (c.purge_log-count.ensures.count ∙ sym (ap (number_at (purge_log_answer number)) there))
+          (ap (purge_log_text c.args.master.now.0 c.args.table.now.0) (c.purge_log-count.ensures.count ∙ sym (ap (number_there (purge_log_answer number)) there))
           ∙ sym (ap (λ o. log_purged_text c.args.master.now c.args.table.now o c.args.environment.now) place));
     }

@@ -3,7 +3,7 @@ use Rattle.std.proofs.Common.{◌≡◌, ap, sym, ◌∙◌}
 use Rattle.rep_schema.specs.Tables.{rows_of}
 use Rattle.site_state.specs.Notes.{pending_keys}
 use Rattle.event_laws.specs.Rules.{pending_parents}
-use Rattle.environment_lines.proofs.RuledRows.{settled_so}
+use Rattle.environment_lines.proofs.RuledRows.{up_to_date_so}
 use Rattle.environment_lines.proofs.ruled.rows_by_logs.Goals as goal
 
 pub rows_fast-requires-clause-settled : goal.rows_fast-requires-clause-settled
@@ -15,4 +15,4 @@ rows_fast-requires-clause-settled c =
     let parents : c.as_slice-3.result.now ≡ pending_parents logs s = c.as_slice-3.ensures ∙ c.in_ok-parents.ensures in
     let older : c.as_slice.result.now ≡ rows_of c.args.own.now.tables s.table = c.as_slice.ensures ∙ c.in_ok-older.ensures ∙ ap (rows_of c.args.own.now.tables) c.table-table.ensures in
     rw (c.schema.ensures.value, c.of-view.ensures.store, c.table-table.ensures, keys, parents, older)
-    (settled_so c.args.own.now.schema c.args.master.now.tables s c.rule_of-rule.result logs (rows_of c.args.own.now.tables s.table) c.rule_of-rule.ensures c.requires.others)
+    (up_to_date_so c.args.own.now.schema c.args.master.now.tables s c.rule_of-rule.result logs (rows_of c.args.own.now.tables s.table) c.rule_of-rule.ensures c.requires.others)

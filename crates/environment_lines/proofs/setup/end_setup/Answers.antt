@@ -1,6 +1,6 @@
 -- No site has two snapshots of a table, and the tables of procedures have keys.
 use Rattle.std.proofs.Common.{sym, subst}
-use Rattle.site_state.specs.Fits.{AreApart, IsKeyed}
+use Rattle.site_state.specs.Fits.{SnapshotsApart, SchemaIsKeyed}
 use Rattle.proc_state.specs.Calls.{AreProcedures}
 use Rattle.world_state.specs.World.{WorldState}
 use Rattle.world_state.specs.Making.{snapshots_at}
@@ -12,7 +12,7 @@ use Rattle.environment_lines.proofs.DeclaredApart.{declared_apart, declared_so_f
 use Rattle.environment_lines.proofs.setup.end_setup.Goals as goal
 
 pub make_sites-requires-clause-apart : goal.make_sites-requires-clause-apart
-make_sites-requires-clause-apart c = λ site. rw c.as_slice.ensures (subst (λ (w : WorldState). AreApart (snapshots_at w.snapshots site)) (sym c.environment.view_is)
+make_sites-requires-clause-apart c = λ site. rw c.as_slice.ensures (subst (λ (w : WorldState). SnapshotsApart (snapshots_at w.snapshots site)) (sym c.environment.view_is)
     (declared_apart c.args.environment.now c.requires.built.of_convergence c.requires.setup site))
 
 pub make_sites-requires-clause-parents : goal.make_sites-requires-clause-parents
@@ -22,8 +22,8 @@ make_sites-requires-clause-parents c = rw c.as_slice.ensures (subst (λ (w : Wor
 pub end_procs-requires-clause-keyed : goal.end_procs-requires-clause-keyed
 end_procs-requires-clause-keyed c =
     let w = c.args.environment.now in
-    let keyed : IsKeyed (proc_schema w.schema w.procs.tables) = proc_keyed w.schema w.procs c.requires.built.shape c.requires.built.procs.declared (broken_by-None w.procs.tables c.requires.keyed) in
-    rw c.schema-2.ensures.value (subst (λ (v : WorldState). IsKeyed (proc_schema v.schema v.procs.tables)) (sym c.environment.view_is) keyed)
+    let keyed : SchemaIsKeyed (proc_schema w.schema w.procs.tables) = proc_keyed w.schema w.procs c.requires.built.shape c.requires.built.procs.declared (broken_by-None w.procs.tables c.requires.keyed) in
+    rw c.schema-2.ensures.value (subst (λ (v : WorldState). SchemaIsKeyed (proc_schema v.schema v.procs.tables)) (sym c.environment.view_is) keyed)
 
 pub end_procs-requires-clause-procedures : goal.end_procs-requires-clause-procedures
 end_procs-requires-clause-procedures c =

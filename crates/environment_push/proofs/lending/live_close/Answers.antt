@@ -10,7 +10,7 @@ use Rattle.environment_push.proofs.lending.live_close.Goals as goal
 pub returns-in_err-names-clause-part : goal.returns-in_err-names-clause-part
 returns-in_err-names-clause-part c = push_none_in_part (reaching c.args.name.now c.args.environment.now) c.args.name.now c.args.environment.now
 
-pub answer_each-requires : goal.answer_each-requires
-answer_each-requires c =
+pub return_mark_each-requires : goal.return_mark_each-requires
+return_mark_each-requires c =
     subst (λ (names : List SiteName). AreLinkedTo names c.args.name.now c.args.environment.now) (sym (c.as_slice.ensures ∙ c.in_ok-names.ensures))
     (reaching_linked c.args.name.now c.args.environment.now c.requires.built (running_behind c.args.environment.now.phase c.requires.running))

@@ -15,7 +15,7 @@ on_any_err P (Err y) is = is
 pub returns-in_err-names-clause-err : goal.returns-in_err-names-clause-err
 returns-in_err-names-clause-err c = on_any_err _ c.from_residual.result (push_none_in_part (reaching c.args.name.now c.args.environment.now) c.args.name.now c.args.environment.now)
 
-pub bring_each-requires : goal.bring_each-requires
-bring_each-requires c =
+pub send_and_deliver_each-requires : goal.send_and_deliver_each-requires
+send_and_deliver_each-requires c =
     subst (λ (names : List SiteName). AreLinkedTo names c.args.name.now c.args.environment.now) (sym (c.as_slice.ensures ∙ c.in_ok-names.ensures))
     (reaching_linked c.args.name.now c.args.environment.now c.requires.built (lent_behind c.args.name.now c.args.environment.now c.requires.passes))

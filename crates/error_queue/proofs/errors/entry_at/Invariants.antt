@@ -2,7 +2,7 @@
 use Rattle.std.proofs.Common.{◌≡◌, drop}
 use Rattle.std.specs.Prelude.{slice_get}
 use Rattle.error_queue.specs.ErrorLists.{in_order}
-use Rattle.error_queue.specs.Kept.{lists_of}
+use Rattle.error_queue.specs.ErrorQueueState.{lists_of}
 use Rattle.error_queue.proofs.errors.entry_at.Given as goal
 
 abbrev pub invariant-loop-list : goal.invariant-loop-list

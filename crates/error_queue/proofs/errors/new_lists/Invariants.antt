@@ -1,7 +1,7 @@
 -- A list for each origin so far.
 use Rattle.std.proofs.Common.{◌≡◌, take, map}
 use Rattle.error_queue.specs.ErrorLists.{no_errors}
-use Rattle.error_queue.specs.Kept.{lists_of}
+use Rattle.error_queue.specs.ErrorQueueState.{lists_of}
 use Rattle.error_queue.proofs.errors.new_lists.Given as goal
 
 abbrev pub invariant-loop-origin : goal.invariant-loop-origin

@@ -1,12 +1,12 @@
 -- The laws of the order.
-use Rattle.event_laws.proofs.OrderLaws.{are_finished_once, are_settled_once, earlier_comes_first}
+use Rattle.event_laws.proofs.OrderLaws.{are_finished_once, are_cleared_once, earlier_comes_first}
 use Rattle.event_laws.proofs.laws.earlier_comes_first.Goals as goal
 
 pub returns-clause-once : goal.returns-clause-once
 returns-clause-once c = are_finished_once
 
 pub returns-clause-settled : goal.returns-clause-settled
-returns-clause-settled c = are_settled_once
+returns-clause-settled c = are_cleared_once
 
 pub returns-clause-order : goal.returns-clause-order
 returns-clause-order c = earlier_comes_first

@@ -1,5 +1,5 @@
 -- The laws of streams.
-use Rattle.join_laws.proofs.Streams.{streams_meet, arrivals_are_of_streams, meshes_stay}
+use Rattle.join_laws.proofs.Streams.{streams_meet, arrivals_are_of_streams, links_stay}
 use Rattle.join_laws.proofs.laws.streams_meet.Goals as goal
 
 pub returns-clause-meet : goal.returns-clause-meet
@@ -9,4 +9,4 @@ pub returns-clause-arrived : goal.returns-clause-arrived
 returns-clause-arrived c = arrivals_are_of_streams
 
 pub returns-clause-meshed : goal.returns-clause-meshed
-returns-clause-meshed c = meshes_stay
+returns-clause-meshed c = links_stay

@@ -3,9 +3,9 @@ use Rattle.std.proofs.Common.{◌≡◌, ℕ, ◌+◌, ◌≤◌, length, drop}
 use Rattle.std.specs.Prelude.{slice_index, vec_len, vec_capacity}
 use Rattle.rep_schema.specs.Changes.{room_for}
 use Rattle.txn_effects.specs.Laws.{IsApplied}
-use Rattle.rep_schema.specs.Putting.{made_all}
-use Rattle.local_txn.specs.Locals.{behind, statements_effect}
-use Rattle.local_txn.specs.Running.{standing_of}
+use Rattle.rep_schema.specs.Putting.{after_changes}
+use Rattle.local_txn.specs.Locals.{block_effect_behind, statements_effect}
+use Rattle.local_txn.specs.Running.{block_state_of}
 use Rattle.local_txn.proofs.StatementEffects.{effect_with}
 use Rattle.local_txn.proofs.run.run_statements.Given as goal
 
@@ -20,9 +20,9 @@ invariant-loop-i g l =
       stands : l.footing.here ≡ l.fn.footing.here;
       number : vec_len l.done ≤ l.i;
       capacity : length l.statements ≤ vec_capacity l.done;
-      made : now ≡ made_all schema l.done.items before;
+      made : now ≡ after_changes schema l.done.items before;
       applied : IsApplied schema before (effect_with schema l.done.items);
       room : (t : ℕ) → room_for t l.done.items ≤ slice_index (g.R.RowStore.spare l.store) t;
-      outcome : statements_effect schema l.fn.footing.here 1 l.statements (standing_of l.fn.footing before)
-          ≡ behind l.done.items (statements_effect schema l.fn.footing.here (l.i + 1) (drop l.i l.statements) (standing_of l.footing now));
+      outcome : statements_effect schema l.fn.footing.here 1 l.statements (block_state_of l.fn.footing before)
+          ≡ block_effect_behind l.done.items (statements_effect schema l.fn.footing.here (l.i + 1) (drop l.i l.statements) (block_state_of l.footing now));
     }

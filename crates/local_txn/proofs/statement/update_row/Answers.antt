@@ -10,7 +10,7 @@ use Rattle.rep_schema.specs.Changes.{row_like}
 use Rattle.rep_schema.proofs.ValuesAt.{are_same-Decides}
 use Rattle.local_txn.specs.Literals.{values_of}
 use Rattle.local_txn.specs.Statements.{row_at, row_steps}
-use Rattle.local_txn.specs.Running.{AreInOrder, ChangesTo, standing_of}
+use Rattle.local_txn.specs.Running.{AreInOrder, ChangesTo, block_state_of}
 use Rattle.local_txn.specs.ByColumn.{row_by}
 use Rattle.local_txn.proofs.StatementSteps.{update_order, IsKeyLen-key, before_fits, update_refused, IsKindly-made, update_row_refused, RowFits-made, IsUniqueRow-made, row_like-made, RunsAs-updated}
 use Rattle.local_txn.proofs.statement.update_row.Goals as goal
@@ -18,7 +18,7 @@ use Rattle.local_txn.proofs.statement.update_row.Goals as goal
 pub returns-in_err-found-clause-err : goal.returns-in_err-found-clause-err
 returns-in_err-found-clause-err g c =
     let p = err_from_is_err_and c.from_residual.result c.from_residual.ensures.1 in
-    rw (p.1, p.2) (update_order (g.R.RowStore.schema c.args.store.now) c.args.footing.now.here (standing_of c.args.footing.now (g.R.RowStore.tables c.args.store.now)) c.args.table c.args.key.now c.args.sets.now
+    rw (p.1, p.2) (update_order (g.R.RowStore.schema c.args.store.now) c.args.footing.now.here (block_state_of c.args.footing.now (g.R.RowStore.tables c.args.store.now)) c.args.table c.args.key.now c.args.sets.now
     c.in_err-found.field-0.0 (rw c.schema.ensures.value at c.in_err-found.ensures.err))
 
 pub row_of_literals-requires-clause-key : goal.row_of_literals-requires-clause-key

@@ -3,7 +3,7 @@ use mathlib.Core.Bool.{false≢true}
 use Rattle.std.proofs.lemmas.List.{get_or_read, nil_from_length}
 use Rattle.rep_lists.specs.Rising.{find_at, put_at}
 use Rattle.rep_lists.proofs.Rising.{find_there, find_gap, put_gap}
-use Rattle.page_tables.specs.Pages.{joined, IsParted}
+use Rattle.page_tables.specs.Pages.{page_values, IsParted}
 use Rattle.page_tables.proofs.InPages.{find_paged, put_paged, page_parted}
 use Rattle.page_tables.proofs.Close.{page_waits}
 use Rattle.page_tables.proofs.pages.enter_in.Goals as goal
@@ -70,7 +70,7 @@ returns-in-Err-clause-slots g c =
     let for = rw c.deref-2.ensures.value at c.page_for-at.ensures in
     let page = c.slots-slots.ensures.value ∙ get_or_read _ _ _ for.in_range c.index.ensures [] in
     let put = ap (put_at (g.S.Sought.at c.args.sought.now) c.args.slot) (sym page) ∙ (put_gap _ c.args.slot _ _ c.in-Err.ensures.absent ∙ ap (λ t. insert t c.in-Err.place c.args.slot) page) in
-    c.insert_into.ensures.slots ∙ sym (put_paged _ _ _ for c.args.slot ∙ ap (λ t. joined (set c.args.pages.now.items c.page_for-at.result t)) put)
+    c.insert_into.ensures.slots ∙ sym (put_paged _ _ _ for c.args.slot ∙ ap (λ t. page_values (set c.args.pages.now.items c.page_for-at.result t)) put)
 
 pub slot-requires : goal.slot-requires
 slot-requires g c =

@@ -3,10 +3,10 @@ use Rattle.std.specs.Prelude.{ℕ, List, vec_capacity}
 use Rattle.std.specs.List.{AllByRecursion}
 use Rattle.std.proofs.lemmas.List.{get_or_read, get_or-set_same, length-append, length-set}
 use Rattle.std.proofs.lemmas.List.Edits.{length-insert}
-use Rattle.page_tables.specs.Pages.{joined, starts_of}
+use Rattle.page_tables.specs.Pages.{page_values, starts_of}
 use Rattle.page_tables.proofs.Parted.{all_left, all_right}
-use Rattle.page_tables.proofs.InPages.{joined-split_at}
-use Rattle.page_tables.proofs.KeptPages.{length-joined-set, are_inserted, are_split}
+use Rattle.page_tables.proofs.InPages.{page_values-split_at}
+use Rattle.page_tables.proofs.PageSteps.{length-joined-set, are_inserted, are_split}
 use Rattle.page_tables.proofs.InStarts.{length-sums, raise_few, start_few, raised, parted}
 use Rattle.page_tables.proofs.pages.insert_into.Goals as goal
 
@@ -26,9 +26,9 @@ pub returns-in-Some-clause-slots : goal.returns-in-Some-clause-slots
 returns-in-Some-clause-slots c =
     let pages = c.args.pages.now.items in
     let items : c.insert-in-Some.new.self.items ≡ insert (set pages c.args.at c.split_insert.new.self) (c.args.at + 1) c.split_insert.new.behind = search rules in
-    ap joined items
-    ∙ (joined-split_at pages c.args.at _ _ c.requires.at
-    ∙ ap (λ t. joined (set pages c.args.at t)) (c.split_insert.ensures.slots ∙ ap (λ t. insert t c.args.place c.args.slot) (get_or_read _ _ _ c.requires.at c.index_mut-in-Some.ensures.value [])))
+    ap page_values items
+    ∙ (page_values-split_at pages c.args.at _ _ c.requires.at
+    ∙ ap (λ t. page_values (set pages c.args.at t)) (c.split_insert.ensures.slots ∙ ap (λ t. insert t c.args.place c.args.slot) (get_or_read _ _ _ c.requires.at c.index_mut-in-Some.ensures.value [])))
 
 pub returns-in-Some-clause-are : goal.returns-in-Some-clause-are
 returns-in-Some-clause-are c =

@@ -2,7 +2,7 @@
 use Rattle.std.proofs.Common.{◌≡◌, ◌-◌, ◌<◌, ◌≤◌, length, take, drop}
 use Rattle.std.specs.List.{AllByRecursion}
 use Rattle.std.specs.declared.cmp.Ordering.TheVariants.{Less, Greater}
-use Rattle.page_tables.specs.Pages.{joined}
+use Rattle.page_tables.specs.Pages.{page_values}
 use Rattle.page_tables.proofs.pages.page_for.Given as goal
 
 -- the slots of the pages before the part that is left stand before the place, and those of the pages behind it stand behind the place
@@ -10,8 +10,8 @@ abbrev pub invariant-loop-high : goal.invariant-loop-high
 invariant-loop-high g l = record {
   some : l.low < l.high;
   within : l.high ≤ length l.pages;
-  before : AllByRecursion (λ slot. g.S.Sought.at l.sought slot ≡ Less) (joined (take l.low l.pages));
-  behind : AllByRecursion (λ slot. g.S.Sought.at l.sought slot ≡ Greater) (joined (drop l.high l.pages));
+  before : AllByRecursion (λ slot. g.S.Sought.at l.sought slot ≡ Less) (page_values (take l.low l.pages));
+  behind : AllByRecursion (λ slot. g.S.Sought.at l.sought slot ≡ Greater) (page_values (drop l.high l.pages));
 }
 
 abbrev pub decreases-loop-high : goal.decreases-loop-high

@@ -1,7 +1,7 @@
 use Rattle.std.proofs.Common.{◌<◌, ◌≤◌, ap, sym, ◌∙◌, subst, arith}
 use Rattle.std.specs.List.Sorted.{IsNonDecreasingBy, IsPartitionPoint}
 use Rattle.std.specs.Prelude.{slice_get}
-use Rattle.page_tables.specs.Pages.{joined}
+use Rattle.page_tables.specs.Pages.{page_values}
 use Rattle.page_tables.proofs.InStarts.{length-sums, starts_rise, none_started, slot_there}
 use Rattle.page_tables.proofs.pages.slot_at.Goals as goal
 
@@ -16,7 +16,7 @@ pub returns-in-0 : goal.returns-in-0
 returns-in-0 c =
     let point = subst (IsPartitionPoint (λ start. start ≤ c.args.place) (λ start. c.args.place < start) c.args.starts.now) c.in-0.is c.started.ensures.point in
     let behind = subst (λ t. IsPartitionPoint (λ start. start ≤ c.args.place) (λ start. c.args.place < start) t 0) c.requires point in
-    ap (λ pages. slice_get (joined pages) c.args.place) (sym (none_started c.args.pages.now c.args.place behind.1))
+    ap (λ pages. slice_get (page_values pages) c.args.place) (sym (none_started c.args.pages.now c.args.place behind.1))
 
 pub returns-in_default : goal.returns-in_default
 returns-in_default c =

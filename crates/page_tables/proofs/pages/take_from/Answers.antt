@@ -1,8 +1,8 @@
 use Rattle.std.proofs.Common.{◌<◌, [], length, set, remove, refl, sym, ap, ◌∙◌, arith}
 use Rattle.std.proofs.lemmas.List.{get_or_read, get_or-set_same, length-set}
 use Rattle.std.proofs.lemmas.List.Edits.{length-remove}
-use Rattle.page_tables.specs.Pages.{joined}
-use Rattle.page_tables.proofs.KeptPages.{some_left, not_short, are_kept_now, are_dropped, are_joined_next, are_joined_before}
+use Rattle.page_tables.specs.Pages.{page_values}
+use Rattle.page_tables.proofs.PageSteps.{some_left, not_short, are_kept_now, are_dropped, are_joined_next, are_joined_before}
 use Rattle.page_tables.proofs.InStarts.{length-sums, lower_some, lowered}
 use Rattle.page_tables.proofs.pages.take_from.Goals as goal
 
@@ -15,9 +15,9 @@ returns-then-is_empty-clause-slots c =
     let shorter = length-remove _ c.args.place c.requires.place in
     let short = ap length taken in
     let read = sym (get_or-set_same pages c.args.at page [] c.requires.at) ∙ sym (get_or_read _ _ _ within c.index.ensures []) in
-    ap joined c.drop_page.ensures.pages
+    ap page_values c.drop_page.ensures.pages
     ∙ ((are_dropped pages c.args.waiting.now.items _ _ c.requires.are c.args.at c.requires.at page (omega (arith, shorter, short)) c.drop_page.new.waiting.items c.drop_page.ensures.blank (omega (arith, c.drop_page.ensures.one)) (read ∙ c.is_empty.ensures.0 c.if-is_empty.true)).1
-    ∙ ap (λ t. joined (set pages c.args.at t)) taken)
+    ∙ ap (λ t. page_values (set pages c.args.at t)) taken)
 
 pub returns-then-is_empty-clause-are : goal.returns-then-is_empty-clause-are
 returns-then-is_empty-clause-are c =
@@ -45,7 +45,7 @@ returns-then-is_short-clause-slots c =
     let test = rw c.deref.ensures.value at c.is_short.ensures.0 c.if-is_short.true in
     let all = are_joined_next pages c.args.waiting.now.items _ _ c.requires.are c.args.at c.requires.at page (omega (arith, shorter, short)) c.join_pages.new.waiting.items c.join_pages.ensures.blank (omega (arith, c.join_pages.ensures.one))
     (omega (arith, length-set pages c.args.at page, test.0)) (omega (arith, some, left)) test.1 _ refl in
-    ap joined c.join_pages.ensures.pages ∙ (all.1.0 ∙ ap (λ t. joined (set pages c.args.at t)) taken)
+    ap page_values c.join_pages.ensures.pages ∙ (all.1.0 ∙ ap (λ t. page_values (set pages c.args.at t)) taken)
 
 pub returns-then-is_short-clause-are : goal.returns-then-is_short-clause-are
 returns-then-is_short-clause-are c =
@@ -93,7 +93,7 @@ returns-then-is_short_before-clause-slots c =
     let test = rw c.deref-else-is_short.ensures.value at c.is_short_before.ensures.0 c.if-is_short_before.true in
     let all = are_joined_before pages c.args.waiting.now.items _ _ c.requires.are c.args.at c.requires.at page (omega (arith, shorter, short)) c.join_pages-then-is_short_before.new.waiting.items c.join_pages-then-is_short_before.ensures.blank (omega (arith, c.join_pages-then-is_short_before.ensures.one))
     test.0 (omega (arith, some, left)) test.1 _ refl in
-    ap joined c.join_pages-then-is_short_before.ensures.pages ∙ (all.1.0 ∙ ap (λ t. joined (set pages c.args.at t)) taken)
+    ap page_values c.join_pages-then-is_short_before.ensures.pages ∙ (all.1.0 ∙ ap (λ t. page_values (set pages c.args.at t)) taken)
 
 pub returns-then-is_short_before-clause-are : goal.returns-then-is_short_before-clause-are
 returns-then-is_short_before-clause-are c =

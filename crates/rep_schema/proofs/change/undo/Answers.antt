@@ -1,8 +1,8 @@
 use Rattle.std.proofs.Common.{◌≡◌, List, [], ◌∷◌, sym, ap, ◌∙◌, arith}
 use Rattle.std.proofs.lemmas.List.{nil_from_length}
 use Rattle.rep_schema.specs.declared.change.Change.{Change}
-use Rattle.rep_schema.specs.Changes.{unmade}
-use Rattle.rep_schema.proofs.TakingBack.{unmade_all, HaveLed-last, HaveLed-others, unmade_all-last, unmade_all-led}
+use Rattle.rep_schema.specs.Changes.{before_change}
+use Rattle.rep_schema.proofs.TakingBack.{before_changes, HaveLed-last, HaveLed-others, before_changes-last, before_changes-led}
 use Rattle.rep_schema.proofs.Leading.{room_for-append}
 use Rattle.rep_schema.proofs.change.undo.Goals as goal
 
@@ -24,11 +24,11 @@ loop-change-preserved g c =
     let now = g.R.RowStore.tables c.loop-change.store in
     let rest = c.pop.new.self.items in
     let led = rw c.in-Some.ensures.items at c.loop-change.invariant.led in
-    let back : g.R.RowStore.tables c.undo_one.new.store ≡ unmade schema c.in-Some.change now = c.undo_one.ensures.tables ∙ rw c.loop-change.invariant.same in
+    let back : g.R.RowStore.tables c.undo_one.new.store ≡ before_change schema c.in-Some.change now = c.undo_one.ensures.tables ∙ rw c.loop-change.invariant.same in
     record {
       same = c.undo_one.ensures.schema ∙ c.loop-change.invariant.same;
       led = rw back (HaveLed-others schema rest c.in-Some.change now led);
-      undone = ap (unmade_all schema rest) back ∙ sym (unmade_all-last schema rest c.in-Some.change now) ∙ ap (λ changes. unmade_all schema changes now) (sym {A = List Change} c.in-Some.ensures.items) ∙ c.loop-change.invariant.undone;
+      undone = ap (before_changes schema rest) back ∙ sym (before_changes-last schema rest c.in-Some.change now) ∙ ap (λ changes. before_changes schema changes now) (sym {A = List Change} c.in-Some.ensures.items) ∙ c.loop-change.invariant.undone;
       room = λ t below.
           let room = rw (c.in-Some.ensures.items, room_for-append t rest (c.in-Some.change ∷ [])) at (c.loop-change.invariant.room t below) in
           omega (arith, room, c.undo_one.ensures.room t);
@@ -42,7 +42,7 @@ pub returns-clause-earlier : goal.returns-clause-earlier
 returns-clause-earlier g c = λ earlier are lead.
     let none : c.loop-change.left.items ≡ [] = nil_from_length _ (omega (arith, c.loop-change.left.ok, c.in_default.ensures.cases)) in
     let all = rw none at c.loop-change.invariant.undone in
-    all ∙ unmade_all-led _ _ earlier _ are lead
+    all ∙ before_changes-led _ _ earlier _ are lead
 
 pub returns-clause-room : goal.returns-clause-room
 returns-clause-room g c = λ t.

@@ -1,7 +1,7 @@
 use Rattle.std.proofs.Common.{arith, ◌≡◌, ◌≤◌, ◌+◌, ◌++◌, ℕ, List, [], length, take, sym, ap, ◌∙◌, subst, refl, length-append, is_err, true, false}
 use Rattle.std.proofs.lemmas.List.{length-take-le}
 use Rattle.std.proofs.KnownBytes.{Consumes-nil, Consumes-trans}
-use Rattle.rep_lines.specs.Fed.{beginning}
+use Rattle.rep_lines.specs.Fed.{run_beginning}
 use Rattle.script_drive.specs.Halts.{progress}
 use Rattle.script_drive.specs.Outcome.{RanBy}
 use Rattle.script_drive.specs.Prompt.{Asked}
@@ -14,7 +14,7 @@ loop-init g c =
     let taken = g.K.Sink.taken c.args.sink.now in
     let reads = g.R.Reader.reads c.args.reader.now in
     let start = c.args.run.now.state in
-    let further : progress (beginning start) ≡ progress c.args.run.now = ap progress (sym c.requires.fresh) in record {
+    let further : progress (run_beginning start) ≡ progress c.args.run.now = ap progress (sym c.requires.fresh) in record {
       so_far = (
         [],
         Consumes-nil left,

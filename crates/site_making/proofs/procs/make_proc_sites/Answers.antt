@@ -6,14 +6,14 @@ use Rattle.rep_schema.specs.declared.schema.Schema.{Schema}
 use Rattle.rep_schema.specs.declared.schema.SiteEntry.{SiteEntry}
 use Rattle.rep_schema.specs.Shape.{AreDistinct, is_early_master}
 use Rattle.rep_schema.specs.Sites.{names_of}
-use Rattle.site_state.specs.Fits.{IsKeyed}
+use Rattle.site_state.specs.Fits.{SchemaIsKeyed}
 use Rattle.proc_state.specs.Calls.{AreProcedures}
 use Rattle.world_state.specs.Procs.{proc_schema, early_masters, proc_made}
 use Rattle.site_making.proofs.EarlyMasters.{filtered_distinct}
 use Rattle.site_making.proofs.procs.make_proc_sites.Goals as goal
 
 pub procs_made-requires-clause-keyed : goal.procs_made-requires-clause-keyed
-procs_made-requires-clause-keyed c = subst IsKeyed (sym c.in_ok-own.ensures) c.requires.keyed
+procs_made-requires-clause-keyed c = subst SchemaIsKeyed (sym c.in_ok-own.ensures) c.requires.keyed
 
 pub procs_made-requires-clause-procedures : goal.procs_made-requires-clause-procedures
 procs_made-requires-clause-procedures c = subst (λ (s : Schema). AreProcedures s c.args.procedures.now) (sym c.in_ok-own.ensures) c.requires.procedures

@@ -4,7 +4,7 @@ use Rattle.rep_values.specs.declared.name.SiteName.{SiteName}
 use Rattle.rep_schema.specs.declared.schema.Schema.{Schema}
 use Rattle.rep_schema.specs.Shape.{AreDistinct}
 use Rattle.event_laws.specs.Events.{without}
-use Rattle.site_state.specs.Fits.{IsKeyed}
+use Rattle.site_state.specs.Fits.{SchemaIsKeyed}
 use Rattle.proc_state.specs.declared.procedure.Procedure.{Procedure}
 use Rattle.proc_state.specs.Calls.{AreProcedures}
 use Rattle.proc_state.specs.State.{new_proc}
@@ -12,7 +12,7 @@ use Rattle.site_making.proofs.EarlyMasters.{without_distinct}
 use Rattle.site_making.proofs.procs.proc_made.Goals as goal
 
 pub make-requires-clause-keyed : goal.make-requires-clause-keyed
-make-requires-clause-keyed c = subst IsKeyed (sym c.in_ok-own.ensures) c.requires.keyed
+make-requires-clause-keyed c = subst SchemaIsKeyed (sym c.in_ok-own.ensures) c.requires.keyed
 
 pub make-requires-clause-procedures : goal.make-requires-clause-procedures
 make-requires-clause-procedures c =

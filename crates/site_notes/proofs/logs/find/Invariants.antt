@@ -1,7 +1,7 @@
 -- The log is among those that are left.
 use Rattle.std.proofs.Common.{◌≡◌, drop}
 use Rattle.site_state.specs.Notes.{log_of}
-use Rattle.site_notes.specs.Kept.{logs_in}
+use Rattle.site_notes.specs.RoomyNotes.{logs_in}
 use Rattle.site_notes.proofs.logs.find.Given as goal
 
 abbrev pub invariant-loop-log : goal.invariant-loop-log

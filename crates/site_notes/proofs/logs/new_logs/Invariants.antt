@@ -1,7 +1,7 @@
 -- A log for each table so far.
 use Rattle.std.proofs.Common.{◌≡◌, take, map}
 use Rattle.site_state.specs.Making.{new_log}
-use Rattle.site_notes.specs.Kept.{logs_in}
+use Rattle.site_notes.specs.RoomyNotes.{logs_in}
 use Rattle.site_notes.proofs.logs.new_logs.Given as goal
 
 abbrev pub invariant-loop-table : goal.invariant-loop-table

@@ -2,7 +2,7 @@ use Rattle.std.proofs.Common.{◌∙◌, length, arith}
 use Rattle.std.proofs.lemmas.List.{length-set}
 use Rattle.site_state.specs.Notes.{logged_in}
 use Rattle.snapshot_log.specs.Logs.{RoomyLog}
-use Rattle.site_notes.specs.Kept.{log_in, log_spares}
+use Rattle.site_notes.specs.RoomyNotes.{log_in, log_spares}
 use Rattle.site_notes.proofs.Parts.{part_changes}
 use Rattle.site_notes.proofs.Room.{room_used, room_yet, raised-all}
 use Rattle.site_notes.proofs.logs.note_each.Goals as goal

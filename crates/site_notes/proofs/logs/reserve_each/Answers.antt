@@ -1,7 +1,7 @@
 use Rattle.std.proofs.Common.{◌≡◌, true, false, ◌∙◌, arith}
 use Rattle.std.proofs.lemmas.List.{length-set}
 use Rattle.snapshot_log.specs.Logs.{RoomyLog}
-use Rattle.site_notes.specs.Kept.{log_in}
+use Rattle.site_notes.specs.RoomyNotes.{log_in}
 use Rattle.site_notes.proofs.Parts.{part_stays}
 use Rattle.site_notes.proofs.Room.{room_kept, room_taken, room_within}
 use Rattle.site_notes.proofs.logs.reserve_each.Goals as goal

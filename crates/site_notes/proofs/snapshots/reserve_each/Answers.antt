@@ -1,6 +1,6 @@
 use Rattle.std.proofs.Common.{◌≡◌, true, false, ◌∙◌, arith}
 use Rattle.std.proofs.lemmas.List.{length-set}
-use Rattle.site_notes.specs.Kept.{RoomySnapshot, snapshot_in}
+use Rattle.site_notes.specs.RoomyNotes.{RoomySnapshot, snapshot_in}
 use Rattle.site_notes.proofs.Parts.{part_stays}
 use Rattle.site_notes.proofs.Room.{room_kept, room_taken, room_within}
 use Rattle.site_notes.proofs.snapshots.reserve_each.Goals as goal

@@ -1,6 +1,6 @@
 -- The snapshots so far.
 use Rattle.std.proofs.Common.{◌≡◌}
-use Rattle.site_notes.specs.Kept.{snapshots_in}
+use Rattle.site_notes.specs.RoomyNotes.{snapshots_in}
 use Rattle.site_notes.proofs.snapshots.watch_each.Given as goal
 
 abbrev pub invariant-loop-snapshot : goal.invariant-loop-snapshot

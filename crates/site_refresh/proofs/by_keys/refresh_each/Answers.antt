@@ -10,7 +10,7 @@ use Rattle.snapshot_query.specs.declared.snapshot.Snapshot.{Snapshot}
 use Rattle.snapshot_query.specs.Queries.{query_rows}
 use Rattle.site_state.specs.Notes.{pending_keys}
 use Rattle.site_state.specs.Refreshes.{rows_shown, with_tables}
-use Rattle.site_notes.specs.Kept.{snapshot_in}
+use Rattle.site_notes.specs.RoomyNotes.{snapshot_in}
 use Rattle.site_refresh.specs.Done.{all_changes}
 use Rattle.site_refresh.proofs.OneMore.{HaveDone-err, HaveDone-ok}
 use Rattle.site_refresh.proofs.Left.{none_changed, SnapshotsLeft-next, pending_count-cons, row_count-cons}

@@ -6,7 +6,7 @@ use Rattle.std.proofs.lemmas.Grind.{flat_map-append}
 use Rattle.rep_lists.proofs.Places.{drop_from_place}
 use Rattle.error_queue.specs.declared.entry.ErrorEntry.{ErrorEntry}
 use Rattle.error_queue.specs.ErrorLists.{in_order}
-use Rattle.error_queue.specs.Kept.{lists_of}
+use Rattle.error_queue.specs.ErrorQueueState.{lists_of}
 use Rattle.site_rounds.specs.NewErrors.{text_where_new, StandsBy}
 use Rattle.site_rounds.proofs.Newest.{new_texts}
 use Rattle.site_rounds.proofs.ErrorTexts.{all_stand, all_front, all_rest}

@@ -3,7 +3,7 @@ use Rattle.std.proofs.Common.{◌≡◌, ◌++◌, take, drop}
 use Rattle.std.specs.Prelude.{flat_map}
 use Rattle.std.specs.List.{AllByRecursion}
 use Rattle.error_queue.specs.ErrorLists.{in_order}
-use Rattle.error_queue.specs.Kept.{lists_of}
+use Rattle.error_queue.specs.ErrorQueueState.{lists_of}
 use Rattle.report_text.specs.Sheet.{StandBefore}
 use Rattle.site_state.specs.Errors.{errors_of}
 use Rattle.site_rounds.specs.NewErrors.{text_where_new, StandsBy}

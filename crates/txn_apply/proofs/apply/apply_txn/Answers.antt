@@ -6,7 +6,7 @@ use Rattle.rep_lists.proofs.Places.{drop_from_place}
 use Rattle.conflict_detect.specs.Fits.{CallFits}
 use Rattle.unique_resolve.specs.Numbers.{has_sequences}
 use Rattle.txn_effects.specs.Calls.{Effect, call_effect}
-use Rattle.rep_schema.specs.Putting.{made_all, changes_of}
+use Rattle.rep_schema.specs.Putting.{after_changes, changes_of}
 use Rattle.txn_effects.proofs.TransactionEffects.{so_far-Ok}
 use Rattle.txn_apply.proofs.Stepping.{room_for-more, IsApplied-more, made_all-more}
 use Rattle.txn_apply.proofs.apply.apply_txn.Goals as goal
@@ -23,7 +23,7 @@ loop-i-preserved g c =
     let one : Effect = record { changes = changes; numbers = c.apply_in_room.new.counters } in
     let fit : AllByRecursion (CallFits schema) calls = rw c.as_slice-calls.ensures c.requires.fits.calls in
     let gives : call_effect schema now c.loop-i.counters c.args.origin.now call ≡ Ok one = rw c.loop-i.invariant.same at c.in-Ok-apply_in_room.ensures.ok in
-    let tables : g.R.RowStore.tables c.apply_in_room.new.store ≡ made_all schema changes now = rw c.loop-i.invariant.same at c.in-Ok-apply_in_room.ensures.tables in
+    let tables : g.R.RowStore.tables c.apply_in_room.new.store ≡ after_changes schema changes now = rw c.loop-i.invariant.same at c.in-Ok-apply_in_room.ensures.tables in
     let few : length (done ++ changes) ≤ length calls =
     rw (← c.push_change.ensures.items) (omega (arith, c.push_change.new.done.ok, c.push_change.ensures.number, c.loop-i.invariant.number, c.loop-i-test.true)) in
     let here : drop c.loop-i.i calls ≡ call ∷ drop (c.loop-i.i + 1) calls = drop_from_place calls c.loop-i.i call c.loop-i-test.true c.index-calls-i.is in

@@ -5,7 +5,7 @@ use Rattle.std.proofs.lemmas.Iterator.Adapters.{YieldsList-from_vec}
 use Rattle.std.proofs.lemmas.Iterator.Consumers.{YieldsList-turn}
 use Rattle.rep_lists.proofs.Places.{drop_from_place}
 use Rattle.rep_schema.specs.declared.change.Change.{Change}
-use Rattle.rep_schema.specs.Changes.{made}
+use Rattle.rep_schema.specs.Changes.{after_change}
 use Rattle.txn_work.proofs.Room.{changes_in-own, changes_in-first, room_for-first, room_for-drop}
 use Rattle.txn_work.proofs.making.make_changes.Goals as goal
 
@@ -28,7 +28,7 @@ loop-change-preserved g c =
     let here = rw c.into_vec-change-items.ensures at (drop_from_place c.into_vec-change-items.result.items (length c.loop-change.yielded) c.in-Some.change turn.0 turn.1) in
     let rest : List Change = drop (length c.loop-change.yielded + 1) c.args.changes.rows in
     let number = length_push c.loop-change.yielded c.in-Some.change in
-    let next : g.R.RowStore.tables c.make_change.new.store ≡ made (g.R.RowStore.schema c.args.store.now) c.in-Some.change (g.R.RowStore.tables c.loop-change.store) =
+    let next : g.R.RowStore.tables c.make_change.new.store ≡ after_change (g.R.RowStore.schema c.args.store.now) c.in-Some.change (g.R.RowStore.tables c.loop-change.store) =
     c.make_change.ensures.tables ∙ rw c.loop-change.invariant.same in
     let lead = rw here at c.loop-change.invariant.lead in
     let made_so = rw here at c.loop-change.invariant.made in

@@ -2,7 +2,7 @@
 use Rattle.std.proofs.Common.{◌≡◌, ℕ, ◌+◌, ◌≤◌, length, drop}
 use Rattle.std.specs.Prelude.{slice_index}
 use Rattle.rep_schema.specs.Changes.{LeadsTo, room_for}
-use Rattle.rep_schema.specs.Putting.{made_all}
+use Rattle.rep_schema.specs.Putting.{after_changes}
 use Rattle.txn_work.specs.Making.{changes_in}
 use Rattle.txn_work.proofs.making.make_changes.Given as goal
 
@@ -16,7 +16,7 @@ invariant-loop-change g l =
     let left = drop (length l.yielded) l.fn.changes.rows in
     record {
       same : g.R.RowStore.schema l.store ≡ schema;
-      lead : LeadsTo schema left now (made_all schema left now);
-      made : made_all schema left now ≡ made_all schema all (g.R.RowStore.tables l.fn.store);
+      lead : LeadsTo schema left now (after_changes schema left now);
+      made : after_changes schema left now ≡ after_changes schema all (g.R.RowStore.tables l.fn.store);
       room : (t : ℕ) → changes_in t left + room_for t all ≤ slice_index (g.R.RowStore.spare l.store) t + room_for t left;
     }

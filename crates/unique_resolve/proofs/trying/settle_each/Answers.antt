@@ -4,7 +4,7 @@ use Rattle.std.specs.Prelude.{option_copied}
 use Rattle.rep_lists.proofs.Places.{found_at}
 use Rattle.rep_schema.specs.Tables.{columns_of, constraints_of, rows_of}
 use Rattle.unique_resolve.specs.declared.settled.Settled.TheVariants.{Fits, Dropped, Conflict}
-use Rattle.unique_resolve.specs.Settling.{Outcome, TableOutcome, settled_each}
+use Rattle.unique_resolve.specs.Settling.{ConstraintOutcome, TableOutcome, settled_each}
 use Rattle.unique_resolve.proofs.Settlements.{RowFits-settled_one, key_of-settled_one}
 use Rattle.unique_resolve.proofs.Tries.{HasBefore-like}
 use Rattle.unique_resolve.proofs.EachConstraint.{each-fits, each-dropped, each-conflict}
@@ -57,7 +57,7 @@ loop-place-preserved g c =
     let here : c.loop-place.place < length (constraints_of schema c.args.table) = omega (arith, c.loop-place-test.true, count) in
     let found = found_at (constraints_of schema c.args.table) c.loop-place.place here in
     let ruling = c.in-Fits.ensures.ruling found.0 found.1 in
-    let fit = ap (λ (outcome : Outcome). outcome.settled) ruling in
+    let fit = ap (λ (outcome : ConstraintOutcome). outcome.settled) ruling in
     record {
       fits = RowFits-settled_one (columns_of schema c.args.table) found.0 (rows_of tables c.args.table) c.args.origin.now c.loop-place.row c.loop-place.invariant.fits (get_or c.loop-place.numbers c.loop-place.place 0) c.settle_one.new.row fit;
       before = HasBefore-like schema tables c.args.table (option_copied c.args.before) c.loop-place.row c.settle_one.new.row

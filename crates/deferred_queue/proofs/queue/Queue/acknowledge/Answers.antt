@@ -1,8 +1,8 @@
 use Rattle.std.proofs.Common.{◌≡◌, ◌++◌, length, reverse, map, take, drop, sym, ap, ◌∙◌, refl}
 use Rattle.std.proofs.lemmas.List.{length-map}
-use Rattle.deferred_queue.specs.Kept.{kept_of, cargoes_to, raised, held_raised}
+use Rattle.deferred_queue.specs.QueueState.{kept_of, queued_txns_to, stream_raised, held_raised}
 use Rattle.rep_lists.proofs.InPlace.{written_back}
-use Rattle.deferred_queue.proofs.KeptCargoes.{stream_to-kept}
+use Rattle.deferred_queue.proofs.QueuedTxns.{stream_to-kept}
 use Rattle.deferred_queue.proofs.Raising.{kept_of-held_raised, rooms_of-held_raised, queued-raised, marks_of-raised, AreStreams-raised}
 use Rattle.deferred_queue.proofs.Sweeping.{swept_of-held_raised}
 use Rattle.deferred_queue.proofs.queue.Queue.acknowledge.Goals as goal
@@ -16,7 +16,7 @@ all c =
     rw is (written_back (map (held_raised c.args.to.now c.args.mark) items) _ c.self.inside.streams.len (length-map items (held_raised c.args.to.now c.args.mark) ∙ sym c.self.inside.streams.ok.0))
 
 kept : (c : goal.After-self-1) → kept_of (take c.self.inside.streams.len (c.raise_each.new.streams ++ drop (length c.raise_each.new.streams) c.self.inside.streams.items))
-    ≡ map (raised c.args.to.now c.args.mark) (kept_of c.self.inside.streams.items)
+    ≡ map (stream_raised c.args.to.now c.args.mark) (kept_of c.self.inside.streams.items)
 kept c = ap kept_of (all c) ∙ kept_of-held_raised c.args.to.now c.args.mark c.self.inside.streams.items
 
 pub invariant_of-self : goal.invariant_of-self
@@ -28,7 +28,7 @@ invariant_of-self c =
     record { streams_are = rw (kept c) (AreStreams-raised c.args.to.now c.args.mark c.self.inside.count streams within c.self.invariant.streams_are); falling = c.self.invariant.falling; swept = rw (all c, swept_of-held_raised c.args.to.now c.args.mark c.self.inside.streams.items) c.self.invariant.swept }
 
 pub returns-clause-deferred : goal.returns-clause-deferred
-returns-clause-deferred c = rw (kept c, ← c.self.view_is) (queued-raised c.args.to.now c.args.mark (kept_of c.self.inside.streams.items) (cargoes_to c.self.inside.count (reverse c.self.inside.cargoes.items)))
+returns-clause-deferred c = rw (kept c, ← c.self.view_is) (queued-raised c.args.to.now c.args.mark (kept_of c.self.inside.streams.items) (queued_txns_to c.self.inside.count (reverse c.self.inside.cargoes.items)))
 
 pub returns-clause-marks : goal.returns-clause-marks
 returns-clause-marks c = rw (kept c, ← c.self.view_is) (marks_of-raised c.args.to.now c.args.mark (kept_of c.self.inside.streams.items))

@@ -1,7 +1,7 @@
 use Rattle.std.proofs.Common.{reverse}
 use Rattle.rep_lists.proofs.Each.{each_then}
-use Rattle.deferred_queue.specs.Kept.{kept_of, CanGo}
-use Rattle.deferred_queue.proofs.KeptCargoes.{stream_to-kept}
+use Rattle.deferred_queue.specs.QueueState.{kept_of, CanGo}
+use Rattle.deferred_queue.proofs.QueuedTxns.{stream_to-kept}
 use Rattle.deferred_queue.proofs.queue.Queue.can_send.Goals as goal
 
 pub returns : goal.returns

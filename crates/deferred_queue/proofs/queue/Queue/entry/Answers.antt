@@ -1,11 +1,11 @@
 use Rattle.std.proofs.Common.{◌≡◌, Some, None, reverse, sym, ap}
 use Rattle.std.specs.Option.{option_map}
-use Rattle.deferred_queue.specs.declared.cargo.Cargo.{Cargo}
+use Rattle.deferred_queue.specs.declared.queued_txn.QueuedTxn.{QueuedTxn}
 use Rattle.deferred_queue.specs.declared.entries.Entry.{Entry}
 use Rattle.deferred_queue.specs.Streams.{unpurged}
-use Rattle.deferred_queue.specs.Kept.{kept_of, cargo_of}
-use Rattle.deferred_queue.proofs.KeptStreams.{earlier_at}
-use Rattle.deferred_queue.proofs.KeptCargoes.{nothing_at, something_at}
+use Rattle.deferred_queue.specs.QueueState.{kept_of, queued_txn_of}
+use Rattle.deferred_queue.proofs.QueueStreams.{earlier_at}
+use Rattle.deferred_queue.proofs.QueuedTxns.{nothing_at, something_at}
 use Rattle.deferred_queue.proofs.queue.Queue.entry.Goals as goal
 
 pub entry_with-requires : goal.entry_with-requires
@@ -22,7 +22,7 @@ returns-in_err-kept-clause-sent c =
     let kept = reverse c.self.inside.cargoes.items in
     let entry = c.in_ok-entry.entry.now in
     let found = rw c.deref.ensures.value at c.in_ok-entry.ensures in
-    let gone : cargo_of entry.number kept ≡ None = ap (option_map (λ (e : Entry Cargo). e.value)) (sym (rw c.deref-2.ensures.value at c.in_err-kept.ensures)) in
+    let gone : queued_txn_of entry.number kept ≡ None = ap (option_map (λ (e : Entry QueuedTxn). e.value)) (sym (rw c.deref-2.ensures.value at c.in_err-kept.ensures)) in
     let there = something_at c.args.to.now c.self.inside.count c.args.position (kept_of c.self.inside.streams.items) kept entry c.self.invariant.streams_are (sym found) in
     rw (c.from_residual-in_err-kept.ensures, ← c.self.view_is) (sym (ap unpurged (rw gone at there)))
 
@@ -31,7 +31,7 @@ returns-clause-sent c =
     let kept = reverse c.self.inside.cargoes.items in
     let entry = c.in_ok-entry.entry.now in
     let found = rw c.deref.ensures.value at c.in_ok-entry.ensures in
-    let held : cargo_of entry.number kept ≡ Some c.in_ok-kept.kept.now.value = ap (option_map (λ (e : Entry Cargo). e.value)) (sym (rw c.deref-2.ensures.value at c.in_ok-kept.ensures)) in
+    let held : queued_txn_of entry.number kept ≡ Some c.in_ok-kept.kept.now.value = ap (option_map (λ (e : Entry QueuedTxn). e.value)) (sym (rw c.deref-2.ensures.value at c.in_ok-kept.ensures)) in
     let there = something_at c.args.to.now c.self.inside.count c.args.position (kept_of c.self.inside.streams.items) kept entry c.self.invariant.streams_are (sym found) in
     rw (c.past.ensures, c.txn.ensures, ← c.self.view_is) (sym (ap unpurged (rw held at there)))
 

@@ -1,7 +1,7 @@
 use Rattle.std.proofs.Common.{ap}
 use Rattle.std.specs.Option.{option_map}
-use Rattle.deferred_queue.specs.Kept.{kept_of}
-use Rattle.deferred_queue.proofs.KeptCargoes.{as_numbered, at_position-in_order}
+use Rattle.deferred_queue.specs.QueueState.{kept_of}
+use Rattle.deferred_queue.proofs.QueuedTxns.{as_numbered, at_position-in_order}
 use Rattle.deferred_queue.proofs.queue.Queue.entry_in_order.Goals as goal
 
 pub returns-in_err-entry : goal.returns-in_err-entry

@@ -1,6 +1,6 @@
 use Rattle.std.proofs.Common.{reverse, sym, ◌∙◌}
-use Rattle.deferred_queue.specs.Kept.{kept_of}
-use Rattle.deferred_queue.proofs.KeptCargoes.{stream_to-kept}
+use Rattle.deferred_queue.specs.QueueState.{kept_of}
+use Rattle.deferred_queue.proofs.QueuedTxns.{stream_to-kept}
 use Rattle.deferred_queue.proofs.queue.Queue.last.Goals as goal
 
 pub returns : goal.returns

@@ -3,9 +3,9 @@ use Rattle.std.specs.Prelude.{vec_len, vec_capacity}
 use Rattle.std.specs.List.{filter}
 use Rattle.std.proofs.lemmas.List.{length-map, length-reverse}
 use Rattle.rep_lists.proofs.InPlace.{written_back}
-use Rattle.deferred_queue.specs.Kept.{FallsFrom, kept_of, rooms_of, held_swept, is_waiting}
+use Rattle.deferred_queue.specs.QueueState.{FallsFrom, kept_of, rooms_of, held_swept, is_unpassed}
 use Rattle.deferred_queue.proofs.Numbers.{FallsFrom-filter}
-use Rattle.deferred_queue.proofs.KeptCargoes.{as_numbered, numbered-queued}
+use Rattle.deferred_queue.proofs.QueuedTxns.{as_numbered, numbered-queued}
 use Rattle.deferred_queue.proofs.Purging.{queued-purged}
 use Rattle.deferred_queue.proofs.Room.{least-more}
 use Rattle.deferred_queue.proofs.Sweeping.{kept_of-held_swept, rooms_of-held_swept, swept_of-held_swept, kept_in_span, IsSwept-filtered}
@@ -17,7 +17,7 @@ let_go-requires c =
     rw c.deref-2.ensures.value (kept_in_span c.self.inside.count c.self.inside.swept c.self.inside.count c.self.inside.streams.items (reverse c.self.inside.cargoes.items) c.passed_since-span.result (omega arith) c.self.invariant.falling c.self.invariant.swept covers)
 
 -- what isn't acknowledged by all stays
-stays : (c : goal.After-len) → reverse c.let_go.new.cargoes.items ≡ filter (λ e. is_waiting (kept_of c.self.inside.streams.items) e.number) (reverse c.self.inside.cargoes.items)
+stays : (c : goal.After-len) → reverse c.let_go.new.cargoes.items ≡ filter (λ e. is_unpassed (kept_of c.self.inside.streams.items) e.number) (reverse c.self.inside.cargoes.items)
 stays c = rw c.deref-2.ensures.value at c.let_go.ensures.items
 
 -- the streams of the queue are the swept ones
@@ -32,7 +32,7 @@ kept : (c : goal.After-len) → kept_of (take c.self.inside.streams.len (c.sweep
 kept c = ap kept_of (all c) ∙ kept_of-held_swept c.self.inside.streams.items
 
 falls : (c : goal.After-len) → FallsFrom c.self.inside.count (reverse c.let_go.new.cargoes.items)
-falls c = rw (stays c) (FallsFrom-filter (λ e. is_waiting (kept_of c.self.inside.streams.items) e.number) c.self.inside.count (reverse c.self.inside.cargoes.items) c.self.invariant.falling)
+falls c = rw (stays c) (FallsFrom-filter (λ e. is_unpassed (kept_of c.self.inside.streams.items) e.number) c.self.inside.count (reverse c.self.inside.cargoes.items) c.self.invariant.falling)
 
 pub invariant_of-self : goal.invariant_of-self
 invariant_of-self c = record {

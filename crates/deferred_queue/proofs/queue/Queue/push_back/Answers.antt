@@ -3,12 +3,12 @@ use Rattle.std.specs.Prelude.{vec_len, vec_capacity}
 use Rattle.std.specs.List.{AllByRecursion}
 use Rattle.std.proofs.lemmas.List.{length-map, reverse-append}
 use Rattle.rep_lists.proofs.Each.{each_then}
-use Rattle.deferred_queue.specs.declared.cargo.Cargo.{Cargo}
+use Rattle.deferred_queue.specs.declared.queued_txn.QueuedTxn.{QueuedTxn}
 use Rattle.deferred_queue.specs.declared.destination.Destination.{Destination}
-use Rattle.deferred_queue.specs.Kept.{kept_of, rooms_of, cargoes_to, entries_to, extended, held_extended}
+use Rattle.deferred_queue.specs.QueueState.{kept_of, rooms_of, queued_txns_to, entries_to, extended, held_extended}
 use Rattle.rep_lists.proofs.InPlace.{written_back}
-use Rattle.deferred_queue.proofs.KeptStreams.{length-queued}
-use Rattle.deferred_queue.proofs.KeptCargoes.{length-cargoes_to, cargoes_to-pushed, stream_to-kept}
+use Rattle.deferred_queue.proofs.QueueStreams.{length-queued}
+use Rattle.deferred_queue.proofs.QueuedTxns.{length-queued_txns_to, queued_txns_to-pushed, stream_to-kept}
 use Rattle.deferred_queue.proofs.Numbers.{FallsFrom-higher}
 use Rattle.deferred_queue.proofs.Room.{least-first, least-one, least-held_extended}
 use Rattle.deferred_queue.proofs.Extending.{kept_of-held_extended, marks_of-extended, queued-pushed, AreStreams-extended, each_falls}
@@ -38,7 +38,7 @@ pub extend_each-requires-clause-later : goal.extend_each-requires-clause-later
 extend_each-requires-clause-later c = rw c.deref_mut.ensures.value (each_falls c.self.inside.count (c.self.inside.count + 1) c.self.inside.streams.items refl c.self.invariant.streams_are.each)
 
 -- what is queued
-abbrev cargo : goal.After-self-2-1 → Cargo
+abbrev cargo : goal.After-self-2-1 → QueuedTxn
 cargo c = record { txn = c.args.txn; past = c.args.past }
 
 newest_first : (c : goal.After-self-2-1) → reverse c.push_reserved.new.self.items ≡ record { number = c.self.inside.count + 1; value = cargo c } ∷ reverse c.self.inside.cargoes.items
@@ -72,14 +72,14 @@ invariant_of-self c = record {
 
 pub returns-clause-number : goal.returns-clause-number
 returns-clause-number c =
-    rw (← c.self.view_is, length-queued (kept_of c.self.inside.streams.items) (cargoes_to c.self.inside.count (reverse c.self.inside.cargoes.items)), length-cargoes_to c.self.inside.count (reverse c.self.inside.cargoes.items)) refl
+    rw (← c.self.view_is, length-queued (kept_of c.self.inside.streams.items) (queued_txns_to c.self.inside.count (reverse c.self.inside.cargoes.items)), length-queued_txns_to c.self.inside.count (reverse c.self.inside.cargoes.items)) refl
 
 pub returns-clause-deferred : goal.returns-clause-deferred
 returns-clause-deferred c =
     let streams = kept_of c.self.inside.streams.items in
     let cargoes = reverse c.self.inside.cargoes.items in
-    rw (kept c, newest_first c, ← c.self.view_is, cargoes_to-pushed c.self.inside.count (cargo c) cargoes)
-    (queued-pushed c.args.to.now c.self.inside.count (c.self.inside.count + 1) streams (cargo c) (cargoes_to c.self.inside.count cargoes) (length-cargoes_to c.self.inside.count cargoes) refl c.self.invariant.streams_are.each)
+    rw (kept c, newest_first c, ← c.self.view_is, queued_txns_to-pushed c.self.inside.count (cargo c) cargoes)
+    (queued-pushed c.args.to.now c.self.inside.count (c.self.inside.count + 1) streams (cargo c) (queued_txns_to c.self.inside.count cargoes) (length-queued_txns_to c.self.inside.count cargoes) refl c.self.invariant.streams_are.each)
 
 pub returns-clause-marks : goal.returns-clause-marks
 returns-clause-marks c = rw (kept c, ← c.self.view_is) (marks_of-extended c.args.to.now (c.self.inside.count + 1) (kept_of c.self.inside.streams.items))

@@ -1,7 +1,7 @@
 use Rattle.std.proofs.Common.{◌≡◌, ℕ, ◌-◌, ◌^◌, ◌≤◌, min, List, length, sym, ap, ◌∙◌, arith}
 use Rattle.std.specs.Prelude.{vec_len, vec_capacity}
 use Rattle.std.proofs.lemmas.List.{length-map}
-use Rattle.deferred_queue.specs.Kept.{Held, kept_of, rooms_of, least}
+use Rattle.deferred_queue.specs.QueueState.{QueueState, kept_of, rooms_of, least}
 use Rattle.rep_lists.proofs.InPlace.{written_back}
 use Rattle.deferred_queue.proofs.Room.{least-all, least-more}
 use Rattle.deferred_queue.proofs.queue.Queue.reserve.Goals as goal
@@ -11,11 +11,11 @@ abbrev first : ℕ → ℕ → ℕ
 first room count = min room (2 ^ 64 - 1 - count)
 
 -- as many streams as hold the same
-same_length : (hs ks : List Held) → kept_of hs ≡ kept_of ks → length hs ≡ length ks
-same_length hs ks same = sym (length-map hs (λ (h : Held). h.kept)) ∙ ap length same ∙ length-map ks (λ (h : Held). h.kept)
+same_length : (hs ks : List QueueState) → kept_of hs ≡ kept_of ks → length hs ≡ length ks
+same_length hs ks same = sym (length-map hs (λ (h : QueueState). h.kept)) ∙ ap length same ∙ length-map ks (λ (h : QueueState). h.kept)
 
 -- neither the room of the transactions nor that of the streams is less
-not_less : (free more : ℕ) (hs ks : List Held) → free ≤ more → ((number : ℕ) → least number (rooms_of hs) ≤ least number (rooms_of ks)) → least free (rooms_of hs) ≤ least more (rooms_of ks)
+not_less : (free more : ℕ) (hs ks : List QueueState) → free ≤ more → ((number : ℕ) → least number (rooms_of hs) ≤ least number (rooms_of ks)) → least free (rooms_of hs) ≤ least more (rooms_of ks)
 not_less free more hs ks le room = omega (arith, least-more free more (rooms_of hs) le, room more)
 
 pub returns-in_err-reserve_each-clause-spare : goal.returns-in_err-reserve_each-clause-spare

@@ -1,7 +1,7 @@
 use Rattle.std.proofs.Common.{reverse, refl}
-use Rattle.deferred_queue.specs.Kept.{kept_of}
+use Rattle.deferred_queue.specs.QueueState.{kept_of}
 use Rattle.deferred_queue.proofs.Found.{acked_by-within}
-use Rattle.deferred_queue.proofs.KeptCargoes.{stream_to-kept}
+use Rattle.deferred_queue.proofs.QueuedTxns.{stream_to-kept}
 use Rattle.deferred_queue.proofs.queue.Queue.waiting.Goals as goal
 
 pub overflow_sub-result : goal.overflow_sub-result

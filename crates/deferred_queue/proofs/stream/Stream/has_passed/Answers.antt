@@ -1,5 +1,5 @@
 use Rattle.std.proofs.Common.{ap, arith}
-use Rattle.deferred_queue.specs.Kept.{is_within}
+use Rattle.deferred_queue.specs.QueueState.{is_within}
 use Rattle.deferred_queue.proofs.stream.Stream.has_passed.Goals as goal
 
 pub place_with-requires : goal.place_with-requires

@@ -1,5 +1,5 @@
 -- An index in which nothing is noted.
-use Rattle.dependency_index.proofs.KeptStreams.{IsNoted-new}
+use Rattle.dependency_index.proofs.FoundStreams.{IsNoted-new}
 use Rattle.dependency_index.proofs.NotedColumns.{IsIndex-new, unnoted-new, sites-new}
 use Rattle.dependency_index.proofs.index.Index.make.Goals as goal
 

@@ -4,7 +4,7 @@ use Rattle.std.proofs.lemmas.List.{length-map}
 use Rattle.rep_lists.proofs.InPlace.{written_back}
 use Rattle.indexmap.specs.IndexSet.{spare}
 use Rattle.dependency_index.specs.Columns.{Lodged, columns_of, noted_streams, rooms, with_room, promised}
-use Rattle.dependency_index.proofs.KeptStreams.{IsNoted-kept, noted_to-kept, sites-kept, room_for-each}
+use Rattle.dependency_index.proofs.FoundStreams.{IsNoted-kept, noted_to-kept, sites-kept, room_for-each}
 use Rattle.dependency_index.proofs.NotedColumns.{kept-promised, room-promised, columns_of-promised, IsIndex-promised, IsIndex-reserved}
 use Rattle.dependency_index.proofs.index.Index.reserve.Goals as goal
 

@@ -1,7 +1,7 @@
 use Rattle.std.proofs.Common.{◌+◌, ◌-◌, ◌^◌, sym, ◌∙◌, arith}
 use Rattle.rep_lists.specs.Rising.{put_at}
-use Rattle.error_queue.specs.ErrorLists.{beside}
-use Rattle.error_queue.specs.Kept.{rooms_of}
+use Rattle.error_queue.specs.ErrorLists.{error_beside}
+use Rattle.error_queue.specs.ErrorQueueState.{rooms_of}
 use Rattle.error_queue.proofs.FirstLists.{list_of-place, list_of-none, place_within, place_own, at_origin-place}
 use Rattle.error_queue.proofs.Counts.{length-in_order-put}
 use Rattle.error_queue.proofs.Room.{least-first, least-place_used, room_in_place}
@@ -43,13 +43,13 @@ invariant_of-self c =
     let old = c.index_mut-list.result.now in
     let absent = rw (← c.self.view_is, list_of-place _ _ _ _ found c.index_mut-list.ensures.value) at c.requires.absent in
     let within = place_within c.args.error.origin hs c.in-Some.place old found in
-    omega (arith, c.self.invariant, length-in_order-put (beside c.args.error.position) hs c.in-Some.place old c.add.new.self within c.index_mut-list.ensures.value c.args.error absent c.add.ensures.entries)
+    omega (arith, c.self.invariant, length-in_order-put (error_beside c.args.error.position) hs c.in-Some.place old c.add.new.self within c.index_mut-list.ensures.value c.args.error absent c.add.ensures.entries)
 
 pub returns-clause-lists : goal.returns-clause-lists
 returns-clause-lists c =
     let found = rw c.deref.ensures.value at c.in-Some.ensures in
     rw (← c.self.view_is)
-    (at_origin-place c.args.error.origin (put_at (beside c.args.error.position) c.args.error) c.self.inside.lists.items c.in-Some.place c.index_mut-list.result.now c.add.new.self found c.index_mut-list.ensures.value
+    (at_origin-place c.args.error.origin (put_at (error_beside c.args.error.position) c.args.error) c.self.inside.lists.items c.in-Some.place c.index_mut-list.result.now c.add.new.self found c.index_mut-list.ensures.value
     c.add.ensures.origin c.add.ensures.entries)
 
 pub returns-clause-spare : goal.returns-clause-spare

@@ -1,8 +1,8 @@
 use Rattle.std.proofs.Common.{◌-◌, ◌^◌, refl, sym, arith}
 use Rattle.std.specs.Prelude.{slice_set}
 use Rattle.rep_lists.specs.Rising.{take_at}
-use Rattle.error_queue.specs.ErrorLists.{beside}
-use Rattle.error_queue.specs.Kept.{lists_of, rooms_of}
+use Rattle.error_queue.specs.ErrorLists.{error_beside}
+use Rattle.error_queue.specs.ErrorQueueState.{lists_of, rooms_of}
 use Rattle.error_queue.proofs.FirstLists.{list_of-place, list_of-none, at_origin-none, place_within, at_origin-place}
 use Rattle.error_queue.proofs.Counts.{length-in_order-take, length-in_order-untaken}
 use Rattle.error_queue.proofs.Room.{least-place, least-more}
@@ -17,7 +17,7 @@ pub returns-in_err-place-clause-lists : goal.returns-in_err-place-clause-lists
 returns-in_err-place-clause-lists c =
     let none = rw c.deref.ensures.value at c.in_err-place.ensures in
     let hs = c.self.inside.lists.items in
-    rw (← c.self.view_is) (sym (at_origin-none c.args.origin.now (take_at (beside c.args.position)) (lists_of hs) (list_of-none c.args.origin.now hs (sym none))))
+    rw (← c.self.view_is) (sym (at_origin-none c.args.origin.now (take_at (error_beside c.args.position)) (lists_of hs) (list_of-none c.args.origin.now hs (sym none))))
 
 -- nothing was taken, so the count is the same
 pub invariant_of-self : goal.invariant_of-self
@@ -26,7 +26,7 @@ invariant_of-self c =
     let hs = c.self.inside.lists.items in
     let old = c.index_mut-list.result.now in
     let within = place_within c.args.origin.now hs c.in_ok-place.place old found in
-    omega (arith, c.self.invariant, length-in_order-untaken (beside c.args.position) hs c.in_ok-place.place old c.take.new.self within c.index_mut-list.ensures.value (sym c.in_err-error.ensures.error) c.take.ensures.entries)
+    omega (arith, c.self.invariant, length-in_order-untaken (error_beside c.args.position) hs c.in_ok-place.place old c.take.new.self within c.index_mut-list.ensures.value (sym c.in_err-error.ensures.error) c.take.ensures.entries)
 
 pub returns-in_err-error-clause-error : goal.returns-in_err-error-clause-error
 returns-in_err-error-clause-error c =
@@ -37,7 +37,7 @@ pub returns-in_err-error-clause-lists : goal.returns-in_err-error-clause-lists
 returns-in_err-error-clause-lists c =
     let found = rw c.deref.ensures.value at c.in_ok-place.ensures in
     rw (← c.self.view_is)
-    (at_origin-place c.args.origin.now (take_at (beside c.args.position)) c.self.inside.lists.items c.in_ok-place.place c.index_mut-list.result.now c.take.new.self found c.index_mut-list.ensures.value c.take.ensures.origin
+    (at_origin-place c.args.origin.now (take_at (error_beside c.args.position)) c.self.inside.lists.items c.in_ok-place.place c.index_mut-list.result.now c.take.new.self found c.index_mut-list.ensures.value c.take.ensures.origin
     c.take.ensures.entries)
 
 pub returns-in_err-error-clause-spare : goal.returns-in_err-error-clause-spare
@@ -52,7 +52,7 @@ overflow_sub-self c =
     let hs = c.self.inside.lists.items in
     let old = c.index_mut-list.result.now in
     let within = place_within c.args.origin.now hs c.in_ok-place.place old found in
-    omega (arith, c.self.invariant, length-in_order-take (beside c.args.position) hs c.in_ok-place.place old c.take.new.self within c.index_mut-list.ensures.value c.in_ok-error.error (sym c.in_ok-error.ensures.error) c.take.ensures.entries)
+    omega (arith, c.self.invariant, length-in_order-take (error_beside c.args.position) hs c.in_ok-place.place old c.take.new.self within c.index_mut-list.ensures.value c.in_ok-error.error (sym c.in_ok-error.ensures.error) c.take.ensures.entries)
 
 pub invariant_of-self-2 : goal.invariant_of-self-2
 invariant_of-self-2 c =
@@ -60,7 +60,7 @@ invariant_of-self-2 c =
     let hs = c.self.inside.lists.items in
     let old = c.index_mut-list.result.now in
     let within = place_within c.args.origin.now hs c.in_ok-place.place old found in
-    omega (arith, c.self.invariant, length-in_order-take (beside c.args.position) hs c.in_ok-place.place old c.take.new.self within c.index_mut-list.ensures.value c.in_ok-error.error (sym c.in_ok-error.ensures.error) c.take.ensures.entries)
+    omega (arith, c.self.invariant, length-in_order-take (error_beside c.args.position) hs c.in_ok-place.place old c.take.new.self within c.index_mut-list.ensures.value c.in_ok-error.error (sym c.in_ok-error.ensures.error) c.take.ensures.entries)
 
 pub returns-clause-error : goal.returns-clause-error
 returns-clause-error c =
@@ -71,7 +71,7 @@ pub returns-clause-lists : goal.returns-clause-lists
 returns-clause-lists c =
     let found = rw c.deref.ensures.value at c.in_ok-place.ensures in
     rw (← c.self.view_is)
-    (at_origin-place c.args.origin.now (take_at (beside c.args.position)) c.self.inside.lists.items c.in_ok-place.place c.index_mut-list.result.now c.take.new.self found c.index_mut-list.ensures.value c.take.ensures.origin
+    (at_origin-place c.args.origin.now (take_at (error_beside c.args.position)) c.self.inside.lists.items c.in_ok-place.place c.index_mut-list.result.now c.take.new.self found c.index_mut-list.ensures.value c.take.ensures.origin
     c.take.ensures.entries)
 
 pub returns-clause-spare : goal.returns-clause-spare

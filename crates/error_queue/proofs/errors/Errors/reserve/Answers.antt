@@ -1,13 +1,13 @@
 use Rattle.std.proofs.Common.{◌≡◌, ◌-◌, ◌^◌, List, length, sym, ap, ◌∙◌, arith}
 use Rattle.std.proofs.lemmas.List.{length-map}
 use Rattle.rep_lists.proofs.InPlace.{written_back}
-use Rattle.error_queue.specs.Kept.{Held, lists_of, rooms_of}
+use Rattle.error_queue.specs.ErrorQueueState.{OriginErrorsState, lists_of, rooms_of}
 use Rattle.error_queue.proofs.Room.{least-all}
 use Rattle.error_queue.proofs.errors.Errors.reserve.Goals as goal
 
 -- as many lists as have the same errors
-same_length : (hs ks : List Held) → lists_of hs ≡ lists_of ks → length hs ≡ length ks
-same_length hs ks same = sym (length-map hs (λ (h : Held). h.list)) ∙ ap length same ∙ length-map ks (λ (h : Held). h.list)
+same_length : (hs ks : List OriginErrorsState) → lists_of hs ≡ lists_of ks → length hs ≡ length ks
+same_length hs ks same = sym (length-map hs (λ (h : OriginErrorsState). h.list)) ∙ ap length same ∙ length-map ks (λ (h : OriginErrorsState). h.list)
 
 pub returns-clause-ok : goal.returns-clause-ok
 returns-clause-ok c =

@@ -2,7 +2,7 @@
 use Rattle.std.proofs.Common.{subst}
 use Rattle.site_state.specs.State.{SiteState}
 use Rattle.site_state.specs.Fits.{SiteFits}
-use Rattle.journal_order.specs.Settling.{IsFinishedOnce}
+use Rattle.journal_order.specs.Sorting.{IsFinishedOnce}
 use Rattle.journal_order.specs.Waited.{FinishesEarlierFirst}
 use Rattle.office.proofs.desk.Office.laws.Goals as goal
 

@@ -1,6 +1,6 @@
 use Rattle.std.proofs.Common.{◌<◌, length, sym, subst}
 use Rattle.rep_schema.specs.Tables.{columns_of, rows_of, RowFits, IsUniqueRow}
-use Rattle.rep_schema.proofs.KeptTables.{IsTable-put}
+use Rattle.rep_schema.proofs.TableSteps.{IsTable-put}
 use Rattle.page_tables.specs.Stored.{Stored}
 use Rattle.page_tables.proofs.OneTable.{stored_is_table, in_stored, rows_of-stored, spare-stored, spare-set, spare-set_other, rows_in-set, AreTables-stored, AreIndexed-set, uniques_of, unheld_in}
 use Rattle.page_tables.proofs.store.PageTablesRowStore.put.Goals as goal

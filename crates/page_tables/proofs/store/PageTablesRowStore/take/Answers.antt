@@ -1,5 +1,5 @@
 use Rattle.std.proofs.Common.{◌<◌, length, sym, subst}
-use Rattle.rep_schema.proofs.KeptTables.{IsTable-take}
+use Rattle.rep_schema.proofs.TableSteps.{IsTable-take}
 use Rattle.page_tables.specs.Stored.{Stored}
 use Rattle.page_tables.proofs.OneTable.{stored_is_table, in_stored, rows_of-stored, spare-stored, spare-set, spare-set_other, rows_in-set, AreTables-stored, AreIndexed-set}
 use Rattle.page_tables.proofs.store.PageTablesRowStore.take.Goals as goal

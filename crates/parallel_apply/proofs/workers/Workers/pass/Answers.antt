@@ -1,6 +1,6 @@
 use Rattle.std.proofs.Common.{take}
 use Rattle.site_state.specs.State.{arrivals}
-use Rattle.parallel_apply.proofs.SettledPass.{can_pass_begun}
+use Rattle.parallel_apply.proofs.SortedPass.{can_pass_begun}
 use Rattle.parallel_apply.proofs.CrewPass.{none_applied, more_applied}
 use Rattle.parallel_apply.proofs.workers.Workers.pass.Goals as goal
 

@@ -1,4 +1,4 @@
-use Rattle.site_outbox.proofs.Kept.{number_from_one}
+use Rattle.site_outbox.proofs.OutboxSteps.{number_from_one}
 use Rattle.proc_calls.proofs.outbox.CallOutbox.entry.Goals as goal
 
 pub returns-clause-number : goal.returns-clause-number

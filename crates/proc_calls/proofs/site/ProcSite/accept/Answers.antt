@@ -1,6 +1,6 @@
 use Rattle.std.proofs.Common.{sym}
 use Rattle.packet_code.specs.declared.packet.Packet.TheVariants.{Carry}
-use Rattle.proc_calls.proofs.Holding.{foreign_state, foreign_answer, mark_within, mark_holds}
+use Rattle.proc_calls.proofs.ProcSiteSteps.{foreign_state, foreign_answer, mark_within, mark_holds}
 use Rattle.proc_calls.proofs.site.ProcSite.accept.Goals as goal
 
 pub returns-then-is_foreign_carry-clause-ok : goal.returns-then-is_foreign_carry-clause-ok

@@ -4,8 +4,8 @@ use Rattle.rep_schema.specs.Tables.{AreTables}
 use Rattle.site_core.proofs.Taking.{one_entry_more}
 use Rattle.proc_state.specs.Calling.{proc_call, proc_call_answer}
 use Rattle.proc_state.proofs.Fitting.{IsProcTxn-carried}
-use Rattle.proc_calls.specs.Keeping.{state_of}
-use Rattle.proc_calls.proofs.Holding.{kept_holds_is, stops_here, call_answer_is, call_state_is, call_holds_is}
+use Rattle.proc_calls.specs.ProcSiteInvariant.{state_of}
+use Rattle.proc_calls.proofs.ProcSiteSteps.{kept_holds_is, stops_here, call_answer_is, call_state_is, call_holds_is}
 use Rattle.proc_calls.proofs.site.ProcSite.call.Goals as goal
 
 pub carried_txn-requires-clause-keyed : goal.carried_txn-requires-clause-keyed

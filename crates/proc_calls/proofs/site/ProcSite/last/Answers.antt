@@ -1,6 +1,6 @@
 use Rattle.std.proofs.Common.{ap, ◌∙◌}
 use Rattle.deferred_queue.specs.Streams.{last_position}
-use Rattle.proc_calls.proofs.Holding.{queue_is}
+use Rattle.proc_calls.proofs.ProcSiteSteps.{queue_is}
 use Rattle.proc_calls.proofs.site.ProcSite.last.Goals as goal
 
 pub returns : goal.returns

@@ -1,7 +1,7 @@
 use Rattle.std.proofs.Common.{reverse}
 use Rattle.proc_state.proofs.Fitting.{CanPass-fits}
 use Rattle.proc_state.proofs.Ordering.{earlier_first}
-use Rattle.proc_calls.specs.Keeping.{state_of}
+use Rattle.proc_calls.specs.ProcSiteInvariant.{state_of}
 use Rattle.proc_calls.proofs.site.ProcSite.laws.Goals as goal
 
 pub returns-clause-fits : goal.returns-clause-fits

@@ -1,6 +1,6 @@
 use Rattle.std.proofs.Common.{ap, ◌∙◌, Some, reverse}
-use Rattle.proc_calls.specs.Keeping.{state_of}
-use Rattle.proc_calls.proofs.Holding.{queue_is}
+use Rattle.proc_calls.specs.ProcSiteInvariant.{state_of}
+use Rattle.proc_calls.proofs.ProcSiteSteps.{queue_is}
 use Rattle.proc_calls.proofs.Sending.{no_packet, packet_is, can_be_carried, is_past}
 use Rattle.proc_calls.proofs.site.ProcSite.packet.Goals as goal
 

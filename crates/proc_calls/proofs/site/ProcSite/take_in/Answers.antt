@@ -3,8 +3,8 @@ use Rattle.std.proofs.lemmas.Result.{err_from_is_err_and}
 use Rattle.origin_marks.specs.Marks.{finished}
 use Rattle.packet_code.specs.declared.packet.Packet.TheVariants.{Carry}
 use Rattle.proc_state.specs.Packets.{proc_accept}
-use Rattle.proc_calls.specs.Keeping.{state_of}
-use Rattle.proc_calls.proofs.Holding.{sender_known, no_past, repeat_state, repeat_answer, new_answer, room_state, room_holds, accept_state, accept_holds}
+use Rattle.proc_calls.specs.ProcSiteInvariant.{state_of}
+use Rattle.proc_calls.proofs.ProcSiteSteps.{sender_known, no_past, repeat_state, repeat_answer, new_answer, room_state, room_holds, accept_state, accept_holds}
 use Rattle.proc_calls.proofs.site.ProcSite.take_in.Goals as goal
 
 pub unreachable-requires : goal.unreachable-requires

@@ -1,5 +1,5 @@
 use Rattle.std.proofs.Common.{◌≡◌, length, ap, arith}
-use Rattle.rep_schema.proofs.KeptTables.{AreTables-empty}
+use Rattle.rep_schema.proofs.TableSteps.{AreTables-empty}
 use Rattle.row_tables.proofs.list_tables.ListTables.sharing.Goals as goal
 
 pub invariant_of-result : goal.invariant_of-result

@@ -2,7 +2,7 @@ use Rattle.std.proofs.Common.{arith, ◌≡◌, ◌+◌, ◌∷◌, [], ℕ, Lis
 use Rattle.std.specs.Io.KnownBytes.{Appends}
 use Rattle.std.proofs.KnownBytes.{Appends-nil}
 use Rattle.rep_lines.specs.Lines.{newline}
-use Rattle.rep_lines.specs.Fed.{Standing}
+use Rattle.rep_lines.specs.Fed.{RunState}
 use Rattle.rep_lines.proofs.LimitLemmas.{line_halts}
 use Rattle.report_text.specs.Texts.{malformed_text}
 use Rattle.script_drive.specs.Lines.{StopsAnyway}
@@ -17,7 +17,7 @@ returns-in_default-clause-halted g c =
     let known = g.X.LineRunner.known in
     let before = g.K.Sink.taken c.args.sink.now in
     let after = g.K.Sink.taken c.offer.new.sink in
-    let at : Standing g.row.X-State.Denot = record { state = g.X.LineRunner.state c.self.inside.runner; number = c.self.inside.number; line = c.self.inside.line.items } in
+    let at : RunState g.row.X-State.Denot = record { state = g.X.LineRunner.state c.self.inside.runner; number = c.self.inside.number; line = c.self.inside.line.items } in
     let number : at.number ≡ c.args.self.now.number = ap (λ s. s.number) c.self.view_is in
     let front = c.in_default.ensures.front in
     let took = subst (λ (out : List ℕ). Appends before after (take front.0 out)) c.bytes.ensures front.2 in
@@ -31,7 +31,7 @@ returns-in-Ok-offer-clause-fed g c =
     let known = g.X.LineRunner.known in
     let before = g.K.Sink.taken c.args.sink.now in
     let after = g.K.Sink.taken c.offer.new.sink in
-    let at : Standing g.row.X-State.Denot = record { state = g.X.LineRunner.state c.self.inside.runner; number = c.self.inside.number; line = c.self.inside.line.items } in
+    let at : RunState g.row.X-State.Denot = record { state = g.X.LineRunner.state c.self.inside.runner; number = c.self.inside.number; line = c.self.inside.line.items } in
     let number : at.number ≡ c.args.self.now.number = ap (λ s. s.number) c.self.view_is in
     let took = subst (Appends before after) c.bytes.ensures c.in-Ok-offer.ensures.taken in
     let fed = subst (λ s. FeedsBy step allowed before after s (newline ∷ []) (record { state = g.X.LineRunner.state c.run_line.new.self; number = at.number + 1; line = [] })) c.self.view_is
@@ -45,7 +45,7 @@ returns-in-Err-Rule-clause-halted g c =
     let known = g.X.LineRunner.known in
     let before = g.K.Sink.taken c.args.sink.now in
     let after = g.K.Sink.taken c.refuse.new.sink in
-    let at : Standing g.row.X-State.Denot = record { state = g.X.LineRunner.state c.self.inside.runner; number = c.self.inside.number; line = c.self.inside.line.items } in
+    let at : RunState g.row.X-State.Denot = record { state = g.X.LineRunner.state c.self.inside.runner; number = c.self.inside.number; line = c.self.inside.line.items } in
     let number : at.number ≡ c.args.self.now.number = ap (λ s. s.number) c.self.view_is in
     let stopped = subst (StopsAnyway step allowed at.state at.number c.deref.result.now) c.in-Err-Rule.field-0-is c.in-Err-Rule.ensures.stop in
     let text = malformed_text at.number c.in-Err-Rule.rule in

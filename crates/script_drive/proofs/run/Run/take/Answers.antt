@@ -1,7 +1,7 @@
 use Rattle.std.proofs.Common.{arith, ◌≡◌, ◌≤◌, ◌<◌, ◌+◌, ℕ, List, length, take, drop, sym, subst, take-append-drop}
 use Rattle.std.proofs.lemmas.List.{length-take-le}
 use Rattle.std.proofs.lemmas.Result.{err_from_is_err_and}
-use Rattle.rep_lines.specs.Fed.{Standing}
+use Rattle.rep_lines.specs.Fed.{RunState}
 use Rattle.report_text.specs.Texts.{malformed_text}
 use Rattle.script_drive.specs.Halts.{HaltsBy}
 use Rattle.script_drive.proofs.HaltLemmas.{refused_by, halts_by_longer}
@@ -17,7 +17,7 @@ returns-then-self-gt-MOST_LINES-clause-halted g c =
     let before = g.K.Sink.taken c.args.sink.now in
     let after = g.K.Sink.taken c.refuse.new.sink in
     let bytes : List ℕ = c.args.bytes.now in
-    let at : Standing g.row.X-State.Denot = record { state = g.X.LineRunner.state c.self.inside.runner; number = c.self.inside.number; line = c.self.inside.line.items } in
+    let at : RunState g.row.X-State.Denot = record { state = g.X.LineRunner.state c.self.inside.runner; number = c.self.inside.number; line = c.self.inside.line.items } in
     subst (λ s. HaltsBy step allowed known before after c.refuse.result s bytes) c.self.view_is
     (refused_by step allowed known before after c.refuse.result at bytes (malformed_text at.number 2) (subst (λ s. known s.state) (sym c.self.view_is) c.requires.known) c.refuse.ensures.told
     (λ choices may rest. bytes_behind_last (step choices) at bytes rest c.requires.some (omega arith)))
@@ -33,7 +33,7 @@ returns-then-count-len-clause-halted g c =
     let n : ℕ = c.unbroken_len-count.result in
     let bytes : List ℕ = c.args.bytes.now in
     let front : List ℕ = take n bytes in
-    let at : Standing g.row.X-State.Denot = record { state = g.X.LineRunner.state c.self.inside.runner; number = c.self.inside.number; line = c.self.inside.line.items } in
+    let at : RunState g.row.X-State.Denot = record { state = g.X.LineRunner.state c.self.inside.runner; number = c.self.inside.number; line = c.self.inside.line.items } in
     let size : length front ≡ n = length-take-le n bytes c.unbroken_len-count.ensures.bound in
     let few : at.number ≤ 200000 = omega arith in
     let long : 1024 < length at.line + length front = omega arith in

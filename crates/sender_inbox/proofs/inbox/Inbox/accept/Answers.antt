@@ -1,4 +1,4 @@
-use Rattle.sender_inbox.proofs.Keeping.{IsKept-put}
+use Rattle.sender_inbox.proofs.InboxSteps.{IsKept-put}
 use Rattle.sender_inbox.proofs.inbox.Inbox.accept.Goals as goal
 
 pub put_in-requires-clause-rising : goal.put_in-requires-clause-rising

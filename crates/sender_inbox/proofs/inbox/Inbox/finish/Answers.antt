@@ -1,4 +1,4 @@
-use Rattle.sender_inbox.proofs.Keeping.{from_one-found, IsKept-more}
+use Rattle.sender_inbox.proofs.InboxSteps.{from_one-found, IsKept-more}
 use Rattle.sender_inbox.proofs.inbox.Inbox.finish.Goals as goal
 
 pub number_at-number-requires : goal.number_at-number-requires

@@ -1,4 +1,4 @@
-use Rattle.sender_inbox.proofs.Keeping.{IsKept-new}
+use Rattle.sender_inbox.proofs.InboxSteps.{IsKept-new}
 use Rattle.sender_inbox.proofs.inbox.Inbox.make.Goals as goal
 
 pub invariant_of-result : goal.invariant_of-result

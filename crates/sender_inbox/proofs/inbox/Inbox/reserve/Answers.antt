@@ -1,4 +1,4 @@
-use Rattle.sender_inbox.proofs.Keeping.{IsKept-same}
+use Rattle.sender_inbox.proofs.InboxSteps.{IsKept-same}
 use Rattle.sender_inbox.proofs.inbox.Inbox.reserve.Goals as goal
 
 pub invariant_of-self : goal.invariant_of-self

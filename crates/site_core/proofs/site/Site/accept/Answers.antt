@@ -1,7 +1,7 @@
 use Rattle.std.proofs.Common.{sym}
 use Rattle.packet_code.specs.declared.packet.Packet.TheVariants.{Carry}
 use Rattle.site_core.proofs.Foreign.{foreign_state, foreign_answer, names_others}
-use Rattle.site_core.proofs.Holding.{mark_within, mark_holds}
+use Rattle.site_core.proofs.SiteSteps.{mark_within, mark_holds}
 use Rattle.site_core.proofs.site.Site.accept.Goals as goal
 
 pub returns-then-is_foreign_carry-clause-ok : goal.returns-then-is_foreign_carry-clause-ok

@@ -1,10 +1,10 @@
 use Rattle.std.proofs.Common.{◌≡◌, refl, ◌∙◌, ◌+◌, Ok, ap, subst, reverse, arith}
 use Rattle.site_state.specs.Commits.{site_commit, commit_answer}
-use Rattle.site_core.specs.Keeping.{state_of}
-use Rattle.site_core.specs.Noting.{IsNoted}
+use Rattle.site_core.specs.SiteInvariant.{state_of}
+use Rattle.site_core.specs.Noting.{RowsAreNoted}
 use Rattle.site_core.proofs.Taking.{reverse_push, one_entry_more}
 use Rattle.site_core.proofs.Onward.{nothing_made}
-use Rattle.site_core.proofs.Holding.{kept_holds_is, count_is, commit_state_is, commit_answer_is, commit_holds}
+use Rattle.site_core.proofs.SiteSteps.{kept_holds_is, count_is, commit_state_is, commit_answer_is, commit_holds}
 use Rattle.site_core.proofs.site.Site.commit.Goals as goal
 
 pub invariant_of-self-2 : goal.invariant_of-self-2
@@ -15,7 +15,7 @@ invariant_of-self-2 g c =
     let seen = rw (← c.self.view_is) at c.in-Ok.ensures in
     let number = q.number ∙ ap (λ n. n + 1) (count_is _ _ _ _ _ _ c.self.inside.notes _ _ _ _ _ _ h) in
     let room = c.in-Ok-reserve_noting.ensures.ok in
-    let noted : IsNoted (g.R.RowStore.schema c.self.inside.store) (c.self.inside.moment + 1) c.in_ok-block.block.changes.rows c.self.inside.notes c.note.new.self = record {
+    let noted : RowsAreNoted (g.R.RowStore.schema c.self.inside.store) (c.self.inside.moment + 1) c.in_ok-block.block.changes.rows c.self.inside.notes c.note.new.self = record {
       logs = rw (c.schema.ensures.value, c.run_block.ensures.schema, c.as_slice.ensures, c.reserve_noting.ensures.logs) at c.note.ensures.logs;
       snapshots = rw (c.schema.ensures.value, c.run_block.ensures.schema, c.as_slice.ensures, c.reserve_noting.ensures.snapshots) at c.note.ensures.snapshots;
     } in
@@ -30,7 +30,7 @@ returns-clause-ok g c =
     let gives = rw h.tables_are at c.in_ok-block.ensures.ok in
     let number = q.number ∙ ap (λ n. n + 1) (count_is _ _ _ _ _ _ c.self.inside.notes _ _ _ _ _ _ h) in
     let journal = one_entry_more _ _ _ _ c.push.ensures.items c.in-Ok-reserve_noting.ensures.items in
-    let noted : IsNoted (g.R.RowStore.schema c.self.inside.store) (c.self.inside.moment + 1) c.in_ok-block.block.changes.rows c.self.inside.notes c.note.new.self = record {
+    let noted : RowsAreNoted (g.R.RowStore.schema c.self.inside.store) (c.self.inside.moment + 1) c.in_ok-block.block.changes.rows c.self.inside.notes c.note.new.self = record {
       logs = rw (c.schema.ensures.value, c.run_block.ensures.schema, c.as_slice.ensures, c.reserve_noting.ensures.logs) at c.note.ensures.logs;
       snapshots = rw (c.schema.ensures.value, c.run_block.ensures.schema, c.as_slice.ensures, c.reserve_noting.ensures.snapshots) at c.note.ensures.snapshots;
     } in

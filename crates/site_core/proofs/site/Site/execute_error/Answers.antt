@@ -1,9 +1,9 @@
 use Rattle.std.proofs.Common.{◌≡◌, ◌+◌, None, ap, arith, inr, refl, reverse, subst}
 use Rattle.site_state.specs.Errors.{site_execute, execute_refusal}
-use Rattle.site_core.specs.Keeping.{state_of}
-use Rattle.site_core.specs.Noting.{IsNoted}
+use Rattle.site_core.specs.SiteInvariant.{state_of}
+use Rattle.site_core.specs.Noting.{RowsAreNoted}
 use Rattle.site_core.proofs.Taking.{one_entry_more}
-use Rattle.site_core.proofs.Holding.{kept_holds_is, count_is, error_is, none_to_execute, error_fits, error_sized, stops_as, execute_state_is, execute_refusal_is, execute_holds_is}
+use Rattle.site_core.proofs.SiteSteps.{kept_holds_is, count_is, error_is, none_to_execute, error_fits, error_sized, stops_as, execute_state_is, execute_refusal_is, execute_holds_is}
 use Rattle.site_core.proofs.site.Site.execute_error.Goals as goal
 
 pub returns-in_default-clause-err : goal.returns-in_default-clause-err
@@ -48,7 +48,7 @@ invariant_of-self-2 g c =
     let gives = rw c.in_ok-txn.ensures at c.in-Ok.ensures.ok in
     let journal = one_entry_more _ _ _ _ c.push.ensures.items c.reserve_noting.ensures.items in
     let few = rw c.in_ok-txn.ensures at c.in-Ok.ensures.few in
-    let noted : IsNoted (g.R.RowStore.schema c.self.inside.store) (c.self.inside.moment + 1) c.in-Ok.done.changes.rows c.self.inside.notes c.note.new.self = record {
+    let noted : RowsAreNoted (g.R.RowStore.schema c.self.inside.store) (c.self.inside.moment + 1) c.in-Ok.done.changes.rows c.self.inside.notes c.note.new.self = record {
       logs = rw (c.schema.ensures.value, c.apply_onward.ensures.schema, c.as_slice.ensures, c.reserve_noting.ensures.logs) at c.note.ensures.logs;
       snapshots = rw (c.schema.ensures.value, c.apply_onward.ensures.schema, c.as_slice.ensures, c.reserve_noting.ensures.snapshots) at c.note.ensures.snapshots;
     } in
@@ -67,7 +67,7 @@ returns-clause-ok g c =
     let count = count_is _ _ _ _ _ _ c.self.inside.notes _ _ _ _ _ _ h in
     let gives = rw c.in_ok-txn.ensures at c.in-Ok.ensures.ok in
     let journal = one_entry_more _ _ _ _ c.push.ensures.items c.reserve_noting.ensures.items in
-    let noted : IsNoted (g.R.RowStore.schema c.self.inside.store) (c.self.inside.moment + 1) c.in-Ok.done.changes.rows c.self.inside.notes c.note.new.self = record {
+    let noted : RowsAreNoted (g.R.RowStore.schema c.self.inside.store) (c.self.inside.moment + 1) c.in-Ok.done.changes.rows c.self.inside.notes c.note.new.self = record {
       logs = rw (c.schema.ensures.value, c.apply_onward.ensures.schema, c.as_slice.ensures, c.reserve_noting.ensures.logs) at c.note.ensures.logs;
       snapshots = rw (c.schema.ensures.value, c.apply_onward.ensures.schema, c.as_slice.ensures, c.reserve_noting.ensures.snapshots) at c.note.ensures.snapshots;
     } in
@@ -85,7 +85,7 @@ returns-clause-executes g c =
     let seen = rw (← c.self.view_is) at c.in_ok-past.ensures in
     let count = count_is _ _ _ _ _ _ c.self.inside.notes _ _ _ _ _ _ h in
     let gives = rw c.in_ok-txn.ensures at c.in-Ok.ensures.ok in
-    let noted : IsNoted (g.R.RowStore.schema c.self.inside.store) (c.self.inside.moment + 1) c.in-Ok.done.changes.rows c.self.inside.notes c.note.new.self = record {
+    let noted : RowsAreNoted (g.R.RowStore.schema c.self.inside.store) (c.self.inside.moment + 1) c.in-Ok.done.changes.rows c.self.inside.notes c.note.new.self = record {
       logs = rw (c.schema.ensures.value, c.apply_onward.ensures.schema, c.as_slice.ensures, c.reserve_noting.ensures.logs) at c.note.ensures.logs;
       snapshots = rw (c.schema.ensures.value, c.apply_onward.ensures.schema, c.as_slice.ensures, c.reserve_noting.ensures.snapshots) at c.note.ensures.snapshots;
     } in

@@ -1,5 +1,5 @@
 use Rattle.std.proofs.Common.{◌∙◌}
-use Rattle.site_core.proofs.Holding.{last_sent_is}
+use Rattle.site_core.proofs.SiteSteps.{last_sent_is}
 use Rattle.site_core.proofs.site.Site.last_sent.Goals as goal
 
 pub returns : goal.returns

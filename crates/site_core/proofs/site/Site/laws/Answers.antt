@@ -1,6 +1,6 @@
 use Rattle.std.proofs.Common.{reverse}
 use Rattle.journal_order.proofs.Waited.{earlier_first}
-use Rattle.site_core.specs.Keeping.{state_of}
+use Rattle.site_core.specs.SiteInvariant.{state_of}
 use Rattle.site_core.proofs.site.Site.laws.Goals as goal
 
 pub returns-clause-fits : goal.returns-clause-fits

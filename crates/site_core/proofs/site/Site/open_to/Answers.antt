@@ -1,4 +1,4 @@
-use Rattle.site_core.proofs.Holding.{closed_is_empty, open_state, open_holds}
+use Rattle.site_core.proofs.SiteSteps.{closed_is_empty, open_state, open_holds}
 use Rattle.site_core.proofs.site.Site.open_to.Goals as goal
 
 pub open-requires : goal.open-requires

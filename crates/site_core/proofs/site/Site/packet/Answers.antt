@@ -1,5 +1,5 @@
 use Rattle.std.proofs.Common.{ap, ◌∙◌, Some}
-use Rattle.site_core.proofs.Holding.{nothing_found, packet_found_is, sent_can}
+use Rattle.site_core.proofs.SiteSteps.{nothing_found, packet_found_is, sent_can}
 use Rattle.site_core.proofs.site.Site.packet.Goals as goal
 
 pub returns-in_default : goal.returns-in_default

@@ -1,5 +1,5 @@
 use Rattle.std.proofs.Common.{◌∙◌}
-use Rattle.site_core.proofs.Holding.{purge_state, purge_count}
+use Rattle.site_core.proofs.SiteSteps.{purge_state, purge_count}
 use Rattle.site_core.proofs.site.Site.purge.Goals as goal
 
 pub returns-clause-site : goal.returns-clause-site

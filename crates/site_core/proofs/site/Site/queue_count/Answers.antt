@@ -1,5 +1,5 @@
 use Rattle.std.proofs.Common.{◌∙◌}
-use Rattle.site_core.proofs.Holding.{count_is}
+use Rattle.site_core.proofs.SiteSteps.{count_is}
 use Rattle.site_core.proofs.site.Site.queue_count.Goals as goal
 
 pub returns : goal.returns

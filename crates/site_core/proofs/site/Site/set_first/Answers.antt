@@ -1,6 +1,6 @@
 use Rattle.std.proofs.Common.{◌≡◌, reverse, set, subst}
 use Rattle.site_state.specs.Joining.{site_first}
-use Rattle.site_core.specs.Keeping.{state_of}
+use Rattle.site_core.specs.SiteInvariant.{state_of}
 use Rattle.site_core.proofs.FirstNumbers.{first_absent, first_state, first_holds}
 use Rattle.site_core.proofs.site.Site.set_first.Goals as goal
 

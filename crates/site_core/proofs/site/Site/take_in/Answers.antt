@@ -3,8 +3,8 @@ use Rattle.std.proofs.lemmas.Result.{err_from_is_err_and}
 use Rattle.origin_marks.specs.Marks.{finished}
 use Rattle.packet_code.specs.declared.packet.Packet.TheVariants.{Carry}
 use Rattle.site_state.specs.Packets.{site_accept}
-use Rattle.site_core.specs.Keeping.{state_of}
-use Rattle.site_core.proofs.Holding.{sender_known, names_others_here, repeat_state, repeat_answer, new_answer, room_state, room_holds, accept_state, accept_holds}
+use Rattle.site_core.specs.SiteInvariant.{state_of}
+use Rattle.site_core.proofs.SiteSteps.{sender_known, names_others_here, repeat_state, repeat_answer, new_answer, room_state, room_holds, accept_state, accept_holds}
 use Rattle.site_core.proofs.site.Site.take_in.Goals as goal
 
 pub unreachable-requires : goal.unreachable-requires

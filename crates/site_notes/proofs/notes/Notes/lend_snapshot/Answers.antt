@@ -1,5 +1,5 @@
 use Rattle.std.proofs.Common.{ap, ◌∙◌}
-use Rattle.site_notes.specs.Kept.{RoomySnapshot}
+use Rattle.site_notes.specs.RoomyNotes.{RoomySnapshot}
 use Rattle.site_notes.specs.Noted.{without_query}
 use Rattle.site_notes.proofs.Lending.{at_place-set, least_room-set}
 use Rattle.site_notes.proofs.notes.Notes.lend_snapshot.Goals as goal

@@ -4,7 +4,7 @@ use Rattle.rep_lists.proofs.InPlace.{written_back}
 use Rattle.site_state.specs.State.{LogState}
 use Rattle.site_state.specs.Notes.{log_of, keys_in}
 use Rattle.site_state.specs.Purges.{purged_where}
-use Rattle.site_notes.specs.Kept.{log_in, logs_in, log_spares, snapshot_spares}
+use Rattle.site_notes.specs.RoomyNotes.{log_in, logs_in, log_spares, snapshot_spares}
 use Rattle.site_notes.proofs.Parts.{changed_length}
 use Rattle.site_notes.proofs.Room.{room_stays}
 use Rattle.site_notes.proofs.TableLogs.{stays, log_of-purged, count_up_to-rest}

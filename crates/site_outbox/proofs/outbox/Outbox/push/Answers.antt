@@ -1,12 +1,12 @@
 use Rattle.std.proofs.Common.{◌+◌, ◌<◌, ◌^◌, Some, length, sym, ◌∙◌, arith}
-use Rattle.site_outbox.specs.Outlets.{joined}
-use Rattle.site_outbox.proofs.Joined.{marks-joined, outlets_apart}
+use Rattle.site_outbox.specs.DestinationEntries.{with_marks}
+use Rattle.site_outbox.proofs.Joined.{marks-joined, entries_apart}
 use Rattle.site_outbox.proofs.Places.{AreApart-sent_to, can_be_sent}
-use Rattle.site_outbox.proofs.Kept.{streams_in, can_be_noted, notes_sent_to, IsOutbox-pushed, Keeps-pushed}
+use Rattle.site_outbox.proofs.OutboxSteps.{streams_in, can_be_noted, notes_sent_to, IsOutbox-pushed, Keeps-pushed}
 use Rattle.site_outbox.proofs.outbox.Outbox.push.Goals as goal
 
 pub note_each-requires-clause-apart : goal.note_each-requires-clause-apart
-note_each-requires-clause-apart c = rw c.deref.ensures.value (outlets_apart c.self.inside.outlets.items c.self.inside.queue.marks c.self.invariant.apart)
+note_each-requires-clause-apart c = rw c.deref.ensures.value (entries_apart c.self.inside.outlets.items c.self.inside.queue.marks c.self.invariant.apart)
 
 pub note_each-requires-clause-waiting : goal.note_each-requires-clause-waiting
 note_each-requires-clause-waiting c =
@@ -24,7 +24,7 @@ push_back-number-requires-clause-destinations c =
     let inside = c.self.inside in
     let tokens = c.in_ok-tokens.tokens.list in
     let streams = streams_in c.self.invariant in
-    let ds = joined inside.outlets.items inside.queue.marks in
+    let ds = with_marks inside.outlets.items inside.queue.marks in
     let notes = rw c.deref.ensures.value at (c.note_each.ensures.notes streams (λ site. c.reserve.ensures.noted site (streams site) (c.self.invariant.streams site).is)) in
     let marks = marks-joined inside.outlets.items inside.queue.marks c.self.invariant.marked ∙ sym c.reserve-2.ensures.marks in
     rw (c.deref-2.ensures.value, notes_sent_to inside.outlets.items inside.queue.marks tokens streams c.note_each.new.index.streams c.note_each.new.to.items c.self.invariant.apart notes)
@@ -37,7 +37,7 @@ push_back-number-requires-clause-apart c =
     let streams = streams_in c.self.invariant in
     let notes = rw c.deref.ensures.value at (c.note_each.ensures.notes streams (λ site. c.reserve.ensures.noted site (streams site) (c.self.invariant.streams site).is)) in
     rw (c.deref-2.ensures.value, notes_sent_to inside.outlets.items inside.queue.marks tokens streams c.note_each.new.index.streams c.note_each.new.to.items c.self.invariant.apart notes)
-    (AreApart-sent_to tokens streams (joined inside.outlets.items inside.queue.marks) c.self.invariant.apart)
+    (AreApart-sent_to tokens streams (with_marks inside.outlets.items inside.queue.marks) c.self.invariant.apart)
 
 pub invariant_of-self-2 : goal.invariant_of-self-2
 invariant_of-self-2 c =

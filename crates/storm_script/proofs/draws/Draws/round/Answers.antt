@@ -2,14 +2,14 @@
 use Rattle.std.proofs.Common.{◌≡◌, List, subst}
 use Rattle.std.specs.Prelude.{IfOk}
 use Rattle.script_parse.specs.declared.command.Command.{Command}
-use Rattle.storm_script.specs.Rounds.{transaction, round}
+use Rattle.storm_script.specs.Rounds.{transaction, storm_round}
 use Rattle.storm_script.proofs.RoundCases.{round-other, behind_round-tenth, behind_round-other, round-drawn}
 use Rattle.storm_script.proofs.draws.Draws.round.Goals as goal
 
 pub returns-then-number-ne0-clause-commands : goal.returns-then-number-ne0-clause-commands
 returns-then-number-ne0-clause-commands c =
     let told = round-other c.args.number c.args.self.now.state c.if-number-ne0.true in
-    let same : transaction c.args.number c.site_at-site.result c.draw-id.result ≡ round c.args.number c.args.self.now.state =
+    let same : transaction c.args.number c.site_at-site.result c.draw-id.result ≡ storm_round c.args.number c.args.self.now.state =
     cc (told, c.site_at-site.ensures, c.draw.ensures.value, c.draw.ensures.state, c.draw-id.ensures.value, c.draw-id.ensures.state) in
     subst (λ (cs : List Command). IfOk c.transaction.result (λ commands. commands.items ≡ cs)) same c.transaction.ensures
 

@@ -1,8 +1,8 @@
 -- What came of a line, and what holds of the world that it leaves.
 use Rattle.world_state.specs.World.{WorldState}
-use Rattle.procedure_worlds.proofs.HoldingProcedures.{procedures_hold_of}
-use Rattle.environment_lines.specs.Doing.{Does, AnswersKnown}
-use Rattle.environment_lines.proofs.Keeping.{lines_keep_built}
+use Rattle.procedure_worlds.proofs.ProceduresHold.{procedures_hold_of}
+use Rattle.environment_lines.specs.Doing.{Does, AnswersPrecheck}
+use Rattle.environment_lines.proofs.BuiltWorlds.{lines_keep_built}
 use Rattle.environment_lines.proofs.Worlds.{of_script_holds, snapshots_hold_of}
 use Rattle.environment_lines.proofs.Scripts.{of_snapshots}
 use Rattle.world_run.specs.Reporting.{PushLeavesNothingReady, PushLeavesNoCallsReady, RefreshShowsTheQuery, JoinTakesOver}
@@ -29,7 +29,7 @@ returns-clause-does g c =
 
 pub returns-clause-known : goal.returns-clause-known
 returns-clause-known g c =
-    as_seen c.self.inside.lent c.self.inside.environment c.args.self.now c.self.view_is c.requires.free (λ (old new : WorldState). AnswersKnown c.args.line c.args.command.now old c.run_or_refuse.result)
+    as_seen c.self.inside.lent c.self.inside.environment c.args.self.now c.self.view_is c.requires.free (λ (old new : WorldState). AnswersPrecheck c.args.line c.args.command.now old c.run_or_refuse.result)
     c.run_or_refuse.new.environment c.run_or_refuse.ensures.known
 
 pub returns-clause-pushed : goal.returns-clause-pushed

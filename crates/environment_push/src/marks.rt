@@ -1,0 +1,85 @@
+//! The mark that goes back.
+ghost use Rattle.std.specs.Prelude.{◌≡◌, IfOk, OnOk, OnErr};
+ghost use Rattle.net_plan.specs.Directions.{HasDirection};
+ghost use Rattle.event_laws.specs.Cluster.{site_of};
+ghost use Rattle.event_laws.specs.Events.{mark_from};
+ghost use Rattle.world_state.specs.Pushes.{world_send_mark, world_deliver_mark, world_return_mark};
+ghost use Rattle.environment.specs.Following.{PushesInPart};
+
+use crate::deliver::deliver_all;
+use crate::send::{release, send_some};
+use environment::{WorldParts, Site, place_of};
+use packet_code::Sealed;
+use page_tables::PageTables;
+use rep_lists::NoMemory;
+use rep_values::SiteName;
+use std::alloc::Global;
+
+/// The mark of a site for another one, where the site is there.
+fn mark_of(
+    sites: &[Site<PageTables>],
+    alloc: Global,
+    from: &SiteName,
+    to: &SiteName,
+) -> Result<Option<Sealed>, NoMemory>
+    ensures { IfOk result (λ packet. packet ≡ mark_from to.now (site_of from.now sites.now)) }
+{
+    let Some(place) = place_of(sites, from) else {
+        return Ok(None);
+    };
+    let site = &sites[place];
+    let sealed = Sealed::seal_mark(alloc, site.name(), to, site.mark(to))?;
+    Ok(Some(sealed))
+}
+
+/// The mark for what came from a site is sent to it.
+fn send_mark(
+    environment: &mut WorldParts,
+    alloc: Global,
+    from: &SiteName,
+    to: &SiteName,
+) -> Result<(), NoMemory>
+    requires { HasDirection environment.old.net from.now to.now }
+    ensures ok { OnOk result (environment.new ≡ world_send_mark from.now to.now environment.old) }
+    ensures err { OnErr result (environment.new ≡ environment.old) }
+{
+    let packet = mark_of(&environment.sites, alloc, from, to)?;
+    send_some(environment, alloc, from, to, packet)?;
+    Ok(())
+}
+
+/// What is held goes before the mark, and all is taken in.
+fn deliver_mark(
+    environment: &mut WorldParts,
+    alloc: Global,
+    from: &SiteName,
+    to: &SiteName,
+) -> Result<(), NoMemory>
+    requires { HasDirection environment.old.net from.now to.now }
+    ensures ok { OnOk result (environment.new ≡ world_deliver_mark from.now to.now environment.old) }
+    ensures part { PushesInPart to.now from.now environment.old environment.new }
+{
+    release(environment, from, to)?;
+    send_mark(environment, alloc, from, to)?;
+    deliver_all(environment, alloc, from, to)?;
+    Ok(())
+}
+
+/// The mark for what came from a site is brought to it, where the direction is up.
+pub(crate) fn return_mark(
+    environment: &mut WorldParts,
+    alloc: Global,
+    from: &SiteName,
+    to: &SiteName,
+) -> Result<(), NoMemory>
+    requires { HasDirection environment.old.net from.now to.now }
+    ensures ok { OnOk result (environment.new ≡ world_return_mark from.now to.now environment.old) }
+    ensures part { PushesInPart to.now from.now environment.old environment.new }
+{
+    let is_up = environment.net.is_up(from, to);
+    if !is_up {
+        return Ok(());
+    }
+    deliver_mark(environment, alloc, from, to)?;
+    Ok(())
+}

@@ -1,6 +1,0 @@
--- It is the same part.
-use Rattle.live_streams.specs.Crews.{IsSamePart}
-use Rattle.live_streams.proofs.rounds.settle.Given as goal
-
-abbrev pub invariant-loop : goal.invariant-loop
-invariant-loop g l = IsSamePart l.fn.crew l.crew

@@ -1,7 +1,0 @@
-use Rattle.site_outbox.specs.Outlets.{outlet_opened}
-use Rattle.rep_lists.proofs.InPlace.{changed_more}
-use Rattle.site_outbox.proofs.outlets.open_each.Goals as goal
-
-pub loop-outlet-preserved : goal.loop-outlet-preserved
-loop-outlet-preserved c = changed_more (outlet_opened c.args.site.now c.args.count) c.args.outlets.now c.loop-outlet.outlets c.loop-outlet.outlet-index c.outlet-item.result c.open.new.self
-    c.loop-outlet-test.true c.loop-outlet.invariant c.open.ensures
