@@ -1,4 +1,4 @@
--- What a receiver tells of the calls that it settled, and that what it does is a step of a push.
+-- What a receiver tells of the calls that it applied, and that what it does is a step of a push.
 use Rattle.std.proofs.Common.{◌≡◌, ℕ, ◌+◌, ◌-◌, ◌≤◌, List, [], ◌++◌, length, take, get_or, set, Some, sym, ap, ◌∙◌, arith, append_assoc, append-nil, length-append}
 use Rattle.std.specs.Prelude.{Option, flat_map}
 use Rattle.rep_values.specs.declared.name.SiteName.{SiteName}
@@ -36,7 +36,7 @@ applied_longer origin x y before is begins =
 
 -- ---- what is told
 
-module _ (origin to : SiteName) (sent low before newest : ℕ) (passed : PassCount) (x y : ProcState) (old lined : List ℕ) (settled : y ≡ proc_until_quiet origin x) (begins : before ≡ length x.journal)
+module _ (origin to : SiteName) (sent low before newest : ℕ) (passed : PassCount) (x y : ProcState) (old lined : List ℕ) (applied : y ≡ proc_until_quiet origin x) (begins : before ≡ length x.journal)
     (newest_is : newest ≡ length y.journal - before) (passed_is : passed ≡ finished_in (take newest y.journal)) (low_is : low ≡ low_water origin y.journal)
     (line : lined ≡ old ++ push_calls_text origin.0 to.0 (record { sent = sent; done = passed.done; errors = passed.errors; low = low })) where
   abbrev z : ProcState
@@ -45,14 +45,14 @@ module _ (origin to : SiteName) (sent low before newest : ℕ) (passed : PassCou
   finished : passed ≡ record { done = added_count is_done (as_site x) (as_site z); errors = added_count is_error (as_site x) (as_site z) }
   finished =
       passed_is ∙ ap (λ (n : ℕ). finished_in (take n y.journal)) (newest_is ∙ ap (λ (n : ℕ). length y.journal - n) begins)
-      ∙ ap (λ (v : ProcState). finished_in (take (length v.journal - length x.journal) v.journal)) settled
+      ∙ ap (λ (v : ProcState). finished_in (take (length v.journal - length x.journal) v.journal)) applied
       ∙ newest_finish (as_site x) (as_site z) (passes_so_far_grow origin x)
 
   counted : push_calls_text origin.0 to.0 (record { sent = sent; done = passed.done; errors = passed.errors; low = low }) ≡ push_calls_text origin.0 to.0 (calls_count_in sent origin (Some x))
   counted =
       ap (λ (c : PassCount). push_calls_text origin.0 to.0 (record { sent = sent; done = c.done; errors = c.errors; low = low })) finished
       ∙ ap (λ (l : ℕ). push_calls_text origin.0 to.0 (record { sent = sent; done = added_count is_done (as_site x) (as_site z); errors = added_count is_error (as_site x) (as_site z); low = l }))
-      (low_is ∙ ap (λ (v : ProcState). low_water origin v.journal) settled)
+      (low_is ∙ ap (λ (v : ProcState). low_water origin v.journal) applied)
 
   lined_is : lined ≡ old ++ push_calls_text origin.0 to.0 (calls_count_in sent origin (Some x))
   lined_is = line ∙ ap (λ (text : List ℕ). old ++ text) counted
@@ -70,7 +70,7 @@ module _ (origin to : SiteName) (sent low before newest : ℕ) (passed : PassCou
   told_some listed is =
       let all : List ℕ = push_calls_text origin.0 to.0 (calls_count_in sent origin (Some x)) in
       let new : flat_map error_entry_text (new_errors before (as_site y)) ≡ flat_map new_error_text (calls_errors_in origin (Some x))
-      = ap (λ (n : ℕ). flat_map error_entry_text (new_errors n (as_site y))) begins ∙ ap (λ (v : ProcState). flat_map error_entry_text (new_errors (length x.journal) (as_site v))) settled in
+      = ap (λ (n : ℕ). flat_map error_entry_text (new_errors n (as_site y))) begins ∙ ap (λ (v : ProcState). flat_map error_entry_text (new_errors (length x.journal) (as_site v))) applied in
       is ∙ ap (λ (text : List ℕ). text ++ flat_map error_entry_text (new_errors before (as_site y))) lined_is
       ∙ ap (λ (text : List ℕ). (old ++ all) ++ text) new
       ∙ append_assoc old all (flat_map new_error_text (calls_errors_in origin (Some x)))
@@ -88,6 +88,6 @@ module _ (origin name : SiteName) (p old : Procs) (seen : List ProcState) (place
   pub passed_in_part : (y : ProcState) → PartlyPassed x y → CallsPushInPart origin name old (record p { sites = set p.sites place y })
   passed_in_part y parts = calls_part_one origin name (MakePasses parts.0) old _ (procs-written name p old seen place x old_is seen_is at stands (proc_parts parts.0) y parts.1)
 
-  -- all of them settle what came
+  -- all of them applies what came until all is quiet
   pub until_quiet_calls : (y : ProcState) → y ≡ proc_until_quiet origin x → record p { sites = set p.sites place y } ≡ calls_until_quiet origin name old
   until_quiet_calls y is = procs-written name p old seen place x old_is seen_is at stands (proc_until_quiet origin) y is

@@ -106,6 +106,6 @@ passes_grow [] x = front_none x.journal
 passes_grow (origin ∷ origins) x =
     grows_then x (proc_pass origin x) (proc_passes origins (proc_pass origin x)) (each_grows origin (arrivals origin (as_site x)) x) (passes_grow origins (proc_pass origin x))
 
--- once a site has settled what came its journal has more in front
+-- once a site has applied what came its journal has more in front
 pub passes_so_far_grow : (origin : SiteName) (x : ProcState) → JournalGrows x (proc_until_quiet origin x)
 passes_so_far_grow origin x = passes_grow (origin ∷ sender_names x.senders) x

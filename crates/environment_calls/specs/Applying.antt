@@ -7,7 +7,7 @@ use Rattle.world_state.specs.CallPushes.{calls_count_in, calls_errors_in}
 use Rattle.environment.specs.Calling.{proc_parts}
 use Rattle.environment.specs.Texts.{new_error_text}
 
--- what is told of a push that sent so many positions, of the receiver before it settles them
+-- what is told of a push that sent so many positions, of the receiver before it applies them
 abbrev pub told_calls_text : SiteName → SiteName → ℕ → Option ProcState → List ℕ
 told_calls_text from to sent x = push_calls_text from.0 to.0 (calls_count_in sent from x) ++ flat_map new_error_text (calls_errors_in from x)
 

@@ -48,7 +48,7 @@ fn apply_calls(site: &mut ProcSite, alloc: Global, origin: &SiteName) -> Result<
     Ok(())
 }
 
-/// A receiver settles what came, and tells it. Where there is no memory, some of its passes are made.
+/// A receiver applies what came until all is quiet, and tells it. Where there is no memory, some of its passes are made.
 fn apply_at_site(
     site: &mut ProcSite,
     alloc: Global,
@@ -77,7 +77,7 @@ fn apply_at_site(
     Ok(())
 }
 
-/// The receiver settles what came, and tells it. Where there is no memory, some of its passes are made.
+/// The receiver applies what came until all is quiet, and tells it. Where there is no memory, some of its passes are made.
 pub(crate) fn apply_and_tell(
     procs: &mut Procs,
     alloc: Global,

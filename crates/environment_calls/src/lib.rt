@@ -1,5 +1,5 @@
 //! What lines about procedures do to a replication environment: tables and procedures are declared, calls are gathered and
-//! sent, pushed to another master and settled there, and errors of calls are executed again.
+//! sent, pushed to another master and applied there, and errors of calls are executed again.
 #![tactic(auto)]
 
 mod marks;

@@ -90,7 +90,7 @@ fn push_linked(
 }
 
 /// `push-calls`. What is held between the masters goes on the way, what the receiver hasn't acknowledged is sent, and the receiver
-/// takes all in, settles it and tells what came of it. Its mark goes back where the link back is up. Where there is no memory,
+/// takes all in, applies it and tells what came of it. Its mark goes back where the link back is up. Where there is no memory,
 /// some of this may be done, a packet on the way may be lost, and nothing else.
 pub(crate) fn push_calls(
     environment: &mut WorldParts,

@@ -1,4 +1,4 @@
--- Where no snapshot has a parent, what is settled is settled by keys, and keys alone are looked up.
+-- Where no snapshot has a parent, what is up to date is up to date by keys, and keys alone are looked up.
 use Rattle.std.proofs.Common.{◌≡◌, ℕ, List, [], ◌∷◌, ◌++◌, map, None, refl, sym, ap, ap₂, ◌∙◌, subst}
 use Rattle.std.specs.Prelude.{Option, filter, length, sum}
 use Rattle.std.specs.List.{AllByRecursion}

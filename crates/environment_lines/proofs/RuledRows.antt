@@ -1,4 +1,4 @@
--- The rule of a snapshot picks what the snapshot picks, and what isn't settled by it is what isn't settled.
+-- The rule of a snapshot picks what the snapshot picks, and what isn't up to date by it is what isn't up to date.
 use Rattle.std.proofs.Common.{◌≡◌, List, [], ◌∷◌, ◌++◌, map, Bool, Some, None, refl, sym, ap, subst}
 use Rattle.std.specs.Prelude.{Option, filter}
 use Rattle.rep_schema.specs.declared.schema.Schema.{Schema}
@@ -32,7 +32,7 @@ same_waits parents query None (rules.Parent p) is = absurd is
 same_waits parents query (Some p) (rules.Whole own) is = absurd is
 same_waits parents query (Some p) (rules.Parent q) is = ap {B = Cells → Bool} (λ (r : Parent). λ (row : Cells). has_key (parent_key r row) parents) is
 
--- so a table that has what the snapshot shows of each settled row has what the rule shows of it
+-- so a table that has what the snapshot shows of each up-to-date row has what the rule shows of it
 pub up_to_date_so : (schema : Schema) (tables : List Rows) (s : Snapshot) (rule : Rule) (logs : List LogState) (own : Rows) → IsRuleOf s.query s.parent rule
     → ShowsOthers (columns_of schema s.table) (picks schema tables s) (outdated_keys schema logs tables s) (rows_of tables s.table) own
     → ShowsUpToDate schema tables s.table rule (pending_keys logs s) (pending_parents logs s) own

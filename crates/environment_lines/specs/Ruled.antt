@@ -25,7 +25,7 @@ IsRuleOf query (Some p) (rules.Whole own) = ⊥
 IsRuleOf query (Some p) (rules.Parent parent) = parent.now ≡ p
 
 -- master and site have tables of one schema, a snapshot and its parents are of these, its pending parents rise, and its own table
--- has what it shows of the master's row under each settled key
+-- has what it shows of the master's row under each up-to-date key
 pub record CanRenew (schema : Schema) (logs : List LogState) (master_schema : Schema) (master own : List Rows) (s : Snapshot) : Type 0 where
   pub keyed : SchemaIsKeyed schema
   pub same : master_schema ≡ schema

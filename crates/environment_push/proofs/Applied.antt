@@ -1,4 +1,4 @@
--- What a receiver tells of what it settled, and that what it does is a step of a push.
+-- What a receiver tells of what it applied, and that what it does is a step of a push.
 use Rattle.std.proofs.Common.{◌≡◌, ℕ, zero, suc, ◌<◌, List, [], ◌∷◌, ◌++◌, length, Option, Some, refl, sym, ap, ◌∙◌, arith, append_assoc, append-nil, get_or, set, inl, inr}
 use Rattle.std.specs.Prelude.{flat_map}
 use Rattle.std.specs.List.{insert, remove}
@@ -33,7 +33,7 @@ errors_in-none origin x none = no_new_errors x (site_until_quiet origin x) (unti
 
 -- ---- what is told
 
-module _ (origin to : SiteName) (sent done errors low before : ℕ) (x y : SiteState) (old lined : List ℕ) (settled : y ≡ site_until_quiet origin x) (begins : before ≡ length x.journal)
+module _ (origin to : SiteName) (sent done errors low before : ℕ) (x y : SiteState) (old lined : List ℕ) (applied : y ≡ site_until_quiet origin x) (begins : before ≡ length x.journal)
     (done_is : done ≡ added_count is_done x y) (errors_is : errors ≡ added_count is_error x y) (low_is : low ≡ low_water origin y.journal)
     (line : lined ≡ old ++ push_text origin.0 to.0 (record { sent = sent; done = done; errors = errors; low = low })) where
   abbrev all : List ℕ
@@ -41,10 +41,10 @@ module _ (origin to : SiteName) (sent done errors low before : ℕ) (x y : SiteS
 
   counted : push_text origin.0 to.0 (record { sent = sent; done = done; errors = errors; low = low }) ≡ all
   counted =
-      ap (λ (d : ℕ). push_text origin.0 to.0 (record { sent = sent; done = d; errors = errors; low = low })) (done_is ∙ ap (added_count is_done x) settled)
-      ∙ ap (λ (e : ℕ). push_text origin.0 to.0 (record { sent = sent; done = added_count is_done x (site_until_quiet origin x); errors = e; low = low })) (errors_is ∙ ap (added_count is_error x) settled)
+      ap (λ (d : ℕ). push_text origin.0 to.0 (record { sent = sent; done = d; errors = errors; low = low })) (done_is ∙ ap (added_count is_done x) applied)
+      ∙ ap (λ (e : ℕ). push_text origin.0 to.0 (record { sent = sent; done = added_count is_done x (site_until_quiet origin x); errors = e; low = low })) (errors_is ∙ ap (added_count is_error x) applied)
       ∙ ap (λ (l : ℕ). push_text origin.0 to.0 (record { sent = sent; done = added_count is_done x (site_until_quiet origin x); errors = added_count is_error x (site_until_quiet origin x); low = l }))
-      (low_is ∙ ap (λ (z : SiteState). low_water origin z.journal) settled)
+      (low_is ∙ ap (λ (z : SiteState). low_water origin z.journal) applied)
 
   lined_is : lined ≡ old ++ all
   lined_is = line ∙ ap (λ (text : List ℕ). old ++ text) counted
@@ -52,7 +52,7 @@ module _ (origin to : SiteName) (sent done errors low before : ℕ) (x y : SiteS
   -- no error was counted
   pub told-none : errors ≡ 0 → lined ≡ old ++ told_text origin to sent (Some x)
   told-none none =
-      let no : added_count is_error x (site_until_quiet origin x) ≡ 0 = ap (added_count is_error x) (sym settled) ∙ sym errors_is ∙ none in
+      let no : added_count is_error x (site_until_quiet origin x) ≡ 0 = ap (added_count is_error x) (sym applied) ∙ sym errors_is ∙ none in
       lined_is ∙ ap (λ (text : List ℕ). old ++ text) (sym (append-nil all))
       ∙ ap (λ (es : List ErrorEntry). old ++ (all ++ flat_map new_error_text es)) (sym (errors_in-none origin x no))
 
@@ -60,7 +60,7 @@ module _ (origin to : SiteName) (sent done errors low before : ℕ) (x y : SiteS
   pub told-some : (listed : List ℕ) → listed ≡ lined ++ flat_map error_entry_text (new_errors before y) → listed ≡ old ++ told_text origin to sent (Some x)
   told-some listed is =
       let new : flat_map error_entry_text (new_errors before y) ≡ flat_map new_error_text (errors_in origin (Some x))
-      = ap (λ (n : ℕ). flat_map error_entry_text (new_errors n y)) begins ∙ ap (λ (z : SiteState). flat_map error_entry_text (new_errors (length x.journal) z)) settled in
+      = ap (λ (n : ℕ). flat_map error_entry_text (new_errors n y)) begins ∙ ap (λ (z : SiteState). flat_map error_entry_text (new_errors (length x.journal) z)) applied in
       is ∙ ap (λ (text : List ℕ). text ++ flat_map error_entry_text (new_errors before y)) lined_is
       ∙ ap (λ (text : List ℕ). (old ++ all) ++ text) new
       ∙ append_assoc old all (flat_map new_error_text (errors_in origin (Some x)))
@@ -95,6 +95,6 @@ module _ (origin name : SiteName) (w : WorldState) (place : ℕ) (found : IsAt n
     applying_in_part (inl parts) = put_in_part parts
     applying_in_part (inr is) = let parts = partly_until_quiet origin x in put_in_part (parts.0, is ∙ parts.1)
 
-    -- all of them settle what came
+    -- all of them applies what came until all is quiet
     pub until_quiet_world : y ≡ site_until_quiet origin x → record w { sites = sites } ≡ world_until_quiet origin name w
     until_quiet_world is = ap (λ (xs : List SiteState). record w { sites = xs }) (put_is (site_until_quiet origin) is)

@@ -10,7 +10,7 @@ use Rattle.world_state.specs.PushAnswers.{count_in, errors_in}
 use Rattle.site_rounds.specs.Parts.{PartlyApplied, MastersCanPass}
 use Rattle.environment.specs.Texts.{new_error_text}
 
--- what is told of a push that sent so many positions, of the receiver before it settles them
+-- what is told of a push that sent so many positions, of the receiver before it applies them
 abbrev pub told_text : SiteName → SiteName → ℕ → Option SiteState → List ℕ
 told_text from to sent x = push_text from.0 to.0 (count_in sent from x) ++ flat_map new_error_text (errors_in from x)
 

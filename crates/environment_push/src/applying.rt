@@ -26,7 +26,7 @@ pub(crate) struct Pushed {
     pub sent: u64,
 }
 
-/// A receiver settles what came, and tells it. Where there is no memory, some of its passes are made.
+/// A receiver applies what came until all is quiet, and tells it. Where there is no memory, some of its passes are made.
 fn apply_at_site<P: Passing>(
     site: Site<PageTables>,
     alloc: Global,
@@ -39,7 +39,7 @@ fn apply_at_site<P: Passing>(
     requires masters { MastersCanPass site }
     ensures ok { OnOk result.1 (result.0 ≡ site_until_quiet pushed.from site) }
     ensures text { OnOk result.1 (lines.new.bytes ≡ lines.old.bytes ++ told_text pushed.from pushed.to pushed.sent (Some site)) }
-    ensures settling { IsApplying pushed.from site result.0 }
+    ensures applying { IsApplying pushed.from site result.0 }
 {
     let before = site.journal_len();
     let (site, passed) = match apply_until_quiet(alloc, passing, site, &pushed.from) {
@@ -69,7 +69,7 @@ fn put_back(sites: &mut Vec<Site<PageTables>>, place: usize, site: Site<PageTabl
     let _ = sites.insert(place, site);
 }
 
-/// The receiver settles what came, and tells it. Where there is no memory, some of its passes are made.
+/// The receiver applies what came until all is quiet, and tells it. Where there is no memory, some of its passes are made.
 pub(crate) fn apply_and_tell<P: Passing>(
     environment: &mut WorldParts,
     alloc: Global,

@@ -1,4 +1,4 @@
-//! A push from one site of an environment to another: what isn't acknowledged is sent and taken in, the receiver settles it and
+//! A push from one site of an environment to another: what isn't acknowledged is sent and taken in, the receiver applies it and
 //! tells what came of it, and its mark goes back. Pieces of it stand before and behind a live part at a master.
 #![tactic(auto)]
 

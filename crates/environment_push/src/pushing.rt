@@ -101,7 +101,7 @@ fn push_linked<P: Passing>(
 }
 
 /// Does the line of a push that isn't refused: what is held between the sites goes on the way, what the receiver hasn't
-/// acknowledged is sent, at most so many positions where a count is given, and the receiver takes all in, settles it and tells
+/// acknowledged is sent, at most so many positions where a count is given, and the receiver takes all in, applies it and tells
 /// what came of it. Its mark goes back where that direction is up. Whoever makes the receiver's passes, the site is the same.
 /// Where there is no memory, some of this may be done, a packet on the way may be lost, and nothing else.
 pub fn push<P: Passing>(

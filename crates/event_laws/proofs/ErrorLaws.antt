@@ -63,7 +63,7 @@ executions_apply_anew x origin position is = go (error_at origin position x.jour
     by e stood (Ok effect) is =
         let own = error_found origin position x.journal e stood in
         let at : is_position origin position e.origin e.position ≡ true = rw own.0 (is_position-own origin position e.position own.1) in
-        record { entry = e; stood = stood; content = refl; settled = rw at refl }
+        record { entry = e; stood = stood; content = refl; cleared = rw at refl }
     by e stood (Err failure) is = absurd (cc is)
 
     go : (found : Option ErrorEntry) → error_at origin position x.journal ≡ found → execute_refusal_found found x ≡ None → IsExecuted x (executed_found found x) origin position
@@ -78,4 +78,4 @@ drops_clear x origin position is = go (error_at origin position x.journal) refl 
     go (Some e) stood is =
         let own = error_found origin position x.journal e stood in
         let at : is_position origin position e.origin e.position ≡ true = rw own.0 (is_position-own origin position e.position own.1) in
-        record { content = refl; queue = refl; settled = rw at refl }
+        record { content = refl; queue = refl; cleared = rw at refl }

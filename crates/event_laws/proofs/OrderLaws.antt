@@ -44,9 +44,9 @@ abbrev count_standing : Option ErrorEntry → ℕ
 count_standing None = 0
 count_standing (Some e) = 1
 
--- an error was settled or stands only where its position was finished
+-- an error was cleared or stands only where its position was finished
 record IsOnce (journal : List Entry) (origin : SiteName) (position : ℕ) : Type 0 where
-  settled : count_where (clears_error origin position) journal + count_standing (error_at origin position journal) ≤ count_where (finishes origin position) journal
+  cleared : count_where (clears_error origin position) journal + count_standing (error_at origin position journal) ≤ count_where (finishes origin position) journal
   finished : count_where (finishes origin position) journal ≤ 1
 
 count_where-none : (test : Entry → Bool) (es : List Entry) → list_any test es ≡ false → count_where test es ≡ 0
@@ -72,28 +72,28 @@ cleared_stood x origin o position p stands is =
     one (Some e) stands = refl
 
 once_more : (x : SiteState) (e : Entry) (origin : SiteName) (position : ℕ) → MayFollow x e → IsOnce x.journal origin position → IsOnce (e ∷ x.journal) origin position
-once_more x (Local number txn) origin position follows once = record { settled = once.settled; finished = once.finished }
+once_more x (Local number txn) origin position follows once = record { cleared = once.cleared; finished = once.finished }
 once_more x (Done o p onward txn) origin position follows once = go (is_position origin position o p) refl
   where
     go : (b : Bool) → is_position origin position o p ≡ b → IsOnce (Done o p onward txn ∷ x.journal) origin position
-    go true is = let never = taken_was_unfinished x origin o position p txn follows is in record { settled = rw is (omega (arith, once.settled, never)); finished = rw is (omega (arith, never)) }
-    go false is = record { settled = rw is once.settled; finished = rw is once.finished }
+    go true is = let never = taken_was_unfinished x origin o position p txn follows is in record { cleared = rw is (omega (arith, once.cleared, never)); finished = rw is (omega (arith, never)) }
+    go false is = record { cleared = rw is once.cleared; finished = rw is once.finished }
 once_more x (Error o p call error txn) origin position follows once = go (is_position origin position o p) refl
   where
     go : (b : Bool) → is_position origin position o p ≡ b → IsOnce (Error o p call error txn ∷ x.journal) origin position
-    go true is = let never = taken_was_unfinished x origin o position p txn follows is in record { settled = rw is (omega (arith, once.settled, never)); finished = rw is (omega (arith, never)) }
-    go false is = record { settled = rw is once.settled; finished = rw is once.finished }
+    go true is = let never = taken_was_unfinished x origin o position p txn follows is in record { cleared = rw is (omega (arith, once.cleared, never)); finished = rw is (omega (arith, never)) }
+    go false is = record { cleared = rw is once.cleared; finished = rw is once.finished }
 once_more x (Executed o p onward txn) origin position follows once = go (is_position origin position o p) refl
   where
     go : (b : Bool) → is_position origin position o p ≡ b → IsOnce (Executed o p onward txn ∷ x.journal) origin position
-    go true is = let stood = cleared_stood x origin o position p follows is in record { settled = rw is (omega (arith, once.settled, stood)); finished = once.finished }
-    go false is = record { settled = rw is once.settled; finished = once.finished }
+    go true is = let stood = cleared_stood x origin o position p follows is in record { cleared = rw is (omega (arith, once.cleared, stood)); finished = once.finished }
+    go false is = record { cleared = rw is once.cleared; finished = once.finished }
 once_more x (Dropped o p) origin position follows once = go (is_position origin position o p) refl
   where
     go : (b : Bool) → is_position origin position o p ≡ b → IsOnce (Dropped o p ∷ x.journal) origin position
-    go true is = let stood = cleared_stood x origin o position p follows is in record { settled = rw is (omega (arith, once.settled, stood)); finished = once.finished }
-    go false is = record { settled = rw is once.settled; finished = once.finished }
-once_more x (Refreshed moment) origin position follows once = record { settled = once.settled; finished = once.finished }
+    go true is = let stood = cleared_stood x origin o position p follows is in record { cleared = rw is (omega (arith, once.cleared, stood)); finished = once.finished }
+    go false is = record { cleared = rw is once.cleared; finished = once.finished }
+once_more x (Refreshed moment) origin position follows once = record { cleared = once.cleared; finished = once.finished }
 
 -- ---- in order
 
@@ -162,7 +162,7 @@ abbrev AllInOrder : List SiteState → Type 0
 AllInOrder sites = (site : SiteName) → OrderAt sites site (journal_in (site_of site sites))
 
 none_once : AreOnce []
-none_once origin position = record { settled = omega arith; finished = omega arith }
+none_once origin position = record { cleared = omega arith; finished = omega arith }
 
 none_in_order : (sites : List SiteState) (site : SiteName) → OrderAt sites site []
 none_in_order sites site = record { once = none_once; in_order = tt }
@@ -258,7 +258,7 @@ are_finished_once schema start events is site origin position = (((run_ordered s
 
 pub are_cleared_once : InEveryRun AreClearedOnce
 are_cleared_once schema start events is site origin position =
-    let once = ((run_ordered schema start events is).orders site).once origin position in omega (arith, once.settled, once.finished)
+    let once = ((run_ordered schema start events is).orders site).once origin position in omega (arith, once.cleared, once.finished)
 
 pub earlier_comes_first : InEveryRun EarlierComesFirst
 earlier_comes_first schema start events is site = ((run_ordered schema start events is).orders site).in_order

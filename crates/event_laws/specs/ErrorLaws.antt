@@ -40,7 +40,7 @@ pub record IsExecuted (x y : SiteState) (origin : SiteName) (position : ℕ) : T
   pub entry : ErrorEntry
   pub stood : error_at origin position x.journal ≡ Some entry
   pub content : content_of y ≡ content_after x.schema entry.origin entry.txn (content_of x)
-  pub settled : error_at origin position y.journal ≡ None
+  pub cleared : error_at origin position y.journal ≡ None
 
 -- any other one does that
 abbrev pub ExecutionsApplyAnew : Type 0
@@ -51,7 +51,7 @@ ExecutionsApplyAnew = (x : SiteState) (origin : SiteName) (position : ℕ) → e
 pub record IsDropped (x y : SiteState) (origin : SiteName) (position : ℕ) : Type 0 where
   pub content : content_of y ≡ content_of x
   pub queue : queue_of y ≡ queue_of x
-  pub settled : error_at origin position y.journal ≡ None
+  pub cleared : error_at origin position y.journal ≡ None
 
 -- a drop that isn't refused does that
 abbrev pub DropsClear : Type 0

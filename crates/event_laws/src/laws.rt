@@ -17,11 +17,11 @@ pub fn marks_are_never_ahead()
     ensures numbered { InEveryRun AreWellNumbered }
 {}
 
-/// Each position is finished at most once and its error settled at most once, whatever happens; and of two transactions
+/// Each position is finished at most once and its error cleared at most once, whatever happens; and of two transactions
 /// of a stream that share a token the earlier is finished first.
 pub fn earlier_comes_first()
     ensures once { InEveryRun AreFinishedOnce }
-    ensures settled { InEveryRun AreClearedOnce }
+    ensures cleared { InEveryRun AreClearedOnce }
     ensures order { InEveryRun EarlierComesFirst }
 {}
 

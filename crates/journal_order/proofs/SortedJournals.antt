@@ -1,4 +1,4 @@
--- A settled journal has the entries of the one before.
+-- A sorted journal has the entries of the one before.
 use Rattle.std.proofs.Common.{◌≡◌, ℕ, ◌+◌, ◌≤◌, List, [], ◌∷◌, ◌++◌, take, drop, reverse, Bool, true, false, cond, refl, sym, ap, ◌∙◌, subst, arith}
 use Rattle.std.specs.Prelude.{sum_by}
 use Rattle.std.specs.List.{AllByRecursion}
@@ -65,29 +65,29 @@ pub journal_parts : (place : ℕ) (journal : List Entry) → journal ≡ reverse
 journal_parts place journal =
     sym (reverse-reverse journal) ∙ ap reverse (sym (take-append-drop place (reverse journal))) ∙ reverse-append (entries_before place journal) (entries_from place journal)
 
--- the settled journal stands over the same older entries
+-- the sorted journal stands over the same older entries
 pub sorted_parts : (place : ℕ) (old new : List Entry) → IsSorted place old new → new ≡ reverse (entries_from place new) ++ reverse (entries_before place old)
-sorted_parts place old new settled = journal_parts place new ∙ ap (λ es. reverse (entries_from place new) ++ reverse es) settled.older
+sorted_parts place old new sorted = journal_parts place new ∙ ap (λ es. reverse (entries_from place new) ++ reverse es) sorted.older
 
 IsPermutation-reverses : {X : Type 0} (xs ys : List X) → IsPermutation xs ys → IsPermutation (reverse xs) (reverse ys)
 IsPermutation-reverses xs ys same =
     IsPermutation-trans _ _ _ (IsPermutation-sym _ _ (IsPermutation-reverse xs)) (IsPermutation-trans _ _ _ same (IsPermutation-reverse ys))
 
--- a settled journal has the entries of the one before
+-- a sorted journal has the entries of the one before
 pub IsPermutation-sorted : (place : ℕ) (old new : List Entry) → IsSorted place old new → IsPermutation old new
-IsPermutation-sorted place old new settled =
+IsPermutation-sorted place old new sorted =
     subst (λ es. IsPermutation es new) (sym (journal_parts place old))
-    (subst (λ es. IsPermutation (reverse (entries_from place old) ++ reverse (entries_before place old)) es) (sym (sorted_parts place old new settled))
-    (IsPermutation-append_left (reverse (entries_before place old)) _ _ (IsPermutation-reverses _ _ (IsPermutation-sym _ _ settled.entries))))
+    (subst (λ es. IsPermutation (reverse (entries_from place old) ++ reverse (entries_before place old)) es) (sym (sorted_parts place old new sorted))
+    (IsPermutation-append_left (reverse (entries_before place old)) _ _ (IsPermutation-reverses _ _ (IsPermutation-sym _ _ sorted.entries))))
 
--- what holds of each entry of a journal holds of each of the settled one
+-- what holds of each entry of a journal holds of each of the sorted one
 pub AllByRecursion-sorted : (P : Entry → Type 0) (place : ℕ) (old new : List Entry) → IsSorted place old new → AllByRecursion P old → AllByRecursion P new
-AllByRecursion-sorted P place old new settled all = AllByRecursion-IsPermutation P old new (IsPermutation-sorted place old new settled) all
+AllByRecursion-sorted P place old new sorted all = AllByRecursion-IsPermutation P old new (IsPermutation-sorted place old new sorted) all
 
--- a settled journal finishes a position as often as the one before
+-- a sorted journal finishes a position as often as the one before
 pub IsFinishedOnce-sorted : (place : ℕ) (old new : List Entry) → IsSorted place old new → IsFinishedOnce old → IsFinishedOnce new
-IsFinishedOnce-sorted place old new settled once origin position =
-    omega (arith, count_where-IsPermutation (finishes origin position) old new (IsPermutation-sorted place old new settled), once origin position)
+IsFinishedOnce-sorted place old new sorted once origin position =
+    omega (arith, count_where-IsPermutation (finishes origin position) old new (IsPermutation-sorted place old new sorted), once origin position)
 
 -- ---- positions differ
 
@@ -104,7 +104,7 @@ count_where-positions origin position [] all = refl
 count_where-positions origin position (e ∷ es) all =
     rw (finishes-IsFinishOf origin position e all.0, count_where-positions origin position es all.1) refl
 
--- where positions are finished once, the entries that can be settled have different positions
+-- where positions are finished once, the entries that can be sorted have different positions
 pub PositionsDiffer-sortable : (schema : Schema) (origin : SiteName) (place : ℕ) (journal : List Entry) → IsFinishedOnce journal → CanBeSorted schema origin place journal
     → PositionsDiffer (entries_from place journal)
 PositionsDiffer-sortable schema origin place journal once can position =

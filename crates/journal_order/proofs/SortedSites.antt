@@ -1,4 +1,4 @@
--- A site whose journal is settled is the site before.
+-- A site whose journal is sorted is the site before.
 use Rattle.std.proofs.Common.{◌≡◌, ℕ, ◌<◌, ◌≤◌, List, [], ◌∷◌, ◌++◌, reverse, Bool, true, false, cond, max, Some, None, refl, sym, ap, ◌∙◌, subst, arith}
 use Rattle.std.specs.Prelude.{◌&&◌, nat_lt, Option, flat_map, filter_map}
 use Rattle.std.specs.List.{AllByRecursion}
@@ -237,48 +237,48 @@ low_alike origin es ds alike = omega (arith, low_at_most origin es ds alike, low
 
 -- ---- the law
 
-module _ (place : ℕ) (x : SiteState) (journal : List Entry) (settled : IsSorted place x.journal journal) where
+module _ (place : ℕ) (x : SiteState) (journal : List Entry) (sorted : IsSorted place x.journal journal) where
   abbrev older : List Entry
   older = reverse (entries_before place x.journal)
 
-  abbrev unsettled : List Entry
-  unsettled = entries_from place x.journal
+  abbrev unsorted : List Entry
+  unsorted = entries_from place x.journal
 
   abbrev risen : List Entry
   risen = entries_from place journal
 
-  was : x.journal ≡ reverse unsettled ++ older
+  was : x.journal ≡ reverse unsorted ++ older
   was = journal_parts place x.journal
 
   becomes : journal ≡ reverse risen ++ older
-  becomes = sorted_parts place x.journal journal settled
+  becomes = sorted_parts place x.journal journal sorted
 
-  all_from : (P : Entry → Type 0) → AllByRecursion P x.journal → AllByRecursion P unsettled
-  all_from P all = all_reversed P unsettled (all_front P (reverse unsettled) older (subst (AllByRecursion P) was all))
+  all_from : (P : Entry → Type 0) → AllByRecursion P x.journal → AllByRecursion P unsorted
+  all_from P all = all_reversed P unsorted (all_front P (reverse unsorted) older (subst (AllByRecursion P) was all))
 
   all_before : (P : Entry → Type 0) → AllByRecursion P x.journal → AllByRecursion P older
-  all_before P all = all_rest P (reverse unsettled) older (subst (AllByRecursion P) was all)
+  all_before P all = all_rest P (reverse unsorted) older (subst (AllByRecursion P) was all)
 
-  all_risen : (P : Entry → Type 0) → AllByRecursion P unsettled → AllByRecursion P risen
-  all_risen P = AllByRecursion-IsPermutation P unsettled risen (IsPermutation-sym _ _ settled.entries)
+  all_risen : (P : Entry → Type 0) → AllByRecursion P unsorted → AllByRecursion P risen
+  all_risen P = AllByRecursion-IsPermutation P unsorted risen (IsPermutation-sym _ _ sorted.entries)
 
   finished_same : (o : SiteName) (p : ℕ) → finished o x.journal p ≡ finished o journal p
-  finished_same o p = list_any-IsPermutation (finishes o p) x.journal journal (IsPermutation-sorted place x.journal journal settled)
+  finished_same o p = list_any-IsPermutation (finishes o p) x.journal journal (IsPermutation-sorted place x.journal journal sorted)
 
 told-sorted : (origin : SiteName) (place : ℕ) (x : SiteState) (journal : List Entry) → IsSound x.schema
     → IsContent x.schema (journal_content x.schema x.here.site x.base (reverse (entries_before place x.journal))) → AllByRecursion (EntryFits x.schema) x.journal
     → CanBeSorted x.schema origin place x.journal → IsSorted place x.journal journal
     → told x.schema x.here.site x.base x.journal ≡ told x.schema x.here.site x.base journal
-told-sorted origin place x journal sound is fit can settled =
-    ap telling (was place x journal settled)
+told-sorted origin place x journal sound is fit can sorted =
+    ap telling (was place x journal sorted)
     ∙ told_over x.schema x.here.site x.base sound origin from_there before
     ∙ one_end (entries_told x.schema x.here.site x.base sound origin) in_turn from_there (telling before) is
-    (AllByRecursion-both _ _ from_there can.entries (all_from place x journal settled (EntryFits x.schema) fit))
-    (ordered x.schema from_there can.order) (rises in_turn settled.rising)
-    (all_risen place x journal settled (Has from_there) (has_itself from_there))
-    (λ f. sum_by-IsPermutation f in_turn from_there settled.entries)
+    (AllByRecursion-both _ _ from_there can.entries (all_from place x journal sorted (EntryFits x.schema) fit))
+    (ordered x.schema from_there can.order) (rises in_turn sorted.rising)
+    (all_risen place x journal sorted (Has from_there) (has_itself from_there))
+    (λ f. sum_by-IsPermutation f in_turn from_there sorted.entries)
     ∙ sym (told_over x.schema x.here.site x.base sound origin in_turn before)
-    ∙ ap telling (sym (becomes place x journal settled))
+    ∙ ap telling (sym (becomes place x journal sorted))
   where
     telling : List Entry → Told
     telling es = told x.schema x.here.site x.base es
@@ -298,17 +298,17 @@ pub one_site_where_content_before : (origin : SiteName) (place : ℕ) (x : SiteS
     → AllByRecursion (EntryFits x.schema) x.journal → AllByRecursion (StaysWithMasters x.schema) x.journal
     → CanBeSorted x.schema origin place x.journal → IsSorted place x.journal journal
     → IsOneSite x (record x { journal = journal })
-one_site_where_content_before origin place x journal sound is fit stay can settled = record {
+one_site_where_content_before origin place x journal sound is fit stay can sorted = record {
   rest = refl;
   content = ap (λ (t : Told). t.content) view;
-  queue = ap (queue_after x.schema x.here x.base) (was place x journal settled)
+  queue = ap (queue_after x.schema x.here x.base) (was place x journal sorted)
       ∙ queue_over x.schema x.here x.base x.senders origin can.master from_there before quiet
       ∙ sym (queue_over x.schema x.here x.base x.senders origin can.master in_turn before quiet_in_turn)
-      ∙ ap (queue_after x.schema x.here x.base) (sym (becomes place x journal settled));
-  pasts = ap (pasts_after x.schema x.here x.senders) (was place x journal settled)
+      ∙ ap (queue_after x.schema x.here x.base) (sym (becomes place x journal sorted));
+  pasts = ap (pasts_after x.schema x.here x.senders) (was place x journal sorted)
       ∙ pasts_over x.schema x.here x.base x.senders origin can.master from_there before quiet
       ∙ sym (pasts_over x.schema x.here x.base x.senders origin can.master in_turn before quiet_in_turn)
-      ∙ ap (pasts_after x.schema x.here x.senders) (sym (becomes place x journal settled));
+      ∙ ap (pasts_after x.schema x.here x.senders) (sym (becomes place x journal sorted));
   seen = past_at-alike x.journal journal alike x.schema x.senders;
   finished_alike = alike;
   low = λ sender. low_alike sender x.journal journal (alike sender);
@@ -326,31 +326,31 @@ one_site_where_content_before origin place x journal sound is fit stay can settl
     in_turn = entries_from place journal
 
     alike : (o : SiteName) (p : ℕ) → finished o x.journal p ≡ finished o journal p
-    alike = finished_same place x journal settled
+    alike = finished_same place x journal sorted
 
     view : told x.schema x.here.site x.base x.journal ≡ told x.schema x.here.site x.base journal
-    view = told-sorted origin place x journal sound is fit can settled
+    view = told-sorted origin place x journal sound is fit can sorted
 
     quiet : AllByRecursion (IsQuiet x.schema x.here x.base x.senders origin can.master) (entries_from place x.journal)
-    quiet = AllByRecursion-both _ _ (entries_from place x.journal) can.entries (all_from place x journal settled (StaysWithMasters x.schema) stay)
+    quiet = AllByRecursion-both _ _ (entries_from place x.journal) can.entries (all_from place x journal sorted (StaysWithMasters x.schema) stay)
 
     quiet_in_turn : AllByRecursion (IsQuiet x.schema x.here x.base x.senders origin can.master) (entries_from place journal)
-    quiet_in_turn = all_risen place x journal settled _ quiet
+    quiet_in_turn = all_risen place x journal sorted _ quiet
 
 pub sorting_changes_no_more : SortingChangesNoMore
-sorting_changes_no_more origin place x journal sound fits are stay can settled =
+sorting_changes_no_more origin place x journal sound fits are stay can sorted =
     one_site_where_content_before origin place x journal sound
-    (IsContent-journal_content x.schema x.here.site x.base sound are (reverse (entries_before place x.journal)) (all_before place x journal settled (EntryFits x.schema) fits.journal))
-    fits.journal stay can settled
+    (IsContent-journal_content x.schema x.here.site x.base sound are (reverse (entries_before place x.journal)) (all_before place x journal sorted (EntryFits x.schema) fits.journal))
+    fits.journal stay can sorted
 
--- what fits at a site still fits where its journal is settled
+-- what fits at a site still fits where its journal is sorted
 pub SiteFits-sorted : (place : ℕ) (x : SiteState) (journal : List Entry) → SiteFits x → IsSorted place x.journal journal → IsOneSite x (record x { journal = journal })
     → SiteFits (record x { journal = journal })
-SiteFits-sorted place x journal fits settled one = record {
+SiteFits-sorted place x journal fits sorted one = record {
   keyed = fits.keyed;
   content = subst (IsContent x.schema) one.content fits.content;
   queued = subst (AllByRecursion (TxnFits x.schema)) one.queue fits.queued;
   senders = fits.senders;
-  journal = AllByRecursion-sorted (EntryFits x.schema) place x.journal journal settled fits.journal;
+  journal = AllByRecursion-sorted (EntryFits x.schema) place x.journal journal sorted fits.journal;
   within = fits.within;
 }

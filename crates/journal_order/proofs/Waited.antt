@@ -132,7 +132,7 @@ HaveWaited-put from b ss (e ∷ es) come new waited = (own, HaveWaited-put from 
         let came : arrived_at origin q ss ≢ None = come origin q (ap (λ (b : Bool). b || finished origin es q) here) in
         waited.0 origin p q a here (sym (arrived_at-kept origin from q b ss new came) ∙ there) from_one less up_to
 
--- ---- a settled journal
+-- ---- a sorted journal
 
 is_position-above : (origin o : SiteName) (p q : ℕ) → p < q → is_position origin p o q ≡ false
 is_position-above origin o p q less = go (is_same_site o origin) (q == p) off
@@ -198,9 +198,9 @@ waited_over senders (e ∷ es) journal waited rising has =
     own origin p q a here there from_one less up_to =
         sym (finished-above origin p (e ∷ es) journal (above p q less (position_of-finishes origin q e here))) ∙ has.0 origin p q a here there from_one less up_to
 
--- a settled journal's positions have waited too
+-- a sorted journal's positions have waited too
 pub HaveWaited-sorted : (senders : List SenderState) (place : ℕ) (old new : List Entry) → IsSorted place old new → HaveWaited senders old → HaveWaited senders new
-HaveWaited-sorted senders place old new settled waited = subst (HaveWaited senders) (sym becomes) (waited_over senders risen older before (rises risen settled.rising) has_risen)
+HaveWaited-sorted senders place old new sorted waited = subst (HaveWaited senders) (sym becomes) (waited_over senders risen older before (rises risen sorted.rising) has_risen)
   where
     older : List Entry
     older = reverse (entries_before place old)
@@ -209,16 +209,16 @@ HaveWaited-sorted senders place old new settled waited = subst (HaveWaited sende
     risen = entries_from place new
 
     becomes : new ≡ reverse risen ++ older
-    becomes = sorted_parts place old new settled
+    becomes = sorted_parts place old new sorted
 
     before : HaveWaited senders older
     before = each_rest (HasWaited senders) (reverse (entries_from place old)) older (subst (HaveWaited senders) (journal_parts place old) waited)
 
     alike : (origin : SiteName) (p : ℕ) → finished origin old p ≡ finished origin new p
-    alike origin p = list_any-IsPermutation (finishes origin p) old new (IsPermutation-sorted place old new settled)
+    alike origin p = list_any-IsPermutation (finishes origin p) old new (IsPermutation-sorted place old new sorted)
 
     has_new : AllByRecursion (IsWithin senders new) new
-    has_new = AllByRecursion-sorted (IsWithin senders new) place old new settled (waited_within senders new old (λ origin p is. sym (alike origin p) ∙ is) waited)
+    has_new = AllByRecursion-sorted (IsWithin senders new) place old new sorted (waited_within senders new old (λ origin p is. sym (alike origin p) ∙ is) waited)
 
     has_risen : AllByRecursion (IsWithin senders (reverse risen ++ older)) risen
     has_risen = all_reversed (IsWithin senders (reverse risen ++ older)) risen

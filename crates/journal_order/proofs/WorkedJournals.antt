@@ -1,4 +1,4 @@
--- Journals of a few entries, settled and not.
+-- Journals of a few entries, sorted and not.
 use Rattle.std.specs.Prelude.{◌≡◌, refl, ◌<◌, List, [], ◌∷◌}
 use Rattle.std.proofs.Common.{arith}
 use Rattle.std.proofs.lemmas.List.Sorted.{IsPermutation-append_comm}
@@ -50,17 +50,17 @@ same_content : journal_content two b rows (third ∷ first ∷ second ∷ []) �
 unfolding group_columns_of
 same_content = refl
 
--- ---- what isn't in order, and what isn't settled
+-- ---- what isn't in order, and what isn't sorted
 
 higher_first_is_not_in_order : AreInOrder two (third ∷ first ∷ []) → ⊥
 unfolding group_columns_of
 higher_first_is_not_in_order order = let less : 3 < 1 = order.0.0 refl in omega (arith, less)
 
 falling_is_not_sorted : IsSorted 0 (first ∷ second ∷ []) (first ∷ second ∷ []) → ⊥
-falling_is_not_sorted settled = cc settled.rising.0.0
+falling_is_not_sorted sorted = cc sorted.rising.0.0
 
 across_the_place_is_not_sorted : IsSorted 1 (first ∷ second ∷ []) (second ∷ first ∷ []) → ⊥
-across_the_place_is_not_sorted settled = cc settled.older
+across_the_place_is_not_sorted sorted = cc sorted.older
 
 -- ---- base rows that are no table: a row behind a greater key is found only when that one is gone
 

@@ -114,7 +114,7 @@ pub record IsOneSite (one other : SiteState) : Type 0 where
   pub standing : (sender : SiteName) (position : ℕ) → error_at sender position one.journal ≡ error_at sender position other.journal
   pub errors : errors_of one ≡ errors_of other
 
--- where a site's base rows are tables of its schema, a journal that is settled from a place on changes no more of the site
+-- where a site's base rows are tables of its schema, a journal that is sorted from a place on changes no more of the site
 -- than the order of its entries
 abbrev pub SortingChangesNoMore : Type 0
 SortingChangesNoMore = (origin : SiteName) (place : ℕ) (x : SiteState) (journal : List Entry)

@@ -342,7 +342,7 @@ errors-added journal origin p call error txn ss apart come none = lists_changed 
         (picked-put (λ (q : ℕ). error_at origin q journal) (λ (q : ℕ). error_at origin q (Error origin p call error txn ∷ journal)) p e s.arrived (come.rising s found) (is_at origin journal)
         (λ q off. rw (elsewhere origin origin p q off) refl) none (rw (itself origin p) refl) (rw found at come.there))
 
--- an error that no longer stands, by the entry that settles it
+-- an error that no longer stands, by the entry that clears it
 pub errors-removed : (journal : List Entry) (e : Entry) (origin : SiteName) (p : ℕ) (ss : List SenderState) → StandApart ss → HasCome origin p ss
     → ((o : SiteName) (q : ℕ) → error_at o q (e ∷ journal) ≡ cond (is_position o q origin p) None (error_at o q journal))
     → lists_by (e ∷ journal) ss ≡ removed origin p (lists_by journal ss)

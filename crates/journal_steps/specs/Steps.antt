@@ -11,7 +11,7 @@ use Rattle.site_state.specs.declared.answers.Applied.TheVariants as applied
 use Rattle.journal_steps.specs.declared.steps.ApplyOutcome.{ApplyOutcome}
 use Rattle.journal_steps.specs.declared.steps.ApplyOutcome.TheVariants.{Done, Failed}
 
--- the entry of a position whose transaction is settled so, the answer, and the error that stands then
+-- the entry of a position whose transaction comes out so, the answer, and the error that stands then
 abbrev pub entry_of : SiteName → ℕ → Txn → ApplyOutcome → Entry
 entry_of origin position txn (Done onward) = entry.Done origin position onward txn
 entry_of origin position txn (Failed call error) = entry.Error origin position call error txn

@@ -76,7 +76,7 @@ fn failed_step(
     }
 }
 
-/// What a position of an origin adds whose transaction is settled so. Of the transaction one copy is for the journal, and one
+/// What a position of an origin adds whose transaction comes out so. Of the transaction one copy is for the journal, and one
 /// for the error queue.
 pub fn step_of(origin: &SiteName, position: u64, settled: &ApplyOutcome, txn: Txn, kept: Txn) -> Step
     ensures entry { result.entry ≡ entry_of origin.now position txn settled.now }

@@ -19,7 +19,7 @@ block_refused stop why = error.Statement stop
 abbrev pub statement_refused : LocalStop → OfficeError
 statement_refused stop = block_refused stop stop.refusal
 
--- of an error that is to be settled
+-- of an error that is to be cleared
 abbrev pub uncleared : Refusal → OfficeError
 uncleared refusal.Memory = error.Memory
 uncleared why = error.Uncleared why

@@ -95,7 +95,7 @@ WriteTextStops why text x = BlockTextStops why text
 
 -- ---- errors that stand
 
--- an error isn't settled for its refusal, or no moment is left
+-- an error isn't cleared for its refusal, or no moment is left
 abbrev pub ClearStops : OfficeError → Option Refusal → SiteState → Type 0
 ClearStops (error.Uncleared why) refused x = refused ≡ Some why
 ClearStops error.Exhausted refused x = IsExhausted x

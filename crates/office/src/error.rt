@@ -88,7 +88,7 @@ pub(crate) fn statement_refused(stop: LocalStop) -> OfficeError
     OfficeError::Statement(stop)
 }
 
-/// An error isn't settled, for this reason.
+/// An error isn't cleared, for this reason.
 pub(crate) fn uncleared(refusal: Refusal) -> OfficeError
     ensures { result ≡ uncleared refusal }
 {

@@ -141,7 +141,7 @@ fn is_place(number: u64, position: u64, dep: u64) -> bool
     1 <= number && dep < position
 }
 
-/// The name of a site has the form of one, whatever it is.
+/// Whether the name of a site has a byte: its type says the rest.
 fn is_named(site: &SiteName) -> bool
     ensures { IsTrue result ↔ IsSiteName site.now }
 {

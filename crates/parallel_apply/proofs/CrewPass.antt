@@ -1,4 +1,4 @@
--- A crew's pass, from its beginning to its settled journal.
+-- A crew's pass, from its beginning to its sorted journal.
 use Rattle.std.proofs.Common.{◌≡◌, ℕ, ◌+◌, ◌-◌, ◌<◌, List, [], ◌∷◌, ◌++◌, length, false, None, Some, refl, sym, ap, ◌∙◌, subst, arith}
 use Rattle.std.specs.Prelude.{Option, Result, Ok, Err}
 use Rattle.rep_values.specs.declared.name.SiteName.{SiteName}
@@ -84,9 +84,9 @@ module _ (origin : SiteName) where
     pub sortable_then : (from : ℕ) → from ≡ length x.journal → CanBeSorted z.schema origin from z.journal
     sortable_then from same = rw same (subst (λ (v : SiteState). CanBeSorted v.schema origin (length x.journal) v.journal) (sym all.2) (can_be_sorted origin x is all.0 all.1))
 
-    -- where its entries are settled, it is the site after a pass
-    pub passed_then : (from : ℕ) (settled : SiteState) → from ≡ length x.journal → IsSortedSite from z settled → settled ≡ site_pass origin x
-    passed_then from settled same done =
-        sym done.kept ∙ ap (λ (v : SiteState). record v { journal = settled.journal }) all.2
-        ∙ sorted_is_passed origin x is all.0 all.1 none settled.journal
-        (subst (λ (v : SiteState). Rattle.journal_order.specs.Sorting.IsSorted (length x.journal) v.journal settled.journal) all.2 (rw (← same) done.journal))
+    -- where its entries are sorted, it is the site after a pass
+    pub passed_then : (from : ℕ) (sorted : SiteState) → from ≡ length x.journal → IsSortedSite from z sorted → sorted ≡ site_pass origin x
+    passed_then from sorted same done =
+        sym done.kept ∙ ap (λ (v : SiteState). record v { journal = sorted.journal }) all.2
+        ∙ sorted_is_passed origin x is all.0 all.1 none sorted.journal
+        (subst (λ (v : SiteState). Rattle.journal_order.specs.Sorting.IsSorted (length x.journal) v.journal sorted.journal) all.2 (rw (← same) done.journal))

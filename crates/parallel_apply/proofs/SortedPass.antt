@@ -144,7 +144,7 @@ module _ (origin : SiteName) (x : SiteState) (is : CanPassInAnyOrder origin x) (
   new_entries : entries_from (length x.journal) crew.journal ≡ made.entries
   new_entries = ap (entries_from (length x.journal)) made.journal ∙ entries_from-append (reverse made.entries) x.journal ∙ Rattle.std.proofs.lemmas.List.reverse-reverse made.entries
 
-  -- what the crew applied can be settled
+  -- what the crew applied can be sorted
   pub can_be_sorted : CanBeSorted crew.schema origin (length x.journal) crew.journal
   can_be_sorted =
       let schema : crew.schema ≡ x.schema = (stays_in_turn origin ps (begun x)).schema in
@@ -201,15 +201,15 @@ module _ (origin : SiteName) (x : SiteState) (is : CanPassInAnyOrder origin x) (
     moved : IsPermutation (entries_from place crew.journal) (entries_from place here.journal)
     moved = rw (of_crew, of_one) (IsPermutation-trans _ _ _ (IsPermutation-sym _ _ (IsPermutation-reverse same.new)) (IsPermutation-trans _ _ _ same.entries (IsPermutation-reverse same.other_new)))
 
-    -- where its entries are settled, it is the site after a pass
+    -- where its entries are sorted, it is the site after a pass
     pub sorted_is_passed : (journal : List Entry) → IsSorted place crew.journal journal → record crew { journal = journal } ≡ site_pass origin x
-    sorted_is_passed journal settled = ap (λ es. record crew { journal = es }) journals ∙ ap (λ (y : SiteState). record y { journal = here.journal }) same.rest ∙ sym each
+    sorted_is_passed journal sorted = ap (λ es. record crew { journal = es }) journals ∙ ap (λ (y : SiteState). record y { journal = here.journal }) same.rest ∙ sym each
       where
         new_same : entries_from place journal ≡ entries_from place here.journal
-        new_same = rising_permuted _ _ settled.rising rising_alone (IsPermutation-trans _ _ _ settled.entries moved)
+        new_same = rising_permuted _ _ sorted.rising rising_alone (IsPermutation-trans _ _ _ sorted.entries moved)
 
         journals : journal ≡ here.journal
-        journals = sorted_parts place crew.journal journal settled
+        journals = sorted_parts place crew.journal journal sorted
             ∙ ap (λ es. reverse es ++ reverse (entries_before place crew.journal)) new_same
             ∙ ap (λ es. reverse (entries_from place here.journal) ++ reverse es) older
             ∙ sym (journal_parts place here.journal)

@@ -83,7 +83,7 @@ executions_apply_anew x origin position is = go (error_at origin position x.jour
     by e stood (Ok tables) is =
         let own = error_found origin position x.journal e stood in
         let at : is_position origin position e.origin e.position ≡ true = rw own.0 (is_position-own origin position e.position own.1) in
-        record { entry = e; stood = stood; tables = refl; settled = rw at refl }
+        record { entry = e; stood = stood; tables = refl; cleared = rw at refl }
     by e stood (Err failure) is = absurd (cc is)
 
     go : (found : Option ErrorEntry) → error_at origin position x.journal ≡ found → execute_refusal_found found x ≡ None → IsExecuted x (executed_found found x) origin position

@@ -102,7 +102,7 @@ pub record IsExecuted (x y : ProcState) (origin : SiteName) (position : ℕ) : T
   pub entry : ErrorEntry
   pub stood : error_at origin position x.journal ≡ Some entry
   pub tables : proc_tables y ≡ tables_after x.schema x.procedures entry.txn (proc_tables x)
-  pub settled : error_at origin position y.journal ≡ None
+  pub cleared : error_at origin position y.journal ≡ None
 
 -- any other one does that
 abbrev pub ExecutionsApplyAnew : Type 0

@@ -156,7 +156,7 @@ quiet_stranger x origin none position = go (finished origin x.journal position) 
     go true is = rw is refl
     go false is = rw (is, absent) refl
 
--- a site that settled what came has nothing ready
+-- a site that applied what came has nothing ready
 pub until_quiet_ends_quiet : (from : SiteName) (x : ProcState) → ProcFits x → NoCallsReady (proc_until_quiet from x)
 until_quiet_ends_quiet from x fits origin = passes_quiet (from ∷ sender_names x.senders) x fits origin (known (is_same_site from origin) refl)
   where

@@ -258,7 +258,7 @@ fn unique_column_of(method: &UniqueWords) -> Option<Name>
     }
 }
 
-/// A method that uses this column, the last of so many.
+/// Why a method is refused that uses this column, where there are so many methods.
 fn method_refusal(columns: &[Column], column: Option<Name>, methods: usize) -> Option<Refusal>
     ensures { result ≡ first_refusal (unknown_column columns.now column ∷ full most_methods methods Limit.Methods ∷ []) }
 {

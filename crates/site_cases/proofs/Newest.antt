@@ -1,4 +1,4 @@
--- The newest entry of a journal alone can be settled.
+-- The newest entry of a journal alone can be sorted.
 use Rattle.std.proofs.Common.{◌≡◌, ℕ, ◌+◌, true, List, [], ◌∷◌, length, reverse, drop, Some, sym, subst, ◌∙◌, ap, arith, drop_of_length-le}
 use Rattle.std.specs.Prelude.{slice_get}
 use Rattle.std.specs.List.{AllByRecursion}

@@ -63,7 +63,7 @@ fn begin(site: &mut Site<ListTables>, words: &mut Words) -> Told {
     Ok(None)
 }
 
-/// Whether the newest entry is one that can be settled.
+/// Whether the newest entry is one that can be sorted.
 fn settle(alloc: Global, site: &mut Site<ListTables>, words: &mut Words) -> Told {
     words.end()?;
     let word = if settle_newest(alloc, site)? {

@@ -15,7 +15,7 @@
 //! SITE`, `covered SITE ORIGIN`, `first SITE ORIGIN` and `open SITE DESTINATION` are calls of a site. `unfinished SITE [past
 //! ORIGIN LAST ..]` is what hinders a join there, of each origin its last position given. `work SITE ORIGIN POSITION` is an
 //! `apply` of which the transaction is evaluated on copies of the rows that it names; it isn't, and `Unique` is told, where it
-//! touches a constraint. `settle SITE` settles the journal's newest entry. `show tables|queue|errors|marks|journal|site SITE`
+//! touches a constraint. `settle SITE` sorts the journal's newest entry. `show tables|queue|errors|marks|journal|site SITE`
 //! shows what a site keeps. An empty line and one that begins with `#` is printed as it is.
 #![tactic(auto)]
 

@@ -55,7 +55,7 @@ fn finished_origin(entry: &Entry) -> Option<SiteName>
     }
 }
 
-/// Settles the journal's newest entry, and tells whether it finishes a position of a master: else it isn't settled.
+/// Sorts the journal's newest entry, and tells whether it finishes a position of a master: else it isn't sorted.
 pub fn settle_newest(alloc: Global, site: &mut Site<ListTables>) -> Result<bool, CaseStop> {
     let Ok(()) = check(site.store().schema()) else {
         return Err(CaseStop::NoCase);

@@ -1,4 +1,4 @@
--- A site whose journal is settled is the same site, and still holds what it keeps.
+-- A site whose journal is sorted is the same site, and still holds what it keeps.
 use Rattle.std.proofs.Common.{◌≡◌, ℕ, ◌≤◌, List, [], ◌∷◌, map, refl, ap, ◌∙◌, subst, arith}
 use Rattle.std.specs.Prelude.{filter_map}
 use Rattle.std.specs.List.{AllByRecursion}
@@ -47,27 +47,27 @@ module _ (schema : Schema) (here : Here) (base : List Rows) (journal : List Entr
   abbrev x : SiteState
   x = state_of schema here base journal inboxes out notes stamps moment
 
-  module _ (journal' : List Entry) (settled : IsSorted place journal journal') where
+  module _ (journal' : List Entry) (sorted : IsSorted place journal journal') where
     one : IsOneSite x (record x { journal = journal' })
-    one = sorting_changes_no_more origin place x journal' sound h.fits h.based h.stays can settled
+    one = sorting_changes_no_more origin place x journal' sound h.fits h.based h.stays can sorted
 
     pub sorted_site : IsSortedSite place x (state_of schema here base journal' inboxes out notes stamps moment)
-    sorted_site = record { journal = settled; kept = refl; same = one }
+    sorted_site = record { journal = sorted; kept = refl; same = one }
 
     pub sorted_holds : (room' : ℕ) → room ≤ room' → SiteHolds (state_of schema here base journal' inboxes out notes stamps moment) rows numbers inboxes out lists room'
     sorted_holds room' more = record {
       based = h.based;
-      fits = SiteFits-sorted place x journal' h.fits settled one;
+      fits = SiteFits-sorted place x journal' h.fits sorted one;
       sized = record {
         queued = subst (AllByRecursion IsSized) one.queue h.sized.queued;
         arrived = h.sized.arrived;
-        journal = AllByRecursion-sorted (EntryHas IsSized) place journal journal' settled h.sized.journal;
+        journal = AllByRecursion-sorted (EntryHas IsSized) place journal journal' sorted h.sized.journal;
       };
       declared = record { is_master = h.declared.is_master; senders = h.declared.senders; destinations = h.declared.destinations };
       arrived = λ o p f. h.arrived o p (one.finished_alike o p ∙ f);
-      once = IsFinishedOnce-sorted place journal journal' settled h.once;
-      waited = HaveWaited-sorted x.senders place journal journal' settled h.waited;
-      stays = AllByRecursion-sorted (StaysWithMasters schema) place journal journal' settled h.stays;
+      once = IsFinishedOnce-sorted place journal journal' sorted h.once;
+      waited = HaveWaited-sorted x.senders place journal journal' sorted h.waited;
+      stays = AllByRecursion-sorted (StaysWithMasters schema) place journal journal' sorted h.stays;
       apart = h.apart;
       tables_are = h.tables_are ∙ ap (λ (c : Content). c.tables) one.content;
       numbers_are = h.numbers_are ∙ ap (λ (c : Content). c.numbers) one.content;

@@ -15,7 +15,7 @@ use std::snapshot::Snapshot;
 use std::sync::Wait;
 use std::thread;
 
-/// A lock round a value, which is entered in the order of tickets.
+/// A ticket lock round a value: it is entered in the order of tickets.
 #[derive(Drop)]
 pub struct SiteGate<T: Turns> {
     pub(crate) table: Table<Option<T>, View<T::Turn, T::Opening>, Snapshot<T>, GateRule<T>, Global>,
@@ -23,7 +23,7 @@ pub struct SiteGate<T: Turns> {
 }
 
 impl<T: Turns> SiteGate<T> {
-    // Draws a ticket. Where none is left, it waits for ever.
+    // Takes the next ticket of the lock. Where none is left, it waits for ever.
     pub(crate) fn draw<R: Wait>(
         &self,
         rt: &R,

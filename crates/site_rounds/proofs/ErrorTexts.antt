@@ -85,11 +85,11 @@ texts_at errors (p ∷ positions) rising sorted =
 -- ---- by the newest entries
 
 module _ (origin : SiteName) (position : ℕ) (olds : List Entry) (e : ErrorEntry) where
-  unsettled : (settled : Bool) (news : List Entry) → cond settled None (error_at origin position (news ++ olds)) ≡ Some e
+  uncleared : (cleared : Bool) (news : List Entry) → cond cleared None (error_at origin position (news ++ olds)) ≡ Some e
       → (error_at origin position (news ++ olds) ≡ Some e → is_some (error_at origin position news) ≡ list_any (brings origin position) news)
-      → is_some (cond settled None (error_at origin position news)) ≡ list_any (brings origin position) news
-  unsettled true news here later = absurd (cc here)
-  unsettled false news here later = later here
+      → is_some (cond cleared None (error_at origin position news)) ≡ list_any (brings origin position) news
+  uncleared true news here later = absurd (cc here)
+  uncleared false news here later = later here
 
   -- an error that stands was brought by newer entries where it stands by these alone
   brought_stands : (news : List Entry) → error_at origin position (news ++ olds) ≡ Some e → is_some (error_at origin position news) ≡ list_any (brings origin position) news
@@ -105,8 +105,8 @@ module _ (origin : SiteName) (position : ℕ) (olds : List Entry) (e : ErrorEntr
           → is_some (cond b (Some brought) (error_at origin position news)) ≡ (b || list_any (brings origin position) news)
       go true here later = refl
       go false here later = later here
-  brought_stands (Executed o p onward txn ∷ news) stands = unsettled (is_position origin position o p) news stands (brought_stands news)
-  brought_stands (Dropped o p ∷ news) stands = unsettled (is_position origin position o p) news stands (brought_stands news)
+  brought_stands (Executed o p onward txn ∷ news) stands = uncleared (is_position origin position o p) news stands (brought_stands news)
+  brought_stands (Dropped o p ∷ news) stands = uncleared (is_position origin position o p) news stands (brought_stands news)
   brought_stands (Refreshed moment ∷ news) stands = brought_stands news stands
 
 module _ (news olds : List Entry) (origin : SiteName) (positions : List ℕ) (each : (p : ℕ) → has positions p ≡ list_any (brings origin p) news) where

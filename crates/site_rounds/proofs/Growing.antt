@@ -1,4 +1,4 @@
--- What a journal has more after passes, and once all that came is settled; and what these entries finish.
+-- What a journal has more after passes, and once all that came is applied; and what these entries finish.
 use Rattle.std.proofs.Common.{◌≡◌, ℕ, zero, suc, ◌+◌, ◌-◌, ◌≤◌, List, [], ◌∷◌, ◌++◌, length, take, drop, Bool, true, false, cond, refl, sym, ap, ◌∙◌, arith, append_assoc, length-append, length-take, add-one}
 use Rattle.rep_values.specs.declared.name.SiteName.{SiteName}
 use Rattle.site_state.specs.declared.answers.PassCount.{PassCount}
@@ -43,7 +43,7 @@ rounds_grow : (n : ℕ) (origins : List SiteName) (x : SiteState) → Grows x (r
 rounds_grow zero origins x = front_none x.journal
 rounds_grow (suc n) origins x = grows_then x (round origins x) (rounds n origins (round origins x)) (round_grows origins x) (rounds_grow n origins (round origins x))
 
--- once a site has settled what came, its journal has more in front
+-- once a site has applied what came, its journal has more in front
 pub until_quiet_grows : (origin : SiteName) (x : SiteState) → Grows x (site_until_quiet origin x)
 until_quiet_grows origin x =
     let y : SiteState = site_pass origin x in

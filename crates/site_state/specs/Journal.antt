@@ -21,7 +21,7 @@ finishes origin position (Executed o p onward txn) = false
 finishes origin position (Dropped o p) = false
 finishes origin position (Refreshed moment) = false
 
--- an entry settles the error of a position: it is executed or dropped
+-- an entry clears the error of a position: it is executed or dropped
 abbrev pub clears_error : SiteName → ℕ → Entry → Bool
 clears_error origin position (Local number txn) = false
 clears_error origin position (Done o p onward txn) = false

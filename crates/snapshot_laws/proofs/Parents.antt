@@ -32,10 +32,10 @@ module _ (schema : Schema) (moment : ℕ) (changes : List Change) where
   pub up_to_date-logged : (earlier later : List Rows) (query : Query) (mark : ℕ) (logs : List LogState) → AreTables schema earlier → LeadsTo schema changes earlier later → mark < moment
       → (parent : Option Parent) → IsParentLogged logs parent → (found : Option Cells) → is_waiting parent (parents_above (map (logged_in schema moment changes) logs) mark parent) found ≡ false
       → (is_waiting parent (parents_above logs mark parent) found ≡ false) × (shown_by (picks_by schema later query parent) found ≡ shown_by (picks_by schema earlier query parent) found)
-  up_to_date-logged earlier later query mark logs are leads less parent there None settled = (refl, refl)
-  up_to_date-logged earlier later query mark logs are leads less None there (Some row) settled = (refl, refl)
-  up_to_date-logged earlier later query mark logs are leads less (Some p) there (Some row) settled =
-      let both = told-logged schema moment changes p.table mark (parent_key p row) logs there less settled in
+  up_to_date-logged earlier later query mark logs are leads less parent there None up_to_date = (refl, refl)
+  up_to_date-logged earlier later query mark logs are leads less None there (Some row) up_to_date = (refl, refl)
+  up_to_date-logged earlier later query mark logs are leads less (Some p) there (Some row) up_to_date =
+      let both = told-logged schema moment changes p.table mark (parent_key p row) logs there less up_to_date in
       (both.1, ap (λ (o : Option Cells). cond (found_matches p.tests o) (Some row) None) (find_row-led schema changes earlier later p.table (parent_key p row) are leads both.0))
 
 -- ---- a purge
@@ -70,6 +70,6 @@ module _ (at moment : ℕ) where
   -- and a row that doesn't wait then didn't before
   pub up_to_date-purged : (mark : ℕ) (logs : List LogState) (parent : Option Parent) (found : Option Cells) → IsParentOld (map (purged_where at moment) logs) mark parent
       → is_waiting parent (parents_above (map (purged_where at moment) logs) mark parent) found ≡ false → is_waiting parent (parents_above logs mark parent) found ≡ false
-  up_to_date-purged mark logs parent None old settled = refl
-  up_to_date-purged mark logs None (Some row) old settled = refl
-  up_to_date-purged mark logs (Some p) (Some row) old settled = (told-purged at moment p.table mark (parent_key p row) logs old settled).1
+  up_to_date-purged mark logs parent None old up_to_date = refl
+  up_to_date-purged mark logs None (Some row) old up_to_date = refl
+  up_to_date-purged mark logs (Some p) (Some row) old up_to_date = (told-purged at moment p.table mark (parent_key p row) logs old up_to_date).1

@@ -135,7 +135,7 @@ module _ (schema : Schema) where
       before = λ is. absurd (cc (end, is));
       within = h.within;
       parent_within = h.parent_within;
-      others = λ key le old untold untouched settled.
+      others = λ key le old untold untouched up_to_date.
           ap (find_row (columns_of schema s.table) key) rows ∙ find_row-filter (columns_of schema s.table) (picks schema (tables_of m) s) key (rows_of (tables_of m) s.table) (are.each s.table h.within).rising;
     }
 

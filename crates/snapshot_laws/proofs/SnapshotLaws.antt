@@ -54,7 +54,7 @@ module _ (begun : List SiteName) (m x : SiteState) where
         up.others key (not_above s.mark (purged_of s.table m.logs) old.0) (parents_not_above m.logs s.mark s.parent old.1) own.0 own.1 both.1;
   }
 
-  -- the keys that aren't settled make its table what it picks
+  -- the keys that aren't up to date make its table what it picks
   pending_is : (s : Snapshot) → AreTables x.schema (tables_of m) → AreTables x.schema (tables_of x) → KeepsUp x.schema begun m x s → is_young m.logs s ≡ false
       → pending_table m x s ≡ record { table = s.table; rows = rule_rows x.schema (tables_of m) s }
   pending_is s are_m are_x up young = ap (λ (rows : Rows). record { table = s.table; rows = rows })

@@ -81,12 +81,12 @@ module _ (schema : Schema) where
     before = λ is. omega (arith, h.before (among_same names m n c.here is), c.moment);
     within = h.within;
     parent_within = h.parent_within;
-    others = λ key le old untold untouched settled.
+    others = λ key le old untold untouched up_to_date.
         let less = c.above h.master s.mark h.below h.before in
         let both = told-logged schema n.moment c.changes s.table s.mark key m.logs h.logged less (rw (← c.logs) untold) in
         let same = find_row-led schema c.changes (tables_of m) (tables_of n) s.table key are c.leads both.0 in
         let was = up_to_date-logged schema n.moment c.changes (tables_of m) (tables_of n) s.query s.mark m.logs are c.leads less s.parent h.parent_logged (row_at m s.table key)
-        (rw (← c.logs, ← same) settled) in
+        (rw (← c.logs, ← same) up_to_date) in
         h.others key (rw (← purged_of-logged schema n.moment c.changes s.table m.logs, ← c.logs) le)
         (parent_old schema n.moment c.changes s.mark m.logs s.parent (rw (← c.logs) old)) both.1 untouched was.0
         ∙ sym was.1 ∙ ap (shown_at n s) (sym same);
@@ -121,9 +121,9 @@ module _ (schema : Schema) where
     before = h.before;
     within = h.within;
     parent_within = h.parent_within;
-    others = λ key le old untold untouched settled.
+    others = λ key le old untold untouched up_to_date.
         let both = has_key-with_keys key (keys_changed schema s.table c.changes) s.touched untouched in
-        find_row-led schema c.changes (tables_of x) (tables_of y) s.table key are c.leads both.0 ∙ h.others key le old untold both.1 settled;
+        find_row-led schema c.changes (tables_of x) (tables_of y) s.table key are c.leads both.0 ∙ h.others key le old untold both.1 up_to_date;
   }
 
   pub own_moves : (names : List SiteName) (b : Bool) (m x y : SiteState) → Moves schema b x y → AreTables schema (tables_of x) → AllKeepUp names m x x.snapshots → AllKeepUp names m y y.snapshots
@@ -150,10 +150,10 @@ module _ (schema : Schema) where
     before = λ is. h.before (fewer is);
     within = h.within;
     parent_within = h.parent_within;
-    others = λ key le old untold untouched settled.
+    others = λ key le old untold untouched up_to_date.
         let both = told-purged table m.moment s.table s.mark key m.logs le untold in
         h.others key both.0 (parent_old-purged table m.moment s.mark m.logs s.parent old) both.1 untouched
-        (up_to_date-purged table m.moment s.mark m.logs s.parent (row_at m s.table key) old settled);
+        (up_to_date-purged table m.moment s.mark m.logs s.parent (row_at m s.table key) old up_to_date);
   }
 
   pub purge_own : (names : List SiteName) (table : ℕ) (m x : SiteState) (s : Snapshot) → KeepsUp names m x s → KeepsUp names m (site_purge_log table x) s

@@ -39,7 +39,7 @@ module _ (schema : Schema) where
       before = λ among. absurd (cc (ap (λ (names : List SiteName). is_among names m.here.site) is.begun, among));
       within = within;
       parent_within = subst (λ (c : Schema). IsParentWithin c s.parent) new.schema_is shows.parent_within;
-      others = λ key le old untold untouched settled.
+      others = λ key le old untold untouched up_to_date.
           ap (find_row (columns_of schema s.table) key) rows ∙ find_row-filter (columns_of schema s.table) (picks schema (tables_of m) s) key (rows_of (tables_of m) s.table) (are.each s.table within).rising;
     }
       where

@@ -1,4 +1,4 @@
--- A key is settled exactly where it is none of those that aren't: where it isn't pending and the master's row doesn't wait.
+-- A key is up to date exactly where it is none of those that aren't: where it isn't pending and the master's row doesn't wait.
 use Rattle.std.proofs.Common.{◌≡◌, List, [], ◌∷◌, map, Bool, true, false, cond, refl, sym, ◌∙◌}
 use Rattle.std.specs.Prelude.{Option, filter}
 use Rattle.std.specs.declared.cmp.Ordering.{Ordering}
@@ -38,7 +38,7 @@ module _ (columns : List Column) (parent : Option Parent) (parents : List Cells)
       go false is Equal place none later = is
       go false is Greater place none later = refl
 
--- a settled key is none of a snapshot's pending keys, and the master's row under it has no pending parent
+-- a up-to-date key is none of a snapshot's pending keys, and the master's row under it has no pending parent
 pub is_up_to_date : (schema : Schema) (logs : List LogState) (tables : List Rows) (s : Snapshot) (key : Cells) → has_key key (outdated_keys schema logs tables s) ≡ false
     → (has_key key (pending_keys logs s) ≡ false) × (is_waiting s.parent (pending_parents logs s) (find_row (columns_of schema s.table) key (rows_of tables s.table)) ≡ false)
 is_up_to_date schema logs tables s key none =

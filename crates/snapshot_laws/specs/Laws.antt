@@ -25,7 +25,7 @@ abbrev pub WithEveryMaster : (SiteState → SiteState → Type 0) → Type 0
 WithEveryMaster Holds = (schema : Schema) (start : Cluster) (events : List Event) → IsSnapshotStart schema start → (site : SiteName) (x m : SiteState)
     → site_of site (run events start).sites ≡ Some x → master_at (run events start).sites x ≡ Some m → Holds m x
 
--- where no log that it goes by is too young, a snapshot's table has under each settled key what the snapshot shows of the
+-- where no log that it goes by is too young, a snapshot's table has under each up-to-date key what the snapshot shows of the
 -- master's row
 abbrev pub OthersAreShown : SiteState → SiteState → Snapshot → Type 0
 OthersAreShown m x s = is_young m.logs s ≡ false

@@ -20,7 +20,7 @@ abbrev pub rows_from_keys : List Column → (Cells → Bool) → Rows → List C
 rows_from_keys columns test master [] rows = rows
 rows_from_keys columns test master (key ∷ keys) rows = rows_from_keys columns test master keys (with_row columns key (shown_by test (find_row columns key master)) rows)
 
--- the rows of a snapshot's table, made from the keys that aren't settled by its master's logs
+-- the rows of a snapshot's table, made from the keys that aren't up to date by its master's logs
 abbrev pub pending_table : SiteState → SiteState → Snapshot → TableRows
 pending_table m x s = record {
   table = s.table;

@@ -30,7 +30,7 @@ is_waiting parent parents (Some row) = waits_for parent parents row
 abbrev pub waiting_keys : List Column → Option Parent → List Cells → Rows → List Cells
 waiting_keys columns parent parents rows = map (key_of columns) (filter (waits_for parent parents) rows)
 
--- the keys that aren't settled by a master's logs and tables: a snapshot's pending keys, and those of the rows that wait for its
+-- the keys that aren't up to date by a master's logs and tables: a snapshot's pending keys, and those of the rows that wait for its
 -- pending parents
 abbrev pub outdated_keys : Schema → List LogState → List Rows → Snapshot → List Cells
 outdated_keys schema logs tables s = pending_keys logs s ++ waiting_keys (columns_of schema s.table) s.parent (pending_parents logs s) (rows_of tables s.table)

@@ -3,7 +3,7 @@ ghost use Rattle.snapshot_laws.specs.Laws.{FastIsComplete, OtherKeysAreTheMaster
 ghost use Rattle.snapshot_laws.specs.Logs.{NotedAreAbovePurged};
 ghost use Rattle.snapshot_laws.specs.Refreshed.{RefreshedTablesAreTheRules};
 
-/// Under each settled key, which isn't pending and under which the master's row has no pending parent, a snapshot's table has
+/// Under each up-to-date key, which isn't pending and under which the master's row has no pending parent, a snapshot's table has
 /// what the snapshot shows of the master's row, unless a log that it goes by was purged above its mark.
 pub fn other_keys_are_the_masters()
     ensures { OtherKeysAreTheMasters }

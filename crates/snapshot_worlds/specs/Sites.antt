@@ -25,7 +25,7 @@ master_in site w = found_site w.sites (master_of w.schema site)
 
 -- ---- what a refresh goes by
 
--- a snapshot's table has, under each key that is settled by the master's logs, what the snapshot shows of the master's
+-- a snapshot's table has, under each key that is up to date by the master's logs, what the snapshot shows of the master's
 -- row
 abbrev pub IsShown : SiteState → SiteState → Snapshot → Type 0
 IsShown m x s = ShowsOthers (columns_of x.schema s.table) (picks x.schema (tables_of m) s) (outdated_keys x.schema m.logs (tables_of m) s) (rows_of (tables_of m) s.table) (rows_of (tables_of x) s.table)

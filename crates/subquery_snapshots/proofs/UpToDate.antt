@@ -1,4 +1,4 @@
--- Settled rows, and keys that are distinct.
+-- Up-to-date rows, and keys that are distinct.
 use Rattle.std.proofs.Common.{◌≡◌, ℕ, List, [], ◌∷◌, ◌++◌, map, get_or, Bool, true, false, cond, Option, Some, None, filter, refl, sym, ◌∙◌, subst}
 use Rattle.std.specs.declared.cmp.Ordering.{Ordering}
 use Rattle.std.specs.declared.cmp.Ordering.TheVariants.{Less, Equal, Greater}
@@ -58,18 +58,18 @@ module _ (schema : Schema) (tables : List Rows) (table : ℕ) (rule : Rule) (key
   abbrev waiting : List Cells
   waiting = waiting_keys columns rule parents master
 
-  -- rows that have what is settled show it under each key that isn't looked up
+  -- rows that have what is up to date show it under each key that isn't looked up
   pub up_to_date_shown : AreUpToDate schema tables table rule keys parents rows → ShowsUpToDate schema tables table rule keys parents rows
-  up_to_date_shown settled = record { shows = λ key none. go key (parts key none) (find_row columns key master) refl }
+  up_to_date_shown up_to_date = record { shows = λ key none. go key (parts key none) (find_row columns key master) refl }
     where
       parts : (key : Cells) → has_key key (keys ++ waiting) ≡ false → (has_key key keys ≡ false) × (has_key key waiting ≡ false)
       parts key none = or_parts (has_key key keys) (has_key key waiting) (sym (list_any-append (are_same key) keys waiting) ∙ none)
 
       go : (key : Cells) → (has_key key keys ≡ false) × (has_key key waiting ≡ false) → (found : Option Cells) → find_row columns key master ≡ found → find_row columns key rows ≡ shown_by (rule_picks schema tables rule) found
-      go key neither None there = settled.absent key neither.0 there
+      go key neither None there = up_to_date.absent key neither.0 there
       go key neither (Some row) there =
           let own : key_of columns row ≡ key = key_of-found columns key row master there in
           subst (λ (k : Cells). find_row columns k rows ≡ shown_by (rule_picks schema tables rule) (Some row)) own
-          (settled.picked row (subst (λ (k : Cells). find_row columns k master ≡ Some row) (sym own) there)
+          (up_to_date.picked row (subst (λ (k : Cells). find_row columns k master ≡ Some row) (sym own) there)
           (subst (λ (k : Cells). has_key k keys ≡ false) (sym own) neither.0)
           (fails columns (waits rule parents) key row master there neither.1))

@@ -1,4 +1,4 @@
--- Which rows a rule picks, which of them wait for a parent, and which are settled.
+-- Which rows a rule picks, which of them wait for a parent, and which are up to date.
 use Rattle.std.specs.Prelude.{ℕ, ◌<◌, Bool, false, List, ◌++◌, map, filter, length}
 use Rattle.rep_schema.specs.declared.schema.Schema.{Schema}
 use Rattle.rep_schema.specs.declared.schema.Column.{Column}
@@ -46,7 +46,7 @@ waiting_rows rule parents rows = filter (waits rule parents) rows
 abbrev pub waiting_keys : List Column → Rule → List Cells → Rows → List Cells
 waiting_keys columns rule parents rows = map (key_of columns) (waiting_rows rule parents rows)
 
--- under each settled key, which is none of these and not that of a row that waits, rows have what the rule shows of the table's row
+-- under each up-to-date key, which is none of these and not that of a row that waits, rows have what the rule shows of the table's row
 abbrev pub ShowsUpToDate : Schema → List Rows → ℕ → Rule → List Cells → List Cells → Rows → Type 0
 ShowsUpToDate schema tables table rule keys parents rows =
     ShowsOthers (columns_of schema table) (rule_picks schema tables rule) (keys ++ waiting_keys (columns_of schema table) rule parents (rows_of tables table)) (rows_of tables table) rows

@@ -185,7 +185,7 @@ pub fn rows_fast<M: ChildView>(
     requires schema { M.schema master.old ≡ schema.now }
     requires master { AreTables schema.now (M.tables master.old) }
     requires older { IsRising (row_cmp (columns_of schema.now table)) older.now }
-    requires settled { ShowsUpToDate schema.now (M.tables master.old) table rule.now keys.now parents.now older.now }
+    requires up_to_date { ShowsUpToDate schema.now (M.tables master.old) table rule.now keys.now parents.now older.now }
     requires apart { AreDistinct parents.now }
     ensures rows { IfOk result (λ rows. rows ≡ rows_picked schema.now (M.tables master.old) table rule.now) }
     ensures table { IfOk result (λ rows. IsTable schema.now table rows) }

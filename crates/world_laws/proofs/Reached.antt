@@ -69,7 +69,7 @@ pub reached_once : (w : WorldState) → IsReached w → AreFinishedOnce w.sites
 reached_once w reached = λ site origin position. ∥∥₁_elim reached (λ x y. le_prop x y) (λ r. (holds_of w r).once site origin position)
 
 pub reached_until_quiet : (w : WorldState) → IsReached w → AreClearedOnce w.sites
-reached_until_quiet w reached = λ site origin position. ∥∥₁_elim reached (λ x y. le_prop x y) (λ r. (holds_of w r).settled site origin position)
+reached_until_quiet w reached = λ site origin position. ∥∥₁_elim reached (λ x y. le_prop x y) (λ r. (holds_of w r).cleared site origin position)
 
 -- in the loop of a push each position has its packet
 pub reached_packets : (w : WorldState) → IsReached w → EachIsSent w.sites

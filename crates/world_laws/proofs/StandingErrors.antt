@@ -1,4 +1,4 @@
--- In every run an error that stands is whole, as its origin sent it, and it stands until it is settled.
+-- In every run an error that stands is whole, as its origin sent it, and it stands until it is cleared.
 use Rattle.std.proofs.Common.{◌≡◌, ℕ, ◌+◌, ◌≤◌, List, [], ◌∷◌, ◌++◌, Bool, true, false, cond, Some, None, refl, sym, ap, ◌∙◌, arith, subst}
 use Rattle.std.specs.Prelude.{◌||◌, Option, filter_map, flat_map}
 use Rattle.std.specs.List.{list_any, cons_option, Contains, AllByRecursion}
@@ -190,7 +190,7 @@ errors_are_whole schema start events is meshed site origin position x e found st
     go None there f = absurd f
     go (Some y) there f = by y there f (arrived_at origin position x.senders) refl
 
--- ---- it stands until it is settled
+-- ---- it stands until it is cleared
 
 module _ (origin : SiteName) (position call : ℕ) (error : ApplyError) (txn : Txn) (before : List Entry) where
   abbrev with_error : List Entry → List Entry

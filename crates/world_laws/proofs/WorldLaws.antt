@@ -48,14 +48,14 @@ holds_as_run w schema start events is meshed same = record {
   purged = in_world PurgedIsFinished purged_is_finished w schema start events is same;
   numbered = in_world AreWellNumbered arrivals_are_well_numbered w schema start events is same;
   once = in_world AreFinishedOnce are_finished_once w schema start events is same;
-  settled = in_world AreClearedOnce are_cleared_once w schema start events is same;
+  cleared = in_world AreClearedOnce are_cleared_once w schema start events is same;
   order = in_world EarlierComesFirst earlier_comes_first w schema start events is same;
   passes = subst EachCanPass (sym same) (λ site origin x found. every_site_can_pass schema start events is meshed.declared site origin x found);
   packets = in_world EachIsSent packets_are_sent w schema start events is same;
   from_1 = in_world AreFrom1 arrivals_are_from_1 w schema start events is same;
   waits = subst EachWaitsForNothing (sym same) (λ site x found delivered finish. nothing_waits_for_ever schema start events is meshed site x found delivered finish);
   errors = subst EachErrorIsWhole (sym same) (errors_are_whole schema start events is meshed);
-  unsettled = in_world EachUnclearedErrorStands uncleared_errors_stand w schema start events is same;
+  uncleared = in_world EachUnclearedErrorStands uncleared_errors_stand w schema start events is same;
   streams = subst StreamsMeet (sym same) (streams_meet schema start events is meshed);
   arrived = subst ArrivalsAreOfStreams (sym same) (arrivals_are_of_streams schema start events is meshed);
 }

@@ -1,4 +1,4 @@
--- Errors of sites: one that stands is a whole transaction as its origin sent it, and it stands until it is settled.
+-- Errors of sites: one that stands is a whole transaction as its origin sent it, and it stands until it is cleared.
 use Rattle.std.specs.Prelude.{◌≡◌, ℕ, false, List, ◌∷◌, ◌++◌, Some, Err}
 use Rattle.std.specs.List.{list_any, Contains}
 use Rattle.rep_values.specs.declared.name.SiteName.{SiteName}

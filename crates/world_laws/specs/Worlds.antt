@@ -43,14 +43,14 @@ pub record WorldHolds (w : WorldState) : Type 0 where
   pub purged : PurgedIsFinished w.sites
   pub numbered : AreWellNumbered w.sites
   pub once : AreFinishedOnce w.sites
-  pub settled : AreClearedOnce w.sites
+  pub cleared : AreClearedOnce w.sites
   pub order : EarlierComesFirst w.sites
   pub passes : EachCanPass w.sites
   pub packets : EachIsSent w.sites
   pub from_1 : AreFrom1 w.sites
   pub waits : EachWaitsForNothing w.sites
   pub errors : EachErrorIsWhole w.sites
-  pub unsettled : EachUnclearedErrorStands w.sites
+  pub uncleared : EachUnclearedErrorStands w.sites
   pub streams : StreamsMeet w.sites
   pub arrived : ArrivalsAreOfStreams w.sites
 

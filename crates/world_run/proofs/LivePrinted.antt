@@ -63,7 +63,7 @@ run_is schema start events is meshed = record {
   of_schema = run_schema schema start events is;
   sent = runs_send_on schema start events is;
   once = are_finished_once schema start events is;
-  settled = are_cleared_once schema start events is;
+  cleared = are_cleared_once schema start events is;
   streams = arrivals_are_of_streams schema start events is meshed;
   rising = every_site_has_rising_numbers schema start events is meshed;
 }

@@ -259,7 +259,7 @@ pub record AreRun (schema : Schema) (sites : List SiteState) : Type 0 where
   pub of_schema : AllByRecursion (λ (x : SiteState). x.schema ≡ schema) sites
   pub sent : AllByRecursion SendsOn sites
   pub once : AreFinishedOnce sites
-  pub settled : AreClearedOnce sites
+  pub cleared : AreClearedOnce sites
   pub streams : ArrivalsAreOfStreams sites
   pub rising : (site : SiteName) (x : SiteState) → site_of site sites ≡ Some x → HasRisingNumbers x
 
@@ -299,8 +299,8 @@ module _ (schema : Schema) (sites : List SiteState) (are : AreRun schema sites) 
   few_at : (name : SiteName) (x : SiteState) → site_of name sites ≡ Some x → (origin : SiteName) (p : ℕ) → entries_at x.journal origin p ≤ 2
   few_at name x found origin p =
       let once : count_where (finishes origin p) x.journal ≤ 1 = subst (λ (o : Option SiteState). count_where (finishes origin p) (journal_in o) ≤ 1) found (are.once name origin p) in
-      let settled : count_where (clears_error origin p) x.journal ≤ 1 = subst (λ (o : Option SiteState). count_where (clears_error origin p) (journal_in o) ≤ 1) found (are.settled name origin p) in
-      omega (arith, once, settled)
+      let cleared : count_where (clears_error origin p) x.journal ≤ 1 = subst (λ (o : Option SiteState). count_where (clears_error origin p) (journal_in o) ≤ 1) found (are.cleared name origin p) in
+      omega (arith, once, cleared)
 
   -- so no queue is long
   few_queued : (name : SiteName) (x : SiteState) → site_of name sites ≡ Some x → count_of x < 2 ^ 64

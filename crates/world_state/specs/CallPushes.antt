@@ -78,7 +78,7 @@ proc_passes (origin ∷ origins) x = proc_passes origins (proc_pass origin x)
 abbrev pub proc_until_quiet : SiteName → ProcState → ProcState
 proc_until_quiet origin x = proc_passes (origin ∷ sender_names x.senders) x
 
--- the receiver settles what came
+-- the receiver applies what came until all is quiet
 abbrev pub calls_until_quiet : SiteName → SiteName → Procs → Procs
 calls_until_quiet from to p = record p { sites = at_proc to (proc_until_quiet from) p.sites }
 
@@ -104,7 +104,7 @@ calls_return_mark up from to p = cond up (calls_deliver_mark from to p) p
 abbrev pub calls_pushed_in : SiteName → SiteName → Procs → Procs
 calls_pushed_in from to p = calls_deliver from to (calls_send_above from to (calls_release from to p))
 
--- what is held is released and what isn't acknowledged is sent; the receiver takes all in and settles it; and its mark goes
+-- what is held is released and what isn't acknowledged is sent; the receiver takes all in and applies it; and its mark goes
 -- back, where the link back is up
 abbrev pub calls_push : Bool → SiteName → SiteName → Procs → Procs
 calls_push up_back from to p = calls_return_mark up_back to from (calls_until_quiet from to (calls_pushed_in from to p))

@@ -71,7 +71,7 @@ world_deliver_one from to w = record w { sites = taken_one to (first_between fro
 
 -- ---- what becomes of it
 
--- the receiver settles what came: a pass for the sender, and the rounds
+-- the receiver applies what came until all is quiet: a pass for the sender, and the rounds
 abbrev pub world_until_quiet : SiteName → SiteName → WorldState → WorldState
 world_until_quiet from to w = with_site to (site_until_quiet from) w
 
@@ -93,7 +93,7 @@ world_return_mark from to w = cond (is_up from to w.net) (world_deliver_mark fro
 abbrev pub pushed_in : SiteName → SiteName → Option ℕ → WorldState → WorldState
 pushed_in from to count w = world_deliver from to (world_send_above from to count (world_release from to w))
 
--- what is held is released and what isn't acknowledged is sent; the receiver takes all in and settles it; and its mark goes
+-- what is held is released and what isn't acknowledged is sent; the receiver takes all in and applies it; and its mark goes
 -- back
 abbrev pub world_push : SiteName → SiteName → Option ℕ → WorldState → WorldState
 world_push from to count w = world_return_mark to from (world_until_quiet from to (pushed_in from to count w))

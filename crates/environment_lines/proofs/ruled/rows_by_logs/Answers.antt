@@ -1,4 +1,4 @@
--- The snapshot's own rows have what is settled by its rule.
+-- The snapshot's own rows have what is up to date by its rule.
 use Rattle.std.proofs.Common.{◌≡◌, ap, sym, ◌∙◌}
 use Rattle.rep_schema.specs.Tables.{rows_of}
 use Rattle.site_state.specs.Notes.{pending_keys}
@@ -6,8 +6,8 @@ use Rattle.event_laws.specs.Rules.{pending_parents}
 use Rattle.environment_lines.proofs.RuledRows.{up_to_date_so}
 use Rattle.environment_lines.proofs.ruled.rows_by_logs.Goals as goal
 
-pub rows_fast-requires-clause-settled : goal.rows_fast-requires-clause-settled
-rows_fast-requires-clause-settled c =
+pub rows_fast-requires-clause-up_to_date : goal.rows_fast-requires-clause-up_to_date
+rows_fast-requires-clause-up_to_date c =
     let s = c.args.snapshot.now.snapshot in
     let logs = c.args.logs.now.logs in
     let log = rw c.table-table.ensures at c.log.ensures in

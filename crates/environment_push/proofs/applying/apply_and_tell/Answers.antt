@@ -1,4 +1,4 @@
--- The receiver is taken out, settles what came, and is put in again.
+-- The receiver is taken out, applies what came until all is quiet, and is put in again.
 use Rattle.std.proofs.lemmas.Result.{on_ok_weaker}
 use Rattle.environment_push.proofs.Applied.{told-there, applying_in_part, until_quiet_world}
 use Rattle.environment_push.proofs.applying.apply_and_tell.Goals as goal
@@ -18,4 +18,4 @@ returns-clause-text g c =
 pub returns-clause-part : goal.returns-clause-part
 returns-clause-part g c =
     rw (← c.environment.view_is)
-    (applying_in_part c.args.pushed.from c.args.pushed.to _ c.in-Some.place (rw c.deref.ensures.value at c.in-Some.ensures) c.remove-site.result c.remove-site.ensures.value _ _ _ c.remove-site.ensures.items c.put_back.ensures c.apply_at_site-site.ensures.settling)
+    (applying_in_part c.args.pushed.from c.args.pushed.to _ c.in-Some.place (rw c.deref.ensures.value at c.in-Some.ensures) c.remove-site.result c.remove-site.ensures.value _ _ _ c.remove-site.ensures.items c.put_back.ensures c.apply_at_site-site.ensures.applying)

@@ -1,4 +1,4 @@
--- The law of settled journals.
+-- The law of sorted journals.
 use Rattle.journal_order.proofs.SortedSites.{sorting_changes_no_more}
 use Rattle.journal_order.proofs.laws.sorting_changes_no_more.Goals as goal
 

@@ -30,7 +30,7 @@ returns-clause-rows g c =
     let rows = rows_of tables c.args.table in
     let test = rule_picks schema tables c.args.rule.now in
     let waiting = waiting_keys columns c.args.rule.now c.args.parents.now rows in
-    let others : ShowsOthers columns test (c.args.keys.now ++ waiting) rows c.in_ok-rows.rows.items = rw c.in_ok-rows.ensures c.requires.settled in
+    let others : ShowsOthers columns test (c.args.keys.now ++ waiting) rows c.in_ok-rows.rows.items = rw c.in_ok-rows.ensures c.requires.up_to_date in
     c.from_vec.ensures
     ∙ renewed_all columns test rows c.args.keys.now waiting c.in_ok-rows.rows.items c.renew_keys.new.rows.items c.renew_waiting.new.rows.items
     (c.requires.master.each c.args.table c.requires.table.within).rising others c.in_ok-renew_keys.ensures.renewed (rw c.renew_keys.ensures.tables at c.in_ok-renew_waiting.ensures.renewed)
@@ -44,7 +44,7 @@ returns-clause-table g c =
     let test = rule_picks schema tables c.args.rule.now in
     let waiting = waiting_keys columns c.args.rule.now c.args.parents.now rows in
     let is = c.requires.master.each c.args.table c.requires.table.within in
-    let others : ShowsOthers columns test (c.args.keys.now ++ waiting) rows c.in_ok-rows.rows.items = rw c.in_ok-rows.ensures c.requires.settled in
+    let others : ShowsOthers columns test (c.args.keys.now ++ waiting) rows c.in_ok-rows.rows.items = rw c.in_ok-rows.ensures c.requires.up_to_date in
     let all = c.from_vec.ensures
     ∙ renewed_all columns test rows c.args.keys.now waiting c.in_ok-rows.rows.items c.renew_keys.new.rows.items c.renew_waiting.new.rows.items
     is.rising others c.in_ok-renew_keys.ensures.renewed (rw c.renew_keys.ensures.tables at c.in_ok-renew_waiting.ensures.renewed) in

@@ -4,5 +4,5 @@ use Rattle.subquery_snapshots.proofs.laws.subquery_laws.Goals as goal
 pub returns-clause-distinct : goal.returns-clause-distinct
 returns-clause-distinct c = distinct_rising
 
-pub returns-clause-settled : goal.returns-clause-settled
-returns-clause-settled c = up_to_date_shown
+pub returns-clause-up_to_date : goal.returns-clause-up_to_date
+returns-clause-up_to_date c = up_to_date_shown
