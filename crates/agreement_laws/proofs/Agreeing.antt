@@ -15,17 +15,18 @@ use Rattle.rep_calls.specs.declared.call.Call.{Call}
 use Rattle.rep_calls.specs.declared.call.Txn.{Txn}
 use Rattle.resolve_methods.specs.Ranks.{site_level_of}
 use Rattle.packet_code.specs.declared.packet.Packet.{Packet}
-use Rattle.local_txn.specs.Convergent.{is_convergent}
+use Rattle.txn_effects.specs.Convergent.{is_convergent}
 use Rattle.site_state.specs.declared.entry.Entry.{Entry}
-use Rattle.site_state.specs.State.{SiteState, is_among, arrived_at}
+use Rattle.site_state.specs.State.{SiteState, arrived_at}
+use Rattle.rep_schema.specs.Sites.{is_among}
 use Rattle.site_state.specs.Journal.{error_at}
 use Rattle.site_state.specs.Contents.{journal_content, tables_of}
 use Rattle.site_state.specs.Streams.{queue_after, count_of}
-use Rattle.event_laws.specs.Cluster.{Cluster, site_of, at_site}
-use Rattle.event_laws.specs.Events.{Event, is_master_in, run}
+use Rattle.site_events.specs.Cluster.{Cluster, site_of, at_site}
+use Rattle.site_events.specs.Events.{Event, is_master_in, run}
 use Rattle.event_laws.specs.Marks.{journal_in}
 use Rattle.event_laws.specs.Orders.{IsInOrder}
-use Rattle.event_laws.specs.Quiet.{are_quiet}
+use Rattle.site_events.specs.Quiet.{are_quiet}
 use Rattle.event_laws.specs.Starts.{IsNewSite}
 use Rattle.event_laws.specs.Fitting.{IsFitStart}
 use Rattle.event_laws.specs.Waiting.{SitesLinkAsDeclared}
@@ -36,7 +37,7 @@ use Rattle.event_laws.proofs.Meeting.{SiteMeets, MeetsAt}
 use Rattle.event_laws.proofs.OrderLaws.{earlier_comes_first}
 use Rattle.event_laws.proofs.FittingSites.{every_site_fits}
 use Rattle.event_laws.proofs.Waiting.{AreMet, run_met}
-use Rattle.convergence_laws.specs.GroupForms.{form_at, value_of, level_alone, wins}
+use Rattle.rep_laws.specs.GroupForms.{form_at, value_of, level_alone, wins}
 use Rattle.convergence_laws.specs.Joins.{parts_in}
 use Rattle.convergence_laws.specs.Collections.{Then, TellApart}
 use Rattle.convergence_laws.proofs.AnyOrder.{reordered_back}

@@ -8,7 +8,8 @@ use Rattle.rep_schema.specs.declared.schema.Schema.{Schema}
 use Rattle.error_queue.specs.declared.entry.ErrorEntry.{ErrorEntry}
 use Rattle.site_state.specs.declared.entry.Entry.{Entry}
 use Rattle.site_state.specs.declared.entry.Entry.TheVariants.{Local, Done, Error, Executed, Dropped, Refreshed}
-use Rattle.site_state.specs.State.{SiteState, is_master_site}
+use Rattle.site_state.specs.State.{SiteState}
+use Rattle.rep_schema.specs.Sites.{is_master_site}
 use Rattle.site_state.specs.Journal.{is_position, finished, error_at}
 use Rattle.site_state.proofs.Stepping.{MayFollow, is_position-true}
 use Rattle.agreement_laws.specs.Agreement.{drops_of_master}

@@ -7,8 +7,9 @@ use Rattle.rep_schema.specs.declared.schema.Schema.{Schema}
 use Rattle.rep_schema.specs.Named.{is_site}
 use Rattle.rep_laws.specs.Commuting.{IsSound}
 use Rattle.packet_code.specs.declared.packet.Packet.{Packet}
-use Rattle.site_state.specs.State.{SiteState, is_master_site}
-use Rattle.event_laws.specs.Cluster.{site_of}
+use Rattle.site_state.specs.State.{SiteState}
+use Rattle.rep_schema.specs.Sites.{is_master_site}
+use Rattle.site_events.specs.Cluster.{site_of}
 use Rattle.event_laws.specs.Orders.{IsInOrder}
 use Rattle.event_laws.proofs.Sites.{found_all, found_name}
 use Rattle.event_laws.proofs.DeclaredSites.{IsSiteOf}

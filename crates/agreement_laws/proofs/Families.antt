@@ -8,15 +8,16 @@ use Rattle.rep_schema.specs.declared.schema.Schema.{Schema}
 use Rattle.rep_schema.specs.declared.schema.SiteEntry.{SiteEntry}
 use Rattle.rep_schema.specs.Shape.{HasShape, is_master}
 use Rattle.rep_schema.specs.Named.{is_site}
-use Rattle.rep_schema.specs.Sites.{names_of}
+use Rattle.rep_schema.specs.Sites.{names_of, is_master_site, is_among}
 use Rattle.rep_lists.specs.Rising.{find_at}
 use Rattle.rep_calls.specs.declared.call.Txn.{Txn}
-use Rattle.deferred_queue.specs.Streams.{is_same_site, at_position}
+use Rattle.deferred_queue.specs.Streams.{at_position}
+use Rattle.rep_values.specs.SiteNames.{is_same_site}
 use Rattle.deferred_queue.proofs.Sites.{is_same_site-true, is_same_site-refl}
 use Rattle.deferred_queue.proofs.Positions.{found_position}
 use Rattle.site_state.specs.declared.entry.Entry.{Entry}
 use Rattle.site_state.specs.declared.entry.Entry.TheVariants.{Local, Done, Error, Executed, Dropped, Refreshed}
-use Rattle.site_state.specs.State.{SenderState, DestinationState, SiteState, is_master_site, is_among, sender_of, arrived_in, arrival_beside, arrived_at, destination_of, opened_in, opened_of}
+use Rattle.site_state.specs.State.{SenderState, DestinationState, SiteState, sender_of, arrived_in, arrival_beside, arrived_at, destination_of, opened_in, opened_of}
 use Rattle.site_state.specs.Journal.{is_position, finished}
 use Rattle.site_state.specs.Streams.{with_one, queue_of, queued_behind, stream_in}
 use Rattle.site_state.specs.Packets.{count_opened}
@@ -24,7 +25,7 @@ use Rattle.site_state.specs.Steps.{is_open}
 use Rattle.site_state.proofs.Growing.{length-queued_behind, queued_behind-none}
 use Rattle.site_state.proofs.Stepping.{is_position-true}
 use Rattle.site_state.proofs.SchemaSites.{AreApart, are_apart}
-use Rattle.event_laws.specs.Cluster.{site_of}
+use Rattle.site_events.specs.Cluster.{site_of}
 use Rattle.event_laws.specs.Orders.{IsInOrder}
 use Rattle.convergence_laws.specs.Collections.{IsReordered, Then, Among}
 use Rattle.convergence_laws.proofs.SameRows.{reordered_behind, reordered_middle}

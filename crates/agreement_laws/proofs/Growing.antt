@@ -7,9 +7,9 @@ use Rattle.rep_values.specs.declared.name.SiteName.{SiteName}
 use Rattle.site_state.specs.declared.entry.Entry.{Entry}
 use Rattle.site_state.specs.State.{SiteState}
 use Rattle.site_state.specs.Joining.{site_open}
-use Rattle.event_laws.specs.Cluster.{Cluster, site_of}
-use Rattle.event_laws.specs.Events.{Event, run}
-use Rattle.event_laws.specs.Joins.{copied}
+use Rattle.site_events.specs.Cluster.{Cluster, site_of}
+use Rattle.site_events.specs.Events.{Event, run}
+use Rattle.site_events.specs.Joins.{copied}
 use Rattle.event_laws.specs.Marks.{journal_in}
 use Rattle.event_laws.proofs.Sites.{at_split, found_or, site_of-joined}
 use Rattle.event_laws.proofs.NewSites.{copied_is_new}

@@ -7,24 +7,25 @@ use mathlib.Core.Bool.{true≢false}
 use Rattle.std.proofs.lemmas.Bool.Decides.{nat_tests}
 use Rattle.rep_values.specs.declared.name.SiteName.{SiteName}
 use Rattle.rep_schema.specs.declared.schema.Schema.{Schema}
-use Rattle.rep_schema.specs.Sites.{senders_of}
+use Rattle.rep_schema.specs.Sites.{senders_of, is_master_site, is_among}
 use Rattle.rep_schema.specs.Tables.{Cells, Rows, columns_of, find_row}
 use Rattle.rep_calls.specs.declared.call.Txn.{Txn}
 use Rattle.conflict_detect.specs.ChangeCalls.{call_of}
 use Rattle.txn_effects.specs.Calls.{Effect}
 use Rattle.txn_effects.specs.Contents.{Content, IsContent, effect_on, content_after}
-use Rattle.deferred_queue.specs.Streams.{is_same_site, at_position}
+use Rattle.deferred_queue.specs.Streams.{at_position}
+use Rattle.rep_values.specs.SiteNames.{is_same_site}
 use Rattle.deferred_queue.proofs.Sites.{is_same_site-true, is_same_site-refl}
 use Rattle.deferred_queue.proofs.Positions.{found_position}
 use Rattle.packet_code.specs.declared.packet.Packet.{Packet}
-use Rattle.local_txn.specs.Convergent.{is_convergent}
-use Rattle.local_txn.specs.Locals.{BlockEffect}
+use Rattle.txn_effects.specs.Convergent.{is_convergent}
+use Rattle.txn_effects.specs.Locals.{BlockEffect}
 use Rattle.rep_calls.specs.declared.statement.Statement.{Statement}
-use Rattle.convergence_laws.specs.GroupForms.{TxnKeepsForms}
+use Rattle.rep_laws.specs.GroupForms.{TxnKeepsForms}
 use Rattle.rep_laws.specs.Commuting.{IsSound}
 use Rattle.site_state.specs.declared.entry.Entry.{Entry}
 use Rattle.site_state.specs.declared.entry.Entry.TheVariants.{Local, Done, Error, Executed, Dropped, Refreshed}
-use Rattle.site_state.specs.State.{SiteState, is_master_site, is_among, arrived_at}
+use Rattle.site_state.specs.State.{SiteState, arrived_at}
 use Rattle.site_state.specs.Journal.{is_position, error_at}
 use Rattle.site_state.specs.Contents.{content_with, tables_of, content_of, txn_of}
 use Rattle.site_state.specs.Commits.{block_at}
@@ -34,7 +35,7 @@ use Rattle.site_state.specs.Packets.{count_opened}
 use Rattle.site_state.specs.Steps.{is_empty, is_open, goes_onward, onward_number}
 use Rattle.site_state.proofs.Growing.{length-queued_behind}
 use Rattle.site_state.proofs.SchemaSites.{own_is_no_sender}
-use Rattle.event_laws.specs.Cluster.{site_of}
+use Rattle.site_events.specs.Cluster.{site_of}
 use Rattle.event_laws.proofs.Sites.{found_all, found_name}
 use Rattle.event_laws.proofs.DeclaredSites.{IsSiteOf}
 use Rattle.event_laws.proofs.Meeting.{SiteMeets, MeetsAt}
@@ -50,7 +51,7 @@ use Rattle.agreement_laws.specs.Pairs.{calls_in}
 use Rattle.agreement_laws.proofs.Reordering.{reordered_as, chosen, chosen-same, chosen-more, above, above-more}
 use Rattle.agreement_laws.proofs.Turns.{Turn, Same, Own, Did, Left, Renewed, Frame, Cause, Now, Late, IsLeft}
 use Rattle.agreement_laws.proofs.SitesAt.{turn_frame}
-use Rattle.agreement_laws.proofs.OpenMasters.{IsOpenTo, masters_open}
+use Rattle.event_laws.proofs.OpenMasters.{IsOpenTo, masters_open}
 use Rattle.agreement_laws.proofs.Applied.{is_applied, IsShaped, FinishedWithoutError, error_finished, taken_not_applied}
 use Rattle.agreement_laws.proofs.Told.{TxnIsTold, all_told_later, IsSentBy, cause_sent, queue-did, queue-left, Known, own_told, done_told, done_sound, QueuesTold, turn_queues, onward_told}
 use Rattle.agreement_laws.proofs.Families.{masters_of, StandApart-masters, Among-masters, Are-masters, joined_same, joined_more, queue_in, count_for, count_in, has_number, piece_of, pieces_of, sent_number, finished_sent, arrived_among, open_any}

@@ -9,24 +9,24 @@ use Rattle.rep_schema.specs.Groups.{group_columns_of, values_at}
 use Rattle.rep_schema.proofs.FoundRows.{found_row}
 use Rattle.schema_rules.specs.declared.forms.Form.TheVariants as form
 use Rattle.rep_calls.specs.declared.call.Part.{Part}
-use Rattle.local_txn.specs.Convergent.{is_convergent}
+use Rattle.txn_effects.specs.Convergent.{is_convergent}
 use Rattle.site_state.specs.declared.entry.Entry.{Entry}
 use Rattle.site_state.specs.State.{SiteState}
-use Rattle.event_laws.specs.Cluster.{Cluster, site_of}
-use Rattle.event_laws.specs.Events.{Event, run}
+use Rattle.site_events.specs.Cluster.{Cluster, site_of}
+use Rattle.site_events.specs.Events.{Event, run}
 use Rattle.event_laws.specs.Starts.{IsNewSite}
 use Rattle.event_laws.specs.Fitting.{StartsFit, IsFitStart}
 use Rattle.event_laws.specs.Waiting.{SitesLinkAsDeclared}
 use Rattle.event_laws.proofs.Sites.{found_all, found_name}
-use Rattle.convergence_laws.specs.Beginning.{BaseRowsAreFilled}
-use Rattle.convergence_laws.specs.GroupForms.{form_at, value_of, wins}
+use Rattle.event_laws.specs.Beginning.{BaseRowsAreFilled}
+use Rattle.rep_laws.specs.GroupForms.{form_at, value_of, wins}
 use Rattle.convergence_laws.specs.Joins.{applied_parts, candidates_of}
 use Rattle.convergence_laws.specs.Collections.{Among, TellApart}
 use Rattle.convergence_laws.specs.Agreement.{all_applied}
 use Rattle.convergence_laws.proofs.GroupColumns.{value_of-values_at}
-use Rattle.convergence_laws.proofs.FormShapes.{IsShaped-form_at}
+use Rattle.rep_laws.proofs.FormShapes.{IsShaped-form_at}
 use Rattle.convergence_laws.proofs.Moves.{within_row}
-use Rattle.convergence_laws.proofs.ConvergentRows.{StandsAlone-convergent}
+use Rattle.rep_laws.proofs.ConvergentRows.{StandsAlone-convergent}
 use Rattle.convergence_laws.proofs.EventsKeepForms.{groups_are_joined}
 use Rattle.agreement_laws.specs.Latest.{LatestValuesTellApart}
 use Rattle.agreement_laws.proofs.Turns.{happens_becomes}

@@ -1,6 +1,5 @@
 -- The lemmas of this crate, from the bottom up.
 pub mod Counting
-pub mod SiteColumns
 pub mod OwnPairs
 pub mod Turns
 pub mod SitesAt
@@ -13,7 +12,6 @@ pub mod PairsTell
 pub mod Reordering
 pub mod Applied
 pub mod SameRows
-pub mod OpenMasters
 pub mod Families
 pub mod Facts
 pub mod Since

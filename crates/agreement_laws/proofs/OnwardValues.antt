@@ -28,17 +28,17 @@ use Rattle.txn_effects.specs.Transactions.{failing_at, effect_behind, calls_effe
 use Rattle.txn_effects.specs.Contents.{Content, IsContent, effect_on}
 use Rattle.txn_effects.proofs.Results.{result_then-Ok}
 use Rattle.txn_effects.proofs.TransactionEffects.{IsApplied-call_effect}
-use Rattle.local_txn.specs.Convergent.{is_convergent}
+use Rattle.txn_effects.specs.Convergent.{is_convergent}
 use Rattle.rep_laws.specs.Commuting.{IsSound}
 use Rattle.rep_laws.proofs.SoundSchemas.{HasKeys-sound, KeysStandAlone-sound}
-use Rattle.convergence_laws.specs.GroupForms.{form_at, wins, KeepsForms}
+use Rattle.rep_laws.specs.GroupForms.{form_at, wins, KeepsForms}
 use Rattle.convergence_laws.specs.Joins.{is_row, candidates_of, is_winner}
 use Rattle.convergence_laws.specs.Journals.{IsSoundTxn}
 use Rattle.convergence_laws.specs.Collections.{Among}
 use Rattle.convergence_laws.proofs.Moves.{DecisionLaws}
 use Rattle.convergence_laws.proofs.AnyOrder.{among_any}
 use Rattle.convergence_laws.proofs.Winners.{moved_by, IsJoin-moved_by}
-use Rattle.convergence_laws.proofs.ConvergentRows.{StandsAlone-convergent, Leaves-insert, Leaves-update}
+use Rattle.rep_laws.proofs.ConvergentRows.{StandsAlone-convergent, Leaves-insert, Leaves-update}
 use Rattle.convergence_laws.proofs.RowsCome.{parts_move}
 use Rattle.convergence_laws.proofs.CallsCome.{failing_at-Ok, behind-Ok}
 use Rattle.agreement_laws.specs.Pairs.{made_by, made_in}

@@ -24,18 +24,18 @@ use Rattle.rep_calls.specs.declared.call.Call.{Call}
 use Rattle.rep_calls.specs.declared.call.Call.TheVariants.{Insert, Update, Delete}
 use Rattle.conflict_detect.specs.Fits.{CallFits, PartFits}
 use Rattle.conflict_detect.specs.ChangeCalls.{part_between, call_between, call_of}
-use Rattle.local_txn.specs.Filled.{is_modified, has_stamp_from}
+use Rattle.txn_effects.specs.Filled.{is_modified, has_stamp_from}
 use Rattle.local_txn.specs.Laws.{filled_places, gives_stamp, IsFilledAt, CarriesIn, StampsRise}
 use Rattle.rep_laws.specs.Commuting.{IsSound}
-use Rattle.site_state.specs.Steps.{count_where}
-use Rattle.convergence_laws.specs.GroupForms.{form_at}
+use Rattle.rep_lists.specs.Counting.{count_where}
+use Rattle.rep_laws.specs.GroupForms.{form_at}
 use Rattle.convergence_laws.specs.Joins.{is_row}
-use Rattle.convergence_laws.proofs.FormShapes.{IsLatest, IsShaped-form_at, IsOfKind-form_at}
+use Rattle.rep_laws.proofs.FormShapes.{IsLatest, IsShaped-form_at, IsOfKind-form_at}
 use Rattle.convergence_laws.proofs.GroupColumns.{Rise, Rise-increasing, value_of-values_at}
 use Rattle.convergence_laws.proofs.Moves.{within_row, long_values}
 use Rattle.agreement_laws.specs.Pairs.{made_by, made_in, pair_in, has_pair, IsMadeOnce, AreMadeOnce}
 use Rattle.agreement_laws.proofs.Counting.{count_where-append, count_where-length}
-use Rattle.agreement_laws.proofs.SiteColumns.{own_is_filled}
+use Rattle.rep_laws.proofs.SiteColumns.{own_is_filled}
 
 -- ---- lists
 

@@ -11,9 +11,9 @@ use Rattle.site_state.specs.declared.entry.Entry.TheVariants.{Local, Done, Error
 use Rattle.site_state.specs.State.{SiteState}
 use Rattle.site_state.specs.Contents.{tables_of, txn_of}
 use Rattle.site_state.specs.Fits.{EntryFits}
-use Rattle.event_laws.specs.Cluster.{Cluster}
-use Rattle.event_laws.specs.Joins.{copied}
-use Rattle.event_laws.specs.Events.{Event, run, happens}
+use Rattle.site_events.specs.Cluster.{Cluster}
+use Rattle.site_events.specs.Joins.{copied}
+use Rattle.site_events.specs.Events.{Event, run, happens}
 use Rattle.event_laws.specs.Starts.{IsNewSite}
 use Rattle.event_laws.specs.Fitting.{IsFitStart, FitsHere}
 use Rattle.event_laws.proofs.Sites.{found_all, found_changed}

@@ -8,16 +8,16 @@ use Rattle.rep_schema.specs.Groups.{group_columns_of}
 use Rattle.rep_schema.proofs.ValuesAt.{are_same-Decides}
 use Rattle.schema_rules.specs.declared.forms.Form.TheVariants as form
 use Rattle.rep_calls.specs.declared.call.Txn.{Txn}
-use Rattle.local_txn.specs.declared.local.Here.{Here}
-use Rattle.local_txn.specs.Convergent.{is_convergent}
+use Rattle.txn_effects.specs.declared.local.Here.{Here}
+use Rattle.txn_effects.specs.Convergent.{is_convergent}
 use Rattle.site_state.specs.declared.entry.Entry.{Entry}
 use Rattle.local_txn.specs.Laws.{StampsOfABlockRise}
 use Rattle.site_state.specs.State.{SiteState}
-use Rattle.site_state.specs.Steps.{count_where}
+use Rattle.rep_lists.specs.Counting.{count_where}
 use Rattle.site_state.specs.Streams.{queue_of}
 use Rattle.site_state.proofs.FittingSites.{one_has}
-use Rattle.event_laws.specs.Cluster.{Cluster, site_of}
-use Rattle.event_laws.specs.Events.{Event, run}
+use Rattle.site_events.specs.Cluster.{Cluster, site_of}
+use Rattle.site_events.specs.Events.{Event, run}
 use Rattle.event_laws.specs.Marks.{journal_in}
 use Rattle.event_laws.specs.Orders.{IsInOrder}
 use Rattle.event_laws.specs.Fitting.{IsFitStart}
@@ -29,7 +29,7 @@ use Rattle.event_laws.proofs.MarkLaws.{IsOfSchema, run_schema}
 use Rattle.event_laws.proofs.MarkLaws as marks
 use Rattle.event_laws.proofs.OrderLaws.{earlier_comes_first}
 use Rattle.event_laws.proofs.FittingSites.{every_site_fits}
-use Rattle.convergence_laws.specs.GroupForms.{form_at}
+use Rattle.rep_laws.specs.GroupForms.{form_at}
 use Rattle.convergence_laws.specs.Laws.{BlocksKeepForms}
 use Rattle.convergence_laws.specs.Collections.{Among}
 use Rattle.convergence_laws.proofs.Moves.{DecisionLaws}

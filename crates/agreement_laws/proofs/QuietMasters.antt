@@ -10,20 +10,21 @@ use Rattle.rep_schema.specs.declared.schema.Schema.{Schema}
 use Rattle.rep_schema.specs.Tables.{Rows, columns_of, find_row, rows_of}
 use Rattle.rep_calls.specs.declared.call.Txn.{Txn}
 use Rattle.rep_laws.specs.Commuting.{IsSound}
-use Rattle.deferred_queue.specs.Streams.{is_same_site}
+use Rattle.rep_values.specs.SiteNames.{is_same_site}
 use Rattle.deferred_queue.proofs.Sites.{is_same_site-true, is_same_site-refl}
 use Rattle.packet_code.specs.declared.packet.Packet.{Packet}
-use Rattle.local_txn.specs.Convergent.{is_convergent}
+use Rattle.txn_effects.specs.Convergent.{is_convergent}
 use Rattle.site_state.specs.declared.entry.Entry.{Entry}
-use Rattle.site_state.specs.State.{SiteState, is_master_site}
+use Rattle.site_state.specs.State.{SiteState}
+use Rattle.rep_schema.specs.Sites.{is_master_site}
 use Rattle.site_state.specs.Contents.{journal_content, tables_of}
 use Rattle.site_state.specs.Streams.{queue_of, count_of}
 use Rattle.site_state.specs.Joining.{site_open}
 use Rattle.site_state.specs.Packets.{count_opened}
 use Rattle.site_state.proofs.Destinations.{opened_in-other}
-use Rattle.event_laws.specs.Cluster.{site_of, at_site}
-use Rattle.event_laws.specs.Joins.{copied, may_join, with_joined}
-use Rattle.event_laws.specs.Quiet.{are_quiet}
+use Rattle.site_events.specs.Cluster.{site_of, at_site}
+use Rattle.site_events.specs.Joins.{copied, may_join, with_joined}
+use Rattle.site_events.specs.Quiet.{are_quiet}
 use Rattle.event_laws.proofs.Sites.{found_name, found_or, site_of-joined, found_changed, found_other}
 use Rattle.event_laws.proofs.NewSites.{copied_is_new, copied_here}
 use Rattle.event_laws.proofs.DeclaredSites.{joins_from_master}
@@ -36,7 +37,8 @@ use Rattle.agreement_laws.specs.Pairs.{calls_in}
 use Rattle.convergence_laws.specs.Joins.{parts_in, inserts_in}
 use Rattle.agreement_laws.proofs.Reordering.{reordered_as, chosen, chosen-same, above}
 use Rattle.agreement_laws.proofs.Turns.{Turn, Becomes, Stays, Turns, Joins}
-use Rattle.agreement_laws.proofs.SitesAt.{Each, turns_here, Entered, Nothing, One, turn_enters, found_opened, copied_base, WasJoined, Old, New, was_joined, at_each, joined_each}
+use Rattle.agreement_laws.proofs.SitesAt.{Each, turns_here, Entered, Nothing, One, turn_enters, WasJoined, Old, New, was_joined, at_each, joined_each}
+use Rattle.event_laws.proofs.JoinedSites.{found_opened, copied_base}
 use Rattle.agreement_laws.proofs.Applied.{IsShaped, shaped_more, none_shaped}
 use Rattle.agreement_laws.proofs.Told.{TxnIsTold, all_told_later, Known, becomes_more}
 use Rattle.agreement_laws.proofs.Families.{masters_of, Are-masters, joined_by, joined_same, queue_in, count_for, count_in, has_number, piece_of, piece_empty}

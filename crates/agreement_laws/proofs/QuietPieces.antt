@@ -12,13 +12,14 @@ use Rattle.rep_schema.specs.declared.schema.Schema.{Schema}
 use Rattle.rep_calls.specs.declared.past.PastEntry.{PastEntry}
 use Rattle.rep_calls.specs.declared.call.Txn.{Txn}
 use Rattle.rep_laws.specs.Commuting.{IsSound}
-use Rattle.deferred_queue.specs.Streams.{is_same_site}
+use Rattle.rep_values.specs.SiteNames.{is_same_site}
 use Rattle.deferred_queue.proofs.Sites.{is_same_site-true, is_same_site-refl}
 use Rattle.packet_code.specs.declared.packet.Packet.{Packet}
 use Rattle.error_queue.specs.declared.entry.ErrorEntry.{ErrorEntry}
 use Rattle.site_state.specs.declared.arrival.Arrival.{Arrival}
 use Rattle.site_state.specs.declared.entry.Entry.{Entry}
-use Rattle.site_state.specs.State.{SenderState, SiteState, is_master_site, sender_of, arrived_in, arrival_beside, arrived_at, opened_of}
+use Rattle.site_state.specs.State.{SenderState, SiteState, sender_of, arrived_in, arrival_beside, arrived_at, opened_of}
+use Rattle.rep_schema.specs.Sites.{is_master_site}
 use Rattle.site_state.specs.Journal.{finished, error_at}
 use Rattle.site_state.specs.Streams.{queue_of, count_of, stream_in, stream_to}
 use Rattle.site_state.specs.Errors.{errors_from, errors_of}
@@ -27,14 +28,14 @@ use Rattle.site_state.specs.Packets.{count_opened}
 use Rattle.site_state.proofs.Growing.{length-queued_behind}
 use Rattle.site_state.proofs.Stepping.{error_found, found_at}
 use Rattle.site_state.proofs.FittingSites.{arrival_has}
-use Rattle.event_laws.specs.Cluster.{site_of}
-use Rattle.event_laws.specs.Quiet.{is_other_master, last_position_to, last_positions, unquiet_at, is_quiet_at, are_quiet}
+use Rattle.site_events.specs.Cluster.{site_of}
+use Rattle.site_events.specs.Quiet.{is_other_master, last_position_to, last_positions, unquiet_at, is_quiet_at, are_quiet}
 use Rattle.event_laws.proofs.Sites.{found_name}
 use Rattle.event_laws.proofs.Meeting.{SiteMeets, MeetsAt}
 use Rattle.convergence_laws.proofs.Moves.{DecisionLaws}
-use Rattle.convergence_laws.proofs.ConvergentRows.{both_hold}
+use Rattle.rep_laws.proofs.ConvergentRows.{both_hold}
 use Rattle.agreement_laws.proofs.Reordering.{chosen, chosen-same, above}
-use Rattle.agreement_laws.proofs.OpenMasters.{masters_open}
+use Rattle.event_laws.proofs.OpenMasters.{masters_open}
 use Rattle.agreement_laws.proofs.Applied.{is_applied, FinishedWithoutError, error_finished}
 use Rattle.agreement_laws.proofs.Families.{masters_of, Are-masters, joined_by, joined_same, queue_in, count_for, count_in, has_number, piece_of, pieces_of}
 use Rattle.agreement_laws.proofs.Facts.{Facts, declared_master}

@@ -17,19 +17,19 @@ use Rattle.rep_calls.specs.declared.call.Part.{Part}
 use Rattle.rep_calls.specs.declared.call.Txn.{Txn}
 use Rattle.rep_laws.specs.Commuting.{IsSound}
 use Rattle.packet_code.specs.declared.packet.Packet.{Packet}
-use Rattle.local_txn.specs.declared.local.Here.{Here}
-use Rattle.local_txn.specs.Convergent.{is_convergent}
+use Rattle.txn_effects.specs.declared.local.Here.{Here}
+use Rattle.txn_effects.specs.Convergent.{is_convergent}
 use Rattle.site_state.specs.declared.entry.Entry.{Entry}
 use Rattle.site_state.specs.declared.entry.Entry.TheVariants.{Local, Done, Error, Executed, Dropped, Refreshed}
 use Rattle.site_state.specs.State.{SiteState}
 use Rattle.site_state.specs.Contents.{tables_of, txn_of}
 use Rattle.site_state.specs.Steps.{onward_number}
-use Rattle.event_laws.specs.Cluster.{site_of}
-use Rattle.event_laws.specs.Joins.{copied, may_join}
+use Rattle.site_events.specs.Cluster.{site_of}
+use Rattle.site_events.specs.Joins.{copied, may_join}
 use Rattle.event_laws.proofs.Sites.{found_name, found_changed}
 use Rattle.event_laws.proofs.NewSites.{copied_is_new}
 use Rattle.event_laws.proofs.DeclaredSites.{joins_from_master}
-use Rattle.convergence_laws.specs.GroupForms.{form_at, value_of, wins}
+use Rattle.rep_laws.specs.GroupForms.{form_at, value_of, wins}
 use Rattle.convergence_laws.specs.Joins.{parts_for, parts_in, inserts_for, inserts_in, calls_applied, applied_parts, applied_inserts, first_row, candidates_of, IsJoined}
 use Rattle.convergence_laws.specs.Collections.{Among}
 use Rattle.convergence_laws.specs.Laws.{AreJoined}
@@ -40,7 +40,8 @@ use Rattle.convergence_laws.proofs.AnyOrder.{among_any}
 use Rattle.agreement_laws.specs.Pairs.{made_by, made_in}
 use Rattle.agreement_laws.proofs.Counting.{among_left, among_right, among_either, among_map}
 use Rattle.agreement_laws.proofs.Turns.{Turn, Same, Own, Did, Left, Renewed, Cause, Now, Late, IsLeft, Becomes, Stays, Turns, Joins}
-use Rattle.agreement_laws.proofs.SitesAt.{Each, turn_frame, turns_here, at_each, joined_each, copied_base}
+use Rattle.agreement_laws.proofs.SitesAt.{Each, turn_frame, turns_here, at_each, joined_each}
+use Rattle.event_laws.proofs.JoinedSites.{copied_base}
 use Rattle.agreement_laws.proofs.Told.{IsOwnValue, AreTold, told_append, own_later, told_later, HaveMore, becomes_more, QueueIsTold, Known, own_told, done_told}
 use Rattle.agreement_laws.proofs.Facts.{is_named, Facts, declared_master}
 use Rattle.agreement_laws.proofs.Ties.{master_named}

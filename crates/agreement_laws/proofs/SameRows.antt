@@ -18,14 +18,14 @@ use Rattle.rep_calls.specs.declared.call.Call.{Call}
 use Rattle.rep_calls.specs.declared.call.Part.{Part}
 use Rattle.conflict_detect.proofs.RowAfter.{same_from_groups}
 use Rattle.resolve_methods.specs.SequenceLaws.{one_group_number, sum_methods, greatest_methods, least_methods}
-use Rattle.local_txn.specs.Convergent.{is_convergent}
+use Rattle.txn_effects.specs.Convergent.{is_convergent}
 use Rattle.rep_laws.specs.Commuting.{IsSound}
-use Rattle.convergence_laws.specs.GroupForms.{form_at, wins}
+use Rattle.rep_laws.specs.GroupForms.{form_at, wins}
 use Rattle.convergence_laws.specs.Joins.{parts_in, inserts_in, first_row, candidates_of, is_winner, IsJoin}
 use Rattle.convergence_laws.specs.Collections.{IsReordered, Among, TellApart}
-use Rattle.convergence_laws.proofs.FormShapes.{IsShaped-form_at}
+use Rattle.rep_laws.proofs.FormShapes.{IsShaped-form_at}
 use Rattle.convergence_laws.proofs.Moves.{DecisionLaws, wins_total, one_of_group, same_numbers, int_tie}
-use Rattle.convergence_laws.proofs.ConvergentRows.{StandsAlone-convergent}
+use Rattle.rep_laws.proofs.ConvergentRows.{StandsAlone-convergent}
 use Rattle.convergence_laws.proofs.ChangesKeepForms.{formed}
 use Rattle.convergence_laws.proofs.RowsCome.{Came}
 use Rattle.convergence_laws.proofs.CallsCome.{row_in}

@@ -7,22 +7,22 @@ use Rattle.rep_values.specs.declared.name.SiteName.{SiteName}
 use Rattle.rep_schema.specs.declared.schema.Schema.{Schema}
 use Rattle.rep_calls.specs.declared.call.Txn.{Txn}
 use Rattle.rep_laws.specs.Commuting.{IsSound}
-use Rattle.deferred_queue.specs.Streams.{is_same_site}
+use Rattle.rep_values.specs.SiteNames.{is_same_site}
 use Rattle.deferred_queue.proofs.Sites.{is_same_site-true}
 use Rattle.deferred_queue.proofs.Positions.{found_position}
 use Rattle.packet_code.specs.declared.packet.Packet.{Packet}
 use Rattle.site_state.specs.declared.entry.Entry.{Entry}
-use Rattle.site_state.specs.State.{SiteState, is_master_site, opened_of}
+use Rattle.site_state.specs.State.{SiteState, opened_of}
+use Rattle.rep_schema.specs.Sites.{is_master_site, is_late_master}
 use Rattle.site_state.specs.Journal.{finished}
 use Rattle.site_state.specs.Contents.{txn_of}
-use Rattle.site_state.specs.Making.{is_late_master}
 use Rattle.site_state.specs.Streams.{onward_txn, went_onward, with_one, queue_of, count_of}
 use Rattle.site_state.specs.Steps.{onward_number}
 use Rattle.site_state.specs.Joining.{site_open}
 use Rattle.site_state.specs.Packets.{count_opened}
 use Rattle.site_state.proofs.Destinations.{opened_in-other, opened_in-opened}
-use Rattle.event_laws.specs.Cluster.{site_of, at_site}
-use Rattle.event_laws.specs.Joins.{copied, with_joined, may_join}
+use Rattle.site_events.specs.Cluster.{site_of, at_site}
+use Rattle.site_events.specs.Joins.{copied, with_joined, may_join}
 use Rattle.event_laws.specs.Marks.{journal_in}
 use Rattle.event_laws.proofs.NewSites.{copied_is_new, copied_here}
 use Rattle.event_laws.proofs.DeclaredSites.{joins_late}
@@ -30,11 +30,12 @@ use Rattle.event_laws.proofs.Waiting.{AreMet}
 use Rattle.convergence_laws.proofs.Moves.{DecisionLaws}
 use Rattle.agreement_laws.specs.Agreement.{drops_of_master, NothingWasDroppedSince}
 use Rattle.agreement_laws.proofs.Turns.{Turn, Same, Own, Did, Left, Renewed, Becomes, Stays, Turns, Joins}
-use Rattle.agreement_laws.proofs.SitesAt.{IsThere, is_there, WasThere, was_there, turn_frame, Entered, Nothing, One, turn_enters, WasJoined, Old, New, was_joined, found_opened, found_joined}
+use Rattle.agreement_laws.proofs.SitesAt.{IsThere, is_there, WasThere, was_there, turn_frame, Entered, Nothing, One, turn_enters, WasJoined, Old, New, was_joined}
+use Rattle.event_laws.proofs.JoinedSites.{found_opened, found_joined}
 use Rattle.agreement_laws.proofs.Growing.{HaveAll, becomes_all, now_all}
 use Rattle.agreement_laws.proofs.Applied.{is_applied, FinishedWithoutError, without_error_more, applied_more}
 use Rattle.agreement_laws.proofs.Told.{queue-did, queue-left}
-use Rattle.agreement_laws.proofs.OpenMasters.{masters_open}
+use Rattle.event_laws.proofs.OpenMasters.{masters_open}
 use Rattle.agreement_laws.proofs.Families.{count_for, count_in, finished_sent, sent_number}
 use Rattle.agreement_laws.proofs.Facts.{Facts, declared_master}
 

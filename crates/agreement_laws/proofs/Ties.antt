@@ -17,17 +17,16 @@ use Rattle.rep_schema.specs.declared.schema.SiteEntry.{SiteEntry}
 use Rattle.rep_schema.specs.declared.schema.TableEntry.{TableEntry}
 use Rattle.rep_schema.specs.Shape.{is_master}
 use Rattle.rep_schema.specs.Named.{is_site, site_named}
-use Rattle.rep_schema.specs.Sites.{sends_to, names_of, senders_of, senders_to}
+use Rattle.rep_schema.specs.Sites.{sends_to, names_of, senders_of, senders_to, is_among}
 use Rattle.rep_schema.specs.Tables.{Cells}
 use Rattle.schema_rules.specs.ConvergentRules.{share_a_level}
 use Rattle.schema_rules.proofs.SoundRules.{KeepsAllRules-unbroken}
 use Rattle.resolve_methods.specs.Ranks.{site_found, site_level_of}
 use Rattle.rep_laws.specs.Commuting.{IsSound}
 use Rattle.deferred_queue.proofs.Sites.{is_same_site-true}
-use Rattle.local_txn.specs.Convergent.{convergent_in, is_convergent}
-use Rattle.site_state.specs.State.{is_among}
+use Rattle.txn_effects.specs.Convergent.{convergent_in, is_convergent}
 use Rattle.convergence_laws.proofs.Moves.{numbers_first, int_tie}
-use Rattle.convergence_laws.proofs.ConvergentRows.{both_hold}
+use Rattle.rep_laws.proofs.ConvergentRows.{both_hold}
 use Rattle.agreement_laws.specs.Pairs.{listed}
 use Rattle.agreement_laws.proofs.Facts.{is_named}
 

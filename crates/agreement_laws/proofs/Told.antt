@@ -12,9 +12,10 @@ use Rattle.conflict_detect.specs.Fits.{TxnFits}
 use Rattle.conflict_detect.specs.ChangeCalls.{call_of}
 use Rattle.txn_effects.specs.Calls.{Effect}
 use Rattle.txn_effects.specs.Contents.{Content, IsContent, effect_on}
-use Rattle.deferred_queue.specs.Streams.{is_same_site, at_position}
+use Rattle.deferred_queue.specs.Streams.{at_position}
+use Rattle.rep_values.specs.SiteNames.{is_same_site}
 use Rattle.deferred_queue.proofs.Sites.{is_same_site-true}
-use Rattle.local_txn.specs.Convergent.{is_convergent}
+use Rattle.txn_effects.specs.Convergent.{is_convergent}
 use Rattle.rep_laws.specs.Commuting.{IsSound}
 use Rattle.error_queue.specs.declared.entry.ErrorEntry.{ErrorEntry}
 use Rattle.site_state.specs.declared.entry.Entry.{Entry}
@@ -28,14 +29,14 @@ use Rattle.site_state.specs.Joining.{site_open}
 use Rattle.site_state.specs.Steps.{onward_number}
 use Rattle.site_state.proofs.Growing.{queue_after-rebased}
 use Rattle.site_state.proofs.Stepping.{IsTaken, is_position-true, arrived_has}
-use Rattle.event_laws.specs.Cluster.{site_of, at_site}
-use Rattle.event_laws.specs.Joins.{with_joined}
+use Rattle.site_events.specs.Cluster.{site_of, at_site}
+use Rattle.site_events.specs.Joins.{with_joined}
 use Rattle.event_laws.specs.Orders.{FollowsIn, IsInOrder}
 use Rattle.event_laws.specs.Fitting.{FitsHere}
 use Rattle.event_laws.proofs.Sites.{found_name, found_changed, found_other}
 use Rattle.event_laws.proofs.RunInvariants.{SentBy, SiteHolds}
 use Rattle.event_laws.proofs.MarkLaws.{arrived_was_sent}
-use Rattle.convergence_laws.specs.GroupForms.{form_at, TxnKeepsForms}
+use Rattle.rep_laws.specs.GroupForms.{form_at, TxnKeepsForms}
 use Rattle.convergence_laws.specs.Journals.{IsSoundTxn}
 use Rattle.convergence_laws.specs.Collections.{Among}
 use Rattle.convergence_laws.proofs.Moves.{DecisionLaws}
@@ -46,7 +47,8 @@ use Rattle.agreement_laws.proofs.Counting.{among_left, among_right, among_either
 use Rattle.agreement_laws.proofs.OwnPairs.{made_in-append}
 use Rattle.agreement_laws.proofs.OnwardValues.{onward_among}
 use Rattle.agreement_laws.proofs.Turns.{Turn, Same, Own, Did, Left, Renewed, Cause, Now, Late, IsLeft, Becomes, Stays, Turns, Joins}
-use Rattle.agreement_laws.proofs.SitesAt.{Each, turns_here, found_opened}
+use Rattle.agreement_laws.proofs.SitesAt.{Each, turns_here}
+use Rattle.event_laws.proofs.JoinedSites.{found_opened}
 use Rattle.agreement_laws.proofs.PairsMadeOnce.{own_calls-did, own_calls-left}
 
 -- ---- what is told

@@ -10,8 +10,8 @@ use Rattle.error_queue.specs.declared.entry.ErrorEntry.{ErrorEntry}
 use Rattle.txn_effects.specs.Calls.{Effect}
 use Rattle.txn_effects.specs.Transactions.{Failure}
 use Rattle.txn_effects.specs.Contents.{effect_on}
-use Rattle.local_txn.specs.declared.local.LocalStop.{LocalStop}
-use Rattle.local_txn.specs.Locals.{BlockEffect}
+use Rattle.txn_effects.specs.declared.local.LocalStop.{LocalStop}
+use Rattle.txn_effects.specs.Locals.{BlockEffect}
 use Rattle.site_state.specs.declared.arrival.Arrival.{Arrival}
 use Rattle.site_state.specs.declared.answers.Why.TheVariants as why
 use Rattle.site_state.specs.declared.entry.Entry.{Entry}
@@ -28,9 +28,9 @@ use Rattle.site_state.specs.Errors.{effect_of_error, executed_by, executed_found
 use Rattle.site_state.specs.Purges.{site_purge, site_purge_log}
 use Rattle.site_state.proofs.Destinations.{opened_in-acknowledged}
 use Rattle.site_state.proofs.Stepping.{IsTaken, MayFollow, arrived_has, error_found}
-use Rattle.event_laws.specs.Cluster.{Cluster, site_of, at_site}
-use Rattle.event_laws.specs.Joins.{may_join, with_joined, joined_by, joined}
-use Rattle.event_laws.specs.Events.{Event, Commit, SetClock, Send, SendMark, Deliver, Begin, Apply, Execute, Drop, Purge, PurgeLog, Refresh, Join, receiver, delivered, may_apply, applied_where, refreshed, happens}
+use Rattle.site_events.specs.Cluster.{Cluster, site_of, at_site}
+use Rattle.site_events.specs.Joins.{may_join, with_joined, joined_by, joined}
+use Rattle.site_events.specs.Events.{Event, Commit, SetClock, Send, SendMark, Deliver, Begin, Apply, Execute, Drop, Purge, PurgeLog, Refresh, Join, receiver, delivered, may_apply, applied_where, refreshed, happens}
 use Rattle.event_laws.proofs.Happening.{IsRefreshed, refreshed_is}
 use Rattle.event_laws.proofs.Happening as happening
 

@@ -25,16 +25,16 @@ use Rattle.site_state.specs.declared.entry.Entry.{Entry}
 use Rattle.site_state.specs.declared.entry.Entry.TheVariants as entry
 use Rattle.site_state.specs.State.{SiteState}
 use Rattle.site_state.specs.Contents.{tables_of}
-use Rattle.site_state.specs.Steps.{count_where}
+use Rattle.rep_lists.specs.Counting.{count_where}
 use Rattle.site_state.specs.Making.{master_here, new_site}
 use Rattle.site_state.proofs.WorkedSites.{a, b, n, of_calls}
-use Rattle.event_laws.specs.Cluster.{Cluster, site_of}
-use Rattle.event_laws.specs.Events.{Event, Commit, Send, Deliver, Begin, Apply, run}
+use Rattle.site_events.specs.Cluster.{Cluster, site_of}
+use Rattle.site_events.specs.Events.{Event, Commit, Send, Deliver, Begin, Apply, run}
 use Rattle.event_laws.specs.Marks.{journal_in}
-use Rattle.event_laws.specs.Quiet.{are_quiet}
+use Rattle.site_events.specs.Quiet.{are_quiet}
 use Rattle.event_laws.proofs.Sites.{found_all}
-use Rattle.convergence_laws.specs.GroupForms.{form_at}
-use Rattle.agreement_laws.specs.Beginning.{RowsBeginAlike}
+use Rattle.rep_laws.specs.GroupForms.{form_at}
+use Rattle.event_laws.specs.Beginning.{RowsBeginAlike}
 use Rattle.agreement_laws.specs.Pairs.{made_in, own_calls, pair_in, has_pair}
 use Rattle.agreement_laws.specs.Agreement.{drops_of_master, NothingWasDropped, NothingWasDroppedSince}
 

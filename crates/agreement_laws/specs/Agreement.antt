@@ -4,18 +4,19 @@ use Rattle.std.specs.List.{list_any}
 use Rattle.rep_values.specs.declared.name.SiteName.{SiteName}
 use Rattle.rep_schema.specs.declared.schema.Schema.{Schema}
 use Rattle.rep_schema.specs.Tables.{rows_of}
-use Rattle.local_txn.specs.Convergent.{is_convergent}
+use Rattle.txn_effects.specs.Convergent.{is_convergent}
 use Rattle.site_state.specs.declared.entry.Entry.{Entry}
 use Rattle.site_state.specs.declared.entry.Entry.TheVariants.{Local, Done, Error, Executed, Dropped, Refreshed}
-use Rattle.site_state.specs.State.{SiteState, is_master_site}
+use Rattle.site_state.specs.State.{SiteState}
+use Rattle.rep_schema.specs.Sites.{is_master_site}
 use Rattle.site_state.specs.Contents.{tables_of}
-use Rattle.event_laws.specs.Cluster.{Cluster, site_of}
-use Rattle.event_laws.specs.Events.{Event, run}
+use Rattle.site_events.specs.Cluster.{Cluster, site_of}
+use Rattle.site_events.specs.Events.{Event, run}
 use Rattle.event_laws.specs.Fitting.{IsFitStart}
 use Rattle.event_laws.specs.Marks.{journal_in}
-use Rattle.event_laws.specs.Quiet.{are_quiet}
+use Rattle.site_events.specs.Quiet.{are_quiet}
 use Rattle.event_laws.specs.Waiting.{SitesLinkAsDeclared}
-use Rattle.agreement_laws.specs.Beginning.{RowsBeginAlike}
+use Rattle.event_laws.specs.Beginning.{RowsBeginAlike}
 
 -- an entry drops the error of a master's transaction
 abbrev pub drops_of_master : Schema → Entry → Bool

@@ -3,11 +3,11 @@ use Rattle.std.specs.Prelude.{◌≡◌, true, List, Some}
 use Rattle.rep_values.specs.declared.name.SiteName.{SiteName}
 use Rattle.rep_schema.specs.declared.schema.Schema.{Schema}
 use Rattle.site_state.specs.State.{SiteState}
-use Rattle.event_laws.specs.Cluster.{Cluster, site_of}
-use Rattle.event_laws.specs.Events.{Event, run}
+use Rattle.site_events.specs.Cluster.{Cluster, site_of}
+use Rattle.site_events.specs.Events.{Event, run}
 use Rattle.event_laws.specs.Fitting.{IsFitStart}
 use Rattle.event_laws.specs.Waiting.{SitesLinkAsDeclared}
-use Rattle.convergence_laws.specs.Beginning.{BaseRowsAreFilled}
+use Rattle.event_laws.specs.Beginning.{BaseRowsAreFilled}
 use Rattle.convergence_laws.specs.Agreement.{LatestTellApart}
 
 -- where the masters' base rows are filled in as the first master would, after every list of events, at each master: of the first

@@ -4,7 +4,8 @@ ghost use Rattle.rep_schema.specs.Shape.{HasShape};
 ghost use Rattle.txn_effects.specs.Calls.{HasKeys, KeysStandAlone};
 
 use case_lines::{CaseStop, Words, read_statement};
-use local_txn::{Here, Stamps, run_local};
+use local_txn::run_local;
+use txn_effects::{Here, Stamps};
 use page_tables::PageTables;
 use rep_calls::Statement;
 use rep_schema::TableSet;

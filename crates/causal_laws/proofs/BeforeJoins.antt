@@ -9,8 +9,9 @@ use Rattle.rep_values.specs.declared.name.SiteName.{SiteName}
 use Rattle.rep_schema.specs.declared.schema.Schema.{Schema}
 use Rattle.rep_schema.specs.Tables.{Rows, AreTables}
 use Rattle.rep_calls.specs.declared.call.Txn.{Txn}
-use Rattle.local_txn.specs.declared.local.Here.{Here}
-use Rattle.deferred_queue.specs.Streams.{is_same_site, at_position}
+use Rattle.txn_effects.specs.declared.local.Here.{Here}
+use Rattle.deferred_queue.specs.Streams.{at_position}
+use Rattle.rep_values.specs.SiteNames.{is_same_site}
 use Rattle.deferred_queue.proofs.Sites.{is_same_site-true, is_same_site-refl}
 use Rattle.deferred_queue.proofs.Positions.{found_position}
 use Rattle.site_state.specs.State.{SiteState, opened_of}
@@ -19,14 +20,14 @@ use Rattle.site_state.specs.Contents.{journal_content}
 use Rattle.site_state.specs.Streams.{queue_of, count_of, stream_in, stream_to}
 use Rattle.site_state.specs.Packets.{count_opened}
 use Rattle.site_state.specs.Joining.{site_open}
-use Rattle.site_state.specs.Making.{is_late_master}
+use Rattle.rep_schema.specs.Sites.{is_late_master}
 use Rattle.site_state.proofs.Destinations.{opened_in-opened}
-use Rattle.event_laws.specs.Cluster.{site_of}
-use Rattle.event_laws.specs.Joins.{with_joined, may_join, joined}
-use Rattle.event_laws.specs.Events.{Event, Join, run, happens}
+use Rattle.site_events.specs.Cluster.{site_of}
+use Rattle.site_events.specs.Joins.{with_joined, may_join, joined}
+use Rattle.site_events.specs.Events.{Event, Join, run, happens}
 use Rattle.event_laws.specs.Marks.{journal_in}
 use Rattle.event_laws.specs.Orders.{IsInOrder}
-use Rattle.event_laws.specs.Quiet.{are_quiet}
+use Rattle.site_events.specs.Quiet.{are_quiet}
 use Rattle.event_laws.specs.Starts.{IsNewSite}
 use Rattle.event_laws.proofs.Sites.{found_all, found_again}
 use Rattle.event_laws.proofs.DeclaredSites.{joins_from_master, joins_late}
@@ -36,14 +37,14 @@ use Rattle.convergence_laws.specs.Joins.{inserts_in, applied_inserts}
 use Rattle.convergence_laws.specs.Journals.{AreMade}
 use Rattle.convergence_laws.proofs.EventsKeepForms.{KeepsIn}
 use Rattle.convergence_laws.proofs.JournalsJoin.{journal_comes}
-use Rattle.agreement_laws.proofs.OpenMasters.{IsOpenTo, masters_open}
-use Rattle.agreement_laws.proofs.SitesAt.{WasJoined, was_joined, found_joined}
+use Rattle.event_laws.proofs.OpenMasters.{IsOpenTo, masters_open}
+use Rattle.agreement_laws.proofs.SitesAt.{WasJoined, was_joined}
+use Rattle.event_laws.proofs.JoinedSites.{found_joined, copied_tables}
 use Rattle.agreement_laws.proofs.SitesAt as joined_sites
 use Rattle.agreement_laws.proofs.Since.{AreTwo}
 use Rattle.agreement_laws.proofs.QuietPieces.{all_settled}
 use Rattle.agreement_laws.proofs.Agreeing.{facts_after}
 use Rattle.agreement_laws.proofs.Applied.{FinishedWithoutError}
-use Rattle.excuse_laws.proofs.Joining.{copied_tables}
 use Rattle.excuse_laws.proofs.Moving.{Moves}
 use Rattle.excuse_laws.proofs.Turning.{Turns}
 use Rattle.excuse_laws.proofs.Turning as turning

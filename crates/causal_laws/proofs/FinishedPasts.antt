@@ -15,7 +15,7 @@ use Rattle.rep_values.specs.declared.name.SiteName.{SiteName}
 use Rattle.rep_schema.specs.declared.schema.Schema.{Schema}
 use Rattle.rep_calls.specs.declared.past.PastEntry.{PastEntry}
 use Rattle.rep_calls.specs.declared.call.Txn.{Txn}
-use Rattle.deferred_queue.specs.Streams.{is_same_site}
+use Rattle.rep_values.specs.SiteNames.{is_same_site}
 use Rattle.deferred_queue.proofs.Sites.{is_same_site-true}
 use Rattle.packet_code.specs.declared.packet.Packet.{Packet}
 use Rattle.packet_code.specs.declared.packet.Packet.TheVariants.{Carry, Mark}
@@ -31,9 +31,9 @@ use Rattle.site_state.specs.Fits.{FinishedHaveArrived}
 use Rattle.site_state.proofs.LowWater.{low_water-below}
 use Rattle.site_state.proofs.Stepping.{MayFollow, IsTaken, with_entry, Steps, arrived_has, is_position-true}
 use Rattle.site_state.proofs.Changing.{accept_later}
-use Rattle.event_laws.specs.Cluster.{Cluster, site_of}
-use Rattle.event_laws.specs.Joins.{copied}
-use Rattle.event_laws.specs.Events.{Event, run, receiver}
+use Rattle.site_events.specs.Cluster.{Cluster, site_of}
+use Rattle.site_events.specs.Joins.{copied}
+use Rattle.site_events.specs.Events.{Event, run, receiver}
 use Rattle.event_laws.specs.Starts.{IsNewSite, IsStart}
 use Rattle.event_laws.specs.Waiting.{IsFirstNumber, SitesLinkAsDeclared}
 use Rattle.event_laws.proofs.Sites.{found_all}

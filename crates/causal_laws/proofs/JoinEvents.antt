@@ -12,9 +12,9 @@ use Rattle.site_state.specs.Errors.{site_execute, site_drop}
 use Rattle.site_state.specs.Purges.{site_purge, site_purge_log}
 use Rattle.site_state.proofs.Stepping.{commit_steps, apply_steps, execute_steps, drop_steps}
 use Rattle.site_state.proofs.Changing.{accept_later}
-use Rattle.event_laws.specs.Cluster.{Cluster, site_of, at_site}
-use Rattle.event_laws.specs.Joins.{with_joined, may_join, joined_by, joined}
-use Rattle.event_laws.specs.Events.{Event, Commit, SetClock, Send, SendMark, Deliver, Begin, Apply, Execute, Drop, Purge, PurgeLog, Refresh, Join, happens, delivered, receiver, may_apply, applied_where, refreshed}
+use Rattle.site_events.specs.Cluster.{Cluster, site_of, at_site}
+use Rattle.site_events.specs.Joins.{with_joined, may_join, joined_by, joined}
+use Rattle.site_events.specs.Events.{Event, Commit, SetClock, Send, SendMark, Deliver, Begin, Apply, Execute, Drop, Purge, PurgeLog, Refresh, Join, happens, delivered, receiver, may_apply, applied_where, refreshed}
 use Rattle.event_laws.proofs.Sites.{KeepsHere, at_split}
 use Rattle.event_laws.proofs.Happening.{refreshed_is, here-IsRefreshed}
 use Rattle.causal_laws.specs.LostInserts.{of_source}

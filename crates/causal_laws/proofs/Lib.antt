@@ -13,7 +13,6 @@ pub mod LostInserts
 pub mod TriedPositions
 pub mod MissingRows
 pub mod SnapshotSites
-pub mod RefreshedRows
 pub mod RowsOfSnapshotSites
 pub mod MissingRowLaws
 mod WorkedLostInserts

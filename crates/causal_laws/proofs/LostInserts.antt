@@ -8,13 +8,14 @@ use Rattle.rep_calls.specs.declared.past.PastEntry.{PastEntry}
 use Rattle.rep_calls.specs.declared.call.Txn.{Txn}
 use Rattle.deferred_queue.specs.Streams.{at_position}
 use Rattle.deferred_queue.proofs.Positions.{at_position-within, found_position}
-use Rattle.site_state.specs.State.{SenderState, SiteState, is_master_site, is_among, sender_of, first_in, opened_of}
+use Rattle.site_state.specs.State.{SenderState, SiteState, sender_of, first_in, opened_of}
+use Rattle.rep_schema.specs.Sites.{is_master_site, is_among}
 use Rattle.site_state.specs.Journal.{finished}
 use Rattle.site_state.specs.Streams.{queue_of, stream_in, stream_to, shares}
 use Rattle.site_state.specs.Pasts.{pasts_of}
 use Rattle.site_state.specs.Packets.{count_opened}
-use Rattle.event_laws.specs.Cluster.{site_of}
-use Rattle.event_laws.specs.Events.{Event, run}
+use Rattle.site_events.specs.Cluster.{site_of}
+use Rattle.site_events.specs.Events.{Event, run}
 use Rattle.event_laws.specs.Marks.{journal_in}
 use Rattle.event_laws.specs.Orders.{IsInOrder}
 use Rattle.event_laws.specs.Waiting.{IsFirstNumber}
@@ -23,7 +24,7 @@ use Rattle.event_laws.proofs.DeclaredSites.{IsSiteOf}
 use Rattle.event_laws.proofs.OrderLaws.{earlier_comes_first}
 use Rattle.event_laws.proofs.Waiting.{AreMet, run_met}
 use Rattle.convergence_laws.specs.Collections.{Among}
-use Rattle.agreement_laws.proofs.OpenMasters.{IsOpenTo, masters_send}
+use Rattle.event_laws.proofs.OpenMasters.{IsOpenTo, masters_send}
 use Rattle.agreement_laws.proofs.Families.{at_position-behind}
 use Rattle.causal_laws.specs.LostInserts.{insert_is_lost, dropped_before}
 use Rattle.causal_laws.proofs.NeededRows.{Needs, needs_shares}

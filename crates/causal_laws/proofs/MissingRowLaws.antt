@@ -11,7 +11,7 @@ use Rattle.conflict_detect.specs.Fits.{table_of}
 use Rattle.txn_effects.specs.Calls.{key_named}
 use Rattle.txn_effects.specs.Contents.{effect_on}
 use Rattle.local_txn.specs.Laws.{StampsOfABlockRise}
-use Rattle.local_txn.specs.declared.local.Here.{Here}
+use Rattle.txn_effects.specs.declared.local.Here.{Here}
 use Rattle.deferred_queue.specs.Streams.{at_position}
 use Rattle.site_state.specs.declared.entry.Entry.{Entry}
 use Rattle.site_state.specs.declared.entry.Entry.TheVariants.{Local, Done, Error, Executed, Dropped, Refreshed}
@@ -20,8 +20,8 @@ use Rattle.site_state.specs.Journal.{error_at}
 use Rattle.site_state.specs.Contents.{content_of}
 use Rattle.site_state.specs.Streams.{stream_to}
 use Rattle.site_state.proofs.Stepping.{IsTaken, with_entry, error_found}
-use Rattle.event_laws.specs.Cluster.{site_of}
-use Rattle.event_laws.specs.Events.{Event, run}
+use Rattle.site_events.specs.Cluster.{site_of}
+use Rattle.site_events.specs.Events.{Event, run}
 use Rattle.event_laws.specs.Orders.{IsInOrder}
 use Rattle.event_laws.specs.Starts.{IsNewSite}
 use Rattle.event_laws.proofs.Sites.{found_all, found_name}

@@ -21,15 +21,15 @@ use Rattle.txn_effects.specs.Parts.{result_then}
 use Rattle.txn_effects.specs.Calls.{Effect, RowEffect, checked_effect, effect_by, key_named, row_named, row_effect, call_effect}
 use Rattle.txn_effects.specs.Transactions.{Failure}
 use Rattle.txn_effects.specs.Contents.{effect_on}
-use Rattle.local_txn.specs.Convergent.{is_convergent}
+use Rattle.txn_effects.specs.Convergent.{is_convergent}
 use Rattle.local_txn.specs.Laws.{StampsOfABlockRise}
 use Rattle.deferred_queue.specs.Streams.{at_position}
 use Rattle.site_state.specs.declared.entry.Entry.{Entry}
 use Rattle.site_state.specs.State.{SiteState}
 use Rattle.site_state.specs.Contents.{content_of, tables_of}
 use Rattle.site_state.specs.Streams.{stream_to}
-use Rattle.event_laws.specs.Cluster.{Cluster, site_of}
-use Rattle.event_laws.specs.Events.{Event}
+use Rattle.site_events.specs.Cluster.{Cluster, site_of}
+use Rattle.site_events.specs.Events.{Event}
 use Rattle.event_laws.specs.Fitting.{IsFitStart}
 use Rattle.event_laws.specs.Waiting.{SitesLinkAsDeclared}
 use Rattle.convergence_laws.specs.Faults.{Tells, is_insert}
@@ -42,7 +42,7 @@ use Rattle.convergence_laws.proofs.Faults.{convergent_calls_fail_so}
 use Rattle.excuse_laws.proofs.Failing.{FailsBehind, fails_behind, call_found}
 use Rattle.excuse_laws.proofs.WritesStep.{IsWell, sent_holds}
 use Rattle.excuse_laws.proofs.Running.{sites_after, well_after}
-use Rattle.causal_laws.specs.Laws.{KeysAreShared}
+use Rattle.event_laws.specs.Beginning.{KeysAreShared}
 use Rattle.causal_laws.specs.LostInserts.{insert_is_lost, dropped_before, NoRowIsOfALostInsert}
 use Rattle.causal_laws.proofs.NeededRows.{Needs}
 use Rattle.causal_laws.proofs.OneRow.{Setting, Has}

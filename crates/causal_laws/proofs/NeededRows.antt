@@ -23,7 +23,7 @@ use Rattle.txn_effects.specs.Contents.{Content, IsContent, effect_on}
 use Rattle.txn_effects.proofs.Results.{result_then-Ok}
 use Rattle.txn_effects.proofs.TransactionEffects.{IsApplied-call_effect, IsApplied-txn_effect}
 use Rattle.txn_effects.proofs.OwnCalls.{calls_effect-own}
-use Rattle.local_txn.specs.Convergent.{is_convergent}
+use Rattle.txn_effects.specs.Convergent.{is_convergent}
 use Rattle.rep_laws.specs.Commuting.{IsSound}
 use Rattle.rep_laws.proofs.SoundSchemas.{HasKeys-sound, KeysStandAlone-sound}
 use Rattle.rep_laws.proofs.ContentAfter.{CanApply-IsContent}
@@ -35,7 +35,7 @@ use Rattle.rep_laws.proofs.TokenTests.{Covers, each_covered}
 use Rattle.site_state.specs.Contents.{txn_of}
 use Rattle.site_state.specs.Streams.{shares}
 use Rattle.convergence_laws.specs.Faults.{is_insert}
-use Rattle.convergence_laws.specs.GroupForms.{KeepsForms}
+use Rattle.rep_laws.specs.GroupForms.{KeepsForms}
 use Rattle.convergence_laws.specs.Joins.{is_row, inserts_for, inserts_in}
 use Rattle.convergence_laws.specs.Journals.{IsSoundTxn}
 use Rattle.convergence_laws.proofs.Moves.{DecisionLaws}

@@ -11,17 +11,19 @@ use Rattle.conflict_detect.specs.ChangeCalls.{call_of}
 use Rattle.rep_calls.specs.declared.statement.Statement.{Statement}
 use Rattle.txn_effects.specs.Calls.{Effect}
 use Rattle.txn_effects.specs.Contents.{Content, IsContent, effect_on, content_after}
-use Rattle.local_txn.specs.Convergent.{is_convergent}
+use Rattle.txn_effects.specs.Convergent.{is_convergent}
 use Rattle.local_txn.specs.Laws.{StampsOfABlockRise}
-use Rattle.local_txn.specs.Locals.{BlockEffect, local_effect}
-use Rattle.deferred_queue.specs.Streams.{is_same_site, at_position}
+use Rattle.txn_effects.specs.Locals.{BlockEffect, local_effect}
+use Rattle.deferred_queue.specs.Streams.{at_position}
+use Rattle.rep_values.specs.SiteNames.{is_same_site}
 use Rattle.deferred_queue.proofs.Sites.{is_same_site-true, is_same_site-refl}
 use Rattle.site_state.specs.declared.entry.Entry.{Entry}
-use Rattle.site_state.specs.State.{SiteState, is_master_site}
+use Rattle.site_state.specs.State.{SiteState}
+use Rattle.rep_schema.specs.Sites.{is_master_site}
 use Rattle.site_state.specs.Contents.{content_of, tables_of, txn_of, journal_content}
 use Rattle.site_state.specs.Streams.{with_one, queue_of}
-use Rattle.event_laws.specs.Cluster.{Cluster, site_of}
-use Rattle.event_laws.specs.Events.{Event}
+use Rattle.site_events.specs.Cluster.{Cluster, site_of}
+use Rattle.site_events.specs.Events.{Event}
 use Rattle.event_laws.specs.Starts.{IsNewSite}
 use Rattle.event_laws.specs.Fitting.{IsFitStart}
 use Rattle.event_laws.specs.Waiting.{SitesLinkAsDeclared}
@@ -37,7 +39,7 @@ use Rattle.excuse_laws.proofs.Moving.{Moves, Commits, Applies}
 use Rattle.excuse_laws.proofs.Turning.{Turns}
 use Rattle.excuse_laws.proofs.WritesStep.{IsWell, step_of, sent_holds}
 use Rattle.excuse_laws.proofs.Running.{sites_after, well_after, signed_after, queued_after, turns}
-use Rattle.causal_laws.specs.Laws.{KeysAreShared}
+use Rattle.event_laws.specs.Beginning.{KeysAreShared}
 use Rattle.causal_laws.proofs.QueueNumbers.{sign_stands, still_stands}
 
 -- ---- one site of several changes

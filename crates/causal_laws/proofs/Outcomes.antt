@@ -16,8 +16,8 @@ use Rattle.site_state.specs.State.{SiteState}
 use Rattle.site_state.specs.Journal.{is_position, finished, error_at}
 use Rattle.site_state.specs.Streams.{stream_to}
 use Rattle.site_state.proofs.Stepping.{is_position-true}
-use Rattle.event_laws.specs.Cluster.{Cluster, site_of}
-use Rattle.event_laws.specs.Events.{Event, run}
+use Rattle.site_events.specs.Cluster.{Cluster, site_of}
+use Rattle.site_events.specs.Events.{Event, run}
 use Rattle.event_laws.specs.Orders.{IsInOrder}
 use Rattle.event_laws.specs.Starts.{IsNewSite, IsStart}
 use Rattle.event_laws.proofs.Sites.{found_all}

@@ -11,14 +11,16 @@ use Rattle.rep_schema.specs.declared.schema.Schema.{Schema}
 use Rattle.rep_calls.specs.declared.past.PastEntry.{PastEntry}
 use Rattle.rep_calls.specs.declared.call.Txn.{Txn}
 use Rattle.txn_effects.specs.Contents.{effect_on}
-use Rattle.local_txn.specs.declared.local.Here.{Here}
-use Rattle.local_txn.specs.Locals.{local_effect}
-use Rattle.deferred_queue.specs.Streams.{is_same_site, at_position}
+use Rattle.txn_effects.specs.declared.local.Here.{Here}
+use Rattle.txn_effects.specs.Locals.{local_effect}
+use Rattle.deferred_queue.specs.Streams.{at_position}
+use Rattle.rep_values.specs.SiteNames.{is_same_site}
 use Rattle.deferred_queue.proofs.Sites.{is_same_site-true, is_same_site-refl}
 use Rattle.deferred_queue.proofs.Positions.{found_position}
 use Rattle.packet_code.specs.declared.packet.Packet.{Packet}
 use Rattle.site_state.specs.declared.arrival.Arrival.{Arrival}
-use Rattle.site_state.specs.State.{SenderState, SiteState, is_master_site, is_among, sender_of, arrived_in, arrival_beside, arrived_at, opened_of}
+use Rattle.site_state.specs.State.{SenderState, SiteState, sender_of, arrived_in, arrival_beside, arrived_at, opened_of}
+use Rattle.rep_schema.specs.Sites.{is_master_site, is_among}
 use Rattle.site_state.specs.Journal.{finished}
 use Rattle.site_state.specs.Contents.{content_of, tables_of, txn_of}
 use Rattle.site_state.specs.Streams.{with_one, queue_of, stream_in, stream_to}
@@ -27,9 +29,9 @@ use Rattle.site_state.specs.Joining.{site_open}
 use Rattle.site_state.proofs.Stepping.{IsSent, arrived_has}
 use Rattle.site_state.proofs.Pasts.{length-pasts_after}
 use Rattle.site_state.proofs.Queueing.{Adds}
-use Rattle.event_laws.specs.Cluster.{site_of}
-use Rattle.event_laws.specs.Joins.{copied, with_joined}
-use Rattle.event_laws.specs.Events.{Event, run}
+use Rattle.site_events.specs.Cluster.{site_of}
+use Rattle.site_events.specs.Joins.{copied, with_joined}
+use Rattle.site_events.specs.Events.{Event, run}
 use Rattle.event_laws.specs.Starts.{IsNewSite}
 use Rattle.event_laws.specs.Waiting.{IsFirstNumber}
 use Rattle.event_laws.proofs.Sites.{found_all, found_name, all_at_place}
@@ -41,14 +43,14 @@ use Rattle.event_laws.proofs.MarkLaws.{arrived_was_sent}
 use Rattle.event_laws.proofs.Meeting.{PacketPast, SiteMeets, AddsIn, AllAdd, all_add_same, at_adds, steps_meet, accept_meets, purge_meets, refreshed_meets}
 use Rattle.event_laws.proofs.Waiting.{AreMet, run_met}
 use Rattle.convergence_laws.specs.Journals.{IsSoundTxn}
-use Rattle.agreement_laws.proofs.OpenMasters.{masters_send}
+use Rattle.event_laws.proofs.OpenMasters.{masters_send}
 use Rattle.agreement_laws.proofs.SitesAt.{WasJoined, was_joined}
 use Rattle.agreement_laws.proofs.SitesAt as joining
 use Rattle.excuse_laws.proofs.OneTimeWrites.{position_few, stream_few}
 use Rattle.excuse_laws.proofs.WritingOnce.{DecidedBy, HasPassed}
 use Rattle.excuse_laws.proofs.Moving.{Moves, Happened, Stayed, Erred, Committed, Applied, Commits, Applies}
 use Rattle.excuse_laws.proofs.Turning.{Turns}
-use Rattle.excuse_laws.proofs.Joining.{copied_queue}
+use Rattle.event_laws.proofs.JoinedSites.{copied_queue}
 use Rattle.excuse_laws.proofs.Turning as turning
 use Rattle.excuse_laws.proofs.WritesStep.{IsWell}
 use Rattle.causal_laws.proofs.NeededRows.{Needs, needs_row, onward_gives}

@@ -9,9 +9,9 @@ use Rattle.rep_schema.specs.Tables.{Rows, columns_of, rows_of, row_cmp}
 use Rattle.rep_calls.specs.declared.call.Txn.{Txn}
 use Rattle.rep_calls.specs.declared.statement.Statement.{Statement}
 use Rattle.txn_effects.specs.Contents.{Content}
-use Rattle.local_txn.specs.declared.local.Here.{Here}
-use Rattle.local_txn.specs.declared.local.LocalStop.{LocalStop}
-use Rattle.local_txn.specs.Locals.{BlockEffect, local_effect}
+use Rattle.txn_effects.specs.declared.local.Here.{Here}
+use Rattle.txn_effects.specs.declared.local.LocalStop.{LocalStop}
+use Rattle.txn_effects.specs.Locals.{BlockEffect, local_effect}
 use Rattle.deferred_queue.specs.Streams.{at_position}
 use Rattle.packet_code.specs.declared.packet.Packet.{Packet}
 use Rattle.packet_code.specs.declared.packet.Packet.TheVariants.{Carry, Mark}
@@ -29,12 +29,12 @@ use Rattle.site_state.specs.Packets.{is_foreign, arrived_by, taken_unless, count
 use Rattle.site_state.specs.Passes.{applied_unless, site_apply}
 use Rattle.site_state.specs.Errors.{dropped_found, executed_found, site_execute, site_drop}
 use Rattle.site_state.specs.Purges.{site_purge, site_purge_log}
-use Rattle.site_state.specs.Making.{is_late_master}
+use Rattle.rep_schema.specs.Sites.{is_late_master}
 use Rattle.site_state.proofs.Stepping.{commit_steps, apply_steps, execute_steps, drop_steps}
 use Rattle.site_state.proofs.Changing.{accept_later}
-use Rattle.event_laws.specs.Cluster.{Cluster, site_of, at_site}
-use Rattle.event_laws.specs.Joins.{joined}
-use Rattle.event_laws.specs.Events.{Event, Commit, SetClock, Send, SendMark, Deliver, Begin, Apply, Execute, Drop, Purge, PurgeLog, Refresh, Join, run, happens, delivered, receiver, may_apply, applied_where, master_of, found_site, refreshed}
+use Rattle.site_events.specs.Cluster.{Cluster, site_of, at_site}
+use Rattle.site_events.specs.Joins.{joined}
+use Rattle.site_events.specs.Events.{Event, Commit, SetClock, Send, SendMark, Deliver, Begin, Apply, Execute, Drop, Purge, PurgeLog, Refresh, Join, run, happens, delivered, receiver, may_apply, applied_where, master_of, found_site, refreshed}
 use Rattle.event_laws.specs.Starts.{IsNewSite}
 use Rattle.event_laws.proofs.Sites.{KeepsHere, at_split, found_all, found_again}
 use Rattle.event_laws.proofs.Happening.{IsRefreshed, refreshed_is, here-IsRefreshed}
@@ -45,7 +45,7 @@ use Rattle.event_laws.proofs.Waiting.{AreMet, run_met}
 use Rattle.agreement_laws.proofs.Applied.{error_finished}
 use Rattle.agreement_laws.proofs.SitesAt.{WasJoined, was_joined}
 use Rattle.agreement_laws.proofs.SitesAt as sites_at
-use Rattle.convergence_laws.proofs.ConvergentRows.{StandsAlone-convergent}
+use Rattle.rep_laws.proofs.ConvergentRows.{StandsAlone-convergent}
 use Rattle.excuse_laws.proofs.Moving.{Moves, Happened, Stayed, Erred, Committed, Applied, Commits}
 use Rattle.excuse_laws.proofs.Turning.{Turns}
 use Rattle.excuse_laws.proofs.Turning as turning
@@ -56,7 +56,7 @@ use Rattle.causal_laws.proofs.QueuedNeeds.{Placed, Before, New, placed, new_need
 use Rattle.causal_laws.proofs.JoinEvents.{JoinLeaves, Nothing, OneMore, join_leaves}
 use Rattle.causal_laws.proofs.LostInserts.{number_of}
 use Rattle.causal_laws.proofs.SnapshotSites.{home_is_early, no_senders, sends_home}
-use Rattle.causal_laws.proofs.RefreshedRows.{shown_there}
+use Rattle.event_laws.proofs.RefreshedRows.{shown_there}
 
 -- ---- the tables of a site that has no senders and no error
 

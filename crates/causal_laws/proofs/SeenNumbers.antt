@@ -11,15 +11,16 @@ use Rattle.rep_lists.specs.Rising.{find_at, found_here, put_at, put_here}
 use Rattle.rep_values.specs.declared.name.SiteName.{SiteName}
 use Rattle.rep_schema.specs.declared.schema.Schema.{Schema}
 use Rattle.rep_calls.specs.declared.past.PastEntry.{PastEntry}
-use Rattle.deferred_queue.specs.Streams.{is_same_site}
+use Rattle.rep_values.specs.SiteNames.{is_same_site}
 use Rattle.deferred_queue.proofs.Sites.{is_same_site-true, is_same_site-refl}
 use Rattle.site_state.specs.declared.arrival.Arrival.{Arrival}
 use Rattle.site_state.specs.declared.entry.Entry.{Entry}
-use Rattle.site_state.specs.State.{SenderState, SiteState, is_master_site, is_among, sender_of, arrival_beside}
+use Rattle.site_state.specs.State.{SenderState, SiteState, sender_of, arrival_beside}
+use Rattle.rep_schema.specs.Sites.{is_master_site, is_among}
 use Rattle.site_state.specs.Journal.{finished}
 use Rattle.site_state.specs.Pasts.{greatest_finished, seen_of, beside_name, with_seen, past_at}
 use Rattle.site_state.proofs.Stepping.{found_at}
-use Rattle.event_laws.specs.Cluster.{site_of}
+use Rattle.site_events.specs.Cluster.{site_of}
 use Rattle.event_laws.specs.Waiting.{IsFirstNumber}
 use Rattle.convergence_laws.specs.Collections.{Among}
 

@@ -6,21 +6,22 @@ use Rattle.rep_values.specs.declared.name.SiteName.{SiteName}
 use Rattle.rep_schema.specs.Tables.{Rows}
 use Rattle.rep_calls.specs.declared.call.Txn.{Txn}
 use Rattle.txn_effects.specs.Contents.{Content}
-use Rattle.local_txn.specs.declared.local.Here.{Here}
-use Rattle.deferred_queue.specs.Streams.{is_same_site, at_position}
+use Rattle.txn_effects.specs.declared.local.Here.{Here}
+use Rattle.deferred_queue.specs.Streams.{at_position}
+use Rattle.rep_values.specs.SiteNames.{is_same_site}
 use Rattle.deferred_queue.proofs.Sites.{is_same_site-true, is_same_site-refl}
 use Rattle.site_state.specs.State.{SiteState, opened_of}
 use Rattle.site_state.specs.Contents.{tables_of, txn_of}
 use Rattle.site_state.specs.Streams.{queue_of, stream_to}
 use Rattle.site_state.specs.Joining.{site_open}
-use Rattle.event_laws.specs.Cluster.{site_of}
-use Rattle.event_laws.specs.Joins.{with_joined}
-use Rattle.event_laws.specs.Events.{Event}
+use Rattle.site_events.specs.Cluster.{site_of}
+use Rattle.site_events.specs.Joins.{with_joined}
+use Rattle.site_events.specs.Events.{Event}
 use Rattle.event_laws.proofs.DeclaredSites.{joins_from_master}
-use Rattle.agreement_laws.proofs.SitesAt.{WasJoined, was_joined, found_opened}
+use Rattle.agreement_laws.proofs.SitesAt.{WasJoined, was_joined}
+use Rattle.event_laws.proofs.JoinedSites.{found_opened, copied_tables}
 use Rattle.agreement_laws.proofs.SitesAt as joining
 use Rattle.excuse_laws.proofs.OneTimeWrites.{position_few, stream_few}
-use Rattle.excuse_laws.proofs.Joining.{copied_tables}
 use Rattle.excuse_laws.proofs.Moving.{Moves, Happened, Stayed, Erred, Committed, Applied}
 use Rattle.excuse_laws.proofs.Turning.{Turns}
 use Rattle.excuse_laws.proofs.Turning as turning

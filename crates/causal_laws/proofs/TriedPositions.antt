@@ -22,8 +22,8 @@ use Rattle.site_state.specs.Packets.{count_opened}
 use Rattle.site_state.proofs.LowWater.{low_water-below}
 use Rattle.site_state.proofs.Growing.{dep_at-covers}
 use Rattle.site_state.proofs.Stepping.{MayFollow, IsTaken, IsSent, arrived_has, is_position-true}
-use Rattle.event_laws.specs.Cluster.{Cluster, site_of}
-use Rattle.event_laws.specs.Events.{Event, run}
+use Rattle.site_events.specs.Cluster.{Cluster, site_of}
+use Rattle.site_events.specs.Events.{Event, run}
 use Rattle.event_laws.specs.Orders.{FollowsIn, IsInOrder}
 use Rattle.event_laws.proofs.RunInvariants.{SentBy, SiteHolds}
 use Rattle.event_laws.proofs.MarkLaws.{arrived_was_sent}

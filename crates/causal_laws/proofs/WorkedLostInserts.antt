@@ -18,12 +18,12 @@ use Rattle.rep_calls.specs.declared.statement.Statement.TheVariants.{Insert, Upd
 use Rattle.rep_calls.specs.declared.statement.How.TheVariants.{Add}
 use Rattle.site_state.specs.declared.entry.Entry.{Entry}
 use Rattle.site_state.specs.declared.entry.Entry.TheVariants as entry
-use Rattle.site_state.specs.Steps.{count_where}
+use Rattle.rep_lists.specs.Counting.{count_where}
 use Rattle.site_state.specs.Errors.{execute_refusal}
 use Rattle.site_state.proofs.WorkedSites.{a, b, c, d, n, named, number_column}
-use Rattle.event_laws.specs.Cluster.{Cluster}
-use Rattle.event_laws.specs.Events.{Event, Commit, Execute, Drop, Join, run}
-use Rattle.event_laws.specs.Quiet.{are_quiet}
+use Rattle.site_events.specs.Cluster.{Cluster}
+use Rattle.site_events.specs.Events.{Event, Commit, Execute, Drop, Join, run}
+use Rattle.site_events.specs.Quiet.{are_quiet}
 use Rattle.event_laws.proofs.WorkedRuns.{masters, pushed, shown, journal_at, rows_at}
 use Rattle.causal_laws.specs.LostInserts.{insert_is_lost, insert_was_dropped, dropped_before}
 

@@ -1,23 +1,16 @@
 -- The laws of missing rows.
-use Rattle.std.specs.Prelude.{◌≡◌, ℕ, true, false, List, Some, None}
+use Rattle.std.specs.Prelude.{◌≡◌, true, false, List, Some}
 use Rattle.rep_values.specs.declared.name.SiteName.{SiteName}
 use Rattle.rep_schema.specs.declared.schema.Schema.{Schema}
-use Rattle.rep_schema.specs.Tables.{Cells, columns_of, find_row, rows_of}
-use Rattle.local_txn.specs.Convergent.{is_convergent}
 use Rattle.site_state.specs.State.{SiteState}
-use Rattle.site_state.specs.Making.{is_late_master}
-use Rattle.event_laws.specs.Cluster.{Cluster, site_of}
-use Rattle.event_laws.specs.Events.{Event, run}
+use Rattle.rep_schema.specs.Sites.{is_late_master}
+use Rattle.site_events.specs.Cluster.{Cluster, site_of}
+use Rattle.site_events.specs.Events.{Event, run}
 use Rattle.event_laws.specs.Fitting.{IsFitStart}
 use Rattle.event_laws.specs.Waiting.{SitesLinkAsDeclared}
 use Rattle.excuse_laws.specs.Excuses.{ErrorsAreSo, RefusalsAreSo}
 use Rattle.causal_laws.specs.LostInserts.{dropped_before, NoRowIsOfALostInsert}
-
--- a key that any site's base rows of a convergent table have is one that each master's have
-abbrev pub KeysAreShared : Schema → List SiteState → Type 0
-KeysAreShared schema sites = (site other : SiteName) (x y : SiteState) (table : ℕ) (key : Cells) → site_of site sites ≡ Some x → site_of other sites ≡ Some y
-    → y.here.is_master ≡ true → is_convergent schema table ≡ true
-    → find_row (columns_of schema table) key (rows_of y.base table) ≡ None → find_row (columns_of schema table) key (rows_of x.base table) ≡ None
+use Rattle.event_laws.specs.Beginning.{KeysAreShared}
 
 -- after every list of events, at each master: where an error says that there is no row of a convergent table, the row's insert
 -- is lost there, or was dropped before the master joined; likewise where an execution is refused

@@ -9,14 +9,14 @@ use Rattle.rep_calls.specs.declared.call.Call.{Call}
 use Rattle.rep_calls.specs.declared.call.Txn.{Txn}
 use Rattle.conflict_detect.specs.Fits.{table_of}
 use Rattle.txn_effects.specs.Calls.{key_named}
-use Rattle.local_txn.specs.Convergent.{is_convergent}
-use Rattle.deferred_queue.specs.Streams.{is_same_site}
+use Rattle.txn_effects.specs.Convergent.{is_convergent}
+use Rattle.rep_values.specs.SiteNames.{is_same_site}
 use Rattle.site_state.specs.declared.entry.Entry.{Entry}
 use Rattle.site_state.specs.declared.entry.Entry.TheVariants.{Local, Done, Error, Executed, Dropped, Refreshed}
 use Rattle.site_state.specs.Journal.{is_position, error_at}
 use Rattle.site_state.specs.Steps.{is_empty}
-use Rattle.event_laws.specs.Cluster.{Cluster, site_of}
-use Rattle.event_laws.specs.Events.{Event, Join, run}
+use Rattle.site_events.specs.Cluster.{Cluster, site_of}
+use Rattle.site_events.specs.Events.{Event, Join, run}
 use Rattle.event_laws.specs.Marks.{journal_in}
 use Rattle.convergence_laws.specs.Joins.{inserts_in}
 use Rattle.excuse_laws.specs.Excuses.{OfFailures}

@@ -26,16 +26,16 @@ use Rattle.txn_effects.specs.Transactions.{Failure, failing_at, effect_behind, c
 use Rattle.txn_effects.specs.Contents.{Content, IsContent, effect_on, content_after}
 use Rattle.txn_effects.proofs.Results.{result_then-Ok}
 use Rattle.txn_effects.proofs.TransactionEffects.{IsApplied-call_effect}
-use Rattle.local_txn.specs.Convergent.{is_convergent}
+use Rattle.txn_effects.specs.Convergent.{is_convergent}
 use Rattle.rep_laws.specs.Commuting.{IsSound}
 use Rattle.rep_laws.proofs.SoundSchemas.{HasKeys-sound, KeysStandAlone-sound}
 use Rattle.rep_laws.proofs.TokenTests.{AreElsewhere, place_cases}
 use Rattle.rep_laws.proofs.RowEffects.{key_of-row_effect}
 use Rattle.rep_laws.proofs.ChangedRows.{find_row-changed, find_row-changed_other}
-use Rattle.convergence_laws.specs.GroupForms.{KeepsForms, TxnKeepsForms}
+use Rattle.rep_laws.specs.GroupForms.{KeepsForms, TxnKeepsForms}
 use Rattle.convergence_laws.specs.Joins.{is_row, parts_for, parts_in, inserts_for, inserts_in}
 use Rattle.convergence_laws.proofs.Moves.{DecisionLaws}
-use Rattle.convergence_laws.proofs.ConvergentRows.{StandsAlone, StandsAlone-convergent, Leaves-insert, Leaves-update}
+use Rattle.rep_laws.proofs.ConvergentRows.{StandsAlone, StandsAlone-convergent, Leaves-insert, Leaves-update}
 use Rattle.convergence_laws.proofs.RowsCome.{parts_move, Came, came_not, came_on}
 
 -- ---- whether a call names a row

@@ -18,12 +18,12 @@ use Rattle.schema_rules.specs.ConvergentRules.{has_groups_alone, have_forms}
 use Rattle.schema_rules.proofs.SoundRules.{KeepsAllRules-unbroken}
 use Rattle.rep_calls.specs.declared.call.Part.{Part}
 use Rattle.conflict_detect.specs.ChangeCalls.{part_between, parts_between}
-use Rattle.local_txn.specs.Convergent.{convergent_in, is_convergent}
+use Rattle.txn_effects.specs.Convergent.{convergent_in, is_convergent}
 use Rattle.rep_laws.specs.Commuting.{IsSound}
-use Rattle.convergence_laws.specs.GroupForms.{form_in, form_at, Allows, PartKeepsForm}
-use Rattle.convergence_laws.proofs.FormShapes.{passes}
+use Rattle.rep_laws.specs.GroupForms.{form_in, form_at, Allows, PartKeepsForm}
+use Rattle.rep_laws.proofs.FormShapes.{passes}
 use Rattle.convergence_laws.proofs.Winners.{moved_by, best_up, first_loses, moved_greatest, moved_least, moved_latest}
-use Rattle.convergence_laws.proofs.ConvergentRows.{no_length, both_hold}
+use Rattle.rep_laws.proofs.ConvergentRows.{no_length, both_hold}
 
 -- ---- moved values
 

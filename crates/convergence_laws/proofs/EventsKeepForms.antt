@@ -26,10 +26,10 @@ use Rattle.site_state.specs.Fits.{SendersHave}
 use Rattle.site_state.proofs.Growing.{queue_after-rebased}
 use Rattle.site_state.proofs.Stepping.{commit_steps, apply_steps, execute_steps, drop_steps}
 use Rattle.site_state.proofs.Changing.{accept_later}
-use Rattle.event_laws.specs.Cluster.{Cluster, site_of, at_site}
-use Rattle.event_laws.specs.Joins.{queue_counts, copied, may_join, with_joined, joined_by, joined}
-use Rattle.event_laws.specs.Rules.{rows_ruled}
-use Rattle.event_laws.specs.Events.{Event, Commit, SetClock, Send, SendMark, Deliver, Begin, Apply, Execute, Drop, Purge, PurgeLog, Refresh, Join, with_packet, packet_from, mark_from, receiver, delivered, may_apply, applied_where, refreshed, happens, run}
+use Rattle.site_events.specs.Cluster.{Cluster, site_of, at_site}
+use Rattle.site_events.specs.Joins.{queue_counts, copied, may_join, with_joined, joined_by, joined}
+use Rattle.site_events.specs.Rules.{rows_ruled}
+use Rattle.site_events.specs.Events.{Event, Commit, SetClock, Send, SendMark, Deliver, Begin, Apply, Execute, Drop, Purge, PurgeLog, Refresh, Join, with_packet, packet_from, mark_from, receiver, delivered, may_apply, applied_where, refreshed, happens, run}
 use Rattle.event_laws.specs.Starts.{IsNewSite}
 use Rattle.event_laws.specs.Fitting.{IsFitStart, FitsHere, StartsFit}
 use Rattle.event_laws.proofs.Sites.{KeepsHere, at_split, found_or, site_of-joined, found_all, all_at_place}
@@ -37,7 +37,7 @@ use Rattle.event_laws.proofs.Happening.{IsRefreshed, refreshed_is}
 use Rattle.event_laws.proofs.Happening as happening
 use Rattle.event_laws.proofs.NewSites.{open_to_each_keeps}
 use Rattle.event_laws.proofs.FittingSites.{every_site_fits}
-use Rattle.convergence_laws.specs.GroupForms.{TxnKeepsForms}
+use Rattle.rep_laws.specs.GroupForms.{TxnKeepsForms}
 use Rattle.convergence_laws.specs.Laws.{AreJoined, BlocksKeepForms, GroupsAreJoined, AreJoinedSince, GroupsAreJoinedSince}
 use Rattle.convergence_laws.proofs.Moves.{DecisionLaws}
 use Rattle.convergence_laws.proofs.JournalsJoin.{journals_join, journals_join_since}

@@ -36,17 +36,17 @@ use Rattle.unique_resolve.specs.Settling.{key_taken, settlement_of}
 use Rattle.txn_effects.specs.Parts.{result_then, values_by, settled_values, settled_part, settled_parts}
 use Rattle.txn_effects.specs.Calls.{RowEffect, checked_effect, effect_by, settled_effect, row_named, row_effect}
 use Rattle.txn_effects.proofs.PartEffects.{HasGroupValues-PartFits, RowFits-settled_part}
-use Rattle.local_txn.specs.Convergent.{convergent_in, is_convergent}
+use Rattle.txn_effects.specs.Convergent.{convergent_in, is_convergent}
 use Rattle.rep_laws.specs.Commuting.{IsSound}
 use Rattle.rep_laws.proofs.SettledFree.{settlement_of-free}
-use Rattle.convergence_laws.specs.GroupForms.{form_at, PartKeepsForm, KeepsForms}
+use Rattle.rep_laws.specs.GroupForms.{form_at, PartKeepsForm, KeepsForms}
 use Rattle.convergence_laws.specs.Collections.{Among}
 use Rattle.convergence_laws.specs.Faults.{Tells, ConvergentCallsFailSo}
 use Rattle.convergence_laws.proofs.GroupColumns.{Rise, Rise-increasing}
-use Rattle.convergence_laws.proofs.FormShapes.{passes, IsShaped-form_at}
+use Rattle.rep_laws.proofs.FormShapes.{passes, IsShaped-form_at}
 use Rattle.convergence_laws.proofs.Moves.{DecisionLaws, latest_has_no_range}
 use Rattle.convergence_laws.proofs.RowsCome.{part_apart}
-use Rattle.convergence_laws.proofs.ConvergentRows.{no_length, StandsAlone-convergent}
+use Rattle.rep_laws.proofs.ConvergentRows.{no_length, StandsAlone-convergent}
 
 result_then-Err : {A B E : Type 0} (first : Result A E) (following : A → Result B E) (e : E) → result_then first following ≡ Err e → (first ≡ Err e) ⊎ ((a : A) × (first ≡ Ok a) × (following a ≡ Err e))
 result_then-Err (Ok a) following e gives = inr (a, refl, gives)

@@ -13,7 +13,7 @@ use Rattle.rep_schema.specs.Tables.{Cells}
 use Rattle.rep_schema.specs.Groups.{values_at, with_values}
 use Rattle.rep_schema.specs.Kinds.{has_place}
 use Rattle.rep_schema.specs.Shape.{ShareNone}
-use Rattle.convergence_laws.specs.GroupForms.{value_of}
+use Rattle.rep_laws.specs.GroupForms.{value_of}
 
 -- each place is above those before it
 abbrev pub Rise : List ℕ → Type 0

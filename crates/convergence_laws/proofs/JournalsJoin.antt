@@ -10,13 +10,13 @@ use Rattle.schema_rules.specs.declared.forms.Form.{Form}
 use Rattle.rep_calls.specs.declared.call.Part.{Part}
 use Rattle.unique_resolve.proofs.Settlements.{AreCounters-first}
 use Rattle.txn_effects.specs.Contents.{Content, IsContent}
-use Rattle.local_txn.specs.Convergent.{is_convergent}
+use Rattle.txn_effects.specs.Convergent.{is_convergent}
 use Rattle.rep_laws.specs.Commuting.{IsSound}
 use Rattle.rep_laws.proofs.ContentAfter.{IsContent-content_after}
 use Rattle.site_state.specs.declared.entry.Entry.{Entry}
 use Rattle.site_state.specs.declared.entry.Entry.TheVariants.{Local, Done, Error, Executed, Dropped, Refreshed}
 use Rattle.site_state.specs.Contents.{content_with, journal_content}
-use Rattle.convergence_laws.specs.GroupForms.{form_at}
+use Rattle.rep_laws.specs.GroupForms.{form_at}
 use Rattle.convergence_laws.specs.Joins.{parts_in, inserts_in, calls_applied, applied_parts, applied_inserts, first_row, IsJoin, IsJoined}
 use Rattle.convergence_laws.specs.Journals.{IsMade, AreMade}
 use Rattle.convergence_laws.specs.Laws.{AreJoinedSince, JournalsJoin}

@@ -1,9 +1,7 @@
 -- The lemmas of this crate, from the bottom up.
 pub mod GroupColumns
-pub mod FormShapes
 pub mod Moves
 pub mod Winners
-pub mod ConvergentRows
 pub mod RowsCome
 pub mod CallsCome
 pub mod JournalsJoin

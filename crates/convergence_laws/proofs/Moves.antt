@@ -43,9 +43,9 @@ use Rattle.txn_effects.specs.Parts.{values_by, settled_values, settled_part}
 use Rattle.txn_effects.proofs.Results.{result_then-Ok}
 use Rattle.txn_effects.proofs.PartEffects.{HasGroupValues-PartFits}
 use Rattle.rep_laws.specs.Commuting.{IsSound}
-use Rattle.convergence_laws.specs.GroupForms.{form_at, value_of, level_alone, rank_among, wins, Allows}
+use Rattle.rep_laws.specs.GroupForms.{form_at, value_of, level_alone, rank_among, wins, Allows}
 use Rattle.convergence_laws.proofs.GroupColumns.{Rise, Rise-increasing, values_at-with_own, value_of-values_at, length-values_at}
-use Rattle.convergence_laws.proofs.FormShapes.{IsLatest, IsShaped-form_at, form_at-named}
+use Rattle.rep_laws.proofs.FormShapes.{IsLatest, IsShaped-form_at, form_at-named}
 
 -- what the method sequences of convergent groups decide
 pub record DecisionLaws : Type 0 where

@@ -10,7 +10,7 @@ use Rattle.txn_effects.specs.Calls.{Effect}
 use Rattle.txn_effects.specs.Contents.{Content, IsContent, effect_on, content_after}
 use Rattle.txn_effects.proofs.TransactionEffects.{IsApplied-txn_effect}
 use Rattle.txn_effects.proofs.OwnCalls.{calls_effect-own}
-use Rattle.local_txn.specs.Convergent.{is_convergent}
+use Rattle.txn_effects.specs.Convergent.{is_convergent}
 use Rattle.rep_laws.specs.Commuting.{IsSound}
 use Rattle.rep_laws.proofs.SoundSchemas.{HasKeys-sound, KeysStandAlone-sound}
 use Rattle.rep_laws.proofs.ContentAfter.{CanApply-IsContent}

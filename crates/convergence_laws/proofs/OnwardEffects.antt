@@ -8,7 +8,7 @@ use Rattle.rep_calls.specs.declared.call.Txn.{Txn}
 use Rattle.txn_effects.specs.Contents.{Content, IsContent}
 use Rattle.txn_effects.proofs.TransactionEffects.{IsApplied-txn_effect}
 use Rattle.txn_effects.proofs.OwnCalls.{calls_effect-own}
-use Rattle.local_txn.specs.declared.local.Here.{Here}
+use Rattle.txn_effects.specs.declared.local.Here.{Here}
 use Rattle.rep_laws.specs.Commuting.{IsSound}
 use Rattle.rep_laws.proofs.ContentAfter.{CanApply-IsContent}
 use Rattle.site_state.specs.declared.entry.Entry.{Entry}

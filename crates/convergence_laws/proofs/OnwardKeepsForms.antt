@@ -18,13 +18,13 @@ use Rattle.txn_effects.specs.Calls.{Effect, RowEffect, row_named, row_effect, ca
 use Rattle.txn_effects.specs.Transactions.{failing_at, effect_behind, calls_effect}
 use Rattle.txn_effects.proofs.Results.{result_then-Ok}
 use Rattle.txn_effects.proofs.TransactionEffects.{IsApplied-call_effect}
-use Rattle.local_txn.specs.Convergent.{is_convergent}
+use Rattle.txn_effects.specs.Convergent.{is_convergent}
 use Rattle.rep_laws.specs.Commuting.{IsSound}
 use Rattle.rep_laws.proofs.SoundSchemas.{HasKeys-sound, KeysStandAlone-sound}
-use Rattle.convergence_laws.specs.GroupForms.{KeepsForms}
+use Rattle.rep_laws.specs.GroupForms.{KeepsForms}
 use Rattle.convergence_laws.specs.Laws.{RowChangesKeepForms}
 use Rattle.convergence_laws.proofs.Moves.{DecisionLaws}
-use Rattle.convergence_laws.proofs.ConvergentRows.{StandsAlone-convergent, Leaves-insert, Leaves-update}
+use Rattle.rep_laws.proofs.ConvergentRows.{StandsAlone-convergent, Leaves-insert, Leaves-update}
 use Rattle.convergence_laws.proofs.RowsCome.{parts_move}
 use Rattle.convergence_laws.proofs.CallsCome.{failing_at-Ok, behind-Ok}
 use Rattle.convergence_laws.proofs.ChangesKeepForms.{parts_between_keep}

@@ -29,25 +29,25 @@ use Rattle.rep_calls.specs.declared.statement.Statement.{Statement}
 use Rattle.rep_calls.specs.declared.statement.Statement.TheVariants.{Insert, Update, Delete}
 use Rattle.rep_calls.specs.declared.statement.Set.{Set}
 use Rattle.conflict_detect.specs.ChangeCalls.{call_of}
-use Rattle.local_txn.specs.declared.local.Here.{Here}
-use Rattle.local_txn.specs.declared.local.Stamps.{Stamps}
-use Rattle.local_txn.specs.declared.local.LocalStop.{LocalStop}
-use Rattle.local_txn.specs.Held.{statement_table, held_table}
-use Rattle.local_txn.specs.Literals.{literals_fit, key_literals_fit, values_of}
-use Rattle.local_txn.specs.Sets.{names_columns, sets_fit, sets_filled, row_with}
-use Rattle.local_txn.specs.Filled.{Filling, filling_value, filled_from, written_columns, is_modified, bound_from, next_stamp}
-use Rattle.local_txn.specs.Convergent.{is_convergent, barred, breaks, broken_group, rule_step}
-use Rattle.local_txn.specs.Statements.{BlockState, row_at, insert_made, update_made, update_outcome, outcome_in, outcome_changes, row_steps, there, new_row_steps, changed_row_steps, steps_in, statement_refusal, statement_changes, changes_at, block_state_at, block_state_after}
-use Rattle.local_txn.specs.Running.{CanRun}
-use Rattle.local_txn.specs.Locals.{BlockEffect, unless_refused, block_effect_behind, statements_effect, block_beginning, local_effect, most_statements, stop_at}
+use Rattle.txn_effects.specs.declared.local.Here.{Here}
+use Rattle.txn_effects.specs.declared.local.Stamps.{Stamps}
+use Rattle.txn_effects.specs.declared.local.LocalStop.{LocalStop}
+use Rattle.txn_effects.specs.Held.{statement_table, held_table}
+use Rattle.txn_effects.specs.Literals.{literals_fit, key_literals_fit, values_of}
+use Rattle.txn_effects.specs.Sets.{names_columns, sets_fit, sets_filled, row_with}
+use Rattle.txn_effects.specs.Filled.{Filling, filling_value, filled_from, written_columns, is_modified, bound_from, next_stamp}
+use Rattle.txn_effects.specs.Convergent.{is_convergent, barred, breaks, broken_group, rule_step}
+use Rattle.txn_effects.specs.Statements.{BlockState, row_at, insert_made, update_made, update_outcome, outcome_in, outcome_changes, row_steps, there, new_row_steps, changed_row_steps, steps_in, statement_refusal, statement_changes, changes_at, block_state_at, block_state_after}
+use Rattle.txn_effects.specs.NewRows.{CanRun}
+use Rattle.txn_effects.specs.Locals.{BlockEffect, unless_refused, block_effect_behind, statements_effect, block_beginning, local_effect, most_statements, stop_at}
 use Rattle.local_txn.specs.Laws.{StampsOfABlockRise}
-use Rattle.local_txn.proofs.StatementEffects.{IsAllowed, IsAllowed-statement, place-held, refusal-held, changes-held}
-use Rattle.local_txn.proofs.BlockSteps.{place_within, IsApplied-one}
+use Rattle.txn_effects.proofs.StatementEffects.{IsAllowed, IsAllowed-statement, place-held, refusal-held, changes-held}
+use Rattle.txn_effects.proofs.StatementsApplied.{place_within, IsApplied-one}
 use Rattle.rep_laws.specs.Commuting.{IsSound}
 use Rattle.rep_laws.proofs.SoundSchemas.{HasKeys-sound, KeysStandAlone-sound}
-use Rattle.convergence_laws.specs.GroupForms.{form_at, KeepsForms}
+use Rattle.rep_laws.specs.GroupForms.{form_at, KeepsForms}
 use Rattle.convergence_laws.specs.Laws.{BlocksKeepForms}
-use Rattle.convergence_laws.proofs.FormShapes.{form_at-named, IsOfKind-form_at}
+use Rattle.rep_laws.proofs.FormShapes.{form_at-named, IsOfKind-form_at}
 use Rattle.convergence_laws.proofs.OwnChanges.{DoesNotLose, IsProperUpdate, IsProperIn, IsProper, FillsSome, each_fills, own_change_keeps}
 
 -- ---- a column that isn't filled

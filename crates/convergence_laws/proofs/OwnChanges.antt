@@ -23,13 +23,13 @@ use Rattle.schema_rules.specs.declared.forms.Form.{Form}
 use Rattle.schema_rules.specs.declared.forms.Form.TheVariants as form
 use Rattle.conflict_detect.specs.ChangeCalls.{part_between, call_between, call_of}
 use Rattle.resolve_methods.specs.Ranks.{site_level_of}
-use Rattle.local_txn.specs.Convergent.{is_convergent}
-use Rattle.local_txn.specs.Filled.{filling_value, is_modified, above_value, bound_by, bound_from}
+use Rattle.txn_effects.specs.Convergent.{is_convergent}
+use Rattle.txn_effects.specs.Filled.{filling_value, is_modified, above_value, bound_by, bound_from}
 use Rattle.local_txn.specs.Laws.{gives_stamp, CarriesStamp, StampsRise}
 use Rattle.rep_laws.specs.Commuting.{IsSound}
-use Rattle.convergence_laws.specs.GroupForms.{form_at, value_of, level_alone, wins, Allows, KeepsForms}
+use Rattle.rep_laws.specs.GroupForms.{form_at, value_of, level_alone, wins, Allows, KeepsForms}
 use Rattle.convergence_laws.proofs.GroupColumns.{value_of-values_at}
-use Rattle.convergence_laws.proofs.FormShapes.{IsShaped-form_at, IsOfKind-form_at, form_at-named}
+use Rattle.rep_laws.proofs.FormShapes.{IsShaped-form_at, IsOfKind-form_at, form_at-named}
 use Rattle.convergence_laws.proofs.Moves.{numbers_first, int_gt, no_text, within_row}
 use Rattle.convergence_laws.proofs.ChangesKeepForms.{parts_between_allowed}
 use Rattle.convergence_laws.proofs.OnwardKeepsForms.{plain_keeps}

@@ -18,12 +18,12 @@ use Rattle.rep_schema.specs.Groups.{with_group_values}
 use Rattle.txn_effects.proofs.Results.{result_then-Ok}
 use Rattle.txn_effects.proofs.PartEffects.{RowFits-settled_part}
 use Rattle.txn_effects.proofs.OwnParts.{groups_share_none}
-use Rattle.local_txn.specs.Convergent.{is_convergent}
+use Rattle.txn_effects.specs.Convergent.{is_convergent}
 use Rattle.rep_laws.specs.Commuting.{IsSound}
-use Rattle.convergence_laws.specs.GroupForms.{form_at, Allows, PartKeepsForm}
+use Rattle.rep_laws.specs.GroupForms.{form_at, Allows, PartKeepsForm}
 use Rattle.convergence_laws.specs.Joins.{first_row}
 use Rattle.convergence_laws.proofs.GroupColumns.{values_at-with_other}
-use Rattle.convergence_laws.proofs.FormShapes.{form_at-named}
+use Rattle.rep_laws.proofs.FormShapes.{form_at-named}
 use Rattle.convergence_laws.proofs.Moves.{DecisionLaws, move, settled_moves}
 use Rattle.convergence_laws.proofs.Winners.{moved_by, moved_by-append}
 

@@ -13,19 +13,19 @@ use Rattle.schema_rules.specs.declared.forms.Form.TheVariants as form
 use Rattle.rep_calls.specs.declared.call.Call.{Call}
 use Rattle.conflict_detect.proofs.RowAfter.{same_from_groups}
 use Rattle.resolve_methods.specs.SequenceLaws.{one_group_number, sum_methods, greatest_methods, least_methods}
-use Rattle.local_txn.specs.Convergent.{is_convergent}
+use Rattle.txn_effects.specs.Convergent.{is_convergent}
 use Rattle.rep_laws.specs.Commuting.{IsSound}
 use Rattle.site_state.specs.declared.entry.Entry.{Entry}
 use Rattle.site_state.specs.Contents.{journal_content}
-use Rattle.convergence_laws.specs.GroupForms.{form_at}
+use Rattle.rep_laws.specs.GroupForms.{form_at}
 use Rattle.convergence_laws.specs.Joins.{parts_for, parts_in, inserts_for, inserts_in, calls_applied, applied_parts, applied_inserts, first_row, candidates_of, IsJoin, IsJoined}
 use Rattle.convergence_laws.specs.Collections.{IsReordered, Skip, Swap, Then}
 use Rattle.convergence_laws.specs.Collections as collections
 use Rattle.convergence_laws.specs.Journals.{AreMade}
 use Rattle.convergence_laws.specs.Agreement.{all_applied, LatestTellApart, SameCallsGiveSameRows}
-use Rattle.convergence_laws.proofs.FormShapes.{IsShaped-form_at}
+use Rattle.rep_laws.proofs.FormShapes.{IsShaped-form_at}
 use Rattle.convergence_laws.proofs.Moves.{DecisionLaws, one_of_group, same_numbers, int_tie}
-use Rattle.convergence_laws.proofs.ConvergentRows.{StandsAlone-convergent}
+use Rattle.rep_laws.proofs.ConvergentRows.{StandsAlone-convergent}
 use Rattle.convergence_laws.proofs.ChangesKeepForms.{formed}
 use Rattle.convergence_laws.proofs.RowsCome.{Came}
 use Rattle.convergence_laws.proofs.JournalsJoin.{journal_keeps, journal_comes, IsJoined-Came}

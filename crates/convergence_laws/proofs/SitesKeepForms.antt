@@ -15,9 +15,9 @@ use Rattle.error_queue.specs.declared.entry.ErrorEntry.{ErrorEntry}
 use Rattle.txn_effects.specs.Calls.{Effect}
 use Rattle.txn_effects.specs.Transactions.{Failure}
 use Rattle.txn_effects.specs.Contents.{effect_on}
-use Rattle.local_txn.specs.declared.local.LocalStop.{LocalStop}
-use Rattle.local_txn.specs.Locals.{BlockEffect}
-use Rattle.local_txn.proofs.StatementEffects.{effect_with}
+use Rattle.txn_effects.specs.declared.local.LocalStop.{LocalStop}
+use Rattle.txn_effects.specs.Locals.{BlockEffect}
+use Rattle.txn_effects.proofs.StatementEffects.{effect_with}
 use Rattle.rep_laws.specs.Commuting.{IsSound}
 use Rattle.rep_laws.proofs.SoundSchemas.{HasKeys-sound, KeysStandAlone-sound}
 use Rattle.site_state.specs.declared.arrival.Arrival.{Arrival}
@@ -36,7 +36,7 @@ use Rattle.site_state.specs.Fits.{EntryHas, SendersHave, SchemaIsKeyed}
 use Rattle.site_state.proofs.FittingBlocks.{TxnFits-led, block_applied}
 use Rattle.site_state.proofs.FittingSites.{arrived_has, error_has, one_has, senders_put}
 use Rattle.event_laws.specs.Fitting.{FitsHere}
-use Rattle.convergence_laws.specs.GroupForms.{TxnKeepsForms}
+use Rattle.rep_laws.specs.GroupForms.{TxnKeepsForms}
 use Rattle.convergence_laws.specs.Journals.{AreMade}
 use Rattle.convergence_laws.specs.Laws.{BlocksKeepForms}
 use Rattle.convergence_laws.proofs.Moves.{DecisionLaws}

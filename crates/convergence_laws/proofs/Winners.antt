@@ -16,7 +16,7 @@ use Rattle.schema_rules.specs.declared.forms.Form.{Form}
 use Rattle.schema_rules.specs.declared.forms.Form.TheVariants as form
 use Rattle.rep_calls.specs.declared.call.Part.{Part}
 use Rattle.resolve_methods.specs.SequenceLaws.{one_group_number, move_of, sum_of_moves}
-use Rattle.convergence_laws.specs.GroupForms.{wins}
+use Rattle.rep_laws.specs.GroupForms.{wins}
 use Rattle.convergence_laws.specs.Joins.{is_winner, candidates_of, IsJoin}
 use Rattle.convergence_laws.proofs.Moves.{wins_total, greater, move}
 

@@ -18,7 +18,7 @@ use Rattle.resolve_methods.specs.SequenceLaws.{sum_of_moves}
 use Rattle.site_state.specs.declared.entry.Entry.{Entry}
 use Rattle.site_state.specs.declared.entry.Entry.TheVariants as entry
 use Rattle.site_state.proofs.WorkedSites.{a, b, n, number_column, of_calls}
-use Rattle.convergence_laws.specs.GroupForms.{form_at, wins}
+use Rattle.rep_laws.specs.GroupForms.{form_at, wins}
 use Rattle.convergence_laws.specs.Joins.{applied_parts, applied_inserts, first_row, is_winner, candidates_of}
 
 -- ---- a table of HOME and ID, with a number that is summed up, one that only grows, and a text with its stamp and site

@@ -6,11 +6,11 @@ use Rattle.rep_schema.specs.Tables.{Cells, Rows, columns_of, find_row, rows_of, 
 use Rattle.rep_schema.specs.Groups.{group_columns_of, values_at}
 use Rattle.schema_rules.specs.declared.forms.Form.TheVariants as form
 use Rattle.rep_calls.specs.declared.call.Call.{Call}
-use Rattle.local_txn.specs.Convergent.{is_convergent}
+use Rattle.txn_effects.specs.Convergent.{is_convergent}
 use Rattle.rep_laws.specs.Commuting.{IsSound}
 use Rattle.site_state.specs.declared.entry.Entry.{Entry}
 use Rattle.site_state.specs.Contents.{journal_content}
-use Rattle.convergence_laws.specs.GroupForms.{form_at}
+use Rattle.rep_laws.specs.GroupForms.{form_at}
 use Rattle.convergence_laws.specs.Joins.{calls_applied, applied_parts, applied_inserts, first_row, candidates_of}
 use Rattle.convergence_laws.specs.Collections.{IsReordered, TellApart}
 use Rattle.convergence_laws.specs.Journals.{AreMade}

@@ -7,7 +7,7 @@ use Rattle.schema_rules.specs.declared.forms.Form.{Form}
 use Rattle.schema_rules.specs.declared.forms.Form.TheVariants as form
 use Rattle.rep_calls.specs.declared.call.Part.{Part}
 use Rattle.resolve_methods.specs.SequenceLaws.{one_group_number}
-use Rattle.convergence_laws.specs.GroupForms.{wins}
+use Rattle.rep_laws.specs.GroupForms.{wins}
 use Rattle.convergence_laws.specs.Joins.{candidates_of, IsJoin}
 
 -- the same elements, each as often

@@ -14,9 +14,9 @@ use Rattle.conflict_detect.specs.Fits.{CallFits, table_of}
 use Rattle.resolve_methods.specs.SequenceLaws.{group_number, move_of}
 use Rattle.unique_resolve.specs.Numbers.{Numbers}
 use Rattle.txn_effects.specs.Calls.{row_named, call_effect}
-use Rattle.local_txn.specs.Convergent.{is_convergent}
+use Rattle.txn_effects.specs.Convergent.{is_convergent}
 use Rattle.rep_laws.specs.Commuting.{IsSound}
-use Rattle.convergence_laws.specs.GroupForms.{form_at, KeepsForms}
+use Rattle.rep_laws.specs.GroupForms.{form_at, KeepsForms}
 use Rattle.convergence_laws.specs.Collections.{Among}
 
 abbrev pub is_insert : Call → Bool

@@ -13,7 +13,7 @@ use Rattle.rep_calls.specs.declared.call.Call.TheVariants.{Insert, Update, Delet
 use Rattle.resolve_methods.specs.SequenceLaws.{one_group_number, sum_of_moves}
 use Rattle.site_state.specs.declared.entry.Entry.{Entry}
 use Rattle.site_state.specs.declared.entry.Entry.TheVariants.{Local, Done, Error, Executed, Dropped, Refreshed}
-use Rattle.convergence_laws.specs.GroupForms.{wins}
+use Rattle.rep_laws.specs.GroupForms.{wins}
 
 -- ---- what was applied to a row
 

@@ -11,7 +11,7 @@ use Rattle.txn_effects.specs.Contents.{Content, effect_on}
 use Rattle.site_state.specs.declared.entry.Entry.{Entry}
 use Rattle.site_state.specs.declared.entry.Entry.TheVariants.{Local, Done, Error, Executed, Dropped, Refreshed}
 use Rattle.site_state.specs.Contents.{journal_content}
-use Rattle.convergence_laws.specs.GroupForms.{TxnKeepsForms}
+use Rattle.rep_laws.specs.GroupForms.{TxnKeepsForms}
 
 -- a transaction that fits and keeps the forms of groups
 pub record IsSoundTxn (schema : Schema) (txn : Txn) : Type 0 where

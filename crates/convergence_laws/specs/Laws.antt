@@ -8,19 +8,19 @@ use Rattle.schema_rules.specs.declared.forms.Form.{Form}
 use Rattle.rep_calls.specs.declared.call.Txn.{Txn}
 use Rattle.txn_effects.specs.Calls.{Effect}
 use Rattle.txn_effects.specs.Contents.{Content, IsContent, effect_on}
-use Rattle.local_txn.specs.Convergent.{is_convergent}
+use Rattle.txn_effects.specs.Convergent.{is_convergent}
 use Rattle.rep_laws.specs.Commuting.{IsSound}
-use Rattle.local_txn.specs.declared.local.Here.{Here}
-use Rattle.local_txn.specs.declared.local.Stamps.{Stamps}
-use Rattle.local_txn.specs.Locals.{BlockEffect, local_effect}
+use Rattle.txn_effects.specs.declared.local.Here.{Here}
+use Rattle.txn_effects.specs.declared.local.Stamps.{Stamps}
+use Rattle.txn_effects.specs.Locals.{BlockEffect, local_effect}
 use Rattle.rep_calls.specs.declared.statement.Statement.{Statement}
 use Rattle.site_state.specs.declared.entry.Entry.{Entry}
 use Rattle.site_state.specs.State.{SiteState}
-use Rattle.event_laws.specs.Cluster.{Cluster, site_of}
-use Rattle.event_laws.specs.Events.{Event, run}
+use Rattle.site_events.specs.Cluster.{Cluster, site_of}
+use Rattle.site_events.specs.Events.{Event, run}
 use Rattle.event_laws.specs.Fitting.{IsFitStart}
 use Rattle.site_state.specs.Contents.{journal_content, tables_of, txn_of}
-use Rattle.convergence_laws.specs.GroupForms.{form_at, TxnKeepsForms}
+use Rattle.rep_laws.specs.GroupForms.{form_at, TxnKeepsForms}
 use Rattle.convergence_laws.specs.Joins.{applied_parts, applied_inserts, first_row, IsJoined}
 use Rattle.convergence_laws.specs.Journals.{IsSoundTxn, AreMade}
 

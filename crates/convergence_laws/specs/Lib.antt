@@ -1,5 +1,4 @@
 -- The definitions of this crate.
-pub mod GroupForms
 pub mod Joins
 pub mod Collections
 pub mod Journals
@@ -7,4 +6,3 @@ pub mod Laws
 pub mod Agreement
 pub mod Faults
 pub mod Onward
-pub mod Beginning

@@ -8,14 +8,14 @@ use Rattle.rep_calls.specs.declared.call.Txn.{Txn}
 use Rattle.unique_resolve.specs.Numbers.{Numbers}
 use Rattle.txn_effects.specs.Transactions.{txn_effect}
 use Rattle.txn_effects.specs.Contents.{effect_on}
-use Rattle.local_txn.specs.declared.local.Here.{Here}
+use Rattle.txn_effects.specs.declared.local.Here.{Here}
 use Rattle.site_state.specs.declared.entry.Entry.{Entry}
 use Rattle.site_state.specs.declared.entry.Entry.TheVariants.{Local, Done, Error, Executed, Dropped, Refreshed}
 use Rattle.site_state.specs.State.{SiteState}
 use Rattle.site_state.specs.Contents.{journal_content, changes_by}
 use Rattle.site_state.specs.Streams.{onward_txn}
-use Rattle.event_laws.specs.Cluster.{Cluster, site_of}
-use Rattle.event_laws.specs.Events.{Event, run}
+use Rattle.site_events.specs.Cluster.{Cluster, site_of}
+use Rattle.site_events.specs.Events.{Event, run}
 use Rattle.event_laws.specs.Fitting.{IsFitStart}
 
 -- on these tables, from whatever site and with whatever counters, a transaction makes these changes and moves no counter

@@ -9,16 +9,14 @@ use Rattle.rep_schema.specs.Sites.{first_master}
 use Rattle.rep_schema.specs.declared.schema.Column.{Column}
 use Rattle.rep_schema.specs.Tables.{Cells, Rows, columns_of, find_row, row_cmp, rows_of}
 use Rattle.snapshot_query.specs.declared.snapshot.Snapshot.{Snapshot}
-use Rattle.local_txn.specs.Convergent.{is_convergent}
+use Rattle.txn_effects.specs.Convergent.{is_convergent}
 use Rattle.site_state.specs.State.{SiteState}
-use Rattle.event_laws.specs.Cluster.{site_of}
+use Rattle.site_events.specs.Cluster.{site_of}
 use Rattle.event_laws.specs.Fitting.{StartsFit}
 use Rattle.event_laws.proofs.Sites.{found_all}
-use Rattle.convergence_laws.proofs.ConvergentRows.{StandsAlone-convergent}
-use Rattle.causal_laws.specs.Laws.{KeysAreShared}
-use Rattle.causal_laws.proofs.RefreshedRows.{shown_there}
-use Rattle.agreement_laws.specs.Beginning.{RowsBeginAlike}
-use Rattle.excuse_laws.specs.Excuses as excuses
+use Rattle.rep_laws.proofs.ConvergentRows.{StandsAlone-convergent}
+use Rattle.event_laws.proofs.RefreshedRows.{shown_there}
+use Rattle.event_laws.specs.Beginning.{RowsBeginAlike, KeysBeginAlike, KeysAreShared}
 use Rattle.world_state.specs.World.{WorldState}
 use Rattle.world_state.specs.Making.{rows_made, rows_of_snapshots, snapshots_at, site_made, entry_made, is_early, world_made}
 use Rattle.world_laws.proofs.FittingWorlds.{made_fit_start}
@@ -47,7 +45,7 @@ module _ (w : WorldState) (well : DeclaresWell w) where
   alike : RowsBeginAlike w.schema (start_of (world_made w))
   alike one other x y table found there master other_master convergent = ap (λ (tables : List Rows). rows_of tables table) (same_rows one other x y found there master other_master)
 
-  keys : excuses.KeysBeginAlike w.schema (world_made w).sites
+  keys : KeysBeginAlike w.schema (world_made w).sites
   keys = record {
     shared = λ site other x y table key found there master other_master convergent none.
         ap (λ (tables : List Rows). find_row (columns_of w.schema table) key (rows_of tables table)) (same_rows site other x y found there master other_master) ∙ none;

@@ -5,10 +5,10 @@ use Rattle.rep_values.specs.declared.name.SiteName.{SiteName}
 use Rattle.rep_schema.specs.declared.schema.Schema.{Schema}
 use Rattle.site_state.specs.State.{SiteState}
 use Rattle.site_state.specs.Contents.{tables_of}
-use Rattle.event_laws.specs.Cluster.{site_of}
-use Rattle.event_laws.specs.Events.{run}
-use Rattle.event_laws.specs.Quiet.{are_quiet}
-use Rattle.site_state.specs.Making.{is_late_master}
+use Rattle.site_events.specs.Cluster.{site_of}
+use Rattle.site_events.specs.Events.{run}
+use Rattle.site_events.specs.Quiet.{are_quiet}
+use Rattle.rep_schema.specs.Sites.{is_late_master}
 use Rattle.event_laws.proofs.Sites.{found_all, found_name}
 use Rattle.event_laws.proofs.MarkLaws.{IsOfSchema, run_schema}
 use Rattle.convergence_laws.specs.Laws.{AreJoined, AreJoinedSince, GroupsAreJoined, GroupsAreJoinedSince}

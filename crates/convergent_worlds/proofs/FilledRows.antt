@@ -15,13 +15,13 @@ use Rattle.rep_schema.specs.Sites.{first_master}
 use Rattle.rep_schema.proofs.FoundRows.{found_row}
 use Rattle.schema_rules.specs.declared.forms.Form.TheVariants as form
 use Rattle.rep_laws.specs.Commuting.{IsSound}
-use Rattle.local_txn.specs.Filled.{Filling, filling_value, value_filled, filled_from, filled_row, everywhere}
+use Rattle.txn_effects.specs.Filled.{Filling, filling_value, value_filled, filled_from, filled_row, everywhere}
 use Rattle.local_txn.specs.BaseRows.{filled_tables}
-use Rattle.local_txn.specs.Convergent.{convergent_in, is_convergent}
+use Rattle.txn_effects.specs.Convergent.{convergent_in, is_convergent}
 use Rattle.local_txn.specs.Laws.{IsFilledAt}
-use Rattle.convergence_laws.specs.GroupForms.{form_at}
-use Rattle.convergence_laws.proofs.FormShapes.{IsOfKind-form_at}
-use Rattle.agreement_laws.proofs.SiteColumns.{own_is_filled}
+use Rattle.rep_laws.specs.GroupForms.{form_at}
+use Rattle.rep_laws.proofs.FormShapes.{IsOfKind-form_at}
+use Rattle.rep_laws.proofs.SiteColumns.{own_is_filled}
 use Rattle.world_state.specs.Making.{filled_by, rows_made}
 
 -- a row has stamp 0 and the first master's name wherever a site fills in a stamp and its name

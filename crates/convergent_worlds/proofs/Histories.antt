@@ -2,9 +2,9 @@
 use Rattle.std.proofs.Common.{◌≡◌, List, true, false, refl, sym, ap, ◌∙◌, subst}
 use Rattle.rep_schema.specs.declared.schema.Schema.{Schema}
 use Rattle.site_state.specs.State.{SiteState}
-use Rattle.event_laws.specs.Cluster.{Cluster, site_of}
-use Rattle.event_laws.specs.Events.{Event, run}
-use Rattle.event_laws.specs.Quiet.{are_quiet}
+use Rattle.site_events.specs.Cluster.{Cluster, site_of}
+use Rattle.site_events.specs.Events.{Event, run}
+use Rattle.site_events.specs.Quiet.{are_quiet}
 use Rattle.agreement_laws.specs.Agreement.{NothingWasDroppedSince, MastersAgree, QuietMastersAgreeAgain}
 use Rattle.causal_laws.specs.Laws.{MissingRowsAreOfLostInserts}
 use Rattle.world_state.specs.World.{WorldState}

@@ -11,14 +11,13 @@ use Rattle.rep_schema.specs.declared.schema.SiteEntry.{SiteEntry}
 use Rattle.rep_schema.specs.Shape.{is_master, is_early_master, HasShape}
 use Rattle.rep_schema.specs.Tables.{Rows}
 use Rattle.rep_schema.specs.Named.{is_site, site_named}
-use Rattle.rep_schema.specs.Sites.{first_master}
+use Rattle.rep_schema.specs.Sites.{first_master, is_late_master}
 use Rattle.schema_rules.proofs.SoundRules.{KeepsAllRules-unbroken}
 use Rattle.rep_laws.specs.Commuting.{IsSound}
-use Rattle.deferred_queue.specs.Streams.{is_same_site}
+use Rattle.rep_values.specs.SiteNames.{is_same_site}
 use Rattle.site_state.specs.State.{SiteState}
-use Rattle.site_state.specs.Making.{is_late_master}
 use Rattle.site_state.proofs.SchemaSites.{AreApart, are_apart, found_any, any_found, place_found}
-use Rattle.event_laws.specs.Cluster.{site_of}
+use Rattle.site_events.specs.Cluster.{site_of}
 use Rattle.event_laws.proofs.Sites.{found_all}
 use Rattle.snapshot_laws.proofs.Moves.{all_weaker}
 use Rattle.world_state.specs.declared.declared_snapshot.DeclaredSnapshot.{DeclaredSnapshot}

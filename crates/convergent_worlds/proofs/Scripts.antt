@@ -1,8 +1,8 @@
 -- The world of every script is one of which the laws of convergence hold.
 use Rattle.std.proofs.Common.{◌≡◌, ℕ, suc, List, [], ◌∷◌, ◌++◌, refl, sym, ◌∙◌, subst}
 use Rattle.std.specs.List.{AllByRecursion}
-use Rattle.event_laws.specs.Cluster.{Cluster}
-use Rattle.event_laws.specs.Events.{run}
+use Rattle.site_events.specs.Cluster.{Cluster}
+use Rattle.site_events.specs.Events.{run}
 use Rattle.convergence_laws.specs.Laws.{GroupsAreJoined, GroupsAreJoinedSince}
 use Rattle.agreement_laws.specs.Agreement.{QuietMastersAgree, QuietMastersAgreeAgain}
 use Rattle.agreement_laws.specs.Latest.{LatestValuesTellApart}

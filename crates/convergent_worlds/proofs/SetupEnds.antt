@@ -8,7 +8,7 @@ use Rattle.rep_values.proofs.RefusalSteps.{or_then-None}
 use Rattle.rep_schema.specs.Tables.{Rows, AreTables}
 use Rattle.rep_laws.specs.Commuting.{IsSound}
 use Rattle.site_state.specs.State.{SiteState}
-use Rattle.event_laws.specs.Cluster.{site_of}
+use Rattle.site_events.specs.Cluster.{site_of}
 use Rattle.event_laws.specs.Fitting.{FitsHere}
 use Rattle.event_laws.proofs.FittingSites.{every_site_fits}
 use Rattle.script_parse.specs.declared.command.Command.{Command}

@@ -18,7 +18,7 @@ use Rattle.rep_calls.specs.declared.statement.Statement.TheVariants.{Update}
 use Rattle.rep_calls.specs.declared.statement.How.TheVariants.{To}
 use Rattle.site_state.specs.State.{SiteState}
 use Rattle.site_state.proofs.WorkedSites.{a, b, n}
-use Rattle.event_laws.specs.Quiet.{are_quiet}
+use Rattle.site_events.specs.Quiet.{are_quiet}
 use Rattle.event_laws.proofs.Sites.{found_all}
 use Rattle.agreement_laws.specs.Agreement.{drops_of_master, NothingWasDropped}
 use Rattle.script_parse.specs.declared.command.Command.{Command}

@@ -29,9 +29,9 @@ use Rattle.site_state.specs.declared.entry.Entry.TheVariants as entry
 use Rattle.site_state.specs.State.{SiteState}
 use Rattle.site_state.specs.Contents.{tables_of}
 use Rattle.site_state.proofs.WorkedSites.{a, b, s, n, key_column, number_column, of_calls}
-use Rattle.event_laws.specs.Cluster.{site_of}
+use Rattle.site_events.specs.Cluster.{site_of}
 use Rattle.event_laws.specs.Marks.{journal_in}
-use Rattle.event_laws.specs.Quiet.{are_quiet}
+use Rattle.site_events.specs.Quiet.{are_quiet}
 use Rattle.event_laws.proofs.Sites.{found_all, found_name}
 use Rattle.agreement_laws.specs.Agreement.{drops_of_master, NothingWasDropped, NothingWasDroppedSince, MastersAgree}
 use Rattle.script_parse.specs.declared.command.Command.{Command}

@@ -1,16 +1,14 @@
 -- Where the sites of a world begin.
 use Rattle.rep_schema.specs.declared.schema.Schema.{Schema}
-use Rattle.event_laws.specs.Cluster.{Cluster}
+use Rattle.site_events.specs.Cluster.{Cluster}
 use Rattle.event_laws.specs.Fitting.{IsFitStart}
 use Rattle.event_laws.specs.Waiting.{SitesLinkAsDeclared}
-use Rattle.agreement_laws.specs.Beginning.{RowsBeginAlike}
-use Rattle.excuse_laws.specs.Excuses as excuses
-use Rattle.causal_laws.specs.Laws.{KeysAreShared}
+use Rattle.event_laws.specs.Beginning.{RowsBeginAlike, KeysBeginAlike, KeysAreShared}
 
 -- masters begin alike, as the law of agreement asks it, as the law of errors does, and as the law of missing rows does
 pub record MastersBeginAlike (schema : Schema) (start : Cluster) : Type 0 where
   pub rows : RowsBeginAlike schema start
-  pub keys : excuses.KeysBeginAlike schema start.sites
+  pub keys : KeysBeginAlike schema start.sites
   pub shared : KeysAreShared schema start.sites
 
 -- new sites of a sound schema, as it declares them, with masters alike

@@ -4,9 +4,9 @@ use Rattle.std.specs.Prelude.{◌≡◌, true, false, Some}
 use Rattle.rep_values.specs.declared.name.SiteName.{SiteName}
 use Rattle.site_state.specs.State.{SiteState}
 use Rattle.site_state.specs.Contents.{tables_of}
-use Rattle.site_state.specs.Making.{is_late_master}
-use Rattle.event_laws.specs.Cluster.{site_of}
-use Rattle.event_laws.specs.Quiet.{are_quiet}
+use Rattle.rep_schema.specs.Sites.{is_late_master}
+use Rattle.site_events.specs.Cluster.{site_of}
+use Rattle.site_events.specs.Quiet.{are_quiet}
 use Rattle.convergence_laws.specs.Laws.{AreJoined, AreJoinedSince}
 use Rattle.convergence_laws.specs.Agreement.{LatestTellApart}
 use Rattle.agreement_laws.specs.Agreement.{NothingWasDropped, MastersAgree}
@@ -14,6 +14,7 @@ use Rattle.excuse_laws.specs.Excuses.{ErrorsAreSo, RefusalsAreSo, IsExcusedOn}
 use Rattle.world_state.specs.World.{WorldState}
 use Rattle.world_state.specs.Phases.{is_setup}
 use Rattle.convergent_worlds.specs.Histories.{MastersAgreeAgain, MissesLostRows, HasHistory}
+use Rattle.convergent_worlds.specs.Reached.{IsOfConvergence}
 
 -- where all masters of a world are quiet and no error of a master's transaction was dropped, they agree
 abbrev pub MastersAgreeWhenQuiet : WorldState → Type 0
@@ -69,3 +70,7 @@ pub record ConvergenceHolds (w : WorldState) : Type 0 where
   pub joined : EachGroupIsJoined w
   pub since : EachGroupIsJoinedSince w
   pub greatest : EachHasGreatest w
+
+-- the laws of convergence hold of each such world
+abbrev pub HoldsOfConvergence : Type 0
+HoldsOfConvergence = (w : WorldState) → IsOfConvergence w → ConvergenceHolds w

@@ -4,9 +4,9 @@ use Rattle.rep_values.specs.declared.name.SiteName.{SiteName}
 use Rattle.rep_schema.specs.declared.schema.Schema.{Schema}
 use Rattle.rep_schema.specs.Tables.{Cells}
 use Rattle.site_state.specs.State.{SiteState}
-use Rattle.event_laws.specs.Cluster.{Cluster, site_of}
-use Rattle.event_laws.specs.Events.{Event, run}
-use Rattle.event_laws.specs.Quiet.{are_quiet}
+use Rattle.site_events.specs.Cluster.{Cluster, site_of}
+use Rattle.site_events.specs.Events.{Event, run}
+use Rattle.site_events.specs.Quiet.{are_quiet}
 use Rattle.agreement_laws.specs.Agreement.{NothingWasDroppedSince, MastersAgree}
 use Rattle.excuse_laws.specs.Excuses.{ErrorsAreSo, RefusalsAreSo}
 use Rattle.causal_laws.specs.LostInserts.{dropped_before, NoRowIsOfALostInsert}

@@ -1,7 +1,7 @@
 -- What the type of a world keeps so that the laws of convergence hold of it.
 use Rattle.std.specs.Prelude.{◌≡◌}
 use Rattle.rep_schema.specs.declared.schema.Schema.{Schema}
-use Rattle.event_laws.specs.Cluster.{Cluster}
+use Rattle.site_events.specs.Cluster.{Cluster}
 use Rattle.event_laws.specs.Fitting.{IsFitStart}
 use Rattle.event_laws.specs.Waiting.{SitesLinkAsDeclared}
 use Rattle.world_state.specs.World.{WorldState}
@@ -11,7 +11,6 @@ use Rattle.snapshot_worlds.specs.WellDeclared.{DeclaresWell}
 use Rattle.snapshot_worlds.specs.Starts.{start_of}
 use Rattle.snapshot_worlds.specs.Reached.{DeclaresSoFar, GoesOn}
 use Rattle.convergent_worlds.specs.Beginning.{MastersBeginAlike}
-use Rattle.convergent_worlds.specs.Convergence.{ConvergenceHolds}
 
 -- masters begin alike where Setup's end makes them
 abbrev pub MadeWorldsBeginAlike : Type 0
@@ -32,7 +31,3 @@ pub record GoesOnAlike (w : WorldState) : Type 0 where
 pub data IsOfConvergence (w : WorldState) : Type 0 where
   Declaring : DeclaresSoFar w → IsOfConvergence w
   Going : GoesOnAlike w → IsOfConvergence w
-
--- the laws of convergence hold of each such world
-abbrev pub HoldsOfConvergence : Type 0
-HoldsOfConvergence = (w : WorldState) → IsOfConvergence w → ConvergenceHolds w

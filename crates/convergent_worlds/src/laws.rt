@@ -1,7 +1,7 @@
 //! Laws over all scripts. A function calls the laws over events that its own stands on, and does nothing else.
 ghost use Rattle.snapshot_worlds.specs.Worlds.{InScripts, InWorlds};
-ghost use Rattle.convergent_worlds.specs.Convergence.{ConvergenceHolds, EachErrorIsExcused, EachGroupIsJoined, EachGroupIsJoinedSince, EachHasGreatest, MastersAgreeWhenQuiet};
-ghost use Rattle.convergent_worlds.specs.Reached.{HoldsOfConvergence, MadeWorldsBeginAlike};
+ghost use Rattle.convergent_worlds.specs.Convergence.{ConvergenceHolds, EachErrorIsExcused, EachGroupIsJoined, EachGroupIsJoinedSince, EachHasGreatest, MastersAgreeWhenQuiet, HoldsOfConvergence};
+ghost use Rattle.convergent_worlds.specs.Reached.{MadeWorldsBeginAlike};
 
 use agreement_laws::{latest_values_tell_apart, quiet_masters_agree, quiet_masters_agree_again};
 use causal_laws::{missing_rows_are_of_inserts_in_error, missing_rows_are_of_lost_inserts};

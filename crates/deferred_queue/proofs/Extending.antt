@@ -6,7 +6,8 @@ use Rattle.rep_values.specs.declared.name.SiteName.{SiteName}
 use Rattle.deferred_queue.specs.declared.queued_txn.QueuedTxn.{QueuedTxn}
 use Rattle.deferred_queue.specs.declared.destination.Destination.{Destination}
 use Rattle.deferred_queue.specs.declared.entries.Entry.{Entry}
-use Rattle.deferred_queue.specs.Streams.{Mark, is_same_site, destination_to, acked_by, in_order}
+use Rattle.deferred_queue.specs.Streams.{Mark, destination_to, acked_by, in_order}
+use Rattle.rep_values.specs.SiteNames.{is_same_site}
 use Rattle.deferred_queue.specs.QueueState.{Kept, QueueState, kept_of, entry_of, sent_to, destinations_of, queued, stream_marks, entries_to, with_entry, extended, held_extended, FallsFrom, AreAlike, IsStream, AreStreams}
 use Rattle.deferred_queue.proofs.Sites.{is_same_site-true, is_same_site-refl, eq_true, eq_false_above}
 use Rattle.deferred_queue.proofs.Numbers.{entry_of-above, FallsFrom-higher}

@@ -2,7 +2,8 @@
 use Rattle.std.proofs.Common.{◌≡◌, ℕ, ◌≤◌, Bool, true, false, cond, List, [], ◌∷◌, length, map, Some, None, refl, ap, arith}
 use Rattle.std.specs.List.{AllByRecursion, find}
 use Rattle.rep_values.specs.declared.name.SiteName.{SiteName}
-use Rattle.deferred_queue.specs.Streams.{Mark, IsDestination, is_same_site, acked_by}
+use Rattle.deferred_queue.specs.Streams.{Mark, IsDestination, acked_by}
+use Rattle.rep_values.specs.SiteNames.{is_same_site}
 use Rattle.deferred_queue.specs.QueueState.{Kept, QueueState, kept_of, stream_marks, entries_to, is_stream_to, entries_found, acked_found, new_held, AreAlike, IsStream, AreStreams}
 
 -- the entries of the stream that is found

@@ -6,7 +6,8 @@ use Rattle.std.proofs.lemmas.Bool.Decides.{nat_tests}
 use Rattle.rep_values.specs.declared.name.SiteName.{SiteName}
 use Rattle.deferred_queue.specs.declared.queued_txn.QueuedTxn.{QueuedTxn}
 use Rattle.deferred_queue.specs.declared.entries.Entry.{Entry}
-use Rattle.deferred_queue.specs.Streams.{InStream, is_same_site, destination_to, queue_stream_to, at_position, stream_place}
+use Rattle.deferred_queue.specs.Streams.{InStream, destination_to, queue_stream_to, at_position, stream_place}
+use Rattle.rep_values.specs.SiteNames.{is_same_site}
 use Rattle.deferred_queue.specs.QueueState.{Kept, entry_of, sent_to, destinations_of, queued, entries_to, place_in, FallsFrom, DependBack, AreAlike, IsStream, AreStreams}
 use Rattle.deferred_queue.proofs.Sites.{is_same_site-true, eq_true, eq_false, eq_false_above}
 use Rattle.deferred_queue.proofs.Numbers.{entry_of-above, number_within}

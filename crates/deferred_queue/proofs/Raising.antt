@@ -3,7 +3,8 @@ use Rattle.std.proofs.Common.{◌≡◌, ℕ, ◌+◌, ◌≤◌, Bool, true, fa
 use Rattle.std.specs.List.{AllByRecursion}
 use Rattle.rep_values.specs.declared.name.SiteName.{SiteName}
 use Rattle.deferred_queue.specs.declared.queued_txn.QueuedTxn.{QueuedTxn}
-use Rattle.deferred_queue.specs.Streams.{Mark, is_same_site, raised_mark}
+use Rattle.deferred_queue.specs.Streams.{Mark, raised_mark}
+use Rattle.rep_values.specs.SiteNames.{is_same_site}
 use Rattle.deferred_queue.specs.QueueState.{Kept, QueueState, kept_of, rooms_of, destinations_of, queued, stream_marks, stream_mark, entries_to, stream_raised, held_raised, AreAlike, IsStream, AreStreams}
 use Rattle.deferred_queue.proofs.Sites.{is_same_site-true}
 

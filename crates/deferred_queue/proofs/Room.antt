@@ -2,7 +2,8 @@
 use Rattle.std.proofs.Common.{◌≡◌, ℕ, zero, suc, ◌+◌, ◌<◌, ◌≤◌, List, [], ◌∷◌, length, map, get_or, set, take, Option, Some, None, refl, ap, arith, add-one}
 use Rattle.deferred_queue.specs.declared.destination.Destination.{Destination}
 use Rattle.deferred_queue.specs.Streams.{destination_to}
-use Rattle.deferred_queue.specs.QueueState.{QueueState, kept_of, rooms_of, least, room_left, held_extended}
+use Rattle.deferred_queue.specs.QueueState.{QueueState, kept_of, rooms_of, room_left, held_extended}
+use Rattle.rep_lists.specs.Counting.{least}
 
 -- an entry in each stream takes one place of the room at most
 pub least-held_extended : (to : List Destination) (number free less : ℕ) (hs : List QueueState) → free ≤ less + 1 → least free (rooms_of hs) ≤ least less (rooms_of (map (held_extended to number) hs)) + 1

@@ -1,12 +1,13 @@
 -- How a queue keeps its streams: one list of entries for each destination.
-use Rattle.std.specs.Prelude.{◌≡◌, ℕ, zero, suc, ◌+◌, ◌-◌, ◌≤◌, ◌==◌, Bool, true, not, cond, max, min, nat_le, List, [], ◌∷◌, length, map, filter_map, Option, Some, None, option_map}
+use Rattle.std.specs.Prelude.{◌≡◌, ℕ, zero, suc, ◌+◌, ◌-◌, ◌≤◌, ◌==◌, Bool, true, not, cond, max, nat_le, List, [], ◌∷◌, length, map, filter_map, Option, Some, None, option_map}
 use Rattle.std.specs.List.{AllByRecursion, list_all}
 use Rattle.rep_values.specs.declared.name.SiteName.{SiteName}
 use Rattle.deferred_queue.specs.declared.queued_txn.QueuedTxn.{QueuedTxn}
 use Rattle.deferred_queue.specs.declared.destination.Destination.{Destination}
 use Rattle.deferred_queue.specs.declared.destination.Place.{Place}
 use Rattle.deferred_queue.specs.declared.entries.Entry.{Entry}
-use Rattle.deferred_queue.specs.Streams.{Deferred, Mark, IsDestination, is_same_site, destination_to}
+use Rattle.deferred_queue.specs.Streams.{Deferred, Mark, IsDestination, destination_to}
+use Rattle.rep_values.specs.SiteNames.{is_same_site}
 
 module _ {X : Type 0} where
   -- numbers from 1 to a bound, each below the one before
@@ -60,11 +61,6 @@ swept_of helds = map swept_as helds
 -- the room of each stream
 abbrev pub rooms_of : List QueueState → List ℕ
 rooms_of helds = map (λ (h : QueueState). h.room) helds
-
--- the least of a number and a list of numbers
-abbrev pub least : ℕ → List ℕ → ℕ
-least number [] = number
-least number (n ∷ ns) = min n (least number ns)
 
 -- the transaction under a number, with what the site had seen before it, None where it isn't kept
 abbrev pub queued_txn_of : ℕ → List (Entry QueuedTxn) → Option QueuedTxn

@@ -2,10 +2,10 @@
 use Rattle.std.specs.Prelude.{◌≡◌, ◌≢◌, ℕ, ◌+◌, ◌≤◌, ◌==◌, Bool, cond, max, nat_le, List, [], ◌∷◌, length, map, filter_map, Option, Some, None, option_map}
 use Rattle.std.specs.List.{cons_option, list_all}
 use Rattle.rep_values.specs.declared.name.SiteName.{SiteName}
-use Rattle.rep_values.specs.Name.{same_bytes}
 use Rattle.deferred_queue.specs.declared.queued_txn.QueuedTxn.{QueuedTxn}
 use Rattle.deferred_queue.specs.declared.destination.Destination.{Destination}
 use Rattle.deferred_queue.specs.declared.destination.Place.{Place}
+use Rattle.rep_values.specs.SiteNames.{is_same_site}
 
 -- a transaction and what the site had seen before it, None of both once it was purged, and its destinations, in the order in
 -- which the queue has them
@@ -24,9 +24,6 @@ pub record Deferrals : Type 0 where
   pub deferred : List Deferred
   pub marks : List Mark
   pub spare : ℕ
-
-abbrev pub is_same_site : SiteName → SiteName → Bool
-is_same_site site other = same_bytes site.0 other.0
 
 -- a destination among others, by its site
 abbrev pub destination_to : SiteName → List Destination → Option Destination

@@ -37,7 +37,8 @@ pub struct Queue {
 impl Model for Queue {
     ghost use Rattle.std.specs.Prelude.{◌-◌, ◌^◌, min, reverse, vec_len, vec_capacity};
     ghost use Rattle.deferred_queue.specs.Streams.{Deferrals};
-    ghost use Rattle.deferred_queue.specs.QueueState.{IsQueue, kept_of, rooms_of, stream_marks, least, queued, queued_txns_to};
+    ghost use Rattle.deferred_queue.specs.QueueState.{IsQueue, kept_of, rooms_of, stream_marks, queued, queued_txns_to};
+    ghost use Rattle.rep_lists.specs.Counting.{least};
 
     ghost Value = { Deferrals };
 

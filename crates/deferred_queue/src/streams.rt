@@ -2,7 +2,8 @@
 ghost use Rattle.std.specs.Prelude.{◌≡◌, ◌↔◌, ℕ, ◌-◌, ◌≤◌, length, map, IfOk, OnOk, option_copied, IsTrue};
 ghost use Rattle.std.specs.List.{AllByRecursion, find, list_all};
 ghost use Rattle.deferred_queue.specs.Streams.{at_position, acked_by};
-ghost use Rattle.deferred_queue.specs.QueueState.{FallsFrom, new_held, is_stream_to, kept_of, swept_of, rooms_of, stream_marks, least, entries_to, place_in, has_passed, held_extended, held_raised, held_swept, CanGo};
+ghost use Rattle.deferred_queue.specs.QueueState.{FallsFrom, new_held, is_stream_to, kept_of, swept_of, rooms_of, stream_marks, entries_to, place_in, has_passed, held_extended, held_raised, held_swept, CanGo};
+ghost use Rattle.rep_lists.specs.Counting.{least};
 
 use crate::entries::Entry;
 use crate::stream::Stream;

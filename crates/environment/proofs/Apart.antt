@@ -8,8 +8,8 @@ use Rattle.rep_schema.specs.Shape.{HasShape}
 use Rattle.rep_schema.specs.Tables.{Rows}
 use Rattle.site_state.specs.State.{SiteState}
 use Rattle.site_state.proofs.SchemaSites.{are_apart}
-use Rattle.event_laws.specs.Cluster.{Cluster}
-use Rattle.event_laws.specs.Events.{run}
+use Rattle.site_events.specs.Cluster.{Cluster}
+use Rattle.site_events.specs.Events.{run}
 use Rattle.join_laws.specs.Names.{SitesApart}
 use Rattle.join_laws.proofs.Names.{names_stay_apart, apart_made}
 use Rattle.world_state.specs.declared.declared_snapshot.DeclaredSnapshot.{DeclaredSnapshot}

@@ -9,7 +9,7 @@ use Rattle.rep_values.specs.RefusalSteps.{refused}
 use Rattle.rep_values.proofs.RefusalSteps.{or_then-None}
 use Rattle.rep_schema.specs.declared.schema.Schema.{Schema}
 use Rattle.rep_schema.specs.Shape.{HasShape}
-use Rattle.rep_schema.specs.Sites.{senders_of}
+use Rattle.rep_schema.specs.Sites.{senders_of, is_among}
 use Rattle.rep_schema.specs.Tables.{columns_in}
 use Rattle.rep_schema.specs.Named.{is_table, table_place}
 use Rattle.rep_declare.specs.declared.declaration.Declare.{Declare}
@@ -23,8 +23,7 @@ use Rattle.script_parse.specs.declared.proc_line.ProcLine.TheVariants as proc_li
 use Rattle.script_parse.specs.declared.command.ParentWords.{ParentWords}
 use Rattle.script_parse.specs.declared.command.TestWords.{TestWords}
 use Rattle.script_parse.specs.Named.{NamesColumn}
-use Rattle.site_state.specs.State.{is_among}
-use Rattle.event_laws.specs.Cluster.{Cluster}
+use Rattle.site_events.specs.Cluster.{Cluster}
 use Rattle.proc_state.specs.declared.procedure.Action.{Action}
 use Rattle.world_state.specs.declared.phase.Phase.{Phase}
 use Rattle.world_state.specs.declared.phase.Phase.TheVariants as phase

@@ -5,7 +5,7 @@ use Rattle.rep_values.specs.declared.name.SiteName.{SiteName}
 use Rattle.rep_schema.specs.declared.schema.Schema.{Schema}
 use Rattle.rep_schema.specs.declared.schema.TableEntry.{TableEntry}
 use Rattle.rep_schema.specs.Shape.{HasShape}
-use Rattle.event_laws.specs.Cluster.{Cluster}
+use Rattle.site_events.specs.Cluster.{Cluster}
 use Rattle.proc_state.specs.declared.procedure.Procedure.{Procedure}
 use Rattle.proc_state.specs.Calls.{AreProcedures}
 use Rattle.proc_state.specs.State.{ProcState}

@@ -4,15 +4,15 @@ use Rattle.std.specs.Prelude.{Option, option_map}
 use Rattle.rep_values.specs.declared.name.SiteName.{SiteName}
 use Rattle.rep_schema.specs.declared.schema.Schema.{Schema}
 use Rattle.rep_schema.specs.Shape.{HasShape}
-use Rattle.rep_schema.specs.Sites.{senders_of}
+use Rattle.rep_schema.specs.Sites.{senders_of, is_among}
 use Rattle.packet_code.specs.declared.packet.Packet.{Packet}
 use Rattle.net_plan.specs.declared.fate.Fate.{Fate}
 use Rattle.net_plan.specs.Directions.{Direction, HasDirection, direction_of, at_direction, first_between, released, with_sent, delivered}
-use Rattle.site_state.specs.State.{SiteState, is_among}
+use Rattle.site_state.specs.State.{SiteState}
 use Rattle.site_state.specs.Packets.{site_accept}
 use Rattle.site_state.proofs.Changing.{accept_later}
-use Rattle.event_laws.specs.Cluster.{Cluster, site_of}
-use Rattle.event_laws.specs.Events.{packet_from, mark_from, run}
+use Rattle.site_events.specs.Cluster.{Cluster, site_of}
+use Rattle.site_events.specs.Events.{packet_from, mark_from, run}
 use Rattle.event_laws.proofs.Sites.{KeepsHere}
 use Rattle.world_state.specs.World.{WorldState, with_site}
 use Rattle.world_state.specs.Procs.{Procs}
@@ -25,7 +25,7 @@ use Rattle.world_laws.proofs.SiteSteps.{run-append}
 use Rattle.world_laws.proofs.Pieces.{none_lead, then_lead, site_leads, release_leads, send_leads, send_mark_leads}
 use Rattle.world_laws.proofs.Calling.{deliver_one_leads, lose_leads}
 use Rattle.site_rounds.specs.Parts.{parts_done}
-use Rattle.site_rounds.proofs.Parts.{parts_do}
+use Rattle.environment.proofs.PassParts.{parts_do}
 use Rattle.convergent_worlds.specs.Reached.{IsOfConvergence, Declaring, Going}
 use Rattle.convergent_worlds.proofs.Scripts.{goes_on_alike}
 use Rattle.procedure_worlds.proofs.ProceduresStay.{same_procs}

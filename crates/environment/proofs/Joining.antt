@@ -12,13 +12,12 @@ use Rattle.rep_schema.specs.declared.schema.Schema.{Schema}
 use Rattle.rep_schema.specs.declared.schema.SiteEntry.{SiteEntry}
 use Rattle.rep_schema.specs.Shape.{is_master}
 use Rattle.rep_schema.specs.Named.{is_site}
-use Rattle.rep_schema.specs.Sites.{names_of}
-use Rattle.site_state.specs.State.{SiteState, is_master_site, is_among}
-use Rattle.site_state.specs.Making.{is_late_master}
-use Rattle.event_laws.specs.Cluster.{site_of}
-use Rattle.event_laws.specs.Quiet.{are_quiet}
-use Rattle.event_laws.specs.Joins.{may_join, with_joined, joined}
-use Rattle.event_laws.specs.Events.{is_master_in}
+use Rattle.rep_schema.specs.Sites.{names_of, is_master_site, is_among, is_late_master}
+use Rattle.site_state.specs.State.{SiteState}
+use Rattle.site_events.specs.Cluster.{site_of}
+use Rattle.site_events.specs.Quiet.{are_quiet}
+use Rattle.site_events.specs.Joins.{may_join, with_joined, joined}
+use Rattle.site_events.specs.Events.{is_master_in}
 use Rattle.event_laws.proofs.DeclaredSites.{IsSiteOf, late_is_master}
 use Rattle.join_laws.proofs.Names.{found_by_name}
 use Rattle.script_parse.specs.declared.command.Command.TheVariants as command

@@ -5,6 +5,7 @@ pub mod ProcPlaces
 pub mod ProcSites
 pub mod Directions
 pub mod Apart
+pub mod PassParts
 pub mod Following
 pub mod CallsFollowing
 mod CallsBuilt
@@ -16,6 +17,6 @@ mod Quiet
 pub mod TwoMasters
 pub mod Joining
 pub mod BuiltWorlds
-pub mod Prechecks
 pub use Rattle.convergent_worlds.proofs.Scripts
 pub use Rattle.convergent_worlds.proofs.Worlds
+pub mod Prechecks

@@ -11,14 +11,14 @@ use Rattle.rep_schema.specs.declared.schema.Schema.{Schema}
 use Rattle.rep_schema.specs.declared.schema.SiteEntry.{SiteEntry}
 use Rattle.rep_schema.specs.Shape.{is_master, is_early_master, HasMaster, HasShape}
 use Rattle.rep_schema.specs.Named.{is_site, site_named}
-use Rattle.rep_schema.specs.Sites.{addresses, sends_to, names_of, senders_of, destinations_of}
-use Rattle.deferred_queue.specs.Streams.{is_same_site}
+use Rattle.rep_schema.specs.Sites.{addresses, sends_to, names_of, senders_of, destinations_of, is_among}
+use Rattle.rep_values.specs.SiteNames.{is_same_site}
 use Rattle.deferred_queue.proofs.Sites.{is_same_site-true, is_same_site-refl}
 use Rattle.net_plan.specs.Directions.{HasDirection}
-use Rattle.site_state.specs.State.{DestinationState, SiteState, is_among}
+use Rattle.site_state.specs.State.{DestinationState, SiteState}
 use Rattle.site_state.proofs.SchemaSites.{AreApart, are_apart, find_holds, place_found, own_is_no_sender}
-use Rattle.event_laws.specs.Cluster.{site_of}
-use Rattle.event_laws.specs.Events.{master_of, found_site, run}
+use Rattle.site_events.specs.Cluster.{site_of}
+use Rattle.site_events.specs.Events.{master_of, found_site, run}
 use Rattle.event_laws.proofs.Sites.{found_name, found_all}
 use Rattle.event_laws.proofs.Happening.{run_keeps}
 use Rattle.event_laws.proofs.DeclaredSites.{IsSiteOf, becomes_sites_of, start_sites_of}

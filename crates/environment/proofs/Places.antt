@@ -5,7 +5,7 @@ use Rattle.std.specs.List.{position}
 use Rattle.std.proofs.lemmas.Bool.{ltb-true, ltb-false}
 use Rattle.std.proofs.lemmas.Option.{slice_get_cases, slice_get_past}
 use Rattle.rep_values.specs.declared.name.SiteName.{SiteName}
-use Rattle.deferred_queue.specs.Streams.{is_same_site}
+use Rattle.rep_values.specs.SiteNames.{is_same_site}
 use Rattle.site_state.specs.State.{SiteState}
 use Rattle.world_laws.specs.Places.{site_place}
 use Rattle.world_laws.proofs.Calling.{site_of-place}

@@ -10,7 +10,7 @@ use Rattle.script_parse.specs.declared.command.Command.TheVariants as command
 use Rattle.script_parse.specs.declared.proc_line.ProcLine.{ProcLine}
 use Rattle.script_parse.specs.declared.proc_line.ProcLine.TheVariants as proc_line
 use Rattle.site_state.specs.Errors.{execute_refusal, drop_refusal}
-use Rattle.event_laws.specs.Cluster.{site_of}
+use Rattle.site_events.specs.Cluster.{site_of}
 use Rattle.proc_state.specs.Errors.{proc_execute_refusal}
 use Rattle.world_state.specs.declared.block.Block.{Block}
 use Rattle.world_state.specs.declared.call_block.CallBlock.{CallBlock}

@@ -5,13 +5,14 @@ use Rattle.std.specs.List.{list_all}
 use Rattle.rep_values.specs.declared.name.SiteName.{SiteName}
 use Rattle.rep_values.specs.declared.refusal.Refusal.TheVariants as refusal
 use Rattle.rep_values.specs.RefusalSteps.{refused}
-use Rattle.deferred_queue.specs.Streams.{Mark, is_same_site, last_position, acked_by}
+use Rattle.deferred_queue.specs.Streams.{Mark, last_position, acked_by}
+use Rattle.rep_values.specs.SiteNames.{is_same_site}
 use Rattle.deferred_queue.proofs.Sites.{is_same_site-refl}
 use Rattle.site_state.specs.State.{DestinationState, SiteState}
 use Rattle.site_state.specs.Streams.{stream_to}
 use Rattle.site_state.specs.Deferrals.{deferred_of, deferred_marks, StandApart}
 use Rattle.site_making.proofs.Sending.{last_is}
-use Rattle.event_laws.specs.Events.{has_acked_all, is_all_acked}
+use Rattle.site_events.specs.Events.{has_acked_all, is_all_acked}
 use Rattle.world_state.specs.Refusals.{waiting_for, waiting_count}
 
 abbrev names : List DestinationState → List SiteName

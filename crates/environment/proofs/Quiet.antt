@@ -13,8 +13,8 @@ use Rattle.rep_schema.specs.declared.schema.SiteEntry.{SiteEntry}
 use Rattle.rep_calls.specs.declared.past.PastEntry.{PastEntry}
 use Rattle.site_state.specs.State.{SiteState}
 use Rattle.site_state.specs.Joining.{unfinished_of, master_errors}
-use Rattle.event_laws.specs.Cluster.{site_of}
-use Rattle.event_laws.specs.Quiet.{is_other_master, last_position_to, last_positions, unquiet_at}
+use Rattle.site_events.specs.Cluster.{site_of}
+use Rattle.site_events.specs.Quiet.{is_other_master, last_position_to, last_positions, unquiet_at}
 use Rattle.world_state.specs.Refusals.{unquiet_told, unquiet_step, quiet_step}
 use Rattle.environment.specs.Joining.{unfinished_from}
 

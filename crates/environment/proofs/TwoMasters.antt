@@ -8,13 +8,12 @@ use Rattle.rep_schema.specs.declared.schema.Schema.{Schema}
 use Rattle.rep_schema.specs.declared.schema.SiteEntry.{SiteEntry}
 use Rattle.rep_schema.specs.Shape.{is_master, is_early_master, HasShape}
 use Rattle.rep_schema.specs.Named.{is_site, site_named}
-use Rattle.rep_schema.specs.Sites.{addresses, sends_to, names_of, senders_to, senders_of}
-use Rattle.deferred_queue.specs.Streams.{is_same_site}
+use Rattle.rep_schema.specs.Sites.{addresses, sends_to, names_of, senders_to, senders_of, is_among}
+use Rattle.rep_values.specs.SiteNames.{is_same_site}
 use Rattle.deferred_queue.proofs.Sites.{is_same_site-true}
 use Rattle.net_plan.specs.Directions.{HasDirection}
-use Rattle.site_state.specs.State.{is_among}
 use Rattle.site_state.proofs.SchemaSites.{AreApart, are_apart, any_found}
-use Rattle.event_laws.specs.Events.{without}
+use Rattle.site_events.specs.Events.{without}
 use Rattle.proc_state.specs.State.{ProcState, other_masters}
 use Rattle.world_state.specs.World.{WorldState, gets_from}
 use Rattle.world_state.specs.Phases.{is_setup}

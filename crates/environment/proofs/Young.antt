@@ -6,8 +6,8 @@ use Rattle.rep_values.specs.declared.refusal.Refusal.{Refusal}
 use Rattle.rep_values.specs.declared.refusal.Refusal.TheVariants as refusal
 use Rattle.rep_values.specs.RefusalSteps.{refused, or_then}
 use Rattle.snapshot_query.specs.declared.snapshot.Snapshot.{Snapshot}
-use Rattle.site_state.specs.State.{LogState}
-use Rattle.site_state.specs.Notes.{purged_of, is_too_young}
+use Rattle.snapshot_log.specs.LogState.{LogState}
+use Rattle.snapshot_log.specs.Noting.{purged_of, is_too_young}
 use Rattle.world_state.specs.Refusals.{young_parents_step, young_step}
 
 module _ (logs : List LogState) (ss : List Snapshot) (place : ℕ) (s : Snapshot) (there : slice_get ss place ≡ Some s) where

@@ -3,8 +3,8 @@ use Rattle.std.specs.Prelude.{◌≡◌, ℕ, ◌<◌, List, length, Option, Som
 use Rattle.std.specs.List.{position_or_len}
 use Rattle.rep_values.specs.declared.name.SiteName.{SiteName}
 use Rattle.site_state.specs.State.{SiteState}
-use Rattle.deferred_queue.specs.Streams.{is_same_site}
-use Rattle.event_laws.specs.Cluster.{site_of}
+use Rattle.rep_values.specs.SiteNames.{is_same_site}
+use Rattle.site_events.specs.Cluster.{site_of}
 use Rattle.proc_state.specs.State.{ProcState}
 use Rattle.world_state.specs.Procs.{proc_of}
 use Rattle.world_laws.specs.Places.{site_place}

@@ -4,7 +4,7 @@ use Rattle.rep_values.specs.declared.name.SiteName.{SiteName}
 use Rattle.rep_schema.specs.Shape.{HasShape}
 use Rattle.net_plan.specs.declared.fate.Fate.{Fate}
 use Rattle.net_plan.specs.Directions.{Direction, HasDirection, direction_of, at_direction, delivered}
-use Rattle.event_laws.specs.Cluster.{site_of}
+use Rattle.site_events.specs.Cluster.{site_of}
 use Rattle.site_rounds.specs.Parts.{parts_done}
 use Rattle.join_laws.specs.Names.{SitesApart}
 use Rattle.world_state.specs.World.{WorldState, with_site, gets_from}

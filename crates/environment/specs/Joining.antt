@@ -2,7 +2,7 @@
 use Rattle.std.specs.Prelude.{ℕ, cond}
 use Rattle.site_state.specs.State.{SiteState}
 use Rattle.site_state.specs.Joining.{unfinished_of}
-use Rattle.event_laws.specs.Quiet.{is_other_master, last_position_to}
+use Rattle.site_events.specs.Quiet.{is_other_master, last_position_to}
 
 -- how many positions of another master aren't finished at a site; none where that is the site itself, or no master
 abbrev pub unfinished_from : SiteState → SiteState → ℕ

@@ -17,7 +17,7 @@ use Rattle.script_parse.specs.declared.proc_line.ProcLine.{ProcLine}
 use Rattle.script_parse.specs.declared.proc_line.ProcLine.TheVariants as proc_line
 use Rattle.site_state.specs.State.{SiteState}
 use Rattle.site_state.specs.Contents.{tables_of}
-use Rattle.event_laws.specs.Cluster.{site_of}
+use Rattle.site_events.specs.Cluster.{site_of}
 use Rattle.proc_state.specs.State.{ProcState, proc_tables}
 use Rattle.world_state.specs.declared.block.Block.{Block}
 use Rattle.world_state.specs.declared.call_block.CallBlock.{CallBlock}

@@ -1,9 +1,9 @@
 //! Why a join of a late master is refused.
 ghost use Rattle.std.specs.Prelude.{◌≡◌, ◌&&◌, nat_lt, Some};
 ghost use Rattle.rep_values.specs.RefusalSteps.{refused, first_refusal};
-ghost use Rattle.event_laws.specs.Cluster.{site_of};
-ghost use Rattle.event_laws.specs.Events.{is_master_in};
-ghost use Rattle.event_laws.specs.Quiet.{is_other_master, last_position_to};
+ghost use Rattle.site_events.specs.Cluster.{site_of};
+ghost use Rattle.site_events.specs.Events.{is_master_in};
+ghost use Rattle.site_events.specs.Quiet.{is_other_master, last_position_to};
 ghost use Rattle.world_state.specs.Refusals.{unquiet_told, unquiet_step, quiet_step};
 ghost use Rattle.environment.specs.Joining.{unfinished_from};
 ghost use Rattle.environment.specs.Precheck.{precheck_steps};

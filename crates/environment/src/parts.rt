@@ -1,7 +1,7 @@
 //! What a script makes.
 ghost use Rattle.std.specs.Prelude.{◌≡◌, IfOk};
 ghost use Rattle.std.specs.List.{position};
-ghost use Rattle.deferred_queue.specs.Streams.{is_same_site};
+ghost use Rattle.rep_values.specs.SiteNames.{is_same_site};
 ghost use Rattle.world_state.specs.World.{first_world};
 ghost use Rattle.environment.specs.Finding.{FindsSite};
 

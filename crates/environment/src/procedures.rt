@@ -3,7 +3,7 @@ ghost use Rattle.std.specs.Prelude.{◌≡◌, ◌∷◌, [], false, not, None, 
 ghost use Rattle.std.specs.List.{list_all};
 ghost use Rattle.rep_values.specs.RefusalSteps.{refused, first_refusal, unknown, known};
 ghost use Rattle.rep_declare.specs.Refusals.{share_a_name};
-ghost use Rattle.site_state.specs.State.{is_among};
+ghost use Rattle.rep_schema.specs.Sites.{is_among};
 ghost use Rattle.world_state.specs.Phases.{is_setup, phase_step};
 ghost use Rattle.world_state.specs.Procs.{proc_of};
 ghost use Rattle.world_state.specs.CallBlocks.{names_twice, are_others, can_send_to};

@@ -1,7 +1,7 @@
 //! What a script makes of procedures.
 ghost use Rattle.std.specs.Prelude.{◌≡◌, option_copied, IfOk};
 ghost use Rattle.std.specs.List.{find, position};
-ghost use Rattle.deferred_queue.specs.Streams.{is_same_site};
+ghost use Rattle.rep_values.specs.SiteNames.{is_same_site};
 ghost use Rattle.world_state.specs.Procs.{no_procs};
 ghost use Rattle.world_state.specs.ProcDeclaring.{is_procedure, procedure_place};
 ghost use Rattle.world_state.specs.CallBlocks.{calls_closed};

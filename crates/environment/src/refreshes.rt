@@ -4,8 +4,8 @@ ghost use Rattle.rep_values.specs.RefusalSteps.{refused, or_then, first_refusal}
 ghost use Rattle.rep_schema.specs.Shape.{HasShape};
 ghost use Rattle.net_plan.specs.Directions.{HasDirection};
 ghost use Rattle.site_state.specs.State.{DestinationState};
-ghost use Rattle.site_state.specs.Notes.{purged_of, is_too_young};
-ghost use Rattle.event_laws.specs.Events.{is_all_acked};
+ghost use Rattle.snapshot_log.specs.Noting.{purged_of, is_too_young};
+ghost use Rattle.site_events.specs.Events.{is_all_acked};
 ghost use Rattle.world_state.specs.Phases.{is_setup};
 ghost use Rattle.world_state.specs.Refusals.{waiting_count, young_parents_step, young_step, log_step, refresh_steps};
 ghost use Rattle.environment.specs.Following.{IsBuilt};

@@ -1,7 +1,7 @@
 //! Why a line is refused, as far as that is known before it is tried.
 ghost use Rattle.std.specs.Prelude.{◌≡◌, false, not, None};
 ghost use Rattle.rep_values.specs.RefusalSteps.{refused, first_refusal, unknown};
-ghost use Rattle.event_laws.specs.Cluster.{site_of};
+ghost use Rattle.site_events.specs.Cluster.{site_of};
 ghost use Rattle.world_state.specs.Phases.{is_setup, phase_step};
 ghost use Rattle.world_state.specs.Refusals.{has_link, shown_step};
 ghost use Rattle.world_state.specs.Steps.{world_refused};

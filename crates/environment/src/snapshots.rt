@@ -7,7 +7,7 @@ ghost use Rattle.rep_schema.specs.Tables.{columns_of, key_columns};
 ghost use Rattle.rep_schema.specs.Kinds.{is_some_and};
 ghost use Rattle.rep_schema.specs.Named.{has_column, column_named, table_place};
 ghost use Rattle.rep_schema.specs.Shape.{HasShape};
-ghost use Rattle.event_laws.specs.Events.{master_of};
+ghost use Rattle.site_events.specs.Events.{master_of};
 ghost use Rattle.world_state.specs.Declaring.{has_snapshot};
 ghost use Rattle.world_state.specs.Refusals.{are_alike, hold_keys, parent_steps, named_snapshot_steps};
 

@@ -4,7 +4,7 @@ use Rattle.std.specs.Prelude.{◌&&◌}
 use Rattle.rep_values.specs.declared.literal.Literal.{Literal}
 use Rattle.rep_schema.specs.declared.schema.Schema.{Schema}
 use Rattle.rep_schema.specs.declared.schema.Column.{Column}
-use Rattle.local_txn.specs.Literals.{literal_fits, literals_fit}
+use Rattle.txn_effects.specs.Literals.{literal_fits, literals_fit}
 
 -- where there aren't as many as columns they don't fit
 pub others_dont_fit : (schema : Schema) (columns : List Column) (literals : List Literal) → length columns ≢ length literals → literals_fit schema columns literals ≡ false

@@ -11,7 +11,7 @@ use Rattle.site_state.proofs.Stepping.{with_entry}
 use Rattle.proc_state.specs.State.{ProcState, as_site}
 use Rattle.proc_state.specs.Passes.{proc_apply, apply_each, proc_pass}
 use Rattle.proc_state.proofs.Ordering.{apply_journals, pass_senders}
-use Rattle.world_state.specs.Rounds.{sender_names}
+use Rattle.site_state.specs.Rounds.{sender_names}
 use Rattle.world_state.specs.CallPushes.{proc_passes, proc_until_quiet}
 use Rattle.environment.specs.Calling.{calls_applied, proc_parts}
 use Rattle.environment_calls.specs.Applying.{PartlyPassed}

@@ -1,7 +1,7 @@
 //! What the receiver does with the calls that came, and what it tells of it.
 ghost use Rattle.std.specs.Prelude.{◌≡◌, ◌++◌, ◌<◌, ◌≤◌, ◌+◌, ◌∷◌, true, Some, length, drop, is_some, OnOk};
 ghost use Rattle.report_text.specs.Sheet.{most_line};
-ghost use Rattle.world_state.specs.Rounds.{sender_names};
+ghost use Rattle.site_state.specs.Rounds.{sender_names};
 ghost use Rattle.world_state.specs.Procs.{proc_of};
 ghost use Rattle.world_state.specs.CallPushes.{proc_until_quiet, calls_until_quiet};
 ghost use Rattle.environment.specs.Calling.{CallsPushInPart};

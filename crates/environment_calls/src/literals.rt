@@ -4,7 +4,7 @@ ghost use Rattle.std.specs.List.{list_any};
 ghost use Rattle.rep_values.specs.Name.{same_bytes};
 ghost use Rattle.rep_values.specs.Literal.{value_of_literal};
 ghost use Rattle.rep_schema.specs.Kinds.{value_in_range, row_in_range};
-ghost use Rattle.local_txn.specs.Literals.{names_site, literal_fits, literals_fit, values_of};
+ghost use Rattle.txn_effects.specs.Literals.{names_site, literal_fits, literals_fit, values_of};
 ghost use Rattle.world_state.specs.CallBlocks.{is_one_number, literals_suit};
 
 use proc_state::Action;

@@ -4,7 +4,7 @@ ghost use Rattle.rep_values.specs.RefusalSteps.{refused, first_refusal};
 ghost use Rattle.rep_schema.specs.Tables.{columns_of};
 ghost use Rattle.rep_schema.specs.Kinds.{row_in_range};
 ghost use Rattle.rep_declare.specs.Additions.{place_or_zero};
-ghost use Rattle.local_txn.specs.Literals.{values_of};
+ghost use Rattle.txn_effects.specs.Literals.{values_of};
 ghost use Rattle.world_state.specs.ProcDeclaring.{procedure_place};
 ghost use Rattle.world_state.specs.CallBlocks.{literals_suit, call_refusal, words_stop, call_of, calls_of};
 

@@ -5,7 +5,7 @@ use Rattle.rep_schema.specs.declared.schema.Schema.{Schema}
 use Rattle.rep_schema.specs.Tables.{Rows, IsTable}
 use Rattle.snapshot_query.specs.declared.snapshot.Snapshot.{Snapshot}
 use Rattle.site_state.specs.declared.rows.TableRows.{TableRows}
-use Rattle.event_laws.specs.Rules.{table_ruled, rows_ruled}
+use Rattle.site_events.specs.Rules.{table_ruled, rows_ruled}
 use Rattle.site_state.specs.Fits.{SnapshotsApart}
 use Rattle.site_refresh.specs.Refreshing.{AreGivenOnce, AreGivenFor}
 

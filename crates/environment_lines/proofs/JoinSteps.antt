@@ -4,11 +4,12 @@ use Rattle.rep_values.specs.declared.name.SiteName.{SiteName}
 use Rattle.rep_schema.specs.declared.schema.Schema.{Schema}
 use Rattle.rep_schema.specs.Tables.{Rows}
 use Rattle.script_parse.specs.declared.command.Command.TheVariants as command
-use Rattle.site_state.specs.State.{SiteState, is_master_site}
+use Rattle.site_state.specs.State.{SiteState}
+use Rattle.rep_schema.specs.Sites.{is_master_site}
 use Rattle.site_state.specs.Contents.{tables_of}
 use Rattle.site_state.specs.Joining.{site_open}
-use Rattle.event_laws.specs.Cluster.{site_of}
-use Rattle.event_laws.specs.Joins.{copied, joined}
+use Rattle.site_events.specs.Cluster.{site_of}
+use Rattle.site_events.specs.Joins.{copied, joined}
 use Rattle.world_state.specs.World.{WorldState}
 use Rattle.world_state.specs.Answers.{number_there, row_count, join_count}
 use Rattle.environment.specs.Finding.{IsAt}

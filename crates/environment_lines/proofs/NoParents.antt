@@ -10,12 +10,13 @@ use Rattle.snapshot_query.specs.declared.snapshot.Snapshot.{Snapshot}
 use Rattle.snapshot_query.specs.Queries.{matches}
 use Rattle.snapshot_query.specs.Parents.{picks_by}
 use Rattle.site_state.specs.declared.rows.TableRows.{TableRows}
-use Rattle.site_state.specs.State.{LogState, SiteState}
+use Rattle.site_state.specs.State.{SiteState}
+use Rattle.snapshot_log.specs.LogState.{LogState}
 use Rattle.site_state.specs.Contents.{tables_of}
-use Rattle.site_state.specs.Notes.{pending_keys}
+use Rattle.snapshot_log.specs.Noting.{pending_keys}
 use Rattle.site_state.specs.Refreshes.{rows_shown, row_count, refresh_fast_answer}
 use Rattle.site_refresh.specs.Refreshing.{OthersAreShown}
-use Rattle.event_laws.specs.Rules.{rows_ruled, parents_above, looked_up, refresh_ruled_answer, HaveNoParents, QueriesAreRules}
+use Rattle.site_events.specs.Rules.{rows_ruled, parents_above, looked_up, refresh_ruled_answer, HaveNoParents, QueriesAreRules}
 use Rattle.fast_refresh.specs.Showing.{ShowsOthers}
 use Rattle.snapshot_laws.specs.Waiting.{waits_for, waiting_keys}
 use Rattle.environment.specs.Worlds.{IsShown}

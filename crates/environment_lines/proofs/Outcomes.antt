@@ -8,13 +8,13 @@ use Rattle.rep_values.specs.declared.refusal.Refusal.{Refusal}
 use Rattle.rep_values.specs.declared.refusal.Refusal.TheVariants as refusal
 use Rattle.rep_values.specs.RefusalSteps.{or_then, refused, first_refusal, known}
 use Rattle.rep_values.proofs.RefusalSteps.{or_then-None}
-use Rattle.local_txn.specs.declared.local.LocalStop.{LocalStop}
+use Rattle.txn_effects.specs.declared.local.LocalStop.{LocalStop}
 use Rattle.local_txn.specs.BaseRows.{base_refusal}
 use Rattle.script_parse.specs.declared.command.Command.{Command}
 use Rattle.script_parse.specs.declared.command.Command.TheVariants as command
 use Rattle.site_state.specs.State.{SiteState}
 use Rattle.site_state.specs.Errors.{execute_refusal, drop_refusal}
-use Rattle.event_laws.specs.Cluster.{site_of}
+use Rattle.site_events.specs.Cluster.{site_of}
 use Rattle.world_state.specs.declared.block.Block.{Block}
 use Rattle.world_state.specs.declared.refused.Refused.{Refused}
 use Rattle.world_state.specs.World.{WorldState}

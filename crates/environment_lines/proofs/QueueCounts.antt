@@ -4,7 +4,7 @@ use Rattle.std.specs.Prelude.{filter}
 use Rattle.rep_lists.proofs.Places.{drop_from_place}
 use Rattle.rep_calls.specs.declared.past.PastEntry.{PastEntry}
 use Rattle.site_state.specs.State.{SiteState}
-use Rattle.event_laws.specs.Joins.{count_at, queue_counts}
+use Rattle.site_events.specs.Joins.{count_at, queue_counts}
 
 module _ (sites : List SiteState) (place : ℕ) (x : SiteState) (within : place < length sites) (is : x ≡ get_or sites place x) where
   -- the masters behind it

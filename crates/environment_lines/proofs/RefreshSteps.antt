@@ -10,8 +10,8 @@ use Rattle.rep_schema.specs.declared.schema.Schema.{Schema}
 use Rattle.script_parse.specs.declared.command.Refresh.{Refresh}
 use Rattle.script_parse.specs.declared.command.Command.TheVariants as command
 use Rattle.site_state.specs.State.{SiteState}
-use Rattle.event_laws.specs.Cluster.{site_of, at_site}
-use Rattle.event_laws.specs.Events.{is_all_acked, master_of, found_site, refreshed}
+use Rattle.site_events.specs.Cluster.{site_of, at_site}
+use Rattle.site_events.specs.Events.{is_all_acked, master_of, found_site, refreshed}
 use Rattle.event_laws.proofs.Sites.{found_name}
 use Rattle.world_state.specs.declared.phase.Phase.{Phase}
 use Rattle.world_state.specs.declared.phase.Phase.TheVariants as phase

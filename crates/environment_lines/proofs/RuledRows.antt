@@ -8,9 +8,9 @@ use Rattle.snapshot_query.specs.declared.parent.Parent.{Parent}
 use Rattle.snapshot_query.specs.declared.snapshot.Snapshot.{Snapshot}
 use Rattle.snapshot_query.specs.Queries.{matches}
 use Rattle.snapshot_query.specs.Parents.{parent_key, has_parent, picks, picks_by}
-use Rattle.site_state.specs.State.{LogState}
-use Rattle.site_state.specs.Notes.{pending_keys}
-use Rattle.event_laws.specs.Rules.{pending_parents}
+use Rattle.snapshot_log.specs.LogState.{LogState}
+use Rattle.snapshot_log.specs.Noting.{pending_keys}
+use Rattle.site_events.specs.Rules.{pending_parents}
 use Rattle.fast_refresh.specs.Showing.{has_key, ShowsOthers}
 use Rattle.snapshot_laws.specs.Waiting.{waits_for, outdated_keys}
 use Rattle.subquery_snapshots.specs.declared.rule.Rule.{Rule}

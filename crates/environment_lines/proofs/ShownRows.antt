@@ -7,7 +7,7 @@ use Rattle.rep_schema.specs.Tables.{Rows}
 use Rattle.snapshot_query.specs.declared.snapshot.Snapshot.{Snapshot}
 use Rattle.snapshot_query.specs.Parents.{rule_rows}
 use Rattle.site_state.specs.declared.rows.TableRows.{TableRows}
-use Rattle.event_laws.specs.Rules.{rows_ruled, HaveNoParents}
+use Rattle.site_events.specs.Rules.{rows_ruled, HaveNoParents}
 
 module _ (ss : List Snapshot) (place : ℕ) (s : Snapshot) (there : slice_get ss place ≡ Some s) where
   -- where it has no parent, and none behind it has one, none from here on has one

@@ -5,9 +5,9 @@ use Rattle.rep_values.specs.declared.name.SiteName.{SiteName}
 use Rattle.rep_values.specs.declared.refusal.Refusal.{Refusal}
 use Rattle.script_parse.specs.declared.command.Command.TheVariants as command
 use Rattle.site_state.specs.State.{SiteState}
-use Rattle.event_laws.specs.Cluster.{Cluster, site_of}
-use Rattle.event_laws.specs.Joins.{may_join, joined}
-use Rattle.event_laws.specs.Events.{run}
+use Rattle.site_events.specs.Cluster.{Cluster, site_of}
+use Rattle.site_events.specs.Joins.{may_join, joined}
+use Rattle.site_events.specs.Events.{run}
 use Rattle.join_laws.specs.Joined.{HasJoined}
 use Rattle.join_laws.proofs.Joined.{joins_copy}
 use Rattle.world_state.specs.World.{WorldState}

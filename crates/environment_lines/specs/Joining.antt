@@ -2,8 +2,8 @@
 use Rattle.std.specs.Prelude.{◌≡◌, true, [], Some, None}
 use Rattle.rep_values.specs.declared.name.SiteName.{SiteName}
 use Rattle.site_state.specs.State.{SiteState}
-use Rattle.event_laws.specs.Cluster.{Cluster, site_of}
-use Rattle.event_laws.specs.Joins.{may_join, joined}
+use Rattle.site_events.specs.Cluster.{Cluster, site_of}
+use Rattle.site_events.specs.Joins.{may_join, joined}
 use Rattle.join_laws.specs.Joined.{HasJoined}
 use Rattle.world_state.specs.World.{WorldState}
 

@@ -9,9 +9,9 @@ use Rattle.snapshot_query.specs.declared.query.Query.{Query}
 use Rattle.snapshot_query.specs.declared.parent.Parent.{Parent}
 use Rattle.snapshot_query.specs.declared.snapshot.Snapshot.{Snapshot}
 use Rattle.snapshot_query.specs.Parents.{picks}
-use Rattle.site_state.specs.State.{LogState}
+use Rattle.snapshot_log.specs.LogState.{LogState}
 use Rattle.site_state.specs.Fits.{SchemaIsKeyed}
-use Rattle.event_laws.specs.Rules.{pending_parents, IsParentWithin}
+use Rattle.site_events.specs.Rules.{pending_parents, IsParentWithin}
 use Rattle.fast_refresh.specs.Showing.{ShowsOthers}
 use Rattle.snapshot_laws.specs.Waiting.{outdated_keys}
 use Rattle.subquery_snapshots.specs.declared.rule.Rule.{Rule}

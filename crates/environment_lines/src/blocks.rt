@@ -2,7 +2,7 @@
 ghost use Rattle.std.specs.Prelude.{◌≡◌, ◌≤◌, ◌-◌, ◌⊎◌, ◌++◌, ◌∷◌, [], None, Some, slice_get, IfOk, IfErr, OnOk, OnErr};
 ghost use Rattle.rep_values.specs.declared.refusal.Refusal.TheVariants as refusal;
 ghost use Rattle.site_state.specs.Commits.{site_commit, commit_answer};
-ghost use Rattle.event_laws.specs.Cluster.{site_of, at_site};
+ghost use Rattle.site_events.specs.Cluster.{site_of, at_site};
 ghost use Rattle.world_state.specs.Blocks.{stated_more, stop_at_site, line_in};
 ghost use Rattle.world_state.specs.Answers.{number_there, answered_number};
 ghost use Rattle.report_text.specs.Sheet.{Appends, most_line};
@@ -11,7 +11,7 @@ ghost use Rattle.environment.specs.Texts.{committed_text};
 ghost use Rattle.environment.specs.Doing.{Does};
 
 use environment::{WorldParts, Site, drop_last, no_memory, place_of, room_for_line};
-use local_txn::LocalStop;
+use txn_effects::LocalStop;
 use page_tables::PageTables;
 use rep_calls::Statement;
 use rep_lists::{Copies, Items, NoMemory};

@@ -1,9 +1,9 @@
 //! A late master that joins.
 ghost use Rattle.std.specs.Prelude.{◌≡◌, ◌+◌, ◌≤◌, ◌∷◌, ◌++◌, true, [], length, map, take, drop, vec_len, None, IfOk, OnOk, OnErr};
-ghost use Rattle.site_state.specs.State.{is_master_site};
+ghost use Rattle.rep_schema.specs.Sites.{is_master_site};
 ghost use Rattle.site_state.specs.Making.{master_here};
 ghost use Rattle.site_state.specs.Joining.{site_open, site_copy};
-ghost use Rattle.event_laws.specs.Joins.{count_at, queue_counts, open_to_each, copied};
+ghost use Rattle.site_events.specs.Joins.{count_at, queue_counts, open_to_each, copied};
 ghost use Rattle.world_state.specs.Answers.{row_count, join_count};
 ghost use Rattle.environment.specs.Following.{IsBuilt};
 ghost use Rattle.environment.specs.Precheck.{precheck_refusal};

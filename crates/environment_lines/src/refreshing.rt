@@ -3,7 +3,7 @@ ghost use Rattle.std.specs.Prelude.{◌≡◌, ◌≤◌, ◌<◌, Some, None, I
 ghost use Rattle.report_text.specs.Sheet.{Appends, most_line};
 ghost use Rattle.site_state.specs.Contents.{tables_of};
 ghost use Rattle.site_state.specs.Refreshes.{refresh_complete_answer};
-ghost use Rattle.event_laws.specs.Rules.{rows_ruled, refresh_ruled_answer, HaveNoParents};
+ghost use Rattle.site_events.specs.Rules.{rows_ruled, refresh_ruled_answer, HaveNoParents};
 ghost use Rattle.world_state.specs.Refusals.{young_step, log_step};
 ghost use Rattle.world_state.specs.Answers.{goes_by_logs, refresh_told, refresh_answer};
 ghost use Rattle.world_state.specs.Steps.{world_refresh};

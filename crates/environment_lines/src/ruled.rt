@@ -3,9 +3,9 @@ ghost use Rattle.std.specs.Prelude.{◌≡◌, ◌+◌, ◌<◌, sum, map, lengt
 ghost use Rattle.std.specs.List.{AllByRecursion};
 ghost use Rattle.rep_schema.specs.Tables.{rows_of};
 ghost use Rattle.snapshot_query.specs.Parents.{rule_rows};
-ghost use Rattle.site_state.specs.Notes.{log_of, keys_in, logged_above};
+ghost use Rattle.snapshot_log.specs.Noting.{log_of, keys_in, logged_above};
 ghost use Rattle.site_state.specs.Fits.{SchemaIsKeyed, AreWithin};
-ghost use Rattle.event_laws.specs.Rules.{rows_ruled, pending_parents, looked_up, HaveNoParents, IsParentWithin};
+ghost use Rattle.site_events.specs.Rules.{rows_ruled, pending_parents, looked_up, HaveNoParents, IsParentWithin};
 ghost use Rattle.environment_lines.specs.Ruled.{IsRuleOf, CanRenew, CanRenewEach};
 
 use fast_refresh::rows_shown;

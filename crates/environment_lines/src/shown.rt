@@ -1,6 +1,6 @@
 //! What is shown of a site.
 ghost use Rattle.std.specs.Prelude.{◌≡◌, ◌++◌, None, filter, IfOk, OnOk};
-ghost use Rattle.event_laws.specs.Cluster.{site_of};
+ghost use Rattle.site_events.specs.Cluster.{site_of};
 ghost use Rattle.world_state.specs.World.{is_there};
 ghost use Rattle.world_state.specs.Procs.{proc_of};
 ghost use Rattle.environment.specs.Precheck.{precheck_refusal};

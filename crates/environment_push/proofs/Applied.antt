@@ -8,9 +8,9 @@ use Rattle.report_text.specs.Texts.{push_text}
 use Rattle.site_state.specs.State.{SiteState}
 use Rattle.site_state.specs.Journal.{low_water}
 use Rattle.site_state.specs.Passes.{is_done, is_error, added_count}
-use Rattle.event_laws.specs.Cluster.{site_of, at_site}
+use Rattle.site_events.specs.Cluster.{site_of, at_site}
 use Rattle.world_state.specs.World.{WorldState}
-use Rattle.world_state.specs.Rounds.{site_until_quiet}
+use Rattle.site_state.specs.Rounds.{site_until_quiet}
 use Rattle.world_state.specs.Pushes.{world_until_quiet}
 use Rattle.world_state.specs.PushAnswers.{count_in, errors_in}
 use Rattle.site_rounds.specs.NewErrors.{error_entry_text, new_errors}

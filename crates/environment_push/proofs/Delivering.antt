@@ -7,7 +7,7 @@ use Rattle.net_plan.specs.Directions.{at_direction, on_way_between, first_betwee
 use Rattle.site_state.specs.State.{SiteState}
 use Rattle.site_state.specs.Packets.{site_accept}
 use Rattle.site_state.proofs.Changing.{accept_later}
-use Rattle.event_laws.specs.Cluster.{site_of, at_site}
+use Rattle.site_events.specs.Cluster.{site_of, at_site}
 use Rattle.event_laws.proofs.Sites.{at_split}
 use Rattle.world_state.specs.World.{WorldState, is_there}
 use Rattle.world_state.specs.Pushes.{taken_each, taken_one, world_deliver_one, world_send, world_send_each, world_deliver, positions_above, world_release, pushed_in}

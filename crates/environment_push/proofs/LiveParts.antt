@@ -7,8 +7,8 @@ use Rattle.rep_values.specs.RefusalSteps.{refused}
 use Rattle.rep_values.proofs.RefusalSteps.{or_then-None, refused-None}
 use Rattle.site_state.specs.State.{SiteState}
 use Rattle.site_state.specs.Steps.{begun}
-use Rattle.event_laws.specs.Cluster.{Cluster, site_of, at_site}
-use Rattle.event_laws.specs.Events.{Begin, is_master_in}
+use Rattle.site_events.specs.Cluster.{Cluster, site_of, at_site}
+use Rattle.site_events.specs.Events.{Begin, is_master_in}
 use Rattle.live_laws.specs.declared.turn.LiveTurn.{LiveTurn}
 use Rattle.live_laws.specs.declared.turn.Session.{Session}
 use Rattle.live_laws.specs.Turns.{site_after, site_after_turn}

@@ -2,9 +2,9 @@
 use Rattle.std.proofs.Common.{◌≡◌, false, true, Some, sym, ap, ◌∙◌, subst}
 use Rattle.rep_values.specs.declared.name.SiteName.{SiteName}
 use Rattle.rep_schema.specs.declared.schema.Schema.{Schema}
-use Rattle.site_state.specs.State.{is_master_site}
-use Rattle.event_laws.specs.Cluster.{site_of}
-use Rattle.event_laws.specs.Events.{run}
+use Rattle.rep_schema.specs.Sites.{is_master_site}
+use Rattle.site_events.specs.Cluster.{site_of}
+use Rattle.site_events.specs.Events.{run}
 use Rattle.event_laws.proofs.Sites.{found_all}
 use Rattle.event_laws.proofs.MarkLaws.{IsOfSchema, run_schema}
 use Rattle.event_laws.proofs.Confluence.{every_site_can_pass_in_any_order}

@@ -4,11 +4,11 @@ use Rattle.std.specs.Prelude.{◌||◌, filter, slice_get}
 use Rattle.std.proofs.lemmas.Option.{slice_get_read}
 use Rattle.rep_lists.proofs.Places.{drop_from_found}
 use Rattle.rep_values.specs.declared.name.SiteName.{SiteName}
-use Rattle.rep_schema.specs.Sites.{senders_of}
-use Rattle.deferred_queue.specs.Streams.{is_same_site}
+use Rattle.rep_schema.specs.Sites.{senders_of, is_among}
+use Rattle.rep_values.specs.SiteNames.{is_same_site}
 use Rattle.deferred_queue.proofs.Sites.{is_same_site-refl}
-use Rattle.site_state.specs.State.{SiteState, is_among}
-use Rattle.event_laws.specs.Cluster.{site_of}
+use Rattle.site_state.specs.State.{SiteState}
+use Rattle.site_events.specs.Cluster.{site_of}
 use Rattle.world_state.specs.World.{WorldState, with_site}
 use Rattle.world_state.specs.Phases.{is_setup}
 use Rattle.world_state.specs.Pushes.{pushed_in, world_return_mark}

@@ -7,7 +7,7 @@ use Rattle.rep_values.specs.RefusalSteps.{refused, first_refusal}
 use Rattle.rep_values.proofs.RefusalSteps.{or_then-None, refused-None, refused_not-None}
 use Rattle.net_plan.specs.Directions.{HasDirection}
 use Rattle.script_parse.specs.declared.command.Command.TheVariants as command
-use Rattle.event_laws.specs.Cluster.{site_of}
+use Rattle.site_events.specs.Cluster.{site_of}
 use Rattle.world_state.specs.World.{WorldState, is_there, gets_from}
 use Rattle.world_state.specs.Phases.{is_setup, has_block, behind_setup_step}
 use Rattle.world_state.specs.Refusals.{are_there, has_sender, further_steps}

@@ -3,9 +3,9 @@ use Rattle.std.specs.Prelude.{◌≡◌, ◌⊎◌, ℕ, List, ◌++◌, flat_ma
 use Rattle.rep_values.specs.declared.name.SiteName.{SiteName}
 use Rattle.report_text.specs.Texts.{push_text}
 use Rattle.site_state.specs.State.{SiteState}
-use Rattle.event_laws.specs.Cluster.{site_of}
+use Rattle.site_events.specs.Cluster.{site_of}
 use Rattle.world_state.specs.World.{WorldState}
-use Rattle.world_state.specs.Rounds.{site_until_quiet}
+use Rattle.site_state.specs.Rounds.{site_until_quiet}
 use Rattle.world_state.specs.PushAnswers.{count_in, errors_in}
 use Rattle.site_rounds.specs.Parts.{PartlyApplied, MastersCanPass}
 use Rattle.environment.specs.Texts.{new_error_text}

@@ -4,12 +4,12 @@ use Rattle.rep_values.specs.declared.name.SiteName.{SiteName}
 use Rattle.rep_values.specs.declared.refusal.Refusal.{Refusal}
 use Rattle.rep_values.specs.declared.refusal.Refusal.TheVariants as refusal
 use Rattle.rep_values.specs.RefusalSteps.{refused, or_then}
-use Rattle.rep_schema.specs.Sites.{senders_of}
+use Rattle.rep_schema.specs.Sites.{senders_of, is_among}
 use Rattle.net_plan.specs.Directions.{HasDirection, is_up}
-use Rattle.site_state.specs.State.{SiteState, is_among}
+use Rattle.site_state.specs.State.{SiteState}
 use Rattle.site_state.specs.Steps.{begun}
-use Rattle.event_laws.specs.Cluster.{site_of}
-use Rattle.event_laws.specs.Events.{is_master_in}
+use Rattle.site_events.specs.Cluster.{site_of}
+use Rattle.site_events.specs.Events.{is_master_in}
 use Rattle.live_laws.specs.declared.turn.LiveTurn.{LiveTurn}
 use Rattle.live_laws.specs.declared.turn.Session.{Session}
 use Rattle.live_laws.specs.Turns.{site_after}

@@ -2,9 +2,9 @@
 ghost use Rattle.std.specs.Prelude.{◌≡◌, ◌++◌, ◌<◌, ◌≤◌, true, length, OnOk, vec_capacity};
 ghost use Rattle.std.specs.List.{insert};
 ghost use Rattle.report_text.specs.Sheet.{most_line};
-ghost use Rattle.event_laws.specs.Cluster.{site_of};
+ghost use Rattle.site_events.specs.Cluster.{site_of};
 ghost use Rattle.world_state.specs.World.{is_there};
-ghost use Rattle.world_state.specs.Rounds.{site_until_quiet};
+ghost use Rattle.site_state.specs.Rounds.{site_until_quiet};
 ghost use Rattle.world_state.specs.Pushes.{world_until_quiet};
 ghost use Rattle.environment.specs.Following.{PushesInPart};
 ghost use Rattle.site_rounds.specs.Parts.{MastersCanPass};

@@ -2,7 +2,7 @@
 ghost use Rattle.std.specs.Prelude.{◌≡◌, is_some, IfOk, OnOk, OnErr};
 ghost use Rattle.net_plan.specs.Directions.{HasDirection, first_between};
 ghost use Rattle.site_state.specs.Packets.{site_accept};
-ghost use Rattle.event_laws.specs.Cluster.{at_site};
+ghost use Rattle.site_events.specs.Cluster.{at_site};
 ghost use Rattle.world_state.specs.Pushes.{world_deliver_one, world_deliver};
 ghost use Rattle.environment_push.specs.Repeats.{is_repeat};
 ghost use Rattle.environment_push.specs.Travelling.{Travels};

@@ -3,8 +3,8 @@ ghost use Rattle.std.specs.Prelude.{◌≡◌, false, true, None, IfOk, OnOk, On
 ghost use Rattle.net_plan.specs.Directions.{HasDirection};
 ghost use Rattle.rep_values.specs.RefusalSteps.{refused};
 ghost use Rattle.site_state.specs.Steps.{begun};
-ghost use Rattle.event_laws.specs.Cluster.{site_of};
-ghost use Rattle.event_laws.specs.Events.{is_master_in};
+ghost use Rattle.site_events.specs.Cluster.{site_of};
+ghost use Rattle.site_events.specs.Events.{is_master_in};
 ghost use Rattle.world_state.specs.World.{with_site};
 ghost use Rattle.world_state.specs.Phases.{is_setup, is_running, has_block};
 ghost use Rattle.environment.specs.Following.{IsBuilt};

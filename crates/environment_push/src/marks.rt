@@ -1,8 +1,8 @@
 //! The mark that goes back.
 ghost use Rattle.std.specs.Prelude.{◌≡◌, IfOk, OnOk, OnErr};
 ghost use Rattle.net_plan.specs.Directions.{HasDirection};
-ghost use Rattle.event_laws.specs.Cluster.{site_of};
-ghost use Rattle.event_laws.specs.Events.{mark_from};
+ghost use Rattle.site_events.specs.Cluster.{site_of};
+ghost use Rattle.site_events.specs.Events.{mark_from};
 ghost use Rattle.world_state.specs.Pushes.{world_send_mark, world_deliver_mark, world_return_mark};
 ghost use Rattle.environment.specs.Following.{PushesInPart};
 

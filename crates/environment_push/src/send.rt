@@ -2,8 +2,8 @@
 ghost use Rattle.std.specs.Prelude.{◌≡◌, ◌+◌, ◌-◌, ◌<◌, ◌≤◌, ◌^◌, length, IfOk, OnOk, OnErr};
 ghost use Rattle.std.specs.List.{range_with_len};
 ghost use Rattle.net_plan.specs.Directions.{HasDirection};
-ghost use Rattle.event_laws.specs.Cluster.{site_of};
-ghost use Rattle.event_laws.specs.Events.{packet_from};
+ghost use Rattle.site_events.specs.Cluster.{site_of};
+ghost use Rattle.site_events.specs.Events.{packet_from};
 ghost use Rattle.world_state.specs.Pushes.{at_most, sent_on, world_release, world_send, positions_in, positions_above, world_send_above};
 ghost use Rattle.environment.specs.Following.{PushesInPart};
 

@@ -1,6 +1,7 @@
 -- The least free room, after steps on the lists.
 use Rattle.std.proofs.Common.{◌≡◌, ℕ, zero, suc, ◌+◌, ◌<◌, ◌≤◌, List, [], ◌∷◌, length, get_or, set, take, refl, ap, arith, add-one}
-use Rattle.error_queue.specs.ErrorQueueState.{OriginErrorsState, lists_of, rooms_of, least}
+use Rattle.error_queue.specs.ErrorQueueState.{OriginErrorsState, lists_of, rooms_of}
+use Rattle.rep_lists.specs.Counting.{least}
 
 -- more room in one place
 pub least-set : (free : ℕ) (hs : List OriginErrorsState) (i : ℕ) (h d : OriginErrorsState) → (get_or hs i d).room ≤ h.room → least free (rooms_of hs) ≤ least free (rooms_of (set hs i h))

@@ -1,5 +1,5 @@
 -- How an error queue keeps its errors: one rising list for each origin, with room.
-use Rattle.std.specs.Prelude.{◌≡◌, ℕ, Bool, true, min, List, [], ◌∷◌, map}
+use Rattle.std.specs.Prelude.{◌≡◌, ℕ, Bool, true, List, ◌∷◌, map}
 use Rattle.std.specs.List.{AllByRecursion}
 use Rattle.std.specs.Ordering.{nat_cmp}
 use Rattle.std.specs.declared.cmp.Ordering.{Ordering}
@@ -21,11 +21,6 @@ lists_of helds = map (λ (h : OriginErrorsState). h.list) helds
 -- the room of each list
 abbrev pub rooms_of : List OriginErrorsState → List ℕ
 rooms_of helds = map (λ (h : OriginErrorsState). h.room) helds
-
--- the least of a number and a list of numbers
-abbrev pub least : ℕ → List ℕ → ℕ
-least number [] = number
-least number (n ∷ ns) = min n (least number ns)
 
 -- two errors compared by position
 abbrev pub by_error_position : ErrorEntry → ErrorEntry → Ordering

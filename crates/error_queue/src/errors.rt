@@ -2,7 +2,8 @@
 ghost use Rattle.std.specs.Prelude.{◌≡◌, ◌↔◌, ℕ, ◌+◌, ◌≤◌, [], None, length, map, option_copied, slice_get, IfOk, OnOk, IsTrue};
 ghost use Rattle.std.specs.List.{position};
 ghost use Rattle.error_queue.specs.ErrorLists.{no_errors, error_in, in_order, added, removed, IsOrigin};
-ghost use Rattle.error_queue.specs.ErrorQueueState.{lists_of, rooms_of, least, is_list_of};
+ghost use Rattle.error_queue.specs.ErrorQueueState.{lists_of, rooms_of, is_list_of};
+ghost use Rattle.rep_lists.specs.Counting.{least};
 
 use crate::ErrorEntry;
 use crate::origin_errors::OriginErrors;
@@ -22,7 +23,8 @@ pub struct Errors {
 impl Model for Errors {
     ghost use Rattle.std.specs.Prelude.{◌≡◌, ◌-◌, ◌^◌, length};
     ghost use Rattle.error_queue.specs.ErrorLists.{ErrorQueue, in_order};
-    ghost use Rattle.error_queue.specs.ErrorQueueState.{lists_of, rooms_of, least};
+    ghost use Rattle.error_queue.specs.ErrorQueueState.{lists_of, rooms_of};
+    ghost use Rattle.rep_lists.specs.Counting.{least};
 
     ghost Value = { ErrorQueue };
 

@@ -10,7 +10,7 @@ use Rattle.rep_schema.specs.declared.schema.Schema.{Schema}
 use Rattle.rep_calls.specs.declared.past.PastEntry.{PastEntry}
 use Rattle.conflict_detect.specs.Fits.{TxnFits}
 use Rattle.txn_effects.specs.Contents.{IsContent}
-use Rattle.deferred_queue.specs.Streams.{is_same_site}
+use Rattle.rep_values.specs.SiteNames.{is_same_site}
 use Rattle.rep_laws.specs.Commuting.{IsSound}
 use Rattle.rep_laws.proofs.ContentAfter.{IsContent-content_after}
 use Rattle.rep_laws.proofs.TransactionTouches.{transactions_touch}
@@ -19,7 +19,8 @@ use Rattle.site_state.specs.declared.entry.Entry.{Entry}
 use Rattle.site_state.specs.declared.entry.Entry.TheVariants.{Refreshed}
 use Rattle.site_state.specs.declared.answers.Why.{Why}
 use Rattle.site_state.specs.declared.arrival.Arrival.{Arrival}
-use Rattle.site_state.specs.State.{SenderState, SiteState, is_master_site, sender_of, arrived_in, arrived_at, arrivals}
+use Rattle.site_state.specs.State.{SenderState, SiteState, sender_of, arrived_in, arrived_at, arrivals}
+use Rattle.rep_schema.specs.Sites.{is_master_site}
 use Rattle.site_state.specs.Arrivals.{NamesOthers}
 use Rattle.site_state.specs.Journal.{finished, low_water, error_at}
 use Rattle.site_state.specs.Contents.{changes_by}
@@ -31,14 +32,15 @@ use Rattle.site_state.specs.Steps.{begun, journalled}
 use Rattle.site_state.specs.Passes.{effect_here, applied_unless, site_apply, apply_each}
 use Rattle.site_state.proofs.LowWater.{low_water-below, low_water-greatest}
 use Rattle.site_state.proofs.Stepping.{arrived_has}
-use Rattle.event_laws.specs.Events.{run}
+use Rattle.site_events.specs.Events.{run}
 use Rattle.site_state.specs.Fits.{SendersFit}
 use Rattle.event_laws.specs.Confluence.{applied_in_turn, AreReadyInTurn, CanPassInAnyOrder, OneSiteComesOfAnyOrder, PassesTakeSuchAnOrder, EverySiteCanPassInAnyOrder}
 use Rattle.event_laws.proofs.Sites.{found_all}
 use Rattle.event_laws.proofs.MarkLaws.{IsOfSchema, run_schema, arrivals_are_well_numbered}
 use Rattle.event_laws.proofs.FittingSites.{every_site_fits}
 use Rattle.event_laws.proofs.Passing.{every_site_can_pass}
-use Rattle.event_laws.proofs.PassLaws.{apply_finishes, after_one, past_same, and_both, found_holds, passes_leave_nothing_ready}
+use Rattle.event_laws.proofs.PassLaws.{apply_finishes, after_one, past_same, passes_leave_nothing_ready}
+use Rattle.site_state.proofs.Waited.{and_both, found_holds}
 use Rattle.event_laws.proofs.AnyOrder.{marked, IsNext, AreNext, all_marked, NoneNext, Applies, state, entries, OneCome, one_comes}
 use Rattle.event_laws.proofs.MasterArrivals.{Told, told, entry_by, entry_here, told_with, IsReadyAt, ready_at, at_ready, site_apply-ready, finished_by-master, queue_of-master, pasts_of-master, told-master, finishes-entry, Either, either_first}
 

@@ -7,18 +7,18 @@ use Rattle.rep_schema.specs.declared.schema.Schema.{Schema}
 use Rattle.rep_schema.specs.declared.schema.SiteEntry.{SiteEntry}
 use Rattle.rep_schema.specs.Shape.{is_master}
 use Rattle.rep_schema.specs.Named.{is_site}
-use Rattle.rep_schema.specs.Sites.{senders_of, destinations_of}
+use Rattle.rep_schema.specs.Sites.{senders_of, destinations_of, is_master_site, is_late_master}
 use Rattle.rep_calls.specs.declared.past.PastEntry.{PastEntry}
 use Rattle.packet_code.specs.declared.packet.Packet.{Packet}
-use Rattle.site_state.specs.State.{SiteState, is_master_site}
+use Rattle.site_state.specs.State.{SiteState}
 use Rattle.site_state.specs.Purges.{site_purge}
-use Rattle.site_state.specs.Making.{is_late_master, new_destination, master_here}
+use Rattle.site_state.specs.Making.{new_destination, master_here}
 use Rattle.site_state.specs.Joining.{site_open, sender_from, site_copy}
 use Rattle.site_state.proofs.Stepping.{steps_later, Later}
 use Rattle.site_state.proofs.Changing.{accept_later, purge_later, open_later}
-use Rattle.event_laws.specs.Quiet.{are_quiet}
-use Rattle.event_laws.specs.Joins.{queue_counts, copied, may_join}
-use Rattle.event_laws.specs.Events.{receiver}
+use Rattle.site_events.specs.Quiet.{are_quiet}
+use Rattle.site_events.specs.Joins.{queue_counts, copied, may_join}
+use Rattle.site_events.specs.Events.{receiver}
 use Rattle.event_laws.specs.Starts.{IsNewSite}
 use Rattle.site_state.specs.DeclaredSites.{IsDeclared}
 use Rattle.site_state.proofs.DeclaredSites.{origins, sites_in, KeepsNames, names_same, steps_names, accept_names, purge_names, open_names, still_declared}

@@ -1,10 +1,8 @@
 -- Errors, executions and drops.
-use Rattle.std.proofs.Common.{◌≡◌, ℕ, true, Some, None, refl}
+use Rattle.std.proofs.Common.{◌≡◌, true, Some, None, refl}
 use Rattle.std.specs.Prelude.{Option, Result, Ok, Err, is_some, cond}
-use Rattle.rep_values.specs.declared.name.SiteName.{SiteName}
 use Rattle.txn_effects.specs.Calls.{Effect}
 use Rattle.txn_effects.specs.Transactions.{Failure}
-use Rattle.deferred_queue.proofs.Sites.{is_same_site-refl, eq_true}
 use Rattle.rep_values.specs.declared.refusal.Refusal.TheVariants as refusal
 use Rattle.error_queue.specs.declared.entry.ErrorEntry.{ErrorEntry}
 use Rattle.site_state.specs.declared.answers.Applied.TheVariants as applied
@@ -17,10 +15,7 @@ use Rattle.site_state.specs.Passes.{effect_here, finished_by, applied_unless, ap
 use Rattle.site_state.specs.Errors.{effect_of_error, executed_by, executed_found, execute_refusal_by, execute_refusal_found, dropped_found}
 use Rattle.site_state.proofs.Stepping.{arrived_has, error_found}
 use Rattle.event_laws.specs.ErrorLaws.{StandsWhole, ErrorsStandWhole, RefusedExecutionsChangeNothing, IsExecuted, ExecutionsApplyAnew, IsDropped, DropsClear}
-
--- a position is itself
-pub is_position-own : (origin : SiteName) (position p : ℕ) → p ≡ position → is_position origin position origin p ≡ true
-is_position-own origin position p same = rw (is_same_site-refl origin, eq_true p position same) refl
+use Rattle.site_state.proofs.Waited.{is_position-own}
 
 pub errors_stand_whole : ErrorsStandWhole
 errors_stand_whole x origin position error answer = go (stale_of origin position x) (arrived_at origin position x.senders) refl answer

@@ -9,11 +9,11 @@ use Rattle.site_state.specs.Contents.{tables_of}
 use Rattle.site_state.specs.Packets.{site_accept}
 use Rattle.site_state.specs.Purges.{site_purge}
 use Rattle.site_state.specs.Refreshes.{site_refresh}
-use Rattle.event_laws.specs.Rules.{rows_ruled}
+use Rattle.site_events.specs.Rules.{rows_ruled}
 use Rattle.site_state.proofs.Stepping.{Steps, clock_steps, begun_steps, purge_log_steps, commit_steps, apply_steps, execute_steps, drop_steps}
-use Rattle.event_laws.specs.Cluster.{Cluster, site_of, at_site}
-use Rattle.event_laws.specs.Joins.{may_join, with_joined, joined_by, joined}
-use Rattle.event_laws.specs.Events.{Event, Commit, SetClock, Send, SendMark, Deliver, Begin, Apply, Execute, Drop, Purge, PurgeLog, Refresh, Join, with_packet, packet_from, mark_from, receiver, delivered, may_apply, applied_where, master_of, refreshed_from, found_site, refreshed, happens, run}
+use Rattle.site_events.specs.Cluster.{Cluster, site_of, at_site}
+use Rattle.site_events.specs.Joins.{may_join, with_joined, joined_by, joined}
+use Rattle.site_events.specs.Events.{Event, Commit, SetClock, Send, SendMark, Deliver, Begin, Apply, Execute, Drop, Purge, PurgeLog, Refresh, Join, with_packet, packet_from, mark_from, receiver, delivered, may_apply, applied_where, master_of, refreshed_from, found_site, refreshed, happens, run}
 
 -- a site that is no master, as a refresh leaves it
 pub data IsRefreshed (sites : List SiteState) (x : SiteState) : SiteState → Type 0 where

@@ -6,22 +6,21 @@ use Rattle.std.specs.List.{AllByRecursion}
 use Rattle.rep_values.specs.declared.name.SiteName.{SiteName}
 use Rattle.rep_schema.specs.declared.schema.Schema.{Schema}
 use Rattle.rep_schema.specs.Shape.{HasShape}
-use Rattle.rep_schema.specs.Sites.{senders_of, destinations_of}
+use Rattle.rep_schema.specs.Sites.{senders_of, destinations_of, is_among, is_master_site, is_late_master}
 use Rattle.rep_calls.specs.declared.past.PastEntry.{PastEntry}
-use Rattle.deferred_queue.specs.Streams.{is_same_site}
+use Rattle.rep_values.specs.SiteNames.{is_same_site}
 use Rattle.deferred_queue.proofs.Sites.{is_same_site-true, is_same_site-refl}
 use Rattle.packet_code.specs.declared.packet.Packet.{Packet}
 use Rattle.site_state.specs.declared.entry.Entry.{Entry}
 use Rattle.site_state.specs.declared.arrival.Arrival.{Arrival}
-use Rattle.site_state.specs.State.{SenderState, DestinationState, SiteState, is_master_site, destination_of, opened_in, opened_of}
+use Rattle.site_state.specs.State.{SenderState, DestinationState, SiteState, destination_of, opened_in, opened_of}
 use Rattle.site_state.specs.Streams.{count_of}
 use Rattle.site_state.specs.Journal.{finished}
-use Rattle.site_state.specs.Making.{is_late_master, new_destination, master_here}
+use Rattle.site_state.specs.Making.{new_destination, master_here}
 use Rattle.site_state.specs.Joining.{opened_from, site_open, number_for, sender_from, site_copy}
 use Rattle.site_state.proofs.Destinations.{opened_in-opened, opened_from_stays, opened_in-other, opened_in-own}
-use Rattle.event_laws.specs.Cluster.{site_of}
-use Rattle.event_laws.specs.Joins.{count_at, queue_counts, open_to_each, copied, with_joined, may_join}
-use Rattle.site_state.specs.State.{is_among}
+use Rattle.site_events.specs.Cluster.{site_of}
+use Rattle.site_events.specs.Joins.{count_at, queue_counts, open_to_each, copied, with_joined, may_join}
 use Rattle.event_laws.specs.Waiting.{IsFirstNumber, AbsentAreClosed}
 use Rattle.event_laws.proofs.Sites.{found_or, site_of-joined, found_name, found_all}
 use Rattle.event_laws.proofs.NewSites.{open_to_each_keeps, copied_is_new, copied_here}

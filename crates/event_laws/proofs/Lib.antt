@@ -28,3 +28,9 @@ mod WorkedPasts
 mod WorkedSnapshots
 mod WorkedJoins
 mod WorkedStarts
+pub mod RoundsEnd
+pub mod PushCounts
+pub mod OpenMasters
+pub mod JoinedSites
+pub mod LinkedSites
+pub mod RefreshedRows

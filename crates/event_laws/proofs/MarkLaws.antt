@@ -8,7 +8,8 @@ use Rattle.rep_lists.specs.Rising.{find_at, found_here}
 use Rattle.rep_values.specs.declared.name.SiteName.{SiteName}
 use Rattle.rep_schema.specs.declared.schema.Schema.{Schema}
 use Rattle.rep_calls.specs.declared.call.Txn.{Txn}
-use Rattle.deferred_queue.specs.Streams.{is_same_site, at_position}
+use Rattle.deferred_queue.specs.Streams.{at_position}
+use Rattle.rep_values.specs.SiteNames.{is_same_site}
 use Rattle.deferred_queue.proofs.Sites.{is_same_site-true}
 use Rattle.packet_code.specs.declared.packet.Packet.{Packet}
 use Rattle.site_state.specs.declared.arrival.Arrival.{Arrival}
@@ -19,16 +20,16 @@ use Rattle.site_state.specs.Packets.{count_opened, stream_number, carry_of, pack
 use Rattle.site_state.specs.Purges.{site_purge}
 use Rattle.site_state.specs.Contents.{tables_of}
 use Rattle.site_state.specs.Refreshes.{site_refresh}
-use Rattle.event_laws.specs.Rules.{rows_ruled}
+use Rattle.site_events.specs.Rules.{rows_ruled}
 use Rattle.site_state.specs.Joining.{site_open}
 use Rattle.site_state.proofs.LowWater.{low_water-below}
 use Rattle.site_state.proofs.Growing.{dep_at-covers}
 use Rattle.site_state.proofs.Stepping.{Later, later_same, steps_later, IsSent, found_at}
 use Rattle.site_state.proofs.Destinations.{acked_in-opened}
 use Rattle.site_state.proofs.Changing.{PurgedIsAcked, purged_kept, accept_later, purge_later, refresh_later, open_later, open_purged}
-use Rattle.event_laws.specs.Cluster.{Cluster, site_of}
-use Rattle.event_laws.specs.Joins.{with_joined, copied}
-use Rattle.event_laws.specs.Events.{Event, with_packet, packet_from, mark_from, receiver, run}
+use Rattle.site_events.specs.Cluster.{Cluster, site_of}
+use Rattle.site_events.specs.Joins.{with_joined, copied}
+use Rattle.site_events.specs.Events.{Event, with_packet, packet_from, mark_from, receiver, run}
 use Rattle.event_laws.specs.Starts.{IsNewSite, IsStart, InEveryRun}
 use Rattle.event_laws.specs.Marks.{journal_in, acked_at, low_at, MarksAreLow, PurgedIsFinished, AreWellNumbered}
 use Rattle.event_laws.proofs.Sites.{found_or, site_of-joined, found_again, found_all, all_at, all_joined, all_at_place}

@@ -8,7 +8,7 @@ use Rattle.rep_schema.specs.declared.change.Change.{Change}
 use Rattle.txn_effects.specs.Calls.{Effect}
 use Rattle.txn_effects.specs.Transactions.{Failure, tables_by, numbers_by}
 use Rattle.txn_effects.specs.Contents.{Content, effect_on, content_after}
-use Rattle.local_txn.specs.declared.local.Here.{Here}
+use Rattle.txn_effects.specs.declared.local.Here.{Here}
 use Rattle.deferred_queue.proofs.Sites.{is_same_site-refl}
 use Rattle.snapshot_query.specs.declared.snapshot.Snapshot.{Snapshot}
 use Rattle.rep_laws.specs.Commuting.{EndAlike, Commute}
@@ -17,13 +17,16 @@ use Rattle.site_state.specs.declared.entry.Entry.TheVariants.{Local, Done, Error
 use Rattle.error_queue.specs.declared.entry.ErrorEntry.{ErrorEntry}
 use Rattle.site_state.specs.declared.answers.Why.TheVariants as why
 use Rattle.site_state.specs.declared.arrival.Arrival.{Arrival}
-use Rattle.site_state.specs.State.{LogState, SiteState, is_master_site, arrived_at}
+use Rattle.site_state.specs.State.{SiteState, arrived_at}
+use Rattle.snapshot_log.specs.LogState.{LogState}
+use Rattle.rep_schema.specs.Sites.{is_master_site}
 use Rattle.site_state.specs.Journal.{is_position, finishes, finished, error_at}
 use Rattle.site_state.specs.Contents.{content_of, changes_by}
 use Rattle.site_state.specs.Streams.{went_onward, queue_of, count_of}
 use Rattle.site_state.specs.Pasts.{pasts_of}
 use Rattle.site_state.specs.Ready.{is_due, stale_found, is_ready}
-use Rattle.site_state.specs.Notes.{logged_in, touched_in, noted}
+use Rattle.site_state.specs.Notes.{noted}
+use Rattle.snapshot_log.specs.Noting.{logged_in, touched_in}
 use Rattle.site_state.specs.Steps.{is_empty, is_open, journalled, onward_number}
 use Rattle.site_state.specs.Passes.{effect_here, finished_by, site_apply}
 use Rattle.site_state.proofs.Stepping.{is_position-true}

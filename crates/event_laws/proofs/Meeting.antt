@@ -9,13 +9,15 @@ use Rattle.rep_schema.specs.declared.schema.Schema.{Schema}
 use Rattle.rep_calls.specs.declared.call.Txn.{Txn}
 use Rattle.rep_calls.specs.declared.past.PastEntry.{PastEntry}
 use Rattle.conflict_detect.specs.FitTests.{txn_fits}
-use Rattle.deferred_queue.specs.Streams.{is_same_site, at_position}
+use Rattle.deferred_queue.specs.Streams.{at_position}
+use Rattle.rep_values.specs.SiteNames.{is_same_site}
 use Rattle.deferred_queue.proofs.Sites.{is_same_site-true}
 use Rattle.deferred_queue.proofs.Positions.{at_position-within, found_position}
 use Rattle.packet_code.specs.declared.packet.Packet.{Packet}
 use Rattle.packet_code.specs.declared.packet.Packet.TheVariants.{Carry, Mark}
 use Rattle.site_state.specs.declared.arrival.Arrival.{Arrival}
-use Rattle.site_state.specs.State.{SenderState, SiteState, is_master_site, sender_of, at_sender, arrival_beside, arrived_at, opened_of}
+use Rattle.site_state.specs.State.{SenderState, SiteState, sender_of, at_sender, arrival_beside, arrived_at, opened_of}
+use Rattle.rep_schema.specs.Sites.{is_master_site}
 use Rattle.site_state.specs.Streams.{with_one, queue_of, count_of, stream_to, stream_in}
 use Rattle.site_state.specs.Pasts.{pasts_of}
 use Rattle.site_state.specs.Packets.{past_in, count_opened, stream_number, past_before, carry_of, packet_found, is_known_past, with_arrival, arrived_by, taken_unless, is_foreign, site_accept}
@@ -27,9 +29,9 @@ use Rattle.site_state.specs.Fits.{FinishedHaveArrived}
 use Rattle.site_state.proofs.Pasts.{arrived_at-put, finished_have_arrived, length-pasts_after}
 use Rattle.site_state.proofs.Queueing.{Adds, adds_nothing, steps_add, accept_adds, purge_adds, refresh_adds}
 use Rattle.site_state.specs.Contents.{tables_of}
-use Rattle.event_laws.specs.Rules.{rows_ruled}
-use Rattle.event_laws.specs.Cluster.{site_of, at_site}
-use Rattle.event_laws.specs.Events.{with_packet, packet_from, mark_from, receiver}
+use Rattle.site_events.specs.Rules.{rows_ruled}
+use Rattle.site_events.specs.Cluster.{site_of, at_site}
+use Rattle.site_events.specs.Events.{with_packet, packet_from, mark_from, receiver}
 use Rattle.event_laws.specs.Waiting.{IsFirstNumber, AreFirsts, AbsentAreClosed}
 use Rattle.event_laws.proofs.Sites.{KeepsHere, at_split, found_again}
 use Rattle.event_laws.proofs.Happening.{IsRefreshed}

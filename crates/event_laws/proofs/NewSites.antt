@@ -7,16 +7,16 @@ use Rattle.rep_schema.specs.declared.schema.Schema.{Schema}
 use Rattle.rep_schema.specs.Tables.{Rows}
 use Rattle.rep_schema.specs.Sites.{senders_of, destinations_of}
 use Rattle.rep_calls.specs.declared.past.PastEntry.{PastEntry}
-use Rattle.deferred_queue.specs.Streams.{is_same_site}
-use Rattle.local_txn.specs.declared.local.Here.{Here}
+use Rattle.rep_values.specs.SiteNames.{is_same_site}
+use Rattle.txn_effects.specs.declared.local.Here.{Here}
 use Rattle.snapshot_query.specs.declared.snapshot.Snapshot.{Snapshot}
 use Rattle.site_state.specs.State.{SenderState, SiteState, destination_of, acked_in}
 use Rattle.site_state.specs.Streams.{count_of}
 use Rattle.site_state.specs.Making.{new_sender, new_destination, new_site, master_here}
 use Rattle.site_state.specs.Joining.{site_open, sender_from, site_copy}
 use Rattle.site_state.proofs.Destinations.{acked_in-opened}
-use Rattle.event_laws.specs.Cluster.{site_of}
-use Rattle.event_laws.specs.Joins.{queue_counts, open_to_each, copied}
+use Rattle.site_events.specs.Cluster.{site_of}
+use Rattle.site_events.specs.Joins.{queue_counts, open_to_each, copied}
 use Rattle.event_laws.specs.Starts.{IsNewSite}
 
 -- what an opening keeps

@@ -5,7 +5,8 @@ use Rattle.std.specs.List.{list_any}
 use Rattle.rep_values.specs.declared.name.SiteName.{SiteName}
 use Rattle.rep_schema.specs.declared.schema.Schema.{Schema}
 use Rattle.rep_calls.specs.declared.call.Txn.{Txn}
-use Rattle.deferred_queue.specs.Streams.{is_same_site, at_position}
+use Rattle.deferred_queue.specs.Streams.{at_position}
+use Rattle.rep_values.specs.SiteNames.{is_same_site}
 use Rattle.deferred_queue.proofs.Positions.{found_position}
 use Rattle.packet_code.specs.declared.packet.Packet.{Packet}
 use Rattle.packet_code.specs.declared.packet.Packet.TheVariants.{Carry, Mark}
@@ -16,7 +17,7 @@ use Rattle.site_state.specs.declared.arrival.Arrival.{Arrival}
 use Rattle.site_state.specs.State.{SiteState, arrived_at}
 use Rattle.site_state.specs.Journal.{finishes, clears_error, is_position, low_water, error_at}
 use Rattle.site_state.specs.Streams.{stream_to, shares}
-use Rattle.site_state.specs.Steps.{count_where}
+use Rattle.rep_lists.specs.Counting.{count_where}
 use Rattle.site_state.specs.Packets.{arrived_by, taken_unless, is_foreign, site_accept}
 use Rattle.site_state.specs.Purges.{site_purge}
 use Rattle.site_state.specs.Joining.{site_open}
@@ -24,10 +25,10 @@ use Rattle.site_state.proofs.LowWater.{low_water-below}
 use Rattle.site_state.proofs.Growing.{IsFront, at_position-append, at_position-older, dep_at-covers}
 use Rattle.site_state.proofs.Stepping.{MayFollow, IsTaken, with_entry, Journals, no_entry, one_entry, steps_later, Later, IsSent, stream_to-later, arrived_has, is_position-true}
 use Rattle.site_state.proofs.Changing.{accept_later, purge_later}
-use Rattle.journal_order.proofs.Waited.{due_dep}
-use Rattle.event_laws.specs.Cluster.{Cluster, site_of, at_site}
-use Rattle.event_laws.specs.Joins.{copied, with_joined}
-use Rattle.event_laws.specs.Events.{Event, receiver, run}
+use Rattle.site_state.proofs.Waited.{due_dep}
+use Rattle.site_events.specs.Cluster.{Cluster, site_of, at_site}
+use Rattle.site_events.specs.Joins.{copied, with_joined}
+use Rattle.site_events.specs.Events.{Event, receiver, run}
 use Rattle.event_laws.specs.Starts.{IsStart, InEveryRun}
 use Rattle.event_laws.specs.Marks.{journal_in}
 use Rattle.event_laws.specs.Orders.{AreFinishedOnce, AreClearedOnce, FollowsEarlier, FollowsIn, EntryFollows, IsInOrder, EarlierComesFirst}

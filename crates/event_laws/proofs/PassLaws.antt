@@ -4,23 +4,19 @@ use Rattle.std.specs.Prelude.{◌||◌, ◌&&◌, not, nat_le, nat_lt, Option, R
 use Rattle.std.specs.List.{list_all, AllByRecursion}
 use Rattle.std.specs.Ordering.{nat_cmp}
 use Rattle.std.proofs.lemmas.Bool.Decides.{nat_tests}
-use Rattle.std.proofs.lemmas.Cmp.{nat_cmp_total}
-use Rattle.std.specs.declared.cmp.Ordering.{Ordering}
-use Rattle.std.specs.declared.cmp.Ordering.TheVariants.{Less, Equal, Greater}
-use Rattle.rep_lists.specs.Rising.{find_at, found_here}
-use Rattle.rep_lists.specs.RisingLaws.{RisesBy}
+use Rattle.std.specs.declared.cmp.Ordering.TheVariants.{Less}
 use Rattle.rep_values.specs.declared.name.SiteName.{SiteName}
 use Rattle.rep_calls.specs.declared.past.PastEntry.{PastEntry}
 use Rattle.txn_effects.specs.Calls.{Effect}
 use Rattle.txn_effects.specs.Transactions.{Failure}
-use Rattle.deferred_queue.specs.Streams.{is_same_site}
+use Rattle.rep_values.specs.SiteNames.{is_same_site}
 use Rattle.deferred_queue.proofs.Sites.{is_same_site-true, is_same_site-refl}
 use Rattle.origin_marks.specs.Marks.{low_up_to}
 use Rattle.site_state.specs.declared.entry.Entry.{Entry}
 use Rattle.site_state.specs.declared.entry.Entry.TheVariants.{Done, Error}
 use Rattle.site_state.specs.declared.answers.Why.{Why}
 use Rattle.site_state.specs.declared.arrival.Arrival.{Arrival}
-use Rattle.site_state.specs.State.{DestinationState, SiteState, sender_of, arrived_at, arrivals, arrival_beside}
+use Rattle.site_state.specs.State.{DestinationState, SiteState, sender_of, arrived_at, arrivals}
 use Rattle.site_state.specs.Arrivals.{NamesOthers, CanPass}
 use Rattle.site_state.specs.Journal.{finishes, finished, position_by, last_finished, low_water, is_position}
 use Rattle.site_state.specs.Streams.{count_of}
@@ -31,7 +27,7 @@ use Rattle.site_state.specs.Purges.{acknowledged_by, acknowledged_by_all}
 use Rattle.site_state.proofs.LowWater.{low_water-greatest, low_water-below, low_water-is, finished-append}
 use Rattle.site_state.proofs.Stepping.{arrived_has}
 use Rattle.event_laws.specs.PassLaws.{PassesLeaveNothingReady, LowWaterIsThatOfTheFinished, AckedSince, HasAcked, PurgesTakeWhatIsAcknowledged}
-use Rattle.event_laws.proofs.ErrorLaws.{is_position-own}
+use Rattle.site_state.proofs.Waited.{is_position-own, and_both, each_found, found_holds}
 
 -- ---- a position is applied: nothing, or one entry that finishes it
 
@@ -127,10 +123,6 @@ past_same origin bound x y after (seen ∷ past) off = go (is_same_site seen.ori
         let same : covered seen.origin y ≡ covered seen.origin x = after.others seen.origin (other_way origin seen.origin (rw is refl)) in
         rw (later off, same, after.here) refl
 
-pub and_both : (b c : Bool) → (b && c) ≡ true → (b ≡ true) × (c ≡ true)
-and_both true c is = (refl, is)
-and_both false c is = cc
-
 due_before : (origin : SiteName) (bound : ℕ) (x y : SiteState) (a : Arrival) → After origin bound x y → a.dep < bound → NamesOthers origin a.past → is_due origin y a ≡ true → is_due origin x a ≡ true
 due_before origin bound x y a after less off due =
     let both = and_both (nat_le a.dep (low_water origin y.journal)) (list_all (is_covered y) a.past) due in
@@ -209,32 +201,6 @@ pass_each origin (a ∷ arrived) x can there = (
     head false is false due = not_due (finished origin y.journal a.position) refl (is_due origin y a) refl due
 
 -- ---- each arrival is found at its position
-
-own_order : (n : ℕ) → nat_cmp n n ≡ Equal
-own_order n = go (nat_cmp n n) refl
-  where
-    go : (o : Ordering) → nat_cmp n n ≡ o → o ≡ Equal
-    go Less is = let other = nat_cmp_total.antisymm n n in absurd (cc (is, other))
-    go Equal is = refl
-    go Greater is = let other = nat_cmp_total.antisymm n n in absurd (cc (is, other))
-
-behind_head : (x : Arrival) (xs ys : List Arrival) → AllByRecursion (λ (b : Arrival). nat_cmp x.position b.position ≡ Less) ys → AllByRecursion (λ (b : Arrival). find_at (arrival_beside b.position) xs ≡ Some b) ys
-    → AllByRecursion (λ (b : Arrival). find_at (arrival_beside b.position) (x ∷ xs) ≡ Some b) ys
-behind_head x xs [] less found = tt
-behind_head x xs (b ∷ bs) less found = (rw less.0 found.0, behind_head x xs bs less.1 found.1)
-
-pub each_found : (xs : List Arrival) → RisesBy (λ (a : Arrival). a.position) nat_cmp xs → AllByRecursion (λ (a : Arrival). find_at (arrival_beside a.position) xs ≡ Some a) xs
-each_found [] rising = tt
-each_found (x ∷ xs) rising = (rw (own_order x.position) refl, behind_head x xs xs rising.0 (each_found xs rising.1))
-
-pub found_holds : (P : Arrival → Type 0) (p : ℕ) (xs : List Arrival) (a : Arrival) → AllByRecursion P xs → find_at (arrival_beside p) xs ≡ Some a → P a
-found_holds P p [] a all found = absurd (cc found)
-found_holds P p (y ∷ ys) a all found = go (arrival_beside p y) (found_holds P p ys a all.1) found
-  where
-    go : (o : Ordering) → (find_at (arrival_beside p) ys ≡ Some a → P a) → found_here o y (find_at (arrival_beside p) ys) ≡ Some a → P a
-    go Less later found = later found
-    go Equal later found = let same : y ≡ a = cc found in rw (← same) all.0
-    go Greater later found = absurd (cc found)
 
 from_zero : (arrived : List Arrival) → AllByRecursion (λ (b : Arrival). 0 ≤ b.position) arrived
 from_zero [] = tt

@@ -9,11 +9,11 @@ use Rattle.snapshot_query.specs.declared.parent.Parent.{Parent}
 use Rattle.snapshot_query.specs.declared.snapshot.Snapshot.{Snapshot}
 use Rattle.snapshot_query.specs.Parents.{picks, picks_by, rule_rows}
 use Rattle.site_state.specs.declared.rows.TableRows.{TableRows}
-use Rattle.site_state.specs.State.{LogState}
-use Rattle.site_state.specs.Notes.{pending_keys, is_too_young}
+use Rattle.snapshot_log.specs.LogState.{LogState}
+use Rattle.snapshot_log.specs.Noting.{pending_keys, is_too_young}
 use Rattle.site_state.specs.Refreshes.{rows_shown, with_tables}
 use Rattle.site_state.specs.Fits.{AreWithin}
-use Rattle.event_laws.specs.Rules.{rows_ruled, parents_above, is_purged_above, is_young, looked_up, HaveNoParents, QueriesAreRules}
+use Rattle.site_events.specs.Rules.{rows_ruled, parents_above, is_purged_above, is_young, looked_up, HaveNoParents, QueriesAreRules}
 
 pub AreTables-rows_ruled : (schema : Schema) (shows : List Rows) (ss : List Snapshot) (tables : List Rows) → AreTables schema shows → AreWithin schema ss → AreTables schema tables
     → AreTables schema (with_tables (rows_ruled schema shows ss) tables)

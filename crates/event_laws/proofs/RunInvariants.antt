@@ -5,7 +5,7 @@ use Rattle.std.specs.List.{AllByRecursion}
 use Rattle.rep_lists.proofs.Rising.{all_put}
 use Rattle.rep_values.specs.declared.name.SiteName.{SiteName}
 use Rattle.rep_calls.specs.declared.call.Txn.{Txn}
-use Rattle.deferred_queue.specs.Streams.{is_same_site}
+use Rattle.rep_values.specs.SiteNames.{is_same_site}
 use Rattle.deferred_queue.proofs.Sites.{is_same_site-true}
 use Rattle.packet_code.specs.declared.packet.Packet.{Packet}
 use Rattle.packet_code.specs.declared.packet.Packet.TheVariants.{Carry, Mark}
@@ -16,9 +16,9 @@ use Rattle.site_state.specs.Purges.{site_purge}
 use Rattle.site_state.proofs.Stepping.{Later, later_same, Steps, steps_later, IsSent, sent_later, low_water-later}
 use Rattle.site_state.proofs.Destinations.{acked_in-acknowledged}
 use Rattle.site_state.proofs.Changing.{PurgedIsAcked, purged_kept, accept_later, accept_purged, purge_later, purge_purged}
-use Rattle.event_laws.specs.Cluster.{site_of, at_site}
+use Rattle.site_events.specs.Cluster.{site_of, at_site}
 use Rattle.event_laws.specs.Marks.{acked_at, low_at, MarksAreLow}
-use Rattle.event_laws.specs.Events.{receiver}
+use Rattle.site_events.specs.Events.{receiver}
 use Rattle.event_laws.proofs.Sites.{KeepsHere, at_split}
 
 -- ---- what holds

@@ -1,7 +1,7 @@
 -- Events, and others behind them.
 use Rattle.std.proofs.Common.{◌≡◌, List, [], ◌∷◌, ◌++◌, refl, ap}
-use Rattle.event_laws.specs.Cluster.{Cluster}
-use Rattle.event_laws.specs.Events.{Event, happens, run}
+use Rattle.site_events.specs.Cluster.{Cluster}
+use Rattle.site_events.specs.Events.{Event, happens, run}
 
 -- events behind others are events behind what those lead to
 pub run-append : (es fs : List Event) (v : Cluster) → run (es ++ fs) v ≡ run es (run fs v)

@@ -4,11 +4,11 @@ use Rattle.std.specs.Prelude.{Option, option_map, slice_get}
 use mathlib.Core.Bool.{true≢false}
 use Rattle.std.specs.List.{AllByRecursion}
 use Rattle.rep_values.specs.declared.name.SiteName.{SiteName}
-use Rattle.deferred_queue.specs.Streams.{is_same_site}
+use Rattle.rep_values.specs.SiteNames.{is_same_site}
 use Rattle.deferred_queue.proofs.Sites.{is_same_site-true, is_same_site-refl}
-use Rattle.local_txn.specs.declared.local.Here.{Here}
+use Rattle.txn_effects.specs.declared.local.Here.{Here}
 use Rattle.site_state.specs.State.{SiteState}
-use Rattle.event_laws.specs.Cluster.{site_of, at_site}
+use Rattle.site_events.specs.Cluster.{site_of, at_site}
 
 -- what changes a site leaves what it is
 abbrev pub KeepsHere : (SiteState → SiteState) → Type 0

@@ -14,7 +14,8 @@ use Rattle.rep_calls.specs.declared.call.Txn.{Txn}
 use Rattle.rep_calls.specs.declared.past.PastEntry.{PastEntry}
 use Rattle.txn_effects.specs.Calls.{Effect}
 use Rattle.txn_effects.specs.Transactions.{Failure}
-use Rattle.deferred_queue.specs.Streams.{is_same_site, at_position}
+use Rattle.deferred_queue.specs.Streams.{at_position}
+use Rattle.rep_values.specs.SiteNames.{is_same_site}
 use Rattle.deferred_queue.proofs.Sites.{is_same_site-true}
 use Rattle.deferred_queue.proofs.Positions.{at_position-within, found_position}
 use Rattle.packet_code.specs.declared.packet.Packet.{Packet}
@@ -22,7 +23,8 @@ use Rattle.site_state.specs.declared.entry.Entry.{Entry}
 use Rattle.site_state.specs.declared.answers.Why.{Why}
 use Rattle.site_state.specs.declared.answers.Why.TheVariants as why
 use Rattle.site_state.specs.declared.arrival.Arrival.{Arrival}
-use Rattle.site_state.specs.State.{SenderState, SiteState, is_master_site, sender_of, arrived_in, first_in, arrival_beside, arrived_at, arrivals, opened_of}
+use Rattle.site_state.specs.State.{SenderState, SiteState, sender_of, arrived_in, first_in, arrival_beside, arrived_at, arrivals, opened_of}
+use Rattle.rep_schema.specs.Sites.{is_master_site}
 use Rattle.site_state.specs.Journal.{finished, low_water}
 use Rattle.site_state.specs.Streams.{with_one, queue_of, count_of, queued_behind, stream_in, stream_to}
 use Rattle.site_state.specs.Pasts.{greatest_finished, seen_of, with_seen, past_at, past_of, pasts_of, beside_name}
@@ -36,9 +38,9 @@ use Rattle.site_state.proofs.Stepping.{IsSent, arrived_has}
 use Rattle.site_state.proofs.Destinations.{IsOpenedFrom}
 use Rattle.site_state.proofs.Pasts.{length-pasts_after}
 use Rattle.site_state.proofs.Queueing.{Adds, Opens, Queues, open_opens}
-use Rattle.event_laws.specs.Cluster.{Cluster, site_of}
-use Rattle.event_laws.specs.Joins.{copied, with_joined}
-use Rattle.event_laws.specs.Events.{Event, happens, run}
+use Rattle.site_events.specs.Cluster.{Cluster, site_of}
+use Rattle.site_events.specs.Joins.{copied, with_joined}
+use Rattle.site_events.specs.Events.{Event, happens, run}
 use Rattle.event_laws.specs.Starts.{IsNewSite, IsStart}
 use Rattle.event_laws.specs.Waiting.{IsFirstNumber, AreFirsts, AbsentAreClosed, SitesLinkAsDeclared, IsDelivered, PassesFinishNothing, NothingWaits, NothingWaitsForEver}
 use Rattle.event_laws.proofs.Sites.{found_or, site_of-joined, all_at_place}

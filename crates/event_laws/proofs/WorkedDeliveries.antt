@@ -9,8 +9,8 @@ use Rattle.site_state.specs.Journal.{low_water}
 use Rattle.site_state.specs.Packets.{site_packet}
 use Rattle.site_state.specs.Purges.{purge_answer}
 use Rattle.site_state.proofs.WorkedSites.{a, b, master, additive, row, add, moved, of_calls}
-use Rattle.event_laws.specs.Cluster.{Cluster}
-use Rattle.event_laws.specs.Events.{Event, Commit, Send, SendMark, Deliver, Purge}
+use Rattle.site_events.specs.Cluster.{Cluster}
+use Rattle.site_events.specs.Events.{Event, Commit, Send, SendMark, Deliver, Purge}
 use Rattle.event_laws.proofs.WorkedRuns.{masters, then_run, carried, passed, marked, pushed, shown, journal_at, rows_at}
 
 abbrev pub two : Schema

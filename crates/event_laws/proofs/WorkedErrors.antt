@@ -8,8 +8,8 @@ use Rattle.rep_calls.specs.declared.call.Call.TheVariants as call
 use Rattle.site_state.specs.declared.entry.Entry.TheVariants as entry
 use Rattle.site_state.specs.Errors.{errors_of, execute_refusal, drop_refusal}
 use Rattle.site_state.proofs.WorkedSites.{a, b, master, plain, row, set_to, delete, moved, of_calls}
-use Rattle.event_laws.specs.Cluster.{Cluster}
-use Rattle.event_laws.specs.Events.{Commit, Execute, Drop}
+use Rattle.site_events.specs.Cluster.{Cluster}
+use Rattle.site_events.specs.Events.{Commit, Execute, Drop}
 use Rattle.event_laws.proofs.WorkedRuns.{masters, then_run, pushed, shown, journal_at, rows_at}
 
 abbrev two : Schema

@@ -6,9 +6,9 @@ use Rattle.packet_code.specs.declared.packet.Packet.TheVariants.{Carry}
 use Rattle.site_state.specs.State.{opened_of, first_number}
 use Rattle.site_state.specs.Packets.{site_packet}
 use Rattle.site_state.proofs.WorkedSites.{a, b, d, master, late_master, additive, row, add, moved, of_calls}
-use Rattle.event_laws.specs.Cluster.{Cluster, site_of}
-use Rattle.event_laws.specs.Quiet.{unquiet_at}
-use Rattle.event_laws.specs.Events.{Commit, Join}
+use Rattle.site_events.specs.Cluster.{Cluster, site_of}
+use Rattle.site_events.specs.Quiet.{unquiet_at}
+use Rattle.site_events.specs.Events.{Commit, Join}
 use Rattle.event_laws.proofs.WorkedRuns.{masters, then_run, pushed, shown, rows_at}
 
 abbrev with_late : Schema

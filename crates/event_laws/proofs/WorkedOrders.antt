@@ -4,8 +4,8 @@ use Rattle.rep_schema.specs.Groups.{group_columns_of}
 use Rattle.site_state.specs.declared.entry.Entry.TheVariants as entry
 use Rattle.site_state.specs.Journal.{low_water}
 use Rattle.site_state.proofs.WorkedSites.{a, b, row, add, moved, of_calls}
-use Rattle.event_laws.specs.Cluster.{Cluster}
-use Rattle.event_laws.specs.Events.{Commit}
+use Rattle.site_events.specs.Cluster.{Cluster}
+use Rattle.site_events.specs.Events.{Commit}
 use Rattle.event_laws.proofs.WorkedRuns.{masters, then_run, carried, passed, shown, journal_at, rows_at}
 use Rattle.event_laws.proofs.WorkedDeliveries.{two}
 

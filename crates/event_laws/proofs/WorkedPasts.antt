@@ -13,8 +13,8 @@ use Rattle.site_state.specs.Ready.{covered, stale_of, first_ready}
 use Rattle.site_state.specs.Packets.{site_packet}
 use Rattle.site_state.specs.Errors.{execute_refusal}
 use Rattle.site_state.proofs.WorkedSites.{a, b, c, master, additive, row, add, insert, moved, of_calls}
-use Rattle.event_laws.specs.Cluster.{Cluster}
-use Rattle.event_laws.specs.Events.{Commit, Send}
+use Rattle.site_events.specs.Cluster.{Cluster}
+use Rattle.site_events.specs.Events.{Commit, Send}
 use Rattle.event_laws.proofs.WorkedRuns.{masters, then_run, carried, passed, marked, pushed, shown, journal_at, rows_at}
 
 abbrev three : Schema

@@ -8,8 +8,8 @@ use Rattle.site_state.specs.declared.entry.Entry.{Entry}
 use Rattle.site_state.specs.State.{SiteState}
 use Rattle.site_state.specs.Contents.{tables_of}
 use Rattle.site_state.proofs.WorkedSites.{at_first}
-use Rattle.event_laws.specs.Cluster.{Cluster, site_of}
-use Rattle.event_laws.specs.Events.{Event, Send, SendMark, Deliver, Begin, Apply, run}
+use Rattle.site_events.specs.Cluster.{Cluster, site_of}
+use Rattle.site_events.specs.Events.{Event, Send, SendMark, Deliver, Begin, Apply, run}
 
 -- these masters, at which nothing has happened
 abbrev pub masters : Schema → Rows → List SiteName → Cluster

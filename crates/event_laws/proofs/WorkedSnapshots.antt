@@ -17,14 +17,14 @@ use Rattle.site_state.specs.declared.entry.Entry.TheVariants as entry
 use Rattle.site_state.specs.declared.answers.RefreshCount.{RefreshCount}
 use Rattle.site_state.specs.State.{SiteState}
 use Rattle.site_state.specs.Contents.{tables_of}
-use Rattle.site_state.specs.Notes.{pending_keys}
+use Rattle.snapshot_log.specs.Noting.{pending_keys}
 use Rattle.site_state.specs.Packets.{site_packet}
 use Rattle.site_state.specs.Purges.{purge_log_answer}
 use Rattle.site_state.specs.Making.{new_site}
 use Rattle.site_state.proofs.WorkedSites.{a, b, s, master, snapshot_of, number_column, key_column, table_t, additive, n, row, at_first, add, moved, of_calls}
-use Rattle.event_laws.specs.Cluster.{Cluster}
-use Rattle.event_laws.specs.Rules.{rows_ruled, refresh_ruled_answer, is_young}
-use Rattle.event_laws.specs.Events.{Commit, PurgeLog, Refresh}
+use Rattle.site_events.specs.Cluster.{Cluster}
+use Rattle.site_events.specs.Rules.{rows_ruled, refresh_ruled_answer, is_young}
+use Rattle.site_events.specs.Events.{Commit, PurgeLog, Refresh}
 use Rattle.event_laws.proofs.WorkedRuns.{then_run, pushed, shown, journal_at, rows_at}
 
 -- a site with a snapshot, which holds the table

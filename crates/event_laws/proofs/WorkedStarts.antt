@@ -12,13 +12,13 @@ use Rattle.rep_schema.specs.Shape.{shadow_name, ShareNone, AreColumns, method_co
 use Rattle.rep_schema.specs.Tables.{rows_of, IsTable, AreTables}
 use Rattle.schema_rules.specs.Rules.{broken_rule}
 use Rattle.rep_laws.specs.Commuting.{IsSound}
-use Rattle.deferred_queue.specs.Streams.{is_same_site}
+use Rattle.rep_values.specs.SiteNames.{is_same_site}
 use Rattle.deferred_queue.proofs.Sites.{is_same_site-true}
 use Rattle.snapshot_query.specs.declared.snapshot.Snapshot.{Snapshot}
 use Rattle.site_state.specs.State.{SiteState, opened_of}
 use Rattle.site_state.specs.Making.{master_here, new_site}
 use Rattle.site_state.proofs.WorkedSites.{a, b, d, s, master, late_master, snapshot_of, additive, row, at_first}
-use Rattle.event_laws.specs.Cluster.{Cluster, site_of}
+use Rattle.site_events.specs.Cluster.{Cluster, site_of}
 use Rattle.event_laws.specs.Starts.{IsStart}
 use Rattle.event_laws.specs.Declared.{AreDeclared}
 use Rattle.event_laws.specs.Waiting.{AreFirsts, StreamsMeet, AbsentAreClosed, SitesLinkAsDeclared}

@@ -9,7 +9,8 @@ use Rattle.txn_effects.specs.Contents.{IsContent}
 use Rattle.rep_laws.specs.Commuting.{IsSound}
 use Rattle.site_state.specs.declared.entry.Entry.{Entry}
 use Rattle.site_state.specs.declared.arrival.Arrival.{Arrival}
-use Rattle.site_state.specs.State.{SiteState, is_master_site, arrivals}
+use Rattle.site_state.specs.State.{SiteState, arrivals}
+use Rattle.rep_schema.specs.Sites.{is_master_site}
 use Rattle.site_state.specs.Arrivals.{CanPass}
 use Rattle.site_state.specs.Journal.{finished, low_water, error_at}
 use Rattle.site_state.specs.Contents.{content_of}
@@ -19,9 +20,9 @@ use Rattle.site_state.specs.Ready.{is_ready}
 use Rattle.site_state.specs.Steps.{begun}
 use Rattle.site_state.specs.Passes.{site_apply, site_pass}
 use Rattle.site_state.specs.Errors.{errors_of}
-use Rattle.journal_order.specs.Waited.{IsWellNumbered}
-use Rattle.event_laws.specs.Cluster.{Cluster, site_of}
-use Rattle.event_laws.specs.Events.{Event, run}
+use Rattle.site_state.specs.Waited.{IsWellNumbered}
+use Rattle.site_events.specs.Cluster.{Cluster, site_of}
+use Rattle.site_events.specs.Events.{Event, run}
 use Rattle.event_laws.specs.Declared.{AreDeclared}
 use Rattle.event_laws.specs.Fitting.{IsFitStart}
 

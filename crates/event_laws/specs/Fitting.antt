@@ -8,14 +8,14 @@ use Rattle.rep_calls.specs.declared.statement.Statement.{Statement}
 use Rattle.rep_laws.specs.Commuting.{IsSound}
 use Rattle.conflict_detect.specs.Fits.{TxnFits}
 use Rattle.txn_effects.specs.Contents.{effect_on, IsContent}
-use Rattle.local_txn.specs.Locals.{BlockEffect}
+use Rattle.txn_effects.specs.Locals.{BlockEffect}
 use Rattle.site_state.specs.State.{SiteState}
 use Rattle.site_state.specs.Contents.{content_of, txn_of}
 use Rattle.site_state.specs.Streams.{queue_of}
 use Rattle.site_state.specs.Commits.{block_at}
 use Rattle.site_state.specs.Fits.{EntryFits, SendersFit, AreWithin}
-use Rattle.event_laws.specs.Cluster.{Cluster, site_of}
-use Rattle.event_laws.specs.Events.{Event, run}
+use Rattle.site_events.specs.Cluster.{Cluster, site_of}
+use Rattle.site_events.specs.Events.{Event, run}
 use Rattle.event_laws.specs.Starts.{IsStart}
 
 -- the base rows are tables of the schema, and the snapshots are of its tables

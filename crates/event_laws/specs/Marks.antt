@@ -4,8 +4,8 @@ use Rattle.rep_values.specs.declared.name.SiteName.{SiteName}
 use Rattle.site_state.specs.declared.entry.Entry.{Entry}
 use Rattle.site_state.specs.State.{SiteState, arrivals, opened_of, acked_of}
 use Rattle.site_state.specs.Journal.{finished, low_water}
-use Rattle.journal_order.specs.Waited.{IsWellNumbered}
-use Rattle.event_laws.specs.Cluster.{site_of}
+use Rattle.site_state.specs.Waited.{IsWellNumbered}
+use Rattle.site_events.specs.Cluster.{site_of}
 
 abbrev pub journal_in : Option SiteState → List Entry
 journal_in None = []

@@ -8,8 +8,8 @@ use Rattle.site_state.specs.declared.entry.Entry.TheVariants.{Local, Done, Error
 use Rattle.site_state.specs.State.{SiteState}
 use Rattle.site_state.specs.Journal.{finishes, clears_error, finished}
 use Rattle.site_state.specs.Streams.{stream_to, shares}
-use Rattle.site_state.specs.Steps.{count_where}
-use Rattle.event_laws.specs.Cluster.{site_of}
+use Rattle.rep_lists.specs.Counting.{count_where}
+use Rattle.site_events.specs.Cluster.{site_of}
 use Rattle.event_laws.specs.Marks.{journal_in}
 
 -- at each site each position is finished at most once

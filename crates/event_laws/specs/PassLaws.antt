@@ -12,8 +12,8 @@ use Rattle.site_state.specs.Streams.{count_of}
 use Rattle.site_state.specs.Ready.{is_ready}
 use Rattle.site_state.specs.Passes.{site_pass}
 use Rattle.site_state.specs.Purges.{site_purge}
-use Rattle.event_laws.specs.Cluster.{Cluster, site_of}
-use Rattle.event_laws.specs.Events.{Event, run}
+use Rattle.site_events.specs.Cluster.{Cluster, site_of}
+use Rattle.site_events.specs.Events.{Event, run}
 use Rattle.event_laws.specs.Starts.{IsStart}
 use Rattle.event_laws.specs.Declared.{AreDeclared}
 

@@ -9,9 +9,9 @@ use Rattle.site_state.specs.State.{SenderState, SiteState, opened_of, arrived_at
 use Rattle.site_state.specs.Journal.{finished}
 use Rattle.site_state.specs.Streams.{stream_to, count_of}
 use Rattle.site_state.specs.Passes.{site_pass}
-use Rattle.site_state.specs.Making.{is_late_master}
-use Rattle.event_laws.specs.Cluster.{Cluster, site_of}
-use Rattle.event_laws.specs.Events.{Event, run}
+use Rattle.rep_schema.specs.Sites.{is_late_master}
+use Rattle.site_events.specs.Cluster.{Cluster, site_of}
+use Rattle.site_events.specs.Events.{Event, run}
 use Rattle.event_laws.specs.Starts.{IsStart}
 use Rattle.event_laws.specs.Declared.{AreDeclared}
 

@@ -5,7 +5,7 @@ ghost use Rattle.event_laws.specs.Fitting.{EverySiteFits};
 ghost use Rattle.event_laws.specs.Marks.{AreWellNumbered, MarksAreLow, PurgedIsFinished};
 ghost use Rattle.event_laws.specs.Orders.{AreFinishedOnce, AreClearedOnce, EarlierComesFirst};
 ghost use Rattle.event_laws.specs.PassLaws.{EverySiteCanPass, LowWaterIsThatOfTheFinished, PassesLeaveNothingReady, PurgesTakeWhatIsAcknowledged};
-ghost use Rattle.event_laws.specs.Rules.{QueriesAreRules};
+ghost use Rattle.site_events.specs.Rules.{QueriesAreRules};
 ghost use Rattle.event_laws.specs.Starts.{InEveryRun};
 ghost use Rattle.event_laws.specs.Waiting.{NothingWaitsForEver};
 

@@ -32,16 +32,16 @@ use Rattle.txn_effects.specs.Parts.{result_then, settled_parts}
 use Rattle.txn_effects.specs.Calls.{Effect, RowEffect, checked_effect, effect_by, settled_effect, row_named, row_effect, call_effect}
 use Rattle.txn_effects.specs.Transactions.{Failure}
 use Rattle.txn_effects.specs.Contents.{effect_on}
-use Rattle.local_txn.specs.Convergent.{is_convergent}
+use Rattle.txn_effects.specs.Convergent.{is_convergent}
 use Rattle.local_txn.specs.Laws.{StampsOfABlockRise}
 use Rattle.site_state.specs.State.{SiteState}
 use Rattle.site_state.specs.Contents.{content_of, tables_of, journal_content}
-use Rattle.event_laws.specs.Cluster.{Cluster, site_of}
-use Rattle.event_laws.specs.Events.{Event}
+use Rattle.site_events.specs.Cluster.{Cluster, site_of}
+use Rattle.site_events.specs.Events.{Event}
 use Rattle.event_laws.specs.Fitting.{IsFitStart}
 use Rattle.event_laws.specs.Waiting.{SitesLinkAsDeclared}
-use Rattle.convergence_laws.specs.Beginning.{BaseRowsAreFilled}
-use Rattle.convergence_laws.specs.GroupForms.{form_at, value_of, KeepsForms}
+use Rattle.event_laws.specs.Beginning.{BaseRowsAreFilled, KeysBeginAlike}
+use Rattle.rep_laws.specs.GroupForms.{form_at, value_of, KeepsForms}
 use Rattle.convergence_laws.specs.Journals.{IsSoundTxn, AreMade}
 use Rattle.convergence_laws.proofs.EventsKeepForms.{KeepsIn}
 use Rattle.event_laws.proofs.Sites.{all_at_place}
@@ -49,13 +49,13 @@ use Rattle.convergence_laws.specs.Laws.{BlocksKeepForms}
 use Rattle.convergence_laws.proofs.Moves.{DecisionLaws}
 use Rattle.convergence_laws.proofs.RowsCome.{parts_move}
 use Rattle.convergence_laws.proofs.CallsCome.{is_row-same, calls_come}
-use Rattle.excuse_laws.specs.Excuses.{NoRowIsMissing, RangeIsLeftBySum, is_on_convergent, is_row_tie_or_range, is_row_or_range, IsExcusedOn, KeysBeginAlike}
+use Rattle.excuse_laws.specs.Excuses.{NoRowIsMissing, RangeIsLeftBySum, is_on_convergent, is_row_tie_or_range, is_row_or_range, IsExcusedOn}
 use Rattle.excuse_laws.specs.Laws.{ErrorsAreExcused}
 use Rattle.excuse_laws.proofs.OneTimeWrites.{OneTimeWrite, writes_in, writes_in-append, signs_of}
 use Rattle.excuse_laws.proofs.WritingOnce.{IsDecided, DecidedBy}
 use Rattle.excuse_laws.proofs.Moving.{ComesFrom}
 use Rattle.excuse_laws.proofs.WritesStep.{IsWell}
-use Rattle.site_state.specs.Steps.{count_where}
+use Rattle.rep_lists.specs.Counting.{count_where}
 use Rattle.excuse_laws.proofs.MissingRows.{missing_here}
 use Rattle.excuse_laws.proofs.LeftRanges.{fails_there, range_left_here}
 use Rattle.excuse_laws.proofs.Unmixed.{all_convergent}

@@ -19,7 +19,7 @@ use Rattle.txn_effects.specs.Transactions.{Failure, failing_at, effect_behind, c
 use Rattle.txn_effects.proofs.TransactionEffects.{IsApplied-call_effect}
 use Rattle.rep_laws.specs.Commuting.{IsSound}
 use Rattle.rep_laws.proofs.SoundSchemas.{HasKeys-sound, KeysStandAlone-sound}
-use Rattle.convergence_laws.specs.GroupForms.{KeepsForms}
+use Rattle.rep_laws.specs.GroupForms.{KeepsForms}
 
 -- the calls before the one that fails, what they did, and that it fails then
 pub record FailsBehind (schema : Schema) (origin : SiteName) (number : ℕ) (calls : List Call) (tables : List Rows) (numbers : Numbers) (failure : Failure) : Type 0 where

@@ -19,17 +19,17 @@ use Rattle.conflict_detect.specs.ChangeCalls.{call_between, call_of}
 use Rattle.unique_resolve.proofs.Settlements.{AreCounters-first}
 use Rattle.txn_effects.specs.Calls.{Effect}
 use Rattle.txn_effects.specs.Contents.{Content, IsContent, effect_on, content_after}
-use Rattle.local_txn.specs.declared.local.Here.{Here}
-use Rattle.local_txn.specs.declared.local.Stamps.{Stamps}
-use Rattle.local_txn.specs.declared.side.Side.{Side}
-use Rattle.local_txn.specs.Convergent.{is_convergent, begins_with}
-use Rattle.local_txn.specs.Locals.{BlockEffect, local_effect}
+use Rattle.txn_effects.specs.declared.local.Here.{Here}
+use Rattle.txn_effects.specs.declared.local.Stamps.{Stamps}
+use Rattle.txn_effects.specs.declared.side.Side.{Side}
+use Rattle.txn_effects.specs.Convergent.{is_convergent, begins_with}
+use Rattle.txn_effects.specs.Locals.{BlockEffect, local_effect}
 use Rattle.rep_laws.specs.Commuting.{IsSound}
 use Rattle.rep_laws.proofs.SoundSchemas.{HasKeys-sound, KeysStandAlone-sound}
 use Rattle.site_state.specs.Contents.{first_content, txn_of}
 use Rattle.site_state.specs.Fits.{SchemaIsKeyed}
 use Rattle.site_state.proofs.FittingBlocks.{TxnFits-led, block_applied, block_own}
-use Rattle.local_txn.proofs.StatementEffects.{effect_with}
+use Rattle.txn_effects.proofs.StatementEffects.{effect_with}
 use Rattle.convergence_laws.specs.Joins.{is_row, inserts_for, inserts_in, parts_in}
 use Rattle.convergence_laws.specs.Journals.{IsSoundTxn}
 use Rattle.convergence_laws.specs.Laws.{BlocksKeepForms}

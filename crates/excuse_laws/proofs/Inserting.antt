@@ -15,13 +15,13 @@ use Rattle.conflict_detect.specs.Fits.{table_of}
 use Rattle.txn_effects.specs.Calls.{row_named}
 use Rattle.txn_effects.specs.Transactions.{Failure}
 use Rattle.txn_effects.specs.Contents.{effect_on}
-use Rattle.local_txn.specs.Convergent.{is_convergent}
+use Rattle.txn_effects.specs.Convergent.{is_convergent}
 use Rattle.local_txn.specs.Laws.{StampsOfABlockRise}
 use Rattle.site_state.specs.State.{SiteState, opened_of}
 use Rattle.site_state.specs.Contents.{content_of, tables_of, journal_content}
 use Rattle.site_state.specs.Streams.{queue_of, stream_to}
-use Rattle.event_laws.specs.Cluster.{Cluster, site_of}
-use Rattle.event_laws.specs.Events.{Event}
+use Rattle.site_events.specs.Cluster.{Cluster, site_of}
+use Rattle.site_events.specs.Events.{Event}
 use Rattle.event_laws.specs.Fitting.{IsFitStart}
 use Rattle.event_laws.specs.Starts.{IsNewSite}
 use Rattle.event_laws.specs.Waiting.{SitesLinkAsDeclared}
@@ -32,7 +32,8 @@ use Rattle.convergence_laws.specs.Laws.{BlocksKeepForms}
 use Rattle.convergence_laws.proofs.Moves.{DecisionLaws}
 use Rattle.convergence_laws.proofs.CallsCome.{is_row-same, calls_come}
 use Rattle.convergence_laws.proofs.Faults.{convergent_calls_fail_so}
-use Rattle.excuse_laws.specs.Excuses.{is_on_convergent, is_row_tie_or_range, NoKeyIsTaken, MastersShareKeys}
+use Rattle.excuse_laws.specs.Excuses.{is_on_convergent, is_row_tie_or_range, NoKeyIsTaken}
+use Rattle.event_laws.specs.Beginning.{MastersShareKeys}
 use Rattle.excuse_laws.specs.Laws.{KeysAreNeverTaken}
 use Rattle.excuse_laws.proofs.Failing.{FailsBehind, fails_behind, call_found}
 use Rattle.excuse_laws.proofs.OneTimeWrites.{OneTimeWrite, writes_in, writes_in-append, signs_of, position_few, stream_few}

@@ -7,37 +7,28 @@ use Rattle.rep_values.specs.declared.name.SiteName.{SiteName}
 use Rattle.rep_schema.specs.declared.schema.Schema.{Schema}
 use Rattle.rep_schema.specs.Tables.{Rows}
 use Rattle.rep_calls.specs.declared.call.Txn.{Txn}
-use Rattle.local_txn.specs.declared.local.Here.{Here}
-use Rattle.deferred_queue.specs.Streams.{at_position, is_same_site}
+use Rattle.txn_effects.specs.declared.local.Here.{Here}
+use Rattle.deferred_queue.specs.Streams.{at_position}
+use Rattle.rep_values.specs.SiteNames.{is_same_site}
 use Rattle.site_state.specs.State.{SiteState, opened_of}
-use Rattle.site_state.specs.declared.entry.Entry.{Entry}
-use Rattle.site_state.specs.Contents.{journal_content, tables_of}
+use Rattle.site_state.specs.Contents.{tables_of}
 use Rattle.site_state.specs.Streams.{queue_of, stream_in, stream_to}
 use Rattle.site_state.specs.Joining.{site_open, site_copy}
 use Rattle.site_state.specs.Making.{master_here}
 use Rattle.site_state.proofs.Growing.{queued_behind-none}
 use Rattle.site_state.proofs.Destinations.{opened_in-opened, opened_from_stays}
-use Rattle.event_laws.specs.Cluster.{site_of}
-use Rattle.event_laws.specs.Joins.{queue_counts, copied, with_joined}
+use Rattle.site_events.specs.Cluster.{site_of}
+use Rattle.site_events.specs.Joins.{queue_counts, copied, with_joined}
 use Rattle.event_laws.proofs.Sites.{found_or, site_of-joined}
-use Rattle.event_laws.proofs.NewSites.{open_to_each_keeps, copied_is_new, copied_here}
+use Rattle.event_laws.proofs.NewSites.{open_to_each_keeps, copied_here}
 use Rattle.excuse_laws.proofs.OneTimeWrites.{OneTimeWrite}
 use Rattle.excuse_laws.proofs.WritingOnce.{IsSigned, made_in, Has, IsAlready, DecidedBy, IsDecided, AllPassed, Took, Comes, IsTaken, none_found}
+use Rattle.event_laws.proofs.JoinedSites.{copied_queue, copied_tables}
 
 -- ---- the one that joins
 
-pub copied_base : (sites : List SiteState) (source : SiteState) (site : SiteName) → (copied sites source site).base ≡ tables_of source
-copied_base sites source site = open_to_each_keeps (λ (x : SiteState). x.base ≡ tables_of source) (λ s x is. is) sites (site_copy source (master_here source.schema site) (queue_counts sites)) refl
-
 copied_last : (sites : List SiteState) (source : SiteState) (site : SiteName) → (copied sites source site).stamps.last ≡ 0
 copied_last sites source site = open_to_each_keeps (λ (x : SiteState). x.stamps.last ≡ 0) (λ s x is. is) sites (site_copy source (master_here source.schema site) (queue_counts sites)) refl
-
-pub copied_queue : (sites : List SiteState) (source : SiteState) (site : SiteName) → queue_of (copied sites source site) ≡ []
-copied_queue sites source site = rw (copied_is_new sites source site).journal refl
-
-pub copied_tables : (sites : List SiteState) (source : SiteState) (site : SiteName) → tables_of (copied sites source site) ≡ tables_of source
-copied_tables sites source site =
-    ap (λ (es : List Entry). (journal_content (copied sites source site).schema (copied sites source site).here.site (copied sites source site).base es).tables) (copied_is_new sites source site).journal ∙ copied_base sites source site
 
 -- an empty queue sends nothing
 pub empty_sends_none : (opened : Option ℕ) (queue : List Txn) (position : ℕ) (txn : Txn) → queue ≡ [] → at_position position (stream_in opened queue) ≡ Some txn → ⊥

@@ -32,22 +32,22 @@ use Rattle.rep_calls.specs.declared.call.Part.{Part}
 use Rattle.rep_calls.specs.declared.statement.Statement.{Statement}
 use Rattle.conflict_detect.specs.ChangeCalls.{call_between, call_of}
 use Rattle.txn_effects.specs.Contents.{content_after}
-use Rattle.local_txn.specs.declared.local.Here.{Here}
-use Rattle.local_txn.specs.declared.local.Stamps.{Stamps}
-use Rattle.local_txn.specs.Convergent.{is_convergent}
-use Rattle.local_txn.specs.Filled.{filling_value, is_modified, has_stamp_from}
+use Rattle.txn_effects.specs.declared.local.Here.{Here}
+use Rattle.txn_effects.specs.declared.local.Stamps.{Stamps}
+use Rattle.txn_effects.specs.Convergent.{is_convergent}
+use Rattle.txn_effects.specs.Filled.{filling_value, is_modified, has_stamp_from}
 use Rattle.local_txn.specs.Laws.{gives_stamp, CarriesStamp, StampsRise, StampsOfABlockRise}
-use Rattle.local_txn.specs.Locals.{BlockEffect, local_effect}
+use Rattle.txn_effects.specs.Locals.{BlockEffect, local_effect}
 use Rattle.rep_laws.specs.Commuting.{IsSound}
 use Rattle.rep_laws.proofs.SoundSchemas.{HasKeys-sound, KeysStandAlone-sound}
-use Rattle.site_state.specs.Steps.{count_where}
+use Rattle.rep_lists.specs.Counting.{count_where}
 use Rattle.site_state.proofs.FittingBlocks.{block_applied}
-use Rattle.convergence_laws.specs.GroupForms.{form_in, form_at, value_of}
+use Rattle.rep_laws.specs.GroupForms.{form_in, form_at, value_of}
 use Rattle.convergence_laws.specs.Joins.{is_row}
 use Rattle.convergence_laws.proofs.GroupColumns.{value_of-values_at}
-use Rattle.convergence_laws.proofs.FormShapes.{form_at-named, IsShaped-form_at, IsOfKind-form_at}
+use Rattle.rep_laws.proofs.FormShapes.{form_at-named, IsShaped-form_at, IsOfKind-form_at}
 use Rattle.convergence_laws.proofs.Moves.{DecisionLaws, within_row}
-use Rattle.convergence_laws.proofs.ConvergentRows.{StandsAlone-convergent}
+use Rattle.rep_laws.proofs.ConvergentRows.{StandsAlone-convergent}
 use Rattle.convergence_laws.proofs.CallsCome.{txn_comes}
 use Rattle.excuse_laws.proofs.OneTimeWrites.{OneTimeWrite, Makes, writes_in}
 use Rattle.excuse_laws.proofs.Moving.{rise_up}

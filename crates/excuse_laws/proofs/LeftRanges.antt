@@ -18,7 +18,7 @@ use Rattle.resolve_methods.specs.SequenceLaws.{one_group_number, move_of}
 use Rattle.txn_effects.specs.Calls.{key_named, row_named}
 use Rattle.txn_effects.specs.Transactions.{Failure}
 use Rattle.txn_effects.specs.Contents.{effect_on}
-use Rattle.local_txn.specs.Convergent.{is_convergent}
+use Rattle.txn_effects.specs.Convergent.{is_convergent}
 use Rattle.rep_laws.specs.Commuting.{IsSound}
 use Rattle.site_state.specs.declared.entry.Entry.{Entry}
 use Rattle.site_state.specs.Contents.{journal_content}

@@ -13,14 +13,13 @@ use Rattle.rep_schema.specs.declared.schema.SiteEntry.{SiteEntry}
 use Rattle.rep_schema.specs.declared.schema.TableEntry.{TableEntry}
 use Rattle.rep_schema.specs.Shape.{is_master, is_early_master}
 use Rattle.rep_schema.specs.Named.{is_site, site_named}
-use Rattle.rep_schema.specs.Sites.{first_master}
+use Rattle.rep_schema.specs.Sites.{first_master, is_master_site}
 use Rattle.schema_rules.specs.ConvergentRules.{share_a_level, are_levelled}
 use Rattle.schema_rules.proofs.SoundRules.{KeepsAllRules-unbroken}
 use Rattle.resolve_methods.specs.Ranks.{site_found, site_level_of}
 use Rattle.deferred_queue.proofs.Sites.{is_same_site-true, is_same_site-refl}
-use Rattle.local_txn.specs.Convergent.{convergent_in, is_convergent}
+use Rattle.txn_effects.specs.Convergent.{convergent_in, is_convergent}
 use Rattle.rep_laws.specs.Commuting.{IsSound}
-use Rattle.site_state.specs.State.{is_master_site}
 
 both : (a b : Bool) → (a && b) ≡ true → (a ≡ true) × (b ≡ true)
 both true b e = (refl, e)

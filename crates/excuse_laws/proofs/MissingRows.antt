@@ -13,7 +13,7 @@ use Rattle.conflict_detect.specs.Fits.{table_of}
 use Rattle.txn_effects.specs.Calls.{key_named, row_named}
 use Rattle.txn_effects.specs.Transactions.{Failure}
 use Rattle.txn_effects.specs.Contents.{Content, IsContent, effect_on}
-use Rattle.local_txn.specs.Convergent.{is_convergent}
+use Rattle.txn_effects.specs.Convergent.{is_convergent}
 use Rattle.rep_laws.specs.Commuting.{IsSound}
 use Rattle.site_state.specs.declared.entry.Entry.{Entry}
 use Rattle.site_state.specs.declared.entry.Entry.TheVariants.{Local, Done, Error, Executed, Dropped, Refreshed}
@@ -21,7 +21,7 @@ use Rattle.site_state.specs.Contents.{journal_content}
 use Rattle.site_state.proofs.FittingSites.{error_has}
 use Rattle.event_laws.proofs.FittingSites.{every_site_fits}
 use Rattle.conflict_detect.specs.Fits.{TxnFits}
-use Rattle.convergence_laws.specs.GroupForms.{TxnKeepsForms}
+use Rattle.rep_laws.specs.GroupForms.{TxnKeepsForms}
 use Rattle.convergence_laws.specs.Faults.{Tells}
 use Rattle.convergence_laws.specs.Joins.{parts_in, inserts_in, applied_parts, applied_inserts}
 use Rattle.convergence_laws.specs.Journals.{IsSoundTxn, AreMade}

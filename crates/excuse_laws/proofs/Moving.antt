@@ -11,8 +11,8 @@ use Rattle.rep_calls.specs.declared.statement.Statement.{Statement}
 use Rattle.txn_effects.specs.Calls.{Effect}
 use Rattle.txn_effects.specs.Transactions.{Failure}
 use Rattle.txn_effects.specs.Contents.{content_after, effect_on}
-use Rattle.local_txn.specs.declared.local.LocalStop.{LocalStop}
-use Rattle.local_txn.specs.Locals.{BlockEffect}
+use Rattle.txn_effects.specs.declared.local.LocalStop.{LocalStop}
+use Rattle.txn_effects.specs.Locals.{BlockEffect}
 use Rattle.local_txn.specs.Laws.{StampsOfABlockRise, StampsRise, gives_stamp}
 use Rattle.deferred_queue.specs.Streams.{at_position}
 use Rattle.deferred_queue.proofs.Sites.{is_same_site-refl}
@@ -26,7 +26,8 @@ use Rattle.site_state.specs.declared.entry.Entry.{Entry}
 use Rattle.site_state.specs.declared.entry.Entry.TheVariants.{Local, Done, Error, Executed, Dropped, Refreshed}
 use Rattle.site_state.specs.declared.answers.Why.{Why}
 use Rattle.site_state.specs.declared.answers.Why.TheVariants as why
-use Rattle.site_state.specs.State.{SiteState, is_master_site, arrived_at, opened_of}
+use Rattle.site_state.specs.State.{SiteState, arrived_at, opened_of}
+use Rattle.rep_schema.specs.Sites.{is_master_site}
 use Rattle.site_state.specs.Journal.{is_position, finished, error_at}
 use Rattle.site_state.specs.Contents.{content_of, tables_of, txn_of, changes_by}
 use Rattle.site_state.specs.Streams.{went_onward, queue_of, count_of, stream_to, with_one}
@@ -40,7 +41,7 @@ use Rattle.site_state.specs.Purges.{site_purge, site_purge_log}
 use Rattle.site_state.proofs.Stepping.{IsTaken, MayFollow, with_entry, Journals, is_position-true, error_found, arrived_has}
 use Rattle.site_state.proofs.Destinations.{opened_in-acknowledged}
 use Rattle.site_state.proofs.Growing.{queue_after-rebased}
-use Rattle.event_laws.specs.Cluster.{site_of}
+use Rattle.site_events.specs.Cluster.{site_of}
 use Rattle.event_laws.specs.Fitting.{FitsHere}
 use Rattle.event_laws.specs.Orders.{FollowsIn, IsInOrder}
 use Rattle.event_laws.proofs.Sites.{found_name}

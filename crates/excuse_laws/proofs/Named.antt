@@ -17,27 +17,27 @@ use Rattle.rep_calls.specs.declared.statement.Statement.{Statement}
 use Rattle.txn_effects.specs.Calls.{Effect}
 use Rattle.txn_effects.specs.Contents.{content_after, effect_on}
 use Rattle.resolve_methods.specs.Ranks.{site_level_of}
-use Rattle.local_txn.specs.Convergent.{is_convergent}
+use Rattle.txn_effects.specs.Convergent.{is_convergent}
 use Rattle.local_txn.specs.Laws.{StampsOfABlockRise}
-use Rattle.local_txn.specs.Locals.{BlockEffect, local_effect}
+use Rattle.txn_effects.specs.Locals.{BlockEffect, local_effect}
 use Rattle.rep_laws.proofs.SoundSchemas.{HasKeys-sound, KeysStandAlone-sound}
 use Rattle.site_state.specs.State.{SiteState}
 use Rattle.site_state.specs.Contents.{content_of, tables_of, txn_of}
 use Rattle.site_state.proofs.FittingBlocks.{block_applied}
-use Rattle.event_laws.specs.Cluster.{Cluster, site_of}
-use Rattle.event_laws.specs.Events.{Event}
+use Rattle.site_events.specs.Cluster.{Cluster, site_of}
+use Rattle.site_events.specs.Events.{Event}
 use Rattle.event_laws.specs.Fitting.{IsFitStart, StartsFit}
 use Rattle.event_laws.specs.Waiting.{SitesLinkAsDeclared}
 use Rattle.event_laws.proofs.Sites.{found_all}
 use Rattle.event_laws.proofs.DeclaredSites.{IsSiteOf}
-use Rattle.convergence_laws.specs.Beginning.{BaseRowsAreFilled}
-use Rattle.convergence_laws.specs.GroupForms.{form_at, value_of}
+use Rattle.event_laws.specs.Beginning.{BaseRowsAreFilled}
+use Rattle.rep_laws.specs.GroupForms.{form_at, value_of}
 use Rattle.convergence_laws.specs.Journals.{IsSoundTxn}
 use Rattle.convergence_laws.specs.Laws.{BlocksKeepForms}
 use Rattle.convergence_laws.proofs.GroupColumns.{value_of-values_at}
-use Rattle.convergence_laws.proofs.FormShapes.{IsShaped-form_at}
+use Rattle.rep_laws.proofs.FormShapes.{IsShaped-form_at}
 use Rattle.convergence_laws.proofs.Moves.{DecisionLaws, within_row}
-use Rattle.convergence_laws.proofs.ConvergentRows.{StandsAlone-convergent}
+use Rattle.rep_laws.proofs.ConvergentRows.{StandsAlone-convergent}
 use Rattle.convergence_laws.proofs.CallsCome.{txn_comes}
 use Rattle.excuse_laws.proofs.OneTimeWrites.{signs_of}
 use Rattle.excuse_laws.proofs.WritingOnce.{none_found}

@@ -12,9 +12,9 @@ use Rattle.rep_calls.specs.declared.statement.Statement.{Statement}
 use Rattle.conflict_detect.specs.ChangeCalls.{call_of}
 use Rattle.txn_effects.specs.Calls.{Effect}
 use Rattle.txn_effects.specs.Contents.{Content, IsContent, effect_on, content_after}
-use Rattle.local_txn.specs.declared.local.Here.{Here}
-use Rattle.local_txn.specs.declared.local.Stamps.{Stamps}
-use Rattle.local_txn.specs.Locals.{BlockEffect, local_effect}
+use Rattle.txn_effects.specs.declared.local.Here.{Here}
+use Rattle.txn_effects.specs.declared.local.Stamps.{Stamps}
+use Rattle.txn_effects.specs.Locals.{BlockEffect, local_effect}
 use Rattle.deferred_queue.specs.Streams.{at_position}
 use Rattle.site_state.specs.Streams.{with_one, queued_behind, stream_in}
 use Rattle.convergence_laws.specs.Journals.{IsSoundTxn}

@@ -16,19 +16,19 @@ use Rattle.rep_schema.specs.Named.{table_place}
 use Rattle.rep_schema.specs.Putting.{is_unchanged, changes_between}
 use Rattle.rep_calls.specs.declared.statement.Statement.{Statement}
 use Rattle.rep_calls.specs.declared.statement.Statement.TheVariants.{Insert, Update, Delete}
-use Rattle.local_txn.specs.declared.local.Here.{Here}
-use Rattle.local_txn.specs.declared.local.Stamps.{Stamps}
-use Rattle.local_txn.specs.declared.local.LocalStop.{LocalStop}
-use Rattle.local_txn.specs.declared.side.Side.{Side}
-use Rattle.local_txn.specs.declared.side.Side.TheVariants as which
-use Rattle.local_txn.specs.Held.{statement_table, held_table}
-use Rattle.local_txn.specs.Literals.{literals_fit, key_literals_fit, values_of}
-use Rattle.local_txn.specs.Sets.{names_columns, sets_fit, sets_filled}
-use Rattle.local_txn.specs.Filled.{written_columns}
-use Rattle.local_txn.specs.Convergent.{is_convergent, side_of, is_other, mixes, barred, begins_with, own_key_step}
-use Rattle.local_txn.specs.Statements.{BlockState, row_at, insert_made, update_made, update_outcome, outcome_in, outcome_changes, row_steps, there, new_row_steps, changed_row_steps, steps_in, statement_refusal, statement_changes, block_state_after}
-use Rattle.local_txn.specs.Locals.{BlockEffect, unless_refused, block_effect_behind, statements_effect, block_beginning, local_effect, most_statements, stop_at}
-use Rattle.local_txn.proofs.StatementEffects.{place-held, refusal-held, changes-held}
+use Rattle.txn_effects.specs.declared.local.Here.{Here}
+use Rattle.txn_effects.specs.declared.local.Stamps.{Stamps}
+use Rattle.txn_effects.specs.declared.local.LocalStop.{LocalStop}
+use Rattle.txn_effects.specs.declared.side.Side.{Side}
+use Rattle.txn_effects.specs.declared.side.Side.TheVariants as which
+use Rattle.txn_effects.specs.Held.{statement_table, held_table}
+use Rattle.txn_effects.specs.Literals.{literals_fit, key_literals_fit, values_of}
+use Rattle.txn_effects.specs.Sets.{names_columns, sets_fit, sets_filled}
+use Rattle.txn_effects.specs.Filled.{written_columns}
+use Rattle.txn_effects.specs.Convergent.{is_convergent, side_of, is_other, mixes, barred, begins_with, own_key_step}
+use Rattle.txn_effects.specs.Statements.{BlockState, row_at, insert_made, update_made, update_outcome, outcome_in, outcome_changes, row_steps, there, new_row_steps, changed_row_steps, steps_in, statement_refusal, statement_changes, block_state_after}
+use Rattle.txn_effects.specs.Locals.{BlockEffect, unless_refused, block_effect_behind, statements_effect, block_beginning, local_effect, most_statements, stop_at}
+use Rattle.txn_effects.proofs.StatementEffects.{place-held, refusal-held, changes-held}
 
 -- a change on one side of the tables; a new row of a convergent table is a master's, with its name in front of the key
 pub record IsOwnChange (schema : Schema) (here : Here) (side : Side) (change : Change) : Type 0 where

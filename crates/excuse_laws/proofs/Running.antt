@@ -12,11 +12,11 @@ use Rattle.conflict_detect.specs.Fits.{TxnFits}
 use Rattle.txn_effects.specs.Calls.{Effect}
 use Rattle.txn_effects.specs.Transactions.{Failure}
 use Rattle.txn_effects.specs.Contents.{Content, IsContent, effect_on, content_after}
-use Rattle.local_txn.specs.declared.local.Here.{Here}
+use Rattle.txn_effects.specs.declared.local.Here.{Here}
 use Rattle.local_txn.specs.Laws.{StampsOfABlockRise}
-use Rattle.local_txn.specs.Locals.{BlockEffect, local_effect}
+use Rattle.txn_effects.specs.Locals.{BlockEffect, local_effect}
 use Rattle.rep_calls.specs.declared.statement.Statement.{Statement}
-use Rattle.deferred_queue.specs.Streams.{is_same_site}
+use Rattle.rep_values.specs.SiteNames.{is_same_site}
 use Rattle.deferred_queue.proofs.Sites.{is_same_site-true, is_same_site-refl}
 use Rattle.rep_laws.specs.Commuting.{IsSound}
 use Rattle.site_state.specs.declared.entry.Entry.{Entry}
@@ -24,12 +24,12 @@ use Rattle.site_state.specs.declared.entry.Entry.TheVariants.{Local, Done, Error
 use Rattle.site_state.specs.State.{SiteState, opened_of}
 use Rattle.site_state.specs.Contents.{content_of, tables_of, txn_of, journal_content}
 use Rattle.site_state.specs.Streams.{queue_of, with_one}
-use Rattle.site_state.specs.Making.{is_late_master}
+use Rattle.rep_schema.specs.Sites.{is_late_master}
 use Rattle.site_state.specs.Joining.{site_open}
 use Rattle.site_state.proofs.Stepping.{with_entry}
-use Rattle.event_laws.specs.Cluster.{Cluster, site_of}
-use Rattle.event_laws.specs.Joins.{copied, with_joined}
-use Rattle.event_laws.specs.Events.{Event, run}
+use Rattle.site_events.specs.Cluster.{Cluster, site_of}
+use Rattle.site_events.specs.Joins.{copied, with_joined}
+use Rattle.site_events.specs.Events.{Event, run}
 use Rattle.event_laws.specs.Starts.{IsNewSite}
 use Rattle.event_laws.specs.Fitting.{IsFitStart}
 use Rattle.event_laws.specs.Marks.{journal_in}
@@ -44,19 +44,21 @@ use Rattle.event_laws.proofs.OrderLaws.{earlier_comes_first}
 use Rattle.event_laws.proofs.DeclaredSites.{IsSiteOf, becomes_sites_of, start_sites_of, joins_late, joins_from_master}
 use Rattle.event_laws.proofs.JoinedMeets.{joined_closed}
 use Rattle.event_laws.proofs.FittingSites.{every_site_fits}
-use Rattle.convergence_laws.specs.GroupForms.{TxnKeepsForms}
+use Rattle.rep_laws.specs.GroupForms.{TxnKeepsForms}
 use Rattle.convergence_laws.specs.Journals.{IsSoundTxn}
 use Rattle.convergence_laws.specs.Laws.{BlocksKeepForms}
 use Rattle.convergence_laws.proofs.Moves.{DecisionLaws}
 use Rattle.convergence_laws.proofs.EventsKeepForms.{KeepsIn, run_holds}
 use Rattle.excuse_laws.specs.Excuses.{OfFailures, ErrorsAreSo, RefusalsAreSo}
 use Rattle.excuse_laws.proofs.OneTimeWrites.{OneTimeWrite}
-use Rattle.excuse_laws.proofs.WritingOnce.{IsLinked, IsSigned, IsDecided, step_signed}
+use Rattle.excuse_laws.proofs.WritingOnce.{IsSigned, IsDecided, step_signed}
+use Rattle.event_laws.proofs.LinkedSites.{IsLinked}
 use Rattle.excuse_laws.proofs.Moving.{ComesFrom, NoError, Moves, Happened, Stayed, Erred, Committed, Applied, Errs, error_comes}
 use Rattle.excuse_laws.proofs.Turning.{Turns, AreHeld, happens_turns}
 use Rattle.excuse_laws.proofs.Turning as turning
 use Rattle.excuse_laws.proofs.Linking.{all_linked}
-use Rattle.excuse_laws.proofs.Joining.{empty_sends_none, joined_signed, copied_queue, copied_tables}
+use Rattle.excuse_laws.proofs.Joining.{empty_sends_none, joined_signed}
+use Rattle.event_laws.proofs.JoinedSites.{copied_queue, copied_tables}
 use Rattle.excuse_laws.proofs.WritesStep.{IsWell, step_of, sent_holds}
 
 both_sound : (schema : Schema) (txns : List Txn) → AllByRecursion (TxnFits schema) txns → AllByRecursion (TxnKeepsForms schema) txns → AllByRecursion (IsSoundTxn schema) txns

@@ -25,9 +25,9 @@ use Rattle.resolve_methods.specs.SequenceLaws.{one_group_number, group_number, n
 use Rattle.txn_effects.specs.Parts.{result_then, values_by, settled_values, settled_part, settled_parts}
 use Rattle.txn_effects.proofs.PartEffects.{HasGroupValues-PartFits, RowFits-settled_part}
 use Rattle.rep_laws.specs.Commuting.{IsSound}
-use Rattle.convergence_laws.specs.GroupForms.{form_at, value_of, PartKeepsForm}
+use Rattle.rep_laws.specs.GroupForms.{form_at, value_of, PartKeepsForm}
 use Rattle.convergence_laws.proofs.GroupColumns.{value_of-values_at}
-use Rattle.convergence_laws.proofs.FormShapes.{IsShaped-form_at}
+use Rattle.rep_laws.proofs.FormShapes.{IsShaped-form_at}
 use Rattle.convergence_laws.proofs.Moves.{DecisionLaws, within_row, group_values-with_own, long_values}
 
 -- ---- the part that isn't settled

@@ -16,10 +16,10 @@ use Rattle.txn_effects.specs.Calls.{Effect, RowEffect, row_named, row_effect, ca
 use Rattle.txn_effects.specs.Transactions.{failing_at, effect_behind, calls_effect}
 use Rattle.txn_effects.specs.Contents.{Content, effect_on}
 use Rattle.txn_effects.proofs.Results.{result_then-Ok}
-use Rattle.local_txn.specs.declared.local.Here.{Here}
-use Rattle.local_txn.specs.declared.side.Side.{Side}
-use Rattle.local_txn.specs.declared.side.Side.TheVariants as which
-use Rattle.local_txn.specs.Convergent.{is_convergent, side_of}
+use Rattle.txn_effects.specs.declared.local.Here.{Here}
+use Rattle.txn_effects.specs.declared.side.Side.{Side}
+use Rattle.txn_effects.specs.declared.side.Side.TheVariants as which
+use Rattle.txn_effects.specs.Convergent.{is_convergent, side_of}
 use Rattle.site_state.specs.Contents.{txn_of}
 use Rattle.convergence_laws.proofs.CallsCome.{failing_at-Ok, behind-Ok}
 use Rattle.excuse_laws.proofs.OwnChanges.{AreOwn}

@@ -26,19 +26,19 @@ use Rattle.txn_effects.specs.Contents.{Content, IsContent, effect_on}
 use Rattle.txn_effects.proofs.Results.{result_then-Ok}
 use Rattle.txn_effects.proofs.TransactionEffects.{IsApplied-call_effect}
 use Rattle.conflict_detect.specs.ChangeCalls.{part_between, call_between, call_of}
-use Rattle.local_txn.specs.Convergent.{is_convergent}
+use Rattle.txn_effects.specs.Convergent.{is_convergent}
 use Rattle.rep_laws.specs.Commuting.{IsSound}
 use Rattle.rep_laws.proofs.SoundSchemas.{HasKeys-sound, KeysStandAlone-sound}
 use Rattle.rep_laws.proofs.TokenTests.{AreElsewhere, place_cases}
 use Rattle.rep_laws.proofs.RowEffects.{key_of-row_effect}
-use Rattle.site_state.specs.Steps.{count_where}
-use Rattle.convergence_laws.specs.GroupForms.{form_at, KeepsForms}
+use Rattle.rep_lists.specs.Counting.{count_where}
+use Rattle.rep_laws.specs.GroupForms.{form_at, KeepsForms}
 use Rattle.convergence_laws.specs.Journals.{IsSoundTxn}
 use Rattle.convergence_laws.specs.Joins.{is_row, parts_for, parts_in, inserts_for, inserts_in, first_row, is_winner, candidates_of}
-use Rattle.convergence_laws.proofs.FormShapes.{form_at-named}
+use Rattle.rep_laws.proofs.FormShapes.{form_at-named}
 use Rattle.convergence_laws.proofs.Moves.{DecisionLaws}
 use Rattle.convergence_laws.proofs.Winners.{moved_by, IsJoin-moved_by}
-use Rattle.convergence_laws.proofs.ConvergentRows.{StandsAlone, StandsAlone-convergent, Leaves-insert, Leaves-update}
+use Rattle.rep_laws.proofs.ConvergentRows.{StandsAlone, StandsAlone-convergent, Leaves-insert, Leaves-update}
 use Rattle.convergence_laws.proofs.RowsCome.{parts_move, Came}
 use Rattle.convergence_laws.proofs.CallsCome.{is_row-same, is_row-elsewhere, failing_at-Ok, behind-Ok}
 use Rattle.excuse_laws.proofs.OneTimeWrites.{writes_in, writes_in-append}

@@ -9,13 +9,14 @@ use Rattle.rep_schema.specs.Putting.{after_changes}
 use Rattle.rep_calls.specs.declared.call.Txn.{Txn}
 use Rattle.txn_effects.specs.Calls.{Effect}
 use Rattle.txn_effects.specs.Contents.{Content, IsContent, effect_on, content_after}
-use Rattle.local_txn.specs.declared.local.Here.{Here}
-use Rattle.local_txn.specs.Locals.{local_effect}
+use Rattle.txn_effects.specs.declared.local.Here.{Here}
+use Rattle.txn_effects.specs.Locals.{local_effect}
 use Rattle.deferred_queue.specs.Streams.{at_position}
-use Rattle.site_state.specs.State.{SiteState, is_master_site, opened_of}
+use Rattle.site_state.specs.State.{SiteState, opened_of}
+use Rattle.rep_schema.specs.Sites.{is_master_site}
 use Rattle.site_state.specs.Contents.{content_of, tables_of, txn_of}
 use Rattle.site_state.specs.Streams.{with_one, queued_behind, stream_in, queue_of, stream_to}
-use Rattle.event_laws.specs.Cluster.{site_of}
+use Rattle.site_events.specs.Cluster.{site_of}
 use Rattle.event_laws.specs.Fitting.{FitsHere}
 use Rattle.convergence_laws.specs.Journals.{IsSoundTxn}
 use Rattle.excuse_laws.proofs.OneTimeWrites.{OneTimeWrite}

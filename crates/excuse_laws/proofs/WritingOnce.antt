@@ -6,21 +6,18 @@ use Rattle.std.proofs.lemmas.Bool.Decides.{eqb_tells}
 use Rattle.rep_values.specs.declared.name.SiteName.{SiteName}
 use Rattle.rep_schema.specs.declared.schema.Schema.{Schema}
 use Rattle.rep_calls.specs.declared.call.Txn.{Txn}
-use Rattle.deferred_queue.specs.Streams.{at_position, is_same_site}
+use Rattle.deferred_queue.specs.Streams.{at_position}
+use Rattle.rep_values.specs.SiteNames.{is_same_site}
 use Rattle.deferred_queue.proofs.Sites.{is_same_site-true, is_same_site-refl}
 use Rattle.site_state.specs.State.{SiteState, opened_of}
 use Rattle.site_state.specs.Journal.{finished, error_at}
 use Rattle.site_state.specs.Contents.{tables_of}
 use Rattle.site_state.specs.Streams.{queue_of, stream_in, stream_to, with_one}
-use Rattle.local_txn.specs.declared.local.Here.{Here}
-use Rattle.event_laws.specs.Cluster.{site_of}
+use Rattle.txn_effects.specs.declared.local.Here.{Here}
+use Rattle.site_events.specs.Cluster.{site_of}
 use Rattle.event_laws.proofs.Sites.{found_name, found_again}
 use Rattle.excuse_laws.proofs.OneTimeWrites.{OneTimeWrite, signs_of, signs_queued, queued_one, stream_few, position_few, two_positions_few, stream_one}
-
--- a site is linked as the schema says: a master not to itself, and a snapshot site to one site alone
-pub record IsLinked (x : SiteState) : Type 0 where
-  pub own : x.here.is_master ≡ true → opened_of x.here.site x ≡ None
-  pub one : x.here.is_master ≡ false → (a b : SiteName) → opened_of a x ≢ None → opened_of b x ≢ None → a ≡ b
+use Rattle.event_laws.proofs.LinkedSites.{IsLinked}
 
 -- a position is finished, and no error of it stands
 pub record HasPassed (origin : SiteName) (position : ℕ) (x : SiteState) : Type 0 where

@@ -15,18 +15,16 @@ use Rattle.conflict_detect.specs.Fits.{table_of}
 use Rattle.resolve_methods.specs.SequenceLaws.{group_number, move_of, sum_of_moves}
 use Rattle.txn_effects.specs.Calls.{key_named}
 use Rattle.txn_effects.specs.Transactions.{Failure}
-use Rattle.local_txn.specs.Convergent.{is_convergent}
+use Rattle.txn_effects.specs.Convergent.{is_convergent}
 use Rattle.error_queue.specs.declared.entry.ErrorEntry.{ErrorEntry}
 use Rattle.site_state.specs.declared.entry.Entry.{Entry}
 use Rattle.site_state.specs.declared.entry.Entry.TheVariants.{Local, Done, Error, Executed, Dropped, Refreshed}
 use Rattle.site_state.specs.State.{SiteState}
 use Rattle.site_state.specs.Journal.{error_at}
 use Rattle.site_state.specs.Errors.{effect_of_error}
-use Rattle.event_laws.specs.Cluster.{site_of}
-use Rattle.convergence_laws.specs.Beginning.{BaseRowsAreFilled}
 use Rattle.convergence_laws.specs.Collections.{Among}
 use Rattle.convergence_laws.specs.Faults.{parts_of, ChangesLatest}
-use Rattle.convergence_laws.specs.GroupForms.{form_at}
+use Rattle.rep_laws.specs.GroupForms.{form_at}
 use Rattle.convergence_laws.specs.Joins.{parts_in, inserts_in, applied_parts, applied_inserts, first_row}
 
 -- ---- each error of a site
@@ -128,14 +126,3 @@ abbrev pub NoKeyIsTaken : Schema → OfFailures
 NoKeyIsTaken schema behind number why txn = is_on_convergent schema txn ≡ true → FailsByRowTieOrRange schema number why txn
 
 -- ---- starts
-
--- a key that a master's base rows of a convergent table have is one that each master's have
-abbrev pub MastersShareKeys : Schema → List SiteState → Type 0
-MastersShareKeys schema sites = (site other : SiteName) (x y : SiteState) (table : ℕ) (key : Cells) → site_of site sites ≡ Some x → site_of other sites ≡ Some y
-    → x.here.is_master ≡ true → y.here.is_master ≡ true → is_convergent schema table ≡ true
-    → find_row (columns_of schema table) key (rows_of y.base table) ≡ None → find_row (columns_of schema table) key (rows_of x.base table) ≡ None
-
--- where masters begin: they share the keys of their base rows, and these are filled in as the first master would
-pub record KeysBeginAlike (schema : Schema) (sites : List SiteState) : Type 0 where
-  pub shared : MastersShareKeys schema sites
-  pub filled : BaseRowsAreFilled schema sites

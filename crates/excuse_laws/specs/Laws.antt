@@ -3,11 +3,12 @@ use Rattle.std.specs.Prelude.{◌≡◌, true, List, Some}
 use Rattle.rep_values.specs.declared.name.SiteName.{SiteName}
 use Rattle.rep_schema.specs.declared.schema.Schema.{Schema}
 use Rattle.site_state.specs.State.{SiteState}
-use Rattle.event_laws.specs.Cluster.{Cluster, site_of}
-use Rattle.event_laws.specs.Events.{Event, run}
+use Rattle.site_events.specs.Cluster.{Cluster, site_of}
+use Rattle.site_events.specs.Events.{Event, run}
 use Rattle.event_laws.specs.Fitting.{IsFitStart}
 use Rattle.event_laws.specs.Waiting.{SitesLinkAsDeclared}
-use Rattle.excuse_laws.specs.Excuses.{ErrorsAreSo, RefusalsAreSo, NoRowIsMissing, NoKeyIsTaken, IsExcusedOn, MastersShareKeys, KeysBeginAlike}
+use Rattle.excuse_laws.specs.Excuses.{ErrorsAreSo, RefusalsAreSo, NoRowIsMissing, NoKeyIsTaken, IsExcusedOn}
+use Rattle.event_laws.specs.Beginning.{MastersShareKeys, KeysBeginAlike}
 
 -- after every list of events, at each master: where an error says that there is no row of a convergent table, it was no base
 -- row, and no insert of it was applied there before; likewise where an execution is refused

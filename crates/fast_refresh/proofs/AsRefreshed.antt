@@ -11,7 +11,7 @@ use Rattle.rep_schema.specs.declared.change.Changes.{Changes}
 use Rattle.rep_schema.specs.Tables.{Cells, Rows, columns_of, key_of, find_row, rows_of, IsKeyed, IsTable, AreTables}
 use Rattle.rep_schema.specs.Putting.{StoreState}
 use Rattle.rep_schema.proofs.FoundRows.{key_of-found}
-use Rattle.site_state.specs.Notes.{key_changed}
+use Rattle.snapshot_log.specs.Noting.{key_changed}
 use Rattle.fast_refresh.specs.Showing.{has_key}
 use Rattle.fast_refresh.specs.Planned.{gone_keys, coming_rows, rows_left, rows_with, takings, puttings, CanCome}
 use Rattle.fast_refresh.specs.Refreshed.{ChangesARow, RefreshesTo}

@@ -12,7 +12,7 @@ use Rattle.rep_schema.specs.Changes.{LeadsTo, after_change, row_like, is_taken_f
 use Rattle.rep_schema.specs.Putting.{is_unchanged}
 use Rattle.rep_schema.proofs.FoundRows.{key_of-found, take_row-absent}
 use Rattle.rep_schema.proofs.Leading.{IsChange-take, made-take, IsChange-put, LeadsTo-append, room_for-append}
-use Rattle.site_state.specs.Notes.{key_changed, key_between}
+use Rattle.snapshot_log.specs.Noting.{key_changed, key_between}
 use Rattle.fast_refresh.specs.Planned.{gone_here, coming_here, gone_keys, coming_rows, rows_left, rows_with, taking, takings, puttings, CanCome}
 
 abbrev taken : ℕ → Cells → Change

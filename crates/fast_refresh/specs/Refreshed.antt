@@ -7,7 +7,7 @@ use Rattle.rep_schema.specs.declared.change.Changes.{Changes}
 use Rattle.rep_schema.specs.Tables.{Rows, columns_of, find_row, rows_of}
 use Rattle.rep_schema.specs.Changes.{LeadsTo, room_for}
 use Rattle.rep_schema.specs.Putting.{StoreState}
-use Rattle.site_state.specs.Notes.{key_changed}
+use Rattle.snapshot_log.specs.Noting.{key_changed}
 
 -- a change of a row that isn't what it was
 abbrev pub ChangesARow : Schema → List Rows → List Rows → Change → Type 0

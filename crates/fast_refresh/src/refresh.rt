@@ -2,7 +2,7 @@
 ghost use Rattle.std.specs.Prelude.{◌≡◌, ◌+◌, ◌*◌, ◌<◌, ◌≤◌, length, IfOk, OnOk, OnErr};
 ghost use Rattle.rep_schema.specs.Tables.{columns_of, rows_of, IsKeyed, IsTable};
 ghost use Rattle.snapshot_query.specs.Queries.{matches, query_rows};
-ghost use Rattle.site_state.specs.Refreshes.{renewed};
+ghost use Rattle.snapshot_log.specs.Noting.{renewed};
 ghost use Rattle.fast_refresh.specs.Showing.{ShowsOthers};
 ghost use Rattle.fast_refresh.specs.Refreshed.{RefreshesTo};
 

@@ -3,18 +3,19 @@ use Rattle.std.proofs.Common.{◌≡◌, List, [], ◌∷◌, Bool, true, false,
 use Rattle.std.specs.Prelude.{◌||◌, is_some}
 use Rattle.rep_values.specs.declared.name.SiteName.{SiteName}
 use Rattle.unique_resolve.specs.Numbers.{first_numbers}
-use Rattle.deferred_queue.specs.Streams.{is_same_site}
-use Rattle.local_txn.specs.declared.local.Here.{Here}
+use Rattle.rep_values.specs.SiteNames.{is_same_site}
+use Rattle.txn_effects.specs.declared.local.Here.{Here}
 use Rattle.site_state.specs.declared.entry.Entry.{Entry}
-use Rattle.site_state.specs.State.{SenderState, SiteState, is_among, sender_of, opened_of}
+use Rattle.site_state.specs.State.{SenderState, SiteState, sender_of, opened_of}
+use Rattle.rep_schema.specs.Sites.{is_among}
 use Rattle.site_state.specs.Contents.{journal_content, content_of}
 use Rattle.site_state.specs.Streams.{stream_in, stream_to}
 use Rattle.site_state.specs.Making.{master_here}
 use Rattle.site_state.specs.Joining.{site_copy}
 use Rattle.site_state.proofs.DeclaredSites.{origins}
-use Rattle.event_laws.specs.Joins.{queue_counts, copied}
+use Rattle.site_events.specs.Joins.{queue_counts, copied}
 use Rattle.event_laws.proofs.NewSites.{open_to_each_keeps, copied_is_new, copied_here}
-use Rattle.excuse_laws.proofs.Joining.{copied_queue}
+use Rattle.event_laws.proofs.JoinedSites.{copied_queue}
 use Rattle.join_laws.proofs.Openings.{stream_in-none}
 
 -- a name is that of a sender where one is found by it

@@ -5,22 +5,21 @@ use mathlib.Core.Bool.{true≢false}
 use Rattle.rep_values.specs.declared.name.SiteName.{SiteName}
 use Rattle.rep_schema.specs.declared.schema.Schema.{Schema}
 use Rattle.rep_schema.specs.Shape.{HasShape}
-use Rattle.rep_schema.specs.Sites.{senders_of}
-use Rattle.deferred_queue.specs.Streams.{is_same_site}
+use Rattle.rep_schema.specs.Sites.{senders_of, is_master_site, is_among, is_late_master}
+use Rattle.rep_values.specs.SiteNames.{is_same_site}
 use Rattle.deferred_queue.proofs.Sites.{is_same_site-true, is_same_site-refl}
 use Rattle.packet_code.specs.declared.packet.Packet.{Packet}
-use Rattle.site_state.specs.State.{SenderState, DestinationState, SiteState, is_master_site, is_among, sender_of, first_in, first_number, destination_of, opened_of, acked_of}
+use Rattle.site_state.specs.State.{SenderState, DestinationState, SiteState, sender_of, first_in, first_number, destination_of, opened_of, acked_of}
 use Rattle.site_state.specs.Streams.{queue_of, count_of, stream_in}
-use Rattle.site_state.specs.Making.{is_late_master}
 use Rattle.site_state.specs.Joining.{opened_at, site_open}
 use Rattle.site_state.specs.DeclaredSites.{IsDeclared}
 use Rattle.site_state.proofs.Growing.{queued_behind-none}
 use Rattle.site_state.proofs.Destinations.{acked_in-opened, opened_in-opened, opened_in-own}
 use Rattle.site_state.proofs.SchemaSites.{own_is_no_sender, late_has_masters}
 use Rattle.site_state.proofs.DeclaredSites.{open_names}
-use Rattle.event_laws.specs.Cluster.{Cluster, site_of}
-use Rattle.event_laws.specs.Joins.{copied, with_joined, may_join, joined_by, joined}
-use Rattle.event_laws.specs.Events.{Join, run}
+use Rattle.site_events.specs.Cluster.{Cluster, site_of}
+use Rattle.site_events.specs.Joins.{copied, with_joined, may_join, joined_by, joined}
+use Rattle.site_events.specs.Events.{Join, run}
 use Rattle.event_laws.specs.Marks.{acked_at, low_at}
 use Rattle.event_laws.specs.Waiting.{IsFirstNumber}
 use Rattle.event_laws.proofs.Sites.{found_or, site_of-joined, found_name, found_all}
@@ -28,10 +27,9 @@ use Rattle.event_laws.proofs.NewSites.{copied_is_new, copied_here}
 use Rattle.event_laws.proofs.DeclaredSites.{IsSiteOf, late_is_master, joins_late}
 use Rattle.event_laws.proofs.Meeting.{SiteMeets, MeetsAt}
 use Rattle.event_laws.proofs.Waiting.{AreMet, first_of_sender, run_met}
-use Rattle.agreement_laws.proofs.OpenMasters.{masters_send, masters_open}
-use Rattle.agreement_laws.proofs.SitesAt.{found_opened, found_joined, copied_base}
-use Rattle.excuse_laws.proofs.Linking.{linked_declared}
-use Rattle.excuse_laws.proofs.Joining.{copied_queue, copied_tables}
+use Rattle.event_laws.proofs.OpenMasters.{masters_send, masters_open}
+use Rattle.event_laws.proofs.JoinedSites.{found_opened, found_joined, copied_base, copied_queue, copied_tables}
+use Rattle.event_laws.proofs.LinkedSites.{linked_declared}
 use Rattle.join_laws.specs.Joined.{master_count, IsCopyOf, HasOpened, HasJoined, JoinsCopy, may_copy, OtherJoinsChangeNothing}
 use Rattle.join_laws.proofs.Openings.{destination_of-opened, at_destination-none, opened_from_some}
 use Rattle.join_laws.proofs.LateMasters.{open_to_late}

@@ -8,13 +8,12 @@ use Rattle.rep_schema.specs.declared.schema.Schema.{Schema}
 use Rattle.rep_schema.specs.declared.schema.SiteEntry.{SiteEntry}
 use Rattle.rep_schema.specs.Shape.{is_master, is_early_master, HasMaster, HasShape}
 use Rattle.rep_schema.specs.Named.{is_site, site_named}
-use Rattle.rep_schema.specs.Sites.{addresses}
+use Rattle.rep_schema.specs.Sites.{addresses, is_master_site, is_late_master}
 use Rattle.deferred_queue.proofs.Sites.{is_same_site-true}
-use Rattle.site_state.specs.State.{SiteState, is_master_site, opened_of}
-use Rattle.site_state.specs.Making.{is_late_master}
+use Rattle.site_state.specs.State.{SiteState, opened_of}
 use Rattle.site_state.specs.DeclaredSites.{IsDeclared}
 use Rattle.site_state.proofs.SchemaSites.{AreApart, are_apart, find_holds, found_any, any_found, place_found}
-use Rattle.excuse_laws.proofs.Linking.{SentTo, sent_to}
+use Rattle.event_laws.proofs.LinkedSites.{SentTo, sent_to}
 
 second : (b c : Bool) → (b && c) ≡ true → c ≡ true
 second true c is = is

@@ -4,7 +4,7 @@ use Rattle.std.specs.Prelude.{filter, Option, option_map}
 use Rattle.std.specs.List.{AllByRecursion}
 use Rattle.rep_values.specs.declared.name.SiteName.{SiteName}
 use Rattle.rep_schema.specs.declared.schema.SiteEntry.{SiteEntry}
-use Rattle.deferred_queue.specs.Streams.{is_same_site}
+use Rattle.rep_values.specs.SiteNames.{is_same_site}
 use Rattle.deferred_queue.proofs.Sites.{is_same_site-true, is_same_site-refl}
 use Rattle.packet_code.specs.declared.packet.Packet.{Packet}
 use Rattle.site_state.specs.State.{SiteState}
@@ -13,9 +13,9 @@ use Rattle.site_state.specs.Purges.{site_purge}
 use Rattle.site_state.specs.Joining.{site_open}
 use Rattle.site_state.proofs.SchemaSites as schema_sites
 use Rattle.site_state.proofs.Changing.{accept_later}
-use Rattle.event_laws.specs.Cluster.{site_of, at_site}
-use Rattle.event_laws.specs.Joins.{copied}
-use Rattle.event_laws.specs.Events.{receiver, run}
+use Rattle.site_events.specs.Cluster.{site_of, at_site}
+use Rattle.site_events.specs.Joins.{copied}
+use Rattle.site_events.specs.Events.{receiver, run}
 use Rattle.event_laws.proofs.Sites.{KeepsHere, at_split, found_or, site_of-joined}
 use Rattle.event_laws.proofs.Happening.{Becomes, here-IsRefreshed, run_keeps}
 use Rattle.event_laws.proofs.Happening as happening

@@ -12,8 +12,8 @@ use Rattle.site_state.specs.State.{SenderState, SiteState, sender_of, arrival_be
 use Rattle.site_state.specs.Streams.{stream_to, dep_at}
 use Rattle.site_state.specs.DeclaredSites.{IsDeclared}
 use Rattle.site_state.proofs.Stepping.{arrived_has}
-use Rattle.event_laws.specs.Cluster.{site_of}
-use Rattle.event_laws.specs.Events.{run}
+use Rattle.site_events.specs.Cluster.{site_of}
+use Rattle.site_events.specs.Events.{run}
 use Rattle.event_laws.specs.Waiting.{IsFirstNumber, AreFirsts, StreamsMeet}
 use Rattle.event_laws.proofs.RunInvariants.{SentBy, SiteHolds, HoldsAt}
 use Rattle.event_laws.proofs.MarkLaws.{arrived_was_sent}

@@ -13,10 +13,10 @@ use Rattle.site_state.specs.Pasts.{past_of}
 use Rattle.site_state.specs.Ready.{covered, first_ready}
 use Rattle.site_state.specs.Packets.{site_packet}
 use Rattle.site_state.proofs.WorkedSites.{a, b, d, named, master, late_master, additive, row, add, moved, of_calls}
-use Rattle.event_laws.specs.Cluster.{Cluster}
-use Rattle.event_laws.specs.Quiet.{unquiet_at, are_quiet}
-use Rattle.event_laws.specs.Joins.{queue_counts}
-use Rattle.event_laws.specs.Events.{Commit, Purge, Join}
+use Rattle.site_events.specs.Cluster.{Cluster}
+use Rattle.site_events.specs.Quiet.{unquiet_at, are_quiet}
+use Rattle.site_events.specs.Joins.{queue_counts}
+use Rattle.site_events.specs.Events.{Commit, Purge, Join}
 use Rattle.event_laws.proofs.WorkedRuns.{masters, then_run, carried, pushed, shown, journal_at, rows_at}
 use Rattle.join_laws.specs.Names.{SitesApart}
 use Rattle.join_laws.specs.Joined.{can_join}

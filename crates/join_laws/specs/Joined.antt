@@ -4,15 +4,16 @@ use Rattle.std.specs.List.{AllByRecursion}
 use Rattle.rep_values.specs.declared.name.SiteName.{SiteName}
 use Rattle.rep_schema.specs.declared.schema.Schema.{Schema}
 use Rattle.unique_resolve.specs.Numbers.{first_numbers}
-use Rattle.deferred_queue.specs.Streams.{is_same_site}
+use Rattle.rep_values.specs.SiteNames.{is_same_site}
 use Rattle.site_state.specs.State.{SenderState, DestinationState, SiteState, first_number, destination_of, opened_of, acked_of}
 use Rattle.site_state.specs.Contents.{content_of, tables_of}
 use Rattle.site_state.specs.Streams.{queue_of, count_of, stream_to}
-use Rattle.site_state.specs.Making.{is_late_master, master_here}
+use Rattle.site_state.specs.Making.{master_here}
+use Rattle.rep_schema.specs.Sites.{is_late_master}
 use Rattle.site_state.specs.DeclaredSites.{IsDeclared}
-use Rattle.event_laws.specs.Cluster.{Cluster, site_of}
-use Rattle.event_laws.specs.Joins.{may_join}
-use Rattle.event_laws.specs.Events.{Event, Join, happens, run}
+use Rattle.site_events.specs.Cluster.{Cluster, site_of}
+use Rattle.site_events.specs.Joins.{may_join}
+use Rattle.site_events.specs.Events.{Event, Join, happens, run}
 use Rattle.event_laws.specs.Starts.{IsStart}
 use Rattle.event_laws.specs.Waiting.{SitesLinkAsDeclared}
 

@@ -7,8 +7,8 @@ use Rattle.site_state.specs.declared.arrival.Arrival.{Arrival}
 use Rattle.site_state.specs.State.{SiteState, arrived_at, first_number}
 use Rattle.site_state.specs.Streams.{stream_to, dep_at}
 use Rattle.site_state.specs.Pasts.{pasts_of}
-use Rattle.event_laws.specs.Cluster.{Cluster, site_of}
-use Rattle.event_laws.specs.Events.{Event, run}
+use Rattle.site_events.specs.Cluster.{Cluster, site_of}
+use Rattle.site_events.specs.Events.{Event, run}
 use Rattle.event_laws.specs.Starts.{IsStart}
 use Rattle.event_laws.specs.Waiting.{SitesLinkAsDeclared}
 

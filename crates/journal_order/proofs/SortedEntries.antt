@@ -12,7 +12,7 @@ use Rattle.std.proofs.lemmas.List.Sorted.{IsPermutation-sym, IsPermutation-trans
 use Rattle.std.proofs.Math.Seq.{take-append_seam, drop-append_seam}
 use Rattle.rep_lists.specs.Rising.{IsRising}
 use Rattle.site_state.specs.declared.entry.Entry.{Entry}
-use Rattle.site_state.specs.Steps.{count_where}
+use Rattle.rep_lists.specs.Counting.{count_where}
 use Rattle.journal_order.specs.Sorting.{finish_position, entries_from, entries_before, by_finish_position, has_position, PositionsDiffer, IsSorted}
 use Rattle.journal_order.proofs.SortedJournals.{count_where-IsPermutation}
 

@@ -13,8 +13,9 @@ use Rattle.rep_schema.specs.declared.schema.Schema.{Schema}
 use Rattle.site_state.specs.declared.entry.Entry.{Entry}
 use Rattle.site_state.specs.declared.entry.Entry.TheVariants.{Local, Done, Error, Executed, Dropped, Refreshed}
 use Rattle.site_state.specs.Journal.{finishes}
-use Rattle.site_state.specs.Steps.{count_where}
-use Rattle.journal_order.specs.Sorting.{IsFinishOf, entries_from, entries_before, has_position, PositionsDiffer, CanBeSorted, IsSorted, IsFinishedOnce}
+use Rattle.rep_lists.specs.Counting.{count_where}
+use Rattle.journal_order.specs.Sorting.{IsFinishOf, entries_from, entries_before, has_position, PositionsDiffer, CanBeSorted, IsSorted}
+use Rattle.site_state.specs.Waited.{IsFinishedOnce}
 
 -- ---- what doesn't go by the order
 

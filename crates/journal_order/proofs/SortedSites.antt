@@ -14,7 +14,7 @@ use Rattle.rep_calls.specs.declared.call.Txn.{Txn}
 use Rattle.conflict_detect.specs.Fits.{TxnFits}
 use Rattle.unique_resolve.proofs.Settlements.{AreCounters-first}
 use Rattle.txn_effects.specs.Contents.{Content, IsContent}
-use Rattle.local_txn.specs.declared.local.Here.{Here}
+use Rattle.txn_effects.specs.declared.local.Here.{Here}
 use Rattle.rep_laws.specs.Commuting.{IsSound}
 use Rattle.rep_laws.proofs.ContentAfter.{IsContent-content_after}
 use Rattle.rep_laws.proofs.TransactionTouches.{transactions_touch}
@@ -23,7 +23,8 @@ use Rattle.error_queue.specs.declared.entry.ErrorEntry.{ErrorEntry}
 use Rattle.site_state.specs.declared.entry.Entry.{Entry}
 use Rattle.site_state.specs.declared.entry.Entry.TheVariants.{Local, Done, Error, Executed, Dropped, Refreshed}
 use Rattle.site_state.specs.declared.arrival.Arrival.{Arrival}
-use Rattle.site_state.specs.State.{SenderState, SiteState, is_master_site}
+use Rattle.site_state.specs.State.{SenderState, SiteState}
+use Rattle.rep_schema.specs.Sites.{is_master_site}
 use Rattle.site_state.specs.Journal.{is_position, finishes, finished, low_water, error_at}
 use Rattle.site_state.specs.Contents.{content_with, journal_content}
 use Rattle.site_state.specs.Streams.{went_onward, queue_after, shares}

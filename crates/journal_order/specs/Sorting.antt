@@ -13,14 +13,15 @@ use Rattle.rep_calls.specs.declared.call.Txn.{Txn}
 use Rattle.rep_laws.specs.Commuting.{IsSound}
 use Rattle.site_state.specs.declared.entry.Entry.{Entry}
 use Rattle.site_state.specs.declared.entry.Entry.TheVariants.{Local, Done, Error, Executed, Dropped, Refreshed}
-use Rattle.site_state.specs.State.{SiteState, is_master_site}
-use Rattle.site_state.specs.Journal.{finishes, finished, low_water, error_at}
+use Rattle.site_state.specs.State.{SiteState}
+use Rattle.rep_schema.specs.Sites.{is_master_site}
+use Rattle.site_state.specs.Journal.{finished, low_water, error_at}
 use Rattle.site_state.specs.Contents.{content_of}
 use Rattle.site_state.specs.Streams.{queue_of, shares}
 use Rattle.site_state.specs.Pasts.{past_of, pasts_of}
 use Rattle.site_state.specs.Errors.{errors_of}
 use Rattle.site_state.specs.Fits.{EntryHas, SiteFits}
-use Rattle.site_state.specs.Steps.{count_where}
+use Rattle.rep_lists.specs.Counting.{count_where}
 
 -- ---- entries from a place on
 
@@ -61,10 +62,6 @@ has_position position e = finish_position e == position
 -- no two entries have the same position
 abbrev pub PositionsDiffer : List Entry → Type 0
 PositionsDiffer entries = (position : ℕ) → count_where (has_position position) entries ≤ 1
-
--- a journal finishes each position of an origin at most once
-abbrev pub IsFinishedOnce : List Entry → Type 0
-IsFinishedOnce journal = (origin : SiteName) (position : ℕ) → count_where (finishes origin position) journal ≤ 1
 
 -- where the transactions of two entries share a token, the earlier one has the lower position
 abbrev pub StandsFirst : Schema → Entry → Entry → Type 0

@@ -12,7 +12,7 @@ use Rattle.rep_lists.specs.Rising.{IsRising, find_at, put_at, take_at, found_her
 use Rattle.rep_values.specs.declared.name.SiteName.{SiteName}
 use Rattle.rep_values.specs.declared.refusal.ApplyError.{ApplyError}
 use Rattle.rep_calls.specs.declared.call.Txn.{Txn}
-use Rattle.deferred_queue.specs.Streams.{is_same_site}
+use Rattle.rep_values.specs.SiteNames.{is_same_site}
 use Rattle.deferred_queue.proofs.Sites.{is_same_site-true, is_same_site-refl}
 use Rattle.error_queue.specs.declared.entry.ErrorEntry.{ErrorEntry}
 use Rattle.error_queue.specs.ErrorLists.{ErrorList, list_of, entries_in, errors_from, error_in, in_order, at_origin, added, removed}

@@ -1,7 +1,7 @@
 //! The inboxes of a site, one for each sender.
 ghost use Rattle.std.specs.Prelude.{◌≡◌, ℕ, map, slice_get, false, option_copied, IfOk};
 ghost use Rattle.std.specs.List.{position, AllByRecursion};
-ghost use Rattle.deferred_queue.specs.Streams.{is_same_site};
+ghost use Rattle.rep_values.specs.SiteNames.{is_same_site};
 ghost use Rattle.origin_marks.specs.Marks.{finished};
 ghost use Rattle.error_queue.specs.ErrorLists.{no_errors};
 ghost use Rattle.site_state.specs.Making.{new_sender};

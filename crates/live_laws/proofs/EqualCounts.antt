@@ -1,6 +1,6 @@
 -- Lists in which each thing stands as often are equally long.
 use Rattle.std.proofs.Common.{◌≡◌, suc, ◌+◌, ◌<◌, List, [], ◌∷◌, length, Bool, true, false, cond, refl, sym, ap, ◌∙◌, arith, subst}
-use Rattle.site_state.specs.Steps.{count_where}
+use Rattle.rep_lists.specs.Counting.{count_where}
 
 module _ {K : Type 0} (same : K → K → Bool) (own : (k : K) → same k k ≡ true) (alike : (k j : K) → same k j ≡ true → k ≡ j) where
   -- a list without the first place of a thing

@@ -4,7 +4,8 @@ use Rattle.std.specs.Prelude.{◌||◌}
 use Rattle.std.specs.Cmp.{both_ways}
 use Rattle.std.proofs.lemmas.Bool.{and_parts, true≢false}
 use Rattle.rep_values.specs.declared.name.SiteName.{SiteName}
-use Rattle.site_state.specs.State.{SiteState, is_among}
+use Rattle.site_state.specs.State.{SiteState}
+use Rattle.rep_schema.specs.Sites.{is_among}
 use Rattle.site_state.specs.Journal.{finished, is_position}
 use Rattle.site_state.specs.Ready.{is_ready}
 use Rattle.site_state.specs.Passes.{site_apply}

@@ -8,7 +8,8 @@ use Rattle.txn_effects.specs.Transactions.{Failure}
 use Rattle.site_state.specs.declared.entry.Entry.{Entry}
 use Rattle.site_state.specs.declared.entry.Entry.TheVariants.{Local, Done, Error, Executed, Dropped, Refreshed}
 use Rattle.site_state.specs.declared.arrival.Arrival.{Arrival}
-use Rattle.site_state.specs.State.{SiteState, is_among, arrived_at}
+use Rattle.site_state.specs.State.{SiteState, arrived_at}
+use Rattle.rep_schema.specs.Sites.{is_among}
 use Rattle.site_state.specs.Ready.{is_ready}
 use Rattle.site_state.specs.Steps.{onward_number}
 use Rattle.site_state.specs.Passes.{effect_here, finished_by, site_apply}

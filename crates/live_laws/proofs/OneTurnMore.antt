@@ -4,7 +4,8 @@ use Rattle.std.specs.Prelude.{is_some}
 use Rattle.std.specs.List.{range_with_len}
 use Rattle.std.proofs.lemmas.Bool.Decides.{nat_tests}
 use Rattle.rep_values.specs.declared.name.SiteName.{SiteName}
-use Rattle.site_state.specs.State.{SiteState, is_among}
+use Rattle.site_state.specs.State.{SiteState}
+use Rattle.rep_schema.specs.Sites.{is_among}
 use Rattle.site_state.specs.Ready.{is_ready}
 use Rattle.live_laws.specs.declared.turn.LiveTurn.{LiveTurn}
 use Rattle.live_laws.specs.declared.turn.Session.{Session}

@@ -6,7 +6,8 @@ use Rattle.std.specs.Prelude.{flat_map}
 use Rattle.std.proofs.lemmas.Bool.{and_parts}
 use Rattle.std.proofs.lemmas.List.{append_cancel_left, length-map}
 use Rattle.rep_values.specs.declared.name.SiteName.{SiteName}
-use Rattle.site_state.specs.State.{SenderState, SiteState, is_among, arrived_at}
+use Rattle.site_state.specs.State.{SenderState, SiteState, arrived_at}
+use Rattle.rep_schema.specs.Sites.{is_among}
 use Rattle.site_state.specs.Ready.{is_ready}
 use Rattle.event_laws.proofs.MasterArrivals.{ready_at}
 use Rattle.live_laws.specs.declared.turn.LiveTurn.{LiveTurn}

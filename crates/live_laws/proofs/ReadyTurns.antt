@@ -4,15 +4,16 @@ use Rattle.std.specs.Prelude.{◌||◌, ◌&&◌, ◌⊎◌, not}
 use Rattle.std.specs.List.{list_any}
 use Rattle.std.proofs.lemmas.Bool.{or_left, true≢false}
 use Rattle.rep_values.specs.declared.name.SiteName.{SiteName}
-use Rattle.deferred_queue.specs.Streams.{is_same_site}
+use Rattle.rep_values.specs.SiteNames.{is_same_site}
 use Rattle.deferred_queue.proofs.Sites.{is_same_site-true, is_same_site-refl}
 use Rattle.site_state.specs.declared.arrival.Arrival.{Arrival}
-use Rattle.site_state.specs.State.{SenderState, SiteState, is_among, arrivals}
+use Rattle.site_state.specs.State.{SenderState, SiteState, arrivals}
+use Rattle.rep_schema.specs.Sites.{is_among}
 use Rattle.site_state.specs.Journal.{finished, is_position}
 use Rattle.site_state.specs.Ready.{is_ready}
 use Rattle.site_state.specs.Passes.{site_apply}
 use Rattle.site_state.proofs.Stepping.{apply_steps, arrived_has}
-use Rattle.event_laws.proofs.ErrorLaws.{is_position-own}
+use Rattle.site_state.proofs.Waited.{is_position-own}
 use Rattle.event_laws.proofs.MasterArrivals.{IsReadyAt, ready_at}
 use Rattle.event_laws.proofs.WaitingCounts.{waiting_count, steps_finish_more, is_new, waiting_less, found_any}
 use Rattle.live_laws.specs.declared.turn.LiveTurn.{LiveTurn}

@@ -7,13 +7,14 @@ use Rattle.std.proofs.lemmas.Bool.Decides.{nat_tests}
 use Rattle.std.proofs.lemmas.List.{length-map}
 use Rattle.rep_values.specs.declared.name.SiteName.{SiteName}
 use Rattle.deferred_queue.proofs.Sites.{eq_true}
-use Rattle.site_state.specs.State.{SiteState, is_among}
+use Rattle.site_state.specs.State.{SiteState}
+use Rattle.rep_schema.specs.Sites.{is_among}
 use Rattle.site_state.specs.Journal.{finished, is_position}
 use Rattle.site_state.specs.Ready.{is_ready}
-use Rattle.site_state.specs.Steps.{count_where}
+use Rattle.rep_lists.specs.Counting.{count_where}
 use Rattle.site_state.specs.Passes.{site_apply}
 use Rattle.site_state.proofs.Stepping.{is_position-true}
-use Rattle.event_laws.proofs.ErrorLaws.{is_position-own}
+use Rattle.site_state.proofs.Waited.{is_position-own}
 use Rattle.event_laws.proofs.MasterArrivals.{ready_at}
 use Rattle.live_laws.specs.declared.turn.LiveTurn.{LiveTurn}
 use Rattle.live_laws.specs.declared.turn.LiveTurn.TheVariants.{Applied, Committed}

@@ -2,13 +2,14 @@
 use Rattle.std.proofs.Common.{◌≡◌, List, [], ◌∷◌, Bool, true, false, Some, None, refl, sym, ap, ◌∙◌}
 use Rattle.std.specs.Prelude.{◌||◌, not, Option}
 use Rattle.rep_values.specs.declared.name.SiteName.{SiteName}
-use Rattle.site_state.specs.State.{SiteState, is_among}
+use Rattle.site_state.specs.State.{SiteState}
+use Rattle.rep_schema.specs.Sites.{is_among}
 use Rattle.site_state.specs.Passes.{site_apply}
 use Rattle.site_state.specs.Commits.{site_commit}
 use Rattle.deferred_queue.proofs.Sites.{is_same_site-refl}
 use Rattle.site_state.specs.Steps.{begun}
-use Rattle.event_laws.specs.Cluster.{Cluster, site_of, at_site}
-use Rattle.event_laws.specs.Events.{Begin, applied_where, is_master_in, happens, run}
+use Rattle.site_events.specs.Cluster.{Cluster, site_of, at_site}
+use Rattle.site_events.specs.Events.{Begin, applied_where, is_master_in, happens, run}
 use Rattle.event_laws.proofs.Sites.{at_same, at_twice}
 use Rattle.event_laws.proofs.Runs.{run-append}
 use Rattle.live_laws.specs.declared.turn.LiveTurn.{LiveTurn}

@@ -12,7 +12,8 @@ use Rattle.std.specs.Int.Digits.{digits_of}
 use Rattle.rep_values.specs.declared.name.SiteName.{SiteName}
 use Rattle.rep_values.specs.Bytes.{is_letter}
 use Rattle.rep_values.specs.Name.{is_name_byte, is_name}
-use Rattle.site_state.specs.State.{SiteState, is_among, arrived_at}
+use Rattle.site_state.specs.State.{SiteState, arrived_at}
+use Rattle.rep_schema.specs.Sites.{is_among}
 use Rattle.deferred_queue.proofs.Sites.{eq_true}
 use Rattle.live_laws.specs.declared.turn.LiveTurn.{LiveTurn}
 use Rattle.live_laws.specs.declared.turn.LiveTurn.TheVariants.{Applied, Committed}

@@ -3,7 +3,8 @@ use Rattle.std.specs.Prelude.{◌≡◌, ◌≢◌, ◌⊎◌, ℕ, ◌<◌, ◌
 use Rattle.rep_values.specs.declared.name.SiteName.{SiteName}
 use Rattle.rep_values.specs.declared.refusal.ApplyError.{ApplyError}
 use Rattle.rep_values.specs.Name.{is_name}
-use Rattle.site_state.specs.State.{SiteState, is_among, arrived_at}
+use Rattle.site_state.specs.State.{SiteState, arrived_at}
+use Rattle.rep_schema.specs.Sites.{is_among}
 use Rattle.live_laws.specs.declared.turn.LiveTurn.{LiveTurn}
 use Rattle.live_laws.specs.declared.turn.LiveTurn.TheVariants.{Applied, Committed}
 use Rattle.live_laws.specs.declared.turn.Session.{Session}

@@ -5,8 +5,8 @@ use Rattle.rep_schema.specs.declared.schema.Schema.{Schema}
 use Rattle.site_state.specs.declared.arrival.Arrival.{Arrival}
 use Rattle.site_state.specs.State.{SiteState, arrived_at, first_number}
 use Rattle.site_state.specs.Fits.{FinishedHaveArrived}
-use Rattle.event_laws.specs.Cluster.{Cluster, site_of}
-use Rattle.event_laws.specs.Events.{Event, run}
+use Rattle.site_events.specs.Cluster.{Cluster, site_of}
+use Rattle.site_events.specs.Events.{Event, run}
 use Rattle.event_laws.specs.Starts.{IsStart}
 use Rattle.event_laws.specs.Waiting.{SitesLinkAsDeclared}
 

@@ -4,19 +4,21 @@ use Rattle.std.specs.List.{list_any}
 use Rattle.rep_values.specs.declared.name.SiteName.{SiteName}
 use Rattle.rep_calls.specs.declared.call.Txn.{Txn}
 use Rattle.rep_calls.specs.declared.statement.Statement.{Statement}
-use Rattle.local_txn.specs.Locals.{BlockEffect}
+use Rattle.txn_effects.specs.Locals.{BlockEffect}
 use Rattle.site_state.specs.declared.entry.Entry.{Entry}
 use Rattle.site_state.specs.declared.entry.Entry.TheVariants.{Local, Done, Error}
 use Rattle.site_state.specs.declared.arrival.Arrival.{Arrival}
-use Rattle.site_state.specs.State.{SiteState, is_among, is_master_site, arrived_at, arrivals}
+use Rattle.site_state.specs.State.{SiteState, arrived_at, arrivals}
+use Rattle.rep_schema.specs.Sites.{is_among, is_master_site}
 use Rattle.site_state.specs.Journal.{is_position, finished}
 use Rattle.site_state.specs.Streams.{shares}
-use Rattle.site_state.specs.Steps.{begun, count_where}
+use Rattle.site_state.specs.Steps.{begun}
+use Rattle.rep_lists.specs.Counting.{count_where}
 use Rattle.site_state.specs.Commits.{block_at}
 use Rattle.site_state.specs.Contents.{txn_of}
-use Rattle.event_laws.specs.Cluster.{Cluster, at_site}
-use Rattle.event_laws.specs.Events.{Event, Commit, Apply, Begin, run}
-use Rattle.journal_order.specs.Waited.{IsWellNumbered}
+use Rattle.site_events.specs.Cluster.{Cluster, at_site}
+use Rattle.site_events.specs.Events.{Event, Commit, Apply, Begin, run}
+use Rattle.site_state.specs.Waited.{IsWellNumbered}
 use Rattle.live_laws.specs.declared.turn.Reply.TheVariants as reply
 use Rattle.live_laws.specs.declared.turn.LiveTurn.{LiveTurn}
 use Rattle.live_laws.specs.declared.turn.LiveTurn.TheVariants.{Applied, Committed}

@@ -4,9 +4,10 @@ use Rattle.std.specs.List.{range_with_len}
 use Rattle.rep_values.specs.declared.name.SiteName.{SiteName}
 use Rattle.txn_effects.specs.Calls.{Effect}
 use Rattle.txn_effects.specs.Transactions.{Failure}
-use Rattle.local_txn.specs.declared.local.LocalStop.{LocalStop}
+use Rattle.txn_effects.specs.declared.local.LocalStop.{LocalStop}
 use Rattle.site_state.specs.declared.arrival.Arrival.{Arrival}
-use Rattle.site_state.specs.State.{SiteState, is_among, arrived_at}
+use Rattle.site_state.specs.State.{SiteState, arrived_at}
+use Rattle.rep_schema.specs.Sites.{is_among}
 use Rattle.site_state.specs.Ready.{is_ready}
 use Rattle.site_state.specs.Passes.{effect_here, site_apply}
 use Rattle.site_state.specs.Commits.{site_commit, commit_answer}

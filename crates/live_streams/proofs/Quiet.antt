@@ -6,10 +6,11 @@ use Rattle.std.proofs.lemmas.Bool.{or_left, or_right}
 use Rattle.std.proofs.lemmas.Bool.Decides.{nat_tests}
 use Rattle.std.proofs.lemmas.Option.{slice_get-get_or}
 use Rattle.rep_values.specs.declared.name.SiteName.{SiteName}
-use Rattle.deferred_queue.specs.Streams.{is_same_site}
+use Rattle.rep_values.specs.SiteNames.{is_same_site}
 use Rattle.deferred_queue.proofs.Sites.{is_same_site-true, is_same_site-refl}
 use Rattle.site_state.specs.declared.arrival.Arrival.{Arrival}
-use Rattle.site_state.specs.State.{SiteState, is_among, arrivals}
+use Rattle.site_state.specs.State.{SiteState, arrivals}
+use Rattle.rep_schema.specs.Sites.{is_among}
 use Rattle.site_state.specs.Ready.{is_ready, first_ready, first_ready_in}
 use Rattle.live_laws.specs.Turns.{NothingReadyOf}
 use Rattle.live_laws.proofs.ReadyTurns.{nothing_ready_of}

@@ -10,7 +10,7 @@ ghost use Rattle.live_streams.specs.Newest.{turn_of};
 ghost use Rattle.live_streams.specs.Quiet.{OriginIsQuiet};
 
 use live_laws::{Block, LiveTurn, Reply};
-use local_txn::LocalStop;
+use txn_effects::LocalStop;
 use rep_lists::NoMemory;
 use rep_schema::RowStore;
 use rep_values::{Refusal, SiteName};

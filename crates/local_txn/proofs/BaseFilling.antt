@@ -16,9 +16,9 @@ use Rattle.rep_schema.specs.Tables.{Cells, Rows, columns_of, constraint_columns_
 use Rattle.rep_schema.specs.Kinds.{is_filled, is_stamp, value_in_range, row_in_range}
 use Rattle.rep_schema.proofs.SameValues.{row_beside-own}
 use Rattle.rep_schema.proofs.TableSteps.{IsUniqueRow-take}
-use Rattle.local_txn.specs.Filled.{Filling, filled_from, filled_row, everywhere}
+use Rattle.txn_effects.specs.Filled.{Filling, filled_from, filled_row, everywhere}
 use Rattle.local_txn.specs.BaseRows.{IsNotFilled, FillsFreely}
-use Rattle.local_txn.proofs.KindRows.{length-are_of, RowFits-are_of, are_of-RowFits, are_of-filled_from, key_of-filled_from}
+use Rattle.txn_effects.proofs.KindRows.{length-are_of, RowFits-are_of, are_of-RowFits, are_of-filled_from, key_of-filled_from}
 
 -- of the value at a place holds what holds of each
 pub each_there : {X : Type 0} (P : X → Type 0) (xs : List X) (i : ℕ) (x : X) → AllByRecursion P xs → slice_get xs i ≡ Some x → P x

@@ -11,15 +11,15 @@ use Rattle.rep_schema.specs.declared.schema.Column.{Column}
 use Rattle.rep_schema.specs.Shape.{HasShape}
 use Rattle.rep_schema.specs.Tables.{Cells, Rows, columns_of, key_of, key_count, IsKeyed, AreTables}
 use Rattle.rep_schema.specs.Fitting.{is_keyed}
-use Rattle.local_txn.specs.Literals.{literals_fit}
-use Rattle.local_txn.specs.Filled.{written_columns}
-use Rattle.local_txn.specs.Statements.{row_at, row_steps}
+use Rattle.txn_effects.specs.Literals.{literals_fit}
+use Rattle.txn_effects.specs.Filled.{written_columns}
+use Rattle.txn_effects.specs.Statements.{row_at, row_steps}
 use Rattle.local_txn.specs.BaseRows.{base_row, base_steps}
 use Rattle.local_txn.specs.BaseSteps.{IsBaseRow}
-use Rattle.local_txn.specs.Running.{CanRun, FitsButForRange}
-use Rattle.local_txn.proofs.KindRows.{are_of-row_written}
-use Rattle.local_txn.proofs.NewRows.{accepted_row, RowFits-accepted, IsUniqueRow-accepted}
-use Rattle.local_txn.proofs.StatementRows.{FitsButForRange-are_of}
+use Rattle.txn_effects.specs.NewRows.{CanRun, FitsButForRange}
+use Rattle.txn_effects.proofs.KindRows.{are_of-row_written}
+use Rattle.txn_effects.proofs.NewRows.{accepted_row, RowFits-accepted, IsUniqueRow-accepted}
+use Rattle.txn_effects.proofs.StatementRows.{FitsButForRange-are_of}
 use Rattle.local_txn.proofs.StatementSteps.{length-literals_fit, IsRowLen-able}
 
 module _ (schema : Schema) (tables : List Rows) (table : ℕ) (values : List Literal) where

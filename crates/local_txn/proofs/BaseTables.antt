@@ -9,10 +9,10 @@ use Rattle.rep_schema.specs.declared.schema.Schema.{Schema}
 use Rattle.rep_schema.specs.declared.schema.Column.{Column}
 use Rattle.rep_schema.specs.Tables.{Rows, columns_of, rows_of, RowFits}
 use Rattle.rep_schema.specs.Kinds.{is_filled}
-use Rattle.local_txn.specs.Filled.{Filling, filled_row, everywhere}
+use Rattle.txn_effects.specs.Filled.{Filling, filled_row, everywhere}
 use Rattle.local_txn.specs.BaseRows.{filled_tables, filled_on}
 use Rattle.local_txn.specs.BaseSteps.{fill_count}
-use Rattle.local_txn.proofs.KindRows.{length-are_of, are_of-RowFits}
+use Rattle.txn_effects.proofs.KindRows.{length-are_of, are_of-RowFits}
 use Rattle.local_txn.proofs.FilledRows.{filled_from-none}
 
 -- a list is as long where its first values are changed

@@ -10,7 +10,7 @@ use Rattle.rep_schema.specs.declared.schema.Column.{Column}
 use Rattle.rep_schema.specs.declared.schema.Constraint.{Constraint}
 use Rattle.rep_schema.specs.Tables.{Cells, Rows, columns_of, constraints_of, constraint_columns_of, rows_of, key_of, key_count}
 use Rattle.unique_resolve.specs.Settling.{is_held}
-use Rattle.local_txn.specs.Statements.{taken_step}
+use Rattle.txn_effects.specs.Statements.{taken_step}
 
 -- a key has a value for each key column of a row that is long enough
 pub length-key_of_long : (columns : List Column) (row : Cells) → length columns ≡ length row → length (key_of columns row) ≡ key_count columns

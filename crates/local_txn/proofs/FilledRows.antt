@@ -16,8 +16,8 @@ use Rattle.rep_schema.specs.declared.schema.Column.{Column}
 use Rattle.rep_schema.specs.Tables.{Cells}
 use Rattle.rep_schema.specs.Kinds.{is_filled, is_stamp, is_site_kind, has_place}
 use Rattle.rep_schema.specs.Groups.{groups_of, shadow_group, differ_in, group_numbers_of, group_columns_of}
-use Rattle.local_txn.specs.Filled.{Filling, filling_value, value_filled, filled_from, is_modified, above_value, bound_by, bound_from, has_stamp_from, made_with}
-use Rattle.local_txn.specs.Chosen.{chosen_at, is_modified_in}
+use Rattle.txn_effects.specs.Filled.{Filling, filling_value, value_filled, filled_from, is_modified, above_value, bound_by, bound_from, has_stamp_from, made_with}
+use Rattle.txn_effects.specs.Chosen.{chosen_at, is_modified_in}
 use Rattle.local_txn.proofs.SetWalk.{get_or_same}
 
 -- the greater of two numbers, as the order of numbers tells it

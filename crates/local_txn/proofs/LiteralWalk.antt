@@ -9,8 +9,8 @@ use Rattle.rep_schema.specs.declared.schema.Schema.{Schema}
 use Rattle.rep_schema.specs.declared.schema.Column.{Column}
 use Rattle.rep_schema.specs.Kinds.{is_filled}
 use Rattle.rep_schema.proofs.ValuesAt.{slice_get-drop}
-use Rattle.local_txn.specs.Filled.{written_columns, with_written, row_written}
-use Rattle.local_txn.specs.Literals.{literal_there, literals_fit, values_of}
+use Rattle.txn_effects.specs.Filled.{written_columns, with_written, row_written}
+use Rattle.txn_effects.specs.Literals.{literal_there, literals_fit, values_of}
 
 -- behind its end a list has nothing
 nothing_left : (literals : List Literal) (read : ℕ) → slice_get literals read ≡ None → drop read literals ≡ []

@@ -10,7 +10,7 @@ use Rattle.rep_values.specs.Name.{same_bytes}
 use Rattle.rep_schema.specs.declared.schema.Column.{Column}
 use Rattle.rep_schema.specs.Named.{is_column}
 use Rattle.rep_calls.specs.declared.statement.Set.{Set}
-use Rattle.local_txn.specs.Sets.{names_columns, is_about, names_one_twice}
+use Rattle.txn_effects.specs.Sets.{names_columns, is_about, names_one_twice}
 use Rattle.local_txn.proofs.NamedSets.{same_bytes-Decides, same_bytes-turned}
 
 -- the names that sets name

@@ -15,13 +15,13 @@ use Rattle.rep_schema.specs.Groups.{group_columns_of, group_values, group_number
 use Rattle.rep_schema.proofs.ValuesAt.{picked-values_at, are_same-Decides}
 use Rattle.rep_schema.proofs.Coverage.{group_columns_of-below}
 use Rattle.rep_calls.specs.declared.statement.Set.{Set}
-use Rattle.local_txn.specs.Sets.{is_about, value_by, sets_filled, row_with, sets_by_column}
-use Rattle.local_txn.specs.ByColumn.{fills_some}
-use Rattle.local_txn.specs.Filled.{Filling, filling_value, value_filled, filled_from, is_modified}
+use Rattle.txn_effects.specs.Sets.{is_about, value_by, sets_filled, row_with, sets_by_column}
+use Rattle.txn_effects.specs.ByColumn.{fills_some}
+use Rattle.txn_effects.specs.Filled.{Filling, filling_value, value_filled, filled_from, is_modified}
 use Rattle.txn_effects.proofs.OwnParts.{found_at}
 use Rattle.local_txn.proofs.NamedSets.{fills_some-sets}
 use Rattle.local_txn.proofs.ApartGroups.{group_columns_of-apart}
-use Rattle.local_txn.proofs.KindRows.{length-filled_from}
+use Rattle.txn_effects.proofs.KindRows.{length-filled_from}
 
 -- the value at a place of a row with columns filled in
 pub slice_get-filled_from : (filling : Filling) (chosen : ℕ → Bool) (n : ℕ) (columns : List Column) (row : Cells) (k : ℕ) (c : Column) → length columns ≡ length row → slice_get columns k ≡ Some c

@@ -18,8 +18,8 @@ use Rattle.rep_schema.specs.Shape.{AreDistinct}
 use Rattle.rep_schema.specs.Named.{is_column}
 use Rattle.rep_schema.specs.Kinds.{is_filled}
 use Rattle.rep_calls.specs.declared.statement.Set.{Set}
-use Rattle.local_txn.specs.Sets.{names_columns, is_about, names_one_twice, sets_filled, sets_by_column}
-use Rattle.local_txn.specs.ByColumn.{set_of, set_at, fills_some}
+use Rattle.txn_effects.specs.Sets.{names_columns, is_about, names_one_twice, sets_filled, sets_by_column}
+use Rattle.txn_effects.specs.ByColumn.{set_of, set_at, fills_some}
 
 pub same_bytes-Decides : (a b : List ℕ) → Decides (same_bytes a b) (a ≡ b)
 same_bytes-Decides a b = slice_eq-Decides unsigned_Decides a b (same_bytes a b) refl

@@ -24,23 +24,23 @@ use Rattle.rep_schema.proofs.ValuesAt.{are_same-Decides}
 use Rattle.rep_calls.specs.declared.statement.Statement.{Statement}
 use Rattle.rep_calls.specs.declared.statement.Statement.TheVariants.{Insert, Update, Delete}
 use Rattle.rep_calls.specs.declared.statement.Set.{Set}
-use Rattle.local_txn.specs.declared.local.Here.{Here}
-use Rattle.local_txn.specs.declared.local.Stamps.{Stamps}
-use Rattle.local_txn.specs.declared.local.LocalStop.{LocalStop}
-use Rattle.local_txn.specs.Held.{statement_table, held_table}
-use Rattle.local_txn.specs.Literals.{values_of}
-use Rattle.local_txn.specs.Sets.{sets_filled, row_with}
-use Rattle.local_txn.specs.Filled.{Filling, RowMade, everywhere, is_modified, bound_from, has_stamp_from, next_stamp, row_written}
-use Rattle.local_txn.specs.Statements.{BlockState, row_at, insert_made, update_made, outcome_in, outcome_changes, steps_in, statement_refusal, statement_changes, block_state_after}
-use Rattle.local_txn.specs.Locals.{BlockEffect, unless_refused, block_effect_behind, statements_effect, block_beginning, local_effect, most_statements, stop_at}
+use Rattle.txn_effects.specs.declared.local.Here.{Here}
+use Rattle.txn_effects.specs.declared.local.Stamps.{Stamps}
+use Rattle.txn_effects.specs.declared.local.LocalStop.{LocalStop}
+use Rattle.txn_effects.specs.Held.{statement_table, held_table}
+use Rattle.txn_effects.specs.Literals.{values_of}
+use Rattle.txn_effects.specs.Sets.{sets_filled, row_with}
+use Rattle.txn_effects.specs.Filled.{Filling, RowMade, everywhere, is_modified, bound_from, has_stamp_from, next_stamp, row_written}
+use Rattle.txn_effects.specs.Statements.{BlockState, row_at, insert_made, update_made, outcome_in, outcome_changes, steps_in, statement_refusal, statement_changes, block_state_after}
+use Rattle.txn_effects.specs.Locals.{BlockEffect, unless_refused, block_effect_behind, statements_effect, block_beginning, local_effect, most_statements, stop_at}
 use Rattle.local_txn.specs.Laws.{gives_stamp, StampsRise, GivesStamps}
 use Rattle.local_txn.proofs.FilledRows.{has_stamp_from-same, bound_from-same}
-use Rattle.local_txn.proofs.KindRows.{length-are_of, are_of-row_written}
+use Rattle.txn_effects.proofs.KindRows.{length-are_of, are_of-row_written}
 use Rattle.local_txn.proofs.ModifiedRows.{filled_at, is_modified-made, is_modified-none, length-row_with}
-use Rattle.local_txn.proofs.NewRows.{RowFits-accepted, IsUniqueRow-accepted}
-use Rattle.local_txn.proofs.StatementRows.{IsNew, insert_passes, update_passes, before_fits, update_new}
-use Rattle.local_txn.proofs.StatementEffects.{place-held, refusal-held, changes-held, standing-held}
-use Rattle.local_txn.proofs.BlockSteps.{place_within}
+use Rattle.txn_effects.proofs.NewRows.{RowFits-accepted, IsUniqueRow-accepted}
+use Rattle.txn_effects.proofs.StatementRows.{IsNew, insert_passes, update_passes, before_fits, update_new}
+use Rattle.txn_effects.proofs.StatementEffects.{place-held, refusal-held, changes-held, standing-held}
+use Rattle.txn_effects.proofs.StatementsApplied.{place_within}
 
 -- stamps that rise, and then go on rising
 pub StampsRise-append : (schema : Schema) (site : SiteName) (low mid high : ℕ) (changes others : List Change) → StampsRise schema site low mid changes → StampsRise schema site mid high others → StampsRise schema site low high (changes ++ others)

@@ -19,8 +19,8 @@ use Rattle.rep_schema.specs.Tables.{Cells, cell_cmp}
 use Rattle.rep_schema.specs.Kinds.{is_filled, value_in_range, row_in_range}
 use Rattle.rep_schema.proofs.ValuesAt.{slice_get-drop}
 use Rattle.rep_calls.specs.declared.statement.Set.{Set}
-use Rattle.local_txn.specs.Sets.{is_about, takes_set, value_by, row_with, sets_by_column}
-use Rattle.local_txn.specs.ByColumn.{set_in, set_at, takes_each, fills_some, row_by, where_in_range}
+use Rattle.txn_effects.specs.Sets.{is_about, takes_set, value_by, row_with, sets_by_column}
+use Rattle.txn_effects.specs.ByColumn.{set_in, set_at, takes_each, fills_some, row_by, where_in_range}
 
 drop-one : {X : Type 0} (xs : List X) (i : ℕ) → drop 1 (drop i xs) ≡ drop (i + 1) xs
 drop-one [] zero = refl

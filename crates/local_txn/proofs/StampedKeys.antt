@@ -13,15 +13,15 @@ use Rattle.rep_schema.specs.declared.schema.Column.{Column}
 use Rattle.rep_schema.specs.Tables.{Cells, Rows, columns_of, key_of, rows_of, RowFits, IsTable}
 use Rattle.rep_schema.specs.Kinds.{is_stamp, is_filled, value_in_range, row_in_range}
 use Rattle.rep_schema.proofs.FoundRows.{found_row, key_of-found}
-use Rattle.local_txn.specs.declared.local.Here.{Here}
-use Rattle.local_txn.specs.Filled.{filled_from, everywhere, next_stamp, inserted}
+use Rattle.txn_effects.specs.declared.local.Here.{Here}
+use Rattle.txn_effects.specs.Filled.{filled_from, everywhere, next_stamp, inserted}
 use Rattle.txn_effects.specs.Stamps.{first_outside, capped}
-use Rattle.local_txn.specs.Convergent.{is_convergent, barred, begins_with}
-use Rattle.local_txn.specs.Statements.{BlockState, row_at, row_steps, new_row_steps}
+use Rattle.txn_effects.specs.Convergent.{is_convergent, barred, begins_with}
+use Rattle.txn_effects.specs.Statements.{BlockState, row_at, row_steps, new_row_steps}
 use Rattle.local_txn.specs.Running.{inserted_capped}
-use Rattle.local_txn.proofs.KindRows.{are_of-RowFits}
+use Rattle.txn_effects.proofs.KindRows.{are_of-RowFits}
 use Rattle.local_txn.proofs.StampedRows.{outside, filling, row_in_range-capped, made_with-capped}
-use Rattle.local_txn.proofs.NewRows.{row_steps-out}
+use Rattle.txn_effects.proofs.NewRows.{row_steps-out}
 
 -- the numbers of a row's key are in range where the row's are
 in_range-key_of : (columns : List Column) (row : Cells) → row_in_range row ≡ true → row_in_range (key_of columns row) ≡ true

@@ -7,7 +7,7 @@ use Rattle.rep_values.specs.declared.value.Value.TheVariants.{Num, Words}
 use Rattle.rep_schema.specs.declared.schema.Column.{Column}
 use Rattle.rep_schema.specs.Tables.{Cells}
 use Rattle.rep_schema.specs.Kinds.{is_stamp, is_site_kind, is_filled, value_in_range, row_in_range}
-use Rattle.local_txn.specs.Filled.{Filling, filled_from, has_stamp_from, made_with}
+use Rattle.txn_effects.specs.Filled.{Filling, filled_from, has_stamp_from, made_with}
 use Rattle.txn_effects.specs.Stamps.{first_outside, capped}
 
 -- a number above the greatest one

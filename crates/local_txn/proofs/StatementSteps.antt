@@ -25,26 +25,27 @@ use Rattle.rep_schema.proofs.Shapes.{length-columns_of}
 use Rattle.rep_calls.specs.declared.statement.Set.{Set}
 use Rattle.txn_effects.specs.Calls.{KeysStandAlone}
 use Rattle.local_txn.specs.declared.progress.BlockProgress.{BlockProgress}
-use Rattle.local_txn.specs.declared.local.Here.{Here}
+use Rattle.txn_effects.specs.declared.local.Here.{Here}
 use Rattle.local_txn.specs.declared.stop.Stop.{Stop}
 use Rattle.local_txn.specs.declared.stop.Stop.TheVariants.{Refused, Memory}
-use Rattle.local_txn.specs.Literals.{literal_fits, literals_fit, key_literals_fit, values_of}
-use Rattle.local_txn.specs.Sets.{names_columns, names_one_twice, takes_set, is_about, sets_fit, sets_filled, value_by, row_with}
-use Rattle.local_txn.specs.ByColumn.{AreSets, names_refusal, takes_each, fills_some, row_by, row_where_in_range}
-use Rattle.local_txn.specs.Filled.{Filling, RowMade, filled_from, value_filled, everywhere, is_modified, bound_from, next_stamp, made_with, written_columns, row_written}
+use Rattle.txn_effects.specs.Literals.{literal_fits, literals_fit, key_literals_fit, values_of}
+use Rattle.txn_effects.specs.Sets.{names_columns, names_one_twice, takes_set, is_about, sets_fit, sets_filled, value_by, row_with}
+use Rattle.txn_effects.specs.ByColumn.{AreSets, names_refusal, takes_each, fills_some, row_by, row_where_in_range}
+use Rattle.txn_effects.specs.Filled.{Filling, RowMade, filled_from, value_filled, everywhere, is_modified, bound_from, next_stamp, made_with, written_columns, row_written}
 use Rattle.txn_effects.specs.Stamps.{capped}
-use Rattle.local_txn.specs.Convergent.{barred, own_key_step, rule_step}
-use Rattle.local_txn.specs.Statements.{BlockState, row_at, insert_made, update_made, insert_in, update_in, delete_in, row_steps, there, new_row_steps, insert_steps, changed_row_steps, update_steps, delete_steps}
-use Rattle.local_txn.specs.Running.{CanRun, FitsButForRange, inserted_capped, change_steps, ChangesTo, order_steps, AreInOrder, block_state_of, progress_after, RunsAs, StatementStopsAs}
+use Rattle.txn_effects.specs.Convergent.{barred, own_key_step, rule_step}
+use Rattle.txn_effects.specs.Statements.{BlockState, row_at, insert_made, update_made, insert_in, update_in, delete_in, row_steps, there, new_row_steps, insert_steps, changed_row_steps, update_steps, delete_steps}
+use Rattle.local_txn.specs.Running.{inserted_capped, change_steps, ChangesTo, order_steps, AreInOrder, block_state_of, progress_after, RunsAs, StatementStopsAs}
+use Rattle.txn_effects.specs.NewRows.{CanRun, FitsButForRange}
 use Rattle.local_txn.proofs.LiteralWalk.{length-row_written}
 use Rattle.local_txn.proofs.SetWalk.{row_by-sets, takes_each-sets}
 use Rattle.local_txn.proofs.NamedSets.{fills_some-sets}
-use Rattle.local_txn.proofs.KindRows.{are_of-RowFits}
+use Rattle.txn_effects.proofs.KindRows.{are_of-RowFits}
 use Rattle.local_txn.proofs.StampedRows.{row_in_range-capped, made_with-capped}
 use Rattle.local_txn.proofs.StampedKeys.{new_row_steps-inserted}
-use Rattle.local_txn.proofs.NewRows.{row_steps-out, IsAccepted, accepted_row, RowFits-accepted, IsUniqueRow-accepted}
+use Rattle.txn_effects.proofs.NewRows.{row_steps-out, IsAccepted, accepted_row, RowFits-accepted, IsUniqueRow-accepted}
 use Rattle.local_txn.proofs.ModifiedRows.{length-row_with}
-use Rattle.local_txn.proofs.StatementRows.{FitsButForRange-written, FitsButForRange-set, key_of-set}
+use Rattle.txn_effects.proofs.StatementRows.{FitsButForRange-written, FitsButForRange-set, key_of-set}
 
 or_then-last : (o : Option Refusal) → or_then o None ≡ o
 or_then-last None = refl

@@ -14,9 +14,9 @@ use Rattle.rep_schema.specs.Fitting.{is_keyed}
 use Rattle.rep_schema.specs.Named.{table_place}
 use Rattle.rep_schema.specs.Putting.{after_changes}
 use Rattle.std.specs.List.{AllByRecursion}
-use Rattle.local_txn.specs.Literals.{literals_fit, values_of}
-use Rattle.local_txn.specs.Filled.{Filling, filled_row, written_columns, row_written}
-use Rattle.local_txn.specs.Statements.{row_at, row_steps}
+use Rattle.txn_effects.specs.Literals.{literals_fit, values_of}
+use Rattle.txn_effects.specs.Filled.{Filling, filled_row, written_columns, row_written}
+use Rattle.txn_effects.specs.Statements.{row_at, row_steps}
 
 -- the row of a table that literals write, blank in the columns that a site fills
 abbrev pub base_row : Schema → ℕ → List Literal → Cells

@@ -10,10 +10,10 @@ use Rattle.rep_schema.specs.Tables.{Cells, Rows, columns_of, AreTables}
 use Rattle.rep_schema.specs.Kinds.{is_filled}
 use Rattle.rep_calls.specs.declared.statement.Statement.{Statement}
 use Rattle.schema_rules.specs.Rules.{broken_rule}
-use Rattle.local_txn.specs.declared.local.Here.{Here}
-use Rattle.local_txn.specs.declared.local.Stamps.{Stamps}
-use Rattle.local_txn.specs.Filled.{Filling, filling_value, is_modified, bound_from, has_stamp_from}
-use Rattle.local_txn.specs.Locals.{BlockEffect, local_effect}
+use Rattle.txn_effects.specs.declared.local.Here.{Here}
+use Rattle.txn_effects.specs.declared.local.Stamps.{Stamps}
+use Rattle.txn_effects.specs.Filled.{Filling, filling_value, is_modified, bound_from, has_stamp_from}
+use Rattle.txn_effects.specs.Locals.{BlockEffect, local_effect}
 use Rattle.local_txn.specs.BaseRows.{FillsFreely}
 
 -- the places at which a change fills columns in: all of a new row, those of its modified groups of a changed one

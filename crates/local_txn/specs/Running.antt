@@ -1,5 +1,5 @@
 -- What the steps of running a statement take and tell.
-use Rattle.std.specs.Prelude.{◌≡◌, ◌⊎◌, ℕ, ◌<◌, true, false, not, ◌&&◌, List, [], ◌∷◌, length, Option, Some, None, Result, Err}
+use Rattle.std.specs.Prelude.{◌≡◌, ◌⊎◌, ℕ, ◌<◌, true, false, not, ◌&&◌, List, [], ◌∷◌, Option, Some, None, Result, Err}
 use Rattle.rep_values.specs.declared.refusal.Refusal.{Refusal}
 use Rattle.rep_values.specs.declared.refusal.Refusal.TheVariants as refusal
 use Rattle.rep_values.specs.declared.name.SiteName.{SiteName}
@@ -8,37 +8,24 @@ use Rattle.rep_values.specs.RefusalSteps.{refused, first_refusal}
 use Rattle.rep_schema.specs.declared.schema.Schema.{Schema}
 use Rattle.rep_schema.specs.declared.schema.Column.{Column}
 use Rattle.rep_schema.specs.declared.change.Change.{Change}
-use Rattle.rep_schema.specs.Shape.{HasShape}
-use Rattle.rep_schema.specs.Tables.{Cells, Rows, columns_of, RowFits, IsKeyed, AreTables}
+use Rattle.rep_schema.specs.Tables.{Cells, Rows, columns_of}
 use Rattle.rep_schema.specs.Kinds.{row_in_range}
 use Rattle.local_txn.specs.declared.stop.Stop.{Stop}
 use Rattle.local_txn.specs.declared.stop.Stop.TheVariants.{Refused, Memory}
-use Rattle.local_txn.specs.declared.local.LocalStop.{LocalStop}
+use Rattle.txn_effects.specs.declared.local.LocalStop.{LocalStop}
 use Rattle.local_txn.specs.declared.progress.BlockProgress.{BlockProgress}
 use Rattle.rep_calls.specs.declared.statement.Set.{Set}
 use Rattle.rep_calls.specs.declared.statement.Statement.{Statement}
-use Rattle.local_txn.specs.declared.local.Stamps.{Stamps}
-use Rattle.local_txn.specs.declared.side.Side.{Side}
-use Rattle.local_txn.specs.Literals.{key_literals_fit}
-use Rattle.local_txn.specs.Sets.{names_columns, sets_fit, sets_filled}
-use Rattle.local_txn.specs.ByColumn.{AreSets}
-use Rattle.local_txn.specs.Filled.{RowMade, everywhere, is_modified, bound_from, next_stamp, made_with}
+use Rattle.txn_effects.specs.declared.local.Stamps.{Stamps}
+use Rattle.txn_effects.specs.declared.side.Side.{Side}
+use Rattle.txn_effects.specs.Literals.{key_literals_fit}
+use Rattle.txn_effects.specs.Sets.{names_columns, sets_fit, sets_filled}
+use Rattle.txn_effects.specs.ByColumn.{AreSets}
+use Rattle.txn_effects.specs.Filled.{RowMade, everywhere, is_modified, bound_from, next_stamp, made_with}
 use Rattle.txn_effects.specs.Stamps.{capped}
-use Rattle.local_txn.specs.Convergent.{side_of, barred, rule_step}
-use Rattle.local_txn.specs.Statements.{BlockState, StatementOutcome, outcome_changes, statement_refusal, statement_changes, block_state_after}
-use Rattle.local_txn.specs.Locals.{BlockEffect}
-
--- rows can be put into a table of a schema
-pub record CanRun (schema : Schema) (tables : List Rows) (table : ℕ) : Type 0 where
-  pub shape : HasShape schema
-  pub keyed : IsKeyed (columns_of schema table)
-  pub are : AreTables schema tables
-  pub of_table : table < length schema.tables
-
--- a row that fits a table where its numbers are in range
-pub record FitsButForRange (schema : Schema) (table : ℕ) (row : Cells) : Type 0 where
-  pub long : length (columns_of schema table) ≡ length row
-  pub fits : row_in_range row ≡ true → RowFits (columns_of schema table) row
+use Rattle.txn_effects.specs.Convergent.{side_of, barred, rule_step}
+use Rattle.txn_effects.specs.Statements.{BlockState, StatementOutcome, outcome_changes, statement_refusal, statement_changes, block_state_after}
+use Rattle.txn_effects.specs.Locals.{BlockEffect}
 
 -- the row that an insert makes, with a stamp that no row may have where the next one isn't in range
 abbrev pub inserted_capped : List Column → SiteName → Stamps → Cells → RowMade

@@ -8,11 +8,11 @@ ghost use Rattle.rep_values.specs.RefusalSteps.{refused};
 ghost use Rattle.rep_schema.specs.Tables.{cell_cmp, columns_of};
 ghost use Rattle.rep_schema.specs.Groups.{groups_of};
 ghost use Rattle.schema_rules.specs.Forms.{form_of};
-ghost use Rattle.local_txn.specs.Convergent.{is_convergent, side_of, is_other, mixes, barred, begins_with, breaks, broken_group, rule_step};
-ghost use Rattle.local_txn.specs.ByColumn.{row_by};
+ghost use Rattle.txn_effects.specs.Convergent.{is_convergent, side_of, is_other, mixes, barred, begins_with, breaks, broken_group, rule_step};
+ghost use Rattle.txn_effects.specs.ByColumn.{row_by};
 
 use crate::sets::{SetsByColumn, order_after};
-use crate::side::Side;
+use txn_effects::Side;
 use rep_schema::{Column, Group, Schema, columns_of, groups_of, value_at};
 use rep_values::{Refusal, SiteName, Value};
 use schema_rules::{Form, form_of};

@@ -7,23 +7,15 @@ ghost use Rattle.rep_schema.specs.Limits.{most_columns};
 ghost use Rattle.rep_schema.specs.Shape.{HasShape};
 ghost use Rattle.rep_schema.specs.Tables.{columns_of};
 ghost use Rattle.rep_schema.specs.Kinds.{is_filled, is_stamp, has_place};
-ghost use Rattle.local_txn.specs.Filled.{filling_value, filled_from, filled_row, everywhere, is_modified, above_value, bound_from, has_stamp_from, next_stamp, made_with};
+ghost use Rattle.txn_effects.specs.Filled.{filling_value, filled_from, filled_row, everywhere, is_modified, above_value, bound_from, has_stamp_from, next_stamp, made_with};
 ghost use Rattle.txn_effects.specs.Stamps.{capped, first_outside};
-ghost use Rattle.local_txn.specs.Chosen.{chosen_at, is_modified_in};
+ghost use Rattle.txn_effects.specs.Chosen.{chosen_at, is_modified_in};
 
-use crate::Stamps;
+use txn_effects::{RowMade, Stamps, stamp_above};
 use rep_schema::{
     Column, SHADOW, Schema, columns_of, group_columns, groups_of, named_columns, same_values_at,
 };
 use rep_values::{Row, SiteName, Value};
-use txn_effects::stamp_above;
-
-/// A row that a statement makes, and the site's last stamp then.
-#[derive(Drop)]
-pub(crate) struct RowMade {
-    pub row: Row,
-    pub last: u64,
-}
 
 /// Whether a site fills one of the columns.
 pub(crate) fn has_filled(columns: &[Column]) -> bool

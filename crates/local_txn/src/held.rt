@@ -1,9 +1,9 @@
 //! The table that a statement names.
 ghost use Rattle.std.specs.Prelude.{◌≡◌, ◌<◌, length, IfSome};
 ghost use Rattle.rep_schema.specs.Shape.{HasShape};
-ghost use Rattle.local_txn.specs.Held.{statement_table, held_of, held_table};
+ghost use Rattle.txn_effects.specs.Held.{statement_table, held_of, held_table};
 
-use crate::Here;
+use txn_effects::Here;
 use rep_calls::Statement;
 use rep_schema::Schema;
 use rep_values::TableName;

@@ -8,15 +8,12 @@ mod progress;
 mod held;
 mod laws;
 mod literals;
-mod local;
 mod rows;
 mod run;
 mod sets;
-mod side;
 mod statement;
 mod stop;
 
 pub use base::{fill_base_rows, put_base_row};
 pub use laws::{sound_schemas_fill_freely, stamps_of_a_block_rise};
-pub use local::{Here, Local, LocalStop, Stamps};
 pub use run::run_local;

@@ -3,8 +3,7 @@ ghost use Rattle.std.specs.Prelude.{◌≡◌, ◌<◌, length};
 ghost use Rattle.local_txn.specs.Running.{progress_after};
 
 use crate::convergent::side_of;
-use crate::side::Side;
-use crate::{Here, Stamps};
+use txn_effects::{Here, Side, Stamps};
 use rep_schema::Schema;
 
 /// The site that a block runs at, the site's stamps so far, and which tables the block's statements are on so far.

@@ -4,9 +4,9 @@ ghost use Rattle.rep_schema.specs.declared.schema.Constraint.{Constraint as Cons
 ghost use Rattle.rep_schema.specs.Tables.{columns_of, constraints_of, key_of, RowFits};
 ghost use Rattle.rep_values.specs.RefusalSteps.{first_refusal};
 ghost use Rattle.unique_resolve.specs.Trying.{IsTestable, HasBefore};
-ghost use Rattle.local_txn.specs.Statements.{taken_step, unique_steps, check_step, row_steps, row_at};
-ghost use Rattle.local_txn.specs.Running.{CanRun, FitsButForRange};
-ghost use Rattle.local_txn.specs.Literals.{values_of};
+ghost use Rattle.txn_effects.specs.Statements.{taken_step, unique_steps, check_step, row_steps, row_at};
+ghost use Rattle.txn_effects.specs.NewRows.{CanRun, FitsButForRange};
+ghost use Rattle.txn_effects.specs.Literals.{values_of};
 ghost use Rattle.rep_values.specs.Number.{IsKeyLen};
 
 use rep_schema::{

@@ -12,15 +12,15 @@ ghost use Rattle.unique_resolve.specs.Numbers.{Numbers};
 ghost use Rattle.txn_effects.specs.Calls.{HasKeys, KeysStandAlone};
 ghost use Rattle.txn_effects.specs.Transactions.{txn_effect};
 ghost use Rattle.txn_effects.specs.Laws.{IsChecked};
-ghost use Rattle.local_txn.specs.Statements.{statement_refusal};
-ghost use Rattle.local_txn.specs.Locals.{statements_effect, local_effect, BlockEffect};
+ghost use Rattle.txn_effects.specs.Statements.{statement_refusal};
+ghost use Rattle.txn_effects.specs.Locals.{statements_effect, local_effect, BlockEffect};
 ghost use Rattle.local_txn.specs.Running.{StatementGoesOn, block_state_of, StatementStopsAs, EndsAs};
 
 use crate::progress::BlockProgress;
 use crate::held::held_table;
 use crate::statement::run_in;
 use crate::stop::{Stop, stop_at};
-use crate::{Here, Local, LocalStop, Stamps};
+use txn_effects::{Here, Local, LocalStop, Stamps};
 use conflict_detect::txn_of;
 use rep_calls::Statement;
 use rep_lists::Items;

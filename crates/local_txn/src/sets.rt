@@ -7,8 +7,8 @@ ghost use Rattle.rep_schema.specs.Limits.{most_columns};
 ghost use Rattle.rep_schema.specs.Shape.{AreDistinct};
 ghost use Rattle.rep_schema.specs.Named.{is_column};
 ghost use Rattle.rep_schema.specs.Kinds.{row_in_range};
-ghost use Rattle.local_txn.specs.Sets.{names_columns, takes_how, takes_set, value_after, value_by};
-ghost use Rattle.local_txn.specs.ByColumn.{set_at, takes_each, fills_some, row_by, where_in_range, row_where_in_range, AreSets, names_refusal};
+ghost use Rattle.txn_effects.specs.Sets.{names_columns, takes_how, takes_set, value_after, value_by};
+ghost use Rattle.txn_effects.specs.ByColumn.{set_at, takes_each, fills_some, row_by, where_in_range, row_where_in_range, AreSets, names_refusal};
 
 use rep_calls::{How, Set};
 use rep_schema::{Column, is_of_kind, value_in_range};
@@ -28,7 +28,7 @@ pub(crate) struct SetsByColumn<'a> {
 impl<'a> Model for SetsByColumn<'a> {
     ghost use Rattle.std.specs.Prelude.{ℕ, ◌≤◌, List, Option, map, take};
     ghost use Rattle.rep_calls.specs.declared.statement.Set.{Set as SetValue};
-    ghost use Rattle.local_txn.specs.ByColumn.{set_of};
+    ghost use Rattle.txn_effects.specs.ByColumn.{set_of};
 
     ghost Value = { List (Option SetValue) };
 

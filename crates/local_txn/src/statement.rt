@@ -5,12 +5,14 @@ ghost use Rattle.rep_schema.specs.Shape.{HasShape};
 ghost use Rattle.rep_schema.specs.Tables.{columns_of, RowFits};
 ghost use Rattle.rep_schema.specs.Putting.{changes_of, StepsIn};
 ghost use Rattle.txn_effects.specs.Calls.{KeysStandAlone};
-ghost use Rattle.local_txn.specs.ByColumn.{row_by};
-ghost use Rattle.local_txn.specs.Statements.{insert_in, update_in, delete_in, outcome_in, new_row_steps, insert_steps, update_steps, delete_steps, steps_in};
-ghost use Rattle.local_txn.specs.Running.{CanRun, FitsButForRange, ChangesTo, AreInOrder, change_steps, order_steps, block_state_of, RunsAs, StatementStopsAs};
+ghost use Rattle.txn_effects.specs.ByColumn.{row_by};
+ghost use Rattle.txn_effects.specs.Statements.{insert_in, update_in, delete_in, outcome_in, new_row_steps, insert_steps, update_steps, delete_steps, steps_in};
+ghost use Rattle.local_txn.specs.Running.{ChangesTo, AreInOrder, change_steps, order_steps, block_state_of, RunsAs, StatementStopsAs};
+ghost use Rattle.txn_effects.specs.NewRows.{CanRun, FitsButForRange};
 
 use crate::convergent::{bar_refusal, own_key_refusal, rule_refusal};
-use crate::filled::{RowMade, inserted, updated};
+use crate::filled::{inserted, updated};
+use txn_effects::RowMade;
 use crate::progress::BlockProgress;
 use crate::literals::{key_literals_fit, key_of_literals, row_written, written_fit};
 use crate::rows::{has_row, key_in, row_of_literals, row_refusal};

@@ -2,7 +2,7 @@
 ghost use Rattle.std.specs.Prelude.{◌≡◌};
 ghost use Rattle.local_txn.specs.Running.{stop_refusal, local_stop_of};
 
-use crate::LocalStop;
+use txn_effects::LocalStop;
 use rep_lists::NoMemory;
 use rep_values::Refusal;
 

@@ -7,7 +7,8 @@ use Rattle.std.proofs.lemmas.List.Sums.{sum_by-cons}
 use Rattle.rep_lists.proofs.Places.{drop_from_found}
 use Rattle.rep_calls.specs.declared.past.PastEntry.{PastEntry}
 use Rattle.error_queue.specs.declared.entry.ErrorEntry.{ErrorEntry}
-use Rattle.site_state.specs.State.{SiteState, is_master_site}
+use Rattle.site_state.specs.State.{SiteState}
+use Rattle.rep_schema.specs.Sites.{is_master_site}
 use Rattle.site_state.specs.Journal.{finished}
 
 -- a position of an origin isn't finished at a site

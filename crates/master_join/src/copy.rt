@@ -1,12 +1,11 @@
 //! A site as a copy of another one.
 ghost use Rattle.std.specs.Prelude.{◌≡◌, [], length, replicate, IfOk};
-ghost use Rattle.rep_schema.specs.Sites.{senders_of, destinations_of};
-ghost use Rattle.site_state.specs.State.{is_master_site};
+ghost use Rattle.rep_schema.specs.Sites.{senders_of, destinations_of, is_master_site};
 ghost use Rattle.site_state.specs.Joining.{site_copy};
 
 use crate::firsts::set_firsts;
 use crate::rows::copy_tables;
-use local_txn::Here;
+use txn_effects::Here;
 use rep_calls::PastEntry;
 use rep_lists::{Items, NoMemory};
 use rep_schema::{RowStore, TableSet};

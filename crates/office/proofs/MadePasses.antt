@@ -6,7 +6,8 @@ use Rattle.site_state.specs.declared.answers.PassCount.{PassCount}
 use Rattle.site_state.specs.declared.arrival.Arrival.{Arrival}
 use Rattle.site_state.specs.declared.entry.Entry.{Entry}
 use Rattle.site_state.specs.State.{SiteState, arrivals}
-use Rattle.site_state.specs.Steps.{begun, count_where}
+use Rattle.site_state.specs.Steps.{begun}
+use Rattle.rep_lists.specs.Counting.{count_where}
 use Rattle.site_state.specs.Passes.{site_apply, apply_each, site_pass, is_done, is_error, added_count, pass_answer}
 use Rattle.site_state.proofs.Stepping.{with_entry, Steps, apply_steps}
 use Rattle.office.specs.Working.{passes}

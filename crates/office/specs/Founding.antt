@@ -10,7 +10,7 @@ use Rattle.rep_schema.specs.declared.schema.SiteEntry.{SiteEntry}
 use Rattle.rep_schema.specs.Shape.{no_schema}
 use Rattle.rep_schema.specs.Tables.{Rows, rows_of}
 use Rattle.rep_schema.specs.Named.{table_place}
-use Rattle.rep_schema.specs.Sites.{first_master}
+use Rattle.rep_schema.specs.Sites.{first_master, is_master_site}
 use Rattle.rep_declare.specs.declared.declaration.Declare.{Declare}
 use Rattle.rep_declare.specs.declared.declaration.Declare.TheVariants as declare
 use Rattle.rep_declare.specs.Refusals.{declare_refusal}
@@ -21,7 +21,7 @@ use Rattle.rep_laws.specs.Commuting.{IsSound}
 use Rattle.script_parse.specs.declared.command.Command.{Command}
 use Rattle.script_parse.specs.declared.command.Command.TheVariants as command
 use Rattle.script_parse.specs.Parsed.{parsed}
-use Rattle.site_state.specs.State.{SiteState, is_master_site}
+use Rattle.site_state.specs.State.{SiteState}
 use Rattle.site_state.specs.Steps.{is_empty}
 use Rattle.site_state.specs.Making.{master_here, new_site}
 use Rattle.office.specs.Lines.{lines_of}

@@ -2,7 +2,7 @@
 use Rattle.std.specs.Prelude.{ℕ}
 use Rattle.rep_values.specs.declared.refusal.Refusal.{Refusal}
 use Rattle.rep_values.specs.declared.refusal.Refusal.TheVariants as refusal
-use Rattle.local_txn.specs.declared.local.LocalStop.{LocalStop}
+use Rattle.txn_effects.specs.declared.local.LocalStop.{LocalStop}
 use Rattle.office.specs.declared.error.OfficeError.{OfficeError}
 use Rattle.office.specs.declared.error.OfficeError.TheVariants as error
 

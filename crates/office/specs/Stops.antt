@@ -8,7 +8,8 @@ use Rattle.script_lex.specs.declared.stop.LineStop.{LineStop}
 use Rattle.script_lex.specs.declared.stop.LineStop.TheVariants as stop
 use Rattle.script_parse.specs.declared.command.Command.{Command}
 use Rattle.script_parse.specs.Parsed.{parsed}
-use Rattle.site_state.specs.State.{SiteState, is_master_site}
+use Rattle.site_state.specs.State.{SiteState}
+use Rattle.rep_schema.specs.Sites.{is_master_site}
 use Rattle.site_state.specs.Commits.{commit_answer}
 use Rattle.office.specs.declared.error.OfficeError.{OfficeError}
 use Rattle.office.specs.declared.error.OfficeError.TheVariants as error

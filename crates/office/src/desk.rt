@@ -1,12 +1,11 @@
 //! An office, as it is opened.
 ghost use Rattle.std.specs.Prelude.{◌≡◌, true, None, IfOk, IfErr, OnOk, slice_get, map, option_copied};
 ghost use Rattle.rep_laws.specs.Commuting.{IsSound};
-ghost use Rattle.site_state.specs.State.{is_master_site};
+ghost use Rattle.rep_schema.specs.Sites.{is_master_site};
 ghost use Rattle.site_state.specs.Fits.{SiteFits};
 ghost use Rattle.site_state.specs.Commits.{site_clock};
 ghost use Rattle.site_state.specs.Journal.{low_water};
-ghost use Rattle.journal_order.specs.Sorting.{IsFinishedOnce};
-ghost use Rattle.journal_order.specs.Waited.{FinishesEarlierFirst};
+ghost use Rattle.site_state.specs.Waited.{FinishesEarlierFirst, IsFinishedOnce};
 ghost use Rattle.office.specs.Founding.{Opens, founded_office};
 ghost use Rattle.office.specs.Stops.{OpenStops, FoundingStops};
 

@@ -3,7 +3,7 @@ ghost use Rattle.std.specs.Prelude.{◌≡◌};
 ghost use Rattle.office.specs.declared.error.OfficeError.TheVariants.{Memory};
 ghost use Rattle.office.specs.Refused.{refused_at, statement_refused, uncleared};
 
-use local_txn::LocalStop;
+use txn_effects::LocalStop;
 use rep_lists::NoMemory;
 use rep_values::{Refusal, SiteName};
 use std::alloc::{AllocError, AllocFailed};

@@ -2,12 +2,13 @@
 ghost use Rattle.std.specs.Prelude.{◌≡◌, true, [], None, Some, IfOk, IfErr, OnOk};
 ghost use Rattle.rep_laws.specs.Commuting.{IsSound};
 ghost use Rattle.schema_rules.specs.Rules.{broken_rule};
-ghost use Rattle.site_state.specs.State.{is_master_site};
+ghost use Rattle.rep_schema.specs.Sites.{is_master_site};
 ghost use Rattle.site_state.specs.Making.{master_here, new_site};
 ghost use Rattle.site_state.specs.Fits.{SchemaIsKeyed};
 ghost use Rattle.office.specs.Founding.{filled_rows};
 
-use local_txn::{Here, fill_base_rows, sound_schemas_fill_freely};
+use local_txn::{fill_base_rows, sound_schemas_fill_freely};
+use txn_effects::Here;
 use page_tables::PageTables;
 use rep_laws::sound_schemas_have_keys;
 use rep_lists::{Items, NoMemory};

@@ -1,7 +1,7 @@
 //! What came is applied.
 ghost use Rattle.std.specs.Prelude.{◌≡◌, ◌+◌, ◌<◌, ◌^◌, IfOk, IfErr, IfNone, OnOk, OnErr};
 ghost use Rattle.site_state.specs.declared.entry.Entry.{Entry as EntryValue};
-ghost use Rattle.site_state.specs.Steps.{count_where};
+ghost use Rattle.rep_lists.specs.Counting.{count_where};
 ghost use Rattle.site_state.specs.Passes.{site_pass, pass_answer};
 ghost use Rattle.std.specs.Prelude.{Bool};
 ghost use Rattle.office.specs.Working.{SiteIsQuiet, IsPassInPart, Works, WorksInPart, WorkStops};

@@ -32,8 +32,8 @@ use Rattle.error_queue.specs.contracts.entry.ErrorEntry as error_entry
 use Rattle.error_queue.specs.contracts.errors.Errors as errors
 use Rattle.site_notes.proofs.Crossing.{notes_send}
 use Rattle.unique_resolve.specs.contracts.counters.Counters as counters
-use Rattle.local_txn.specs.contracts.local.Here as here
-use Rattle.local_txn.specs.contracts.local.Stamps as stamps
+use Rattle.txn_effects.specs.contracts.local.Here as here
+use Rattle.txn_effects.specs.contracts.local.Stamps as stamps
 use Rattle.rep_schema.specs.declared.store.RowStore.{Ghosts}
 use Rattle.row_tables.proofs.Crossing.{field_shared_schema_send}
 use Rattle.site_core.specs.contracts.site.Site as site

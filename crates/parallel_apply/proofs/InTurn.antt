@@ -8,7 +8,8 @@ use Rattle.txn_effects.specs.Contents.{content_after}
 use Rattle.site_state.specs.declared.answers.Why.{Why}
 use Rattle.site_state.specs.declared.arrival.Arrival.{Arrival}
 use Rattle.site_state.specs.declared.entry.Entry.{Entry}
-use Rattle.site_state.specs.State.{SiteState, is_master_site, arrived_at}
+use Rattle.site_state.specs.State.{SiteState, arrived_at}
+use Rattle.rep_schema.specs.Sites.{is_master_site}
 use Rattle.site_state.specs.Journal.{finished, is_position}
 use Rattle.site_state.specs.Contents.{content_of}
 use Rattle.site_state.specs.Ready.{stale_of, is_ready}
@@ -16,7 +17,7 @@ use Rattle.site_state.specs.Passes.{effect_here, finished_by, applied_unless, si
 use Rattle.site_state.proofs.LowWater.{finished-append}
 use Rattle.site_state.proofs.Stepping.{with_entry, arrived_has, apply_steps}
 use Rattle.event_laws.specs.Confluence.{applied_in_turn, AreReadyInTurn}
-use Rattle.event_laws.proofs.ErrorLaws.{is_position-own}
+use Rattle.site_state.proofs.Waited.{is_position-own}
 use Rattle.event_laws.proofs.MasterArrivals.{Told, IsReadyAt, finished_by-master, told-master}
 
 module _ (origin : SiteName) where

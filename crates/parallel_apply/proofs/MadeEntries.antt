@@ -12,7 +12,8 @@ use Rattle.txn_effects.specs.Calls.{Effect}
 use Rattle.txn_effects.specs.Transactions.{Failure}
 use Rattle.site_state.specs.declared.entry.Entry.{Entry}
 use Rattle.site_state.specs.declared.entry.Entry.TheVariants.{Local, Done, Error, Executed, Dropped, Refreshed}
-use Rattle.site_state.specs.State.{SiteState, is_master_site, arrived_at}
+use Rattle.site_state.specs.State.{SiteState, arrived_at}
+use Rattle.rep_schema.specs.Sites.{is_master_site}
 use Rattle.site_state.specs.Streams.{shares}
 use Rattle.site_state.specs.Fits.{EntryHas}
 use Rattle.site_state.specs.Passes.{effect_here, site_apply}

@@ -9,7 +9,8 @@ use Rattle.conflict_detect.specs.Fits.{TxnFits}
 use Rattle.txn_effects.specs.Contents.{Content}
 use Rattle.dependency_index.specs.Tokens.{txn_tokens, AreIndependent}
 use Rattle.site_state.specs.declared.arrival.Arrival.{Arrival}
-use Rattle.site_state.specs.State.{SiteState, is_master_site, arrived_at, arrivals}
+use Rattle.site_state.specs.State.{SiteState, arrived_at, arrivals}
+use Rattle.rep_schema.specs.Sites.{is_master_site}
 use Rattle.site_state.specs.Journal.{finished, low_water}
 use Rattle.site_state.specs.Contents.{content_of}
 use Rattle.site_state.specs.Streams.{shares}
@@ -18,7 +19,7 @@ use Rattle.site_state.specs.Passes.{site_apply}
 use Rattle.site_state.proofs.LowWater.{low_water-below}
 use Rattle.site_state.proofs.Stepping.{arrived_has}
 use Rattle.event_laws.specs.Confluence.{applied_in_turn, AreReadyInTurn, CanPassInAnyOrder}
-use Rattle.event_laws.proofs.PassLaws.{and_both, found_holds}
+use Rattle.site_state.proofs.Waited.{and_both, found_holds}
 use Rattle.event_laws.proofs.MasterArrivals.{IsReadyAt, ready_at}
 use Rattle.txn_work.specs.Works.{WorkState, Supports}
 use Rattle.txn_work.specs.Laws.{SupportOutlastsIndependentTransactions}

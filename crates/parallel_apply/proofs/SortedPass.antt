@@ -13,7 +13,8 @@ use Rattle.rep_lists.specs.Rising.{IsRising}
 use Rattle.rep_values.specs.declared.name.SiteName.{SiteName}
 use Rattle.site_state.specs.declared.arrival.Arrival.{Arrival}
 use Rattle.site_state.specs.declared.entry.Entry.{Entry}
-use Rattle.site_state.specs.State.{SiteState, is_master_site, arrivals}
+use Rattle.site_state.specs.State.{SiteState, arrivals}
+use Rattle.rep_schema.specs.Sites.{is_master_site}
 use Rattle.site_state.specs.Ready.{is_ready}
 use Rattle.site_state.specs.Steps.{begun}
 use Rattle.site_state.specs.Passes.{site_apply, site_pass}

@@ -3,10 +3,11 @@ use Rattle.std.specs.Prelude.{◌≡◌, ℕ, ◌+◌, ◌^◌, ◌<◌, Bool, t
 use Rattle.rep_values.specs.declared.name.SiteName.{SiteName}
 use Rattle.rep_lists.specs.declared.memory.NoMemory.{NoMemory}
 use Rattle.rep_laws.specs.Commuting.{IsSound}
-use Rattle.site_state.specs.State.{SiteState, is_master_site, arrivals}
+use Rattle.site_state.specs.State.{SiteState, arrivals}
+use Rattle.rep_schema.specs.Sites.{is_master_site}
 use Rattle.site_state.specs.Steps.{begun}
 use Rattle.site_state.specs.Passes.{site_pass}
-use Rattle.journal_order.specs.Waited.{IsWellNumbered}
+use Rattle.site_state.specs.Waited.{IsWellNumbered}
 use Rattle.site_state.specs.declared.answers.Applied.{Applied}
 use Rattle.site_state.specs.declared.answers.Applied.TheVariants as applied
 use Rattle.site_state.specs.Ready.{stale_of}

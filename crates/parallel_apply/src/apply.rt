@@ -1,10 +1,11 @@
 //! A pass for a sender by a crew.
 ghost use Rattle.std.specs.Prelude.{◌≡◌, ◌+◌, ◌^◌, ◌<◌, ◌≤◌, true, length, IsSome, IfSome, IfOk, IfErr};
 ghost use Rattle.rep_laws.specs.Commuting.{IsSound};
-ghost use Rattle.site_state.specs.State.{is_master_site, arrivals};
+ghost use Rattle.site_state.specs.State.{arrivals};
+ghost use Rattle.rep_schema.specs.Sites.{is_master_site};
 ghost use Rattle.site_state.specs.Steps.{begun};
 ghost use Rattle.site_state.specs.Passes.{site_pass};
-ghost use Rattle.journal_order.specs.Waited.{IsWellNumbered};
+ghost use Rattle.site_state.specs.Waited.{IsWellNumbered};
 ghost use Rattle.event_laws.specs.Confluence.{CanPassInAnyOrder};
 ghost use Rattle.parallel_apply.specs.Crews.{IsPartlyApplied, TakesCrew, AnswersCrew};
 

@@ -5,9 +5,10 @@ use Rattle.std.specs.List.{AllByRecursion}
 use Rattle.std.proofs.lemmas.List.Elements.{recursion_from_All}
 use Rattle.rep_values.specs.declared.name.SiteName.{SiteName}
 use Rattle.rep_schema.specs.Shape.{AreDistinct}
-use Rattle.deferred_queue.specs.Streams.{is_same_site}
+use Rattle.rep_values.specs.SiteNames.{is_same_site}
 use Rattle.deferred_queue.proofs.Sites.{is_same_site-true, is_same_site-refl}
-use Rattle.site_state.specs.State.{SenderState, is_among, sender_of}
+use Rattle.site_state.specs.State.{SenderState, sender_of}
+use Rattle.rep_schema.specs.Sites.{is_among}
 use Rattle.journal_steps.proofs.StandingErrors.{StandApart}
 use Rattle.proc_calls.specs.Outgoing.{NamesApart}
 

@@ -10,11 +10,11 @@ use Rattle.dependency_index.specs.Dependencies.{NotedStream, IsNoted, noted_coun
 use Rattle.dependency_index.proofs.FoundStreams.{sites_of}
 use Rattle.dependency_index.proofs.Destinations.{IsIndexed-same}
 use Rattle.deferred_queue.specs.declared.destination.Destination.{Destination}
-use Rattle.deferred_queue.specs.Streams.{is_same_site}
+use Rattle.rep_values.specs.SiteNames.{is_same_site}
 use Rattle.deferred_queue.proofs.Sites.{is_same_site-true}
-use Rattle.site_state.specs.State.{is_among}
+use Rattle.rep_schema.specs.Sites.{is_among}
 use Rattle.site_outbox.specs.Noting.{TokenStreams, AreNoted}
-use Rattle.site_refresh.proofs.Taking.{take_found}
+use Rattle.rep_schema.proofs.FoundRows.{take_found}
 use Rattle.proc_calls.specs.Outgoing.{NamesApart, CanBeNoted, with_tokens, placed}
 use Rattle.proc_calls.proofs.Apart.{apart_from, not_before, others_of}
 

@@ -12,7 +12,8 @@ use Rattle.rep_schema.specs.Tables.{Rows}
 use Rattle.rep_calls.specs.declared.call.Txn.{Txn}
 use Rattle.rep_calls.specs.declared.past.PastEntry.{PastEntry}
 use Rattle.txn_effects.specs.Transactions.{Failure}
-use Rattle.deferred_queue.specs.Streams.{Deferred, Mark as Acked, is_same_site, last_position, raised_mark}
+use Rattle.deferred_queue.specs.Streams.{Deferred, Mark as Acked, last_position, raised_mark}
+use Rattle.rep_values.specs.SiteNames.{is_same_site}
 use Rattle.origin_marks.specs.Marks as marks
 use Rattle.packet_code.specs.declared.packet.Packet.{Packet}
 use Rattle.packet_code.specs.declared.packet.Packet.TheVariants.{Carry, Mark}
@@ -24,7 +25,8 @@ use Rattle.site_state.specs.declared.entry.Entry.TheVariants.{Local, Executed}
 use Rattle.site_state.specs.declared.arrival.Arrival.{Arrival}
 use Rattle.site_state.specs.declared.answers.Why.TheVariants as why
 use Rattle.site_state.specs.declared.answers.Accepted.TheVariants as accepted
-use Rattle.site_state.specs.State.{SenderState, is_among, sender_of, at_sender, arrival_beside, arrived_at}
+use Rattle.site_state.specs.State.{SenderState, sender_of, at_sender, arrival_beside, arrived_at}
+use Rattle.rep_schema.specs.Sites.{is_among}
 use Rattle.site_state.specs.Journal.{finished, error_at}
 use Rattle.site_state.specs.Packets.{with_arrival}
 use Rattle.site_state.specs.Ready.{stale_of}

@@ -13,10 +13,11 @@ use Rattle.dependency_index.proofs.Destinations.{IsIndexed-Contains, IsIndexed-s
 use Rattle.dependency_index.proofs.NotedTokens.{last_where-bound}
 use Rattle.deferred_queue.specs.declared.queued_txn.QueuedTxn.{QueuedTxn}
 use Rattle.deferred_queue.specs.declared.destination.Destination.{Destination}
-use Rattle.deferred_queue.specs.Streams.{Deferred, InStream, Mark, Deferrals, CanBeSent, IsDestination, DestinationsApart, is_same_site, destination_to, queue_stream_to, in_order, last_position, raised_mark}
+use Rattle.deferred_queue.specs.Streams.{Deferred, InStream, Mark, Deferrals, CanBeSent, IsDestination, DestinationsApart, destination_to, queue_stream_to, in_order, last_position, raised_mark}
+use Rattle.rep_values.specs.SiteNames.{is_same_site}
 use Rattle.deferred_queue.specs.Streams as queue
 use Rattle.deferred_queue.proofs.Sites.{is_same_site-true, is_same_site-refl}
-use Rattle.site_state.specs.State.{is_among}
+use Rattle.rep_schema.specs.Sites.{is_among}
 use Rattle.site_state.specs.Streams.{with_one}
 use Rattle.site_outbox.specs.Noting.{TokenStreams, AreNoted}
 use Rattle.proc_state.specs.Carriers.{proc_tokens}

@@ -6,7 +6,7 @@ use Rattle.dependency_index.specs.declared.token.Token.{Token}
 use Rattle.dependency_index.specs.Dependencies.{NotedStream, IsNoted, IsIndexed, noted_count, room_for, dependency_number}
 use Rattle.deferred_queue.specs.declared.destination.Destination.{Destination}
 use Rattle.deferred_queue.specs.Streams.{Deferred, Mark, last_position}
-use Rattle.site_state.specs.State.{is_among}
+use Rattle.rep_schema.specs.Sites.{is_among}
 use Rattle.site_state.specs.Streams.{with_one}
 use Rattle.site_outbox.specs.Noting.{TokenStreams}
 use Rattle.site_outbox.specs.OutboxInvariant.{IsNotedTo}

@@ -6,7 +6,7 @@ ghost use Rattle.rep_values.specs.declared.name.SiteName.{SiteName};
 ghost use Rattle.rep_calls.specs.declared.call.Txn.{Txn};
 ghost use Rattle.packet_code.specs.Bodies.{IsBody};
 ghost use Rattle.deferred_queue.specs.Streams.{at_position, queue_stream_to, unpurged, last_position, acked_by, raised_mark};
-ghost use Rattle.site_state.specs.State.{is_among};
+ghost use Rattle.rep_schema.specs.Sites.{is_among};
 ghost use Rattle.site_outbox.specs.Noting.{TokenStreams, AreNoted};
 ghost use Rattle.proc_state.specs.Carriers.{call_token, proc_tokens};
 ghost use Rattle.proc_state.specs.State.{no_mark};

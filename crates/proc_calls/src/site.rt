@@ -6,7 +6,7 @@ ghost use Rattle.rep_values.specs.declared.name.SiteName.{SiteName};
 ghost use Rattle.site_state.specs.State.{arrivals};
 ghost use Rattle.site_state.specs.Arrivals.{CanPass};
 ghost use Rattle.site_state.specs.Fits.{SchemaIsKeyed};
-ghost use Rattle.journal_order.specs.Sorting.{IsFinishedOnce};
+ghost use Rattle.site_state.specs.Waited.{IsFinishedOnce};
 ghost use Rattle.proc_state.specs.Calls.{AreProcedures};
 ghost use Rattle.proc_state.specs.State.{new_proc, as_site, proc_tables, other_masters};
 ghost use Rattle.proc_state.specs.Errors.{proc_errors};

@@ -2,7 +2,7 @@
 ghost use Rattle.std.specs.Prelude.{◌≡◌, not, filter, IfOk, OnOk};
 ghost use Rattle.rep_schema.specs.Shape.{HasShape};
 ghost use Rattle.rep_schema.specs.Sites.{names_of};
-ghost use Rattle.deferred_queue.specs.Streams.{is_same_site};
+ghost use Rattle.rep_values.specs.SiteNames.{is_same_site};
 ghost use Rattle.site_state.specs.Fits.{SchemaIsKeyed};
 ghost use Rattle.proc_state.specs.Calls.{AreProcedures};
 

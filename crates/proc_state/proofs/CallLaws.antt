@@ -11,7 +11,7 @@ use Rattle.site_state.specs.State.{arrived_at}
 use Rattle.site_state.specs.Journal.{error_at, is_position}
 use Rattle.site_state.specs.Ready.{stale_of}
 use Rattle.site_state.proofs.Stepping.{arrived_has, error_found}
-use Rattle.event_laws.proofs.ErrorLaws.{is_position-own}
+use Rattle.site_state.proofs.Waited.{is_position-own}
 use Rattle.proc_state.specs.Calls.{tables_by}
 use Rattle.proc_state.specs.Carriers.{carried_txn, tables_after}
 use Rattle.proc_state.specs.State.{as_site, proc_tables}

@@ -22,7 +22,7 @@ use Rattle.txn_effects.proofs.Results.{result_then-Ok}
 use Rattle.txn_effects.proofs.TransactionEffects.{failing_at-Ok}
 use Rattle.site_state.specs.declared.entry.Entry.{Entry}
 use Rattle.site_state.specs.declared.entry.Entry.TheVariants.{Local, Done, Error, Executed, Dropped, Refreshed}
-use Rattle.event_laws.proofs.PassLaws.{and_both}
+use Rattle.site_state.proofs.Waited.{and_both}
 use Rattle.proc_state.specs.declared.procedure.Action.{Action}
 use Rattle.proc_state.specs.declared.procedure.Action.TheVariants.{Put, Add, Drop}
 use Rattle.proc_state.specs.declared.procedure.Procedure.{Procedure}

@@ -18,7 +18,7 @@ use Rattle.rep_schema.proofs.ValuesAt.{are_same-Decides}
 use Rattle.rep_calls.specs.declared.call.Call.{Call}
 use Rattle.rep_calls.specs.declared.call.Call.TheVariants.{Insert, Update, Delete}
 use Rattle.conflict_detect.specs.Fits.{table_of}
-use Rattle.event_laws.proofs.PassLaws.{and_both}
+use Rattle.site_state.proofs.Waited.{and_both}
 use Rattle.proc_state.specs.declared.procedure.Action.{Action}
 use Rattle.proc_state.specs.declared.procedure.Action.TheVariants.{Put, Add, Drop}
 use Rattle.proc_state.specs.declared.procedure.Procedure.{Procedure}

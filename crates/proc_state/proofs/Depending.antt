@@ -9,10 +9,12 @@ use Rattle.dependency_index.specs.Tokens.{share_token}
 use Rattle.dependency_index.proofs.NotedTokens.{last_where-bound}
 use Rattle.deferred_queue.specs.declared.queued_txn.QueuedTxn.{QueuedTxn}
 use Rattle.deferred_queue.specs.declared.destination.Destination.{Destination}
-use Rattle.deferred_queue.specs.Streams.{InStream, is_same_site, destination_to, with_one, queue_stream_to, at_position, last_position}
+use Rattle.deferred_queue.specs.Streams.{InStream, destination_to, with_one, queue_stream_to, at_position, last_position}
+use Rattle.rep_values.specs.SiteNames.{is_same_site}
 use Rattle.deferred_queue.proofs.Positions.{found_position}
 use Rattle.deferred_queue.proofs.Sites.{is_same_site-true}
-use Rattle.site_state.specs.State.{arrival_beside, is_among}
+use Rattle.site_state.specs.State.{arrival_beside}
+use Rattle.rep_schema.specs.Sites.{is_among}
 use Rattle.site_state.specs.Streams.{with_one as with_txn}
 use Rattle.site_state.proofs.Stepping.{found_at}
 use Rattle.site_state.proofs.FittingSites.{arrival_has}

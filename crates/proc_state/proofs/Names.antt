@@ -7,7 +7,8 @@ use Rattle.rep_schema.specs.Tables.{Rows}
 use Rattle.rep_calls.specs.declared.past.PastEntry.{PastEntry}
 use Rattle.rep_calls.specs.declared.call.Txn.{Txn}
 use Rattle.txn_effects.specs.Transactions.{Failure}
-use Rattle.deferred_queue.specs.Streams.{Mark as Acked, is_same_site, raised_mark}
+use Rattle.deferred_queue.specs.Streams.{Mark as Acked, raised_mark}
+use Rattle.rep_values.specs.SiteNames.{is_same_site}
 use Rattle.packet_code.specs.declared.packet.Packet.{Packet}
 use Rattle.packet_code.specs.declared.packet.Packet.TheVariants.{Carry, Mark}
 use Rattle.error_queue.specs.declared.entry.ErrorEntry.{ErrorEntry}

@@ -21,12 +21,11 @@ use Rattle.site_state.specs.Journal.{finishes, finished, error_at, is_position}
 use Rattle.site_state.specs.Packets.{arrived_by}
 use Rattle.site_state.specs.Ready.{is_due, stale_found, stale_of}
 use Rattle.site_state.specs.Fits.{FinishedHaveArrived}
-use Rattle.site_state.specs.Steps.{count_where}
+use Rattle.rep_lists.specs.Counting.{count_where}
 use Rattle.site_state.proofs.Stepping.{IsTaken, MayFollow, with_entry, Journals, no_entry, one_entry, arrived_has, is_position-true, error_found}
 use Rattle.site_state.proofs.Pasts.{arrived_at-put, finished_have_arrived}
-use Rattle.journal_order.specs.Sorting.{IsFinishedOnce}
-use Rattle.journal_order.specs.Waited.{EachBehind, HasWaited, HaveWaited}
-use Rattle.journal_order.proofs.Waited.{have_waited, HaveWaited-put}
+use Rattle.site_state.specs.Waited.{EachBehind, HasWaited, HaveWaited, IsFinishedOnce}
+use Rattle.site_state.proofs.Waited.{have_waited, HaveWaited-put}
 use Rattle.proc_state.specs.declared.procedure.Procedure.{Procedure}
 use Rattle.proc_state.specs.declared.call.ProcCall.{ProcCall}
 use Rattle.proc_state.specs.State.{ProcState, new_proc, as_site}

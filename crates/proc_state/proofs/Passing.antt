@@ -9,7 +9,7 @@ use Rattle.std.proofs.lemmas.Bool.Decides.{nat_tests}
 use Rattle.rep_values.specs.declared.name.SiteName.{SiteName}
 use Rattle.rep_schema.specs.Tables.{Rows}
 use Rattle.txn_effects.specs.Transactions.{Failure}
-use Rattle.deferred_queue.specs.Streams.{is_same_site}
+use Rattle.rep_values.specs.SiteNames.{is_same_site}
 use Rattle.site_state.specs.declared.entry.Entry.{Entry}
 use Rattle.site_state.specs.declared.entry.Entry.TheVariants.{Done, Error}
 use Rattle.site_state.specs.declared.answers.Why.{Why}
@@ -19,9 +19,7 @@ use Rattle.site_state.specs.Journal.{finishes, finished, is_position, low_water}
 use Rattle.site_state.specs.Ready.{is_due, stale_of, is_ready}
 use Rattle.site_state.proofs.LowWater.{low_water-greatest, low_water-below}
 use Rattle.site_state.proofs.Stepping.{arrived_has}
-use Rattle.journal_order.proofs.Waited.{due_dep}
-use Rattle.event_laws.proofs.ErrorLaws.{is_position-own}
-use Rattle.event_laws.proofs.PassLaws.{each_found, found_holds}
+use Rattle.site_state.proofs.Waited.{due_dep, is_position-own, each_found, found_holds}
 use Rattle.proc_state.specs.State.{ProcState, as_site}
 use Rattle.proc_state.specs.Passes.{txn_here, finished_by, applied_unless, proc_apply, apply_each, proc_pass}
 use Rattle.proc_state.specs.Fits.{ArePassable}

@@ -10,7 +10,7 @@ use Rattle.packet_code.specs.declared.packet.Packet.{Packet}
 use Rattle.packet_code.specs.declared.packet.Packet.TheVariants.{Carry}
 use Rattle.site_state.specs.declared.entry.Entry.{Entry}
 use Rattle.site_state.specs.declared.entry.Entry.TheVariants.{Local, Done, Error, Executed, Dropped, Refreshed}
-use Rattle.site_state.specs.State.{is_among}
+use Rattle.rep_schema.specs.Sites.{is_among}
 use Rattle.site_state.specs.Streams.{with_one}
 use Rattle.site_state.specs.Fits.{EntryHas}
 use Rattle.proc_state.specs.State.{ProcState, own_txns, stream_in, proc_queue}

@@ -22,8 +22,7 @@ use Rattle.site_state.specs.State.{arrival_beside, arrived_at, arrivals}
 use Rattle.site_state.specs.Journal.{finishes, finished, error_at}
 use Rattle.site_state.specs.Ready.{is_ready}
 use Rattle.site_state.specs.Fits.{SchemaIsKeyed}
-use Rattle.journal_order.specs.Sorting.{IsFinishedOnce}
-use Rattle.journal_order.specs.Waited.{EachBehind}
+use Rattle.site_state.specs.Waited.{EachBehind, IsFinishedOnce}
 use Rattle.proc_state.specs.declared.procedure.Procedure.{Procedure}
 use Rattle.proc_state.specs.declared.call.ProcCall.{ProcCall}
 use Rattle.proc_state.specs.Calls.{AreProcedures, calls_fit, calls_after, tables_by}

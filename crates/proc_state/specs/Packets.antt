@@ -2,12 +2,14 @@
 use Rattle.std.specs.Prelude.{ℕ, ◌||◌, Bool, not, nat_lt, cond, List, map, Option, Some, None, is_none}
 use Rattle.rep_values.specs.declared.name.SiteName.{SiteName}
 use Rattle.deferred_queue.specs.declared.queued_txn.QueuedTxn.{QueuedTxn}
-use Rattle.deferred_queue.specs.Streams.{InStream, Mark as Acked, is_same_site, queue_stream_to, at_position, last_position, raised_mark}
+use Rattle.deferred_queue.specs.Streams.{InStream, Mark as Acked, queue_stream_to, at_position, last_position, raised_mark}
+use Rattle.rep_values.specs.SiteNames.{is_same_site}
 use Rattle.packet_code.specs.declared.packet.Packet.{Packet}
 use Rattle.packet_code.specs.declared.packet.Packet.TheVariants.{Carry, Mark}
 use Rattle.site_state.specs.declared.answers.Accepted.{Accepted}
 use Rattle.site_state.specs.declared.answers.Accepted.TheVariants as accepted
-use Rattle.site_state.specs.State.{is_among, sender_of}
+use Rattle.site_state.specs.State.{sender_of}
+use Rattle.rep_schema.specs.Sites.{is_among}
 use Rattle.site_state.specs.Packets.{mark_of, taken_in, accept_answer_by}
 use Rattle.site_state.specs.Steps.{is_empty}
 use Rattle.proc_state.specs.Carriers.{is_carried}

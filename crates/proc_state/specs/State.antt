@@ -8,7 +8,8 @@ use Rattle.deferred_queue.specs.declared.destination.Destination.{Destination}
 use Rattle.deferred_queue.specs.Streams.{Deferred, Mark}
 use Rattle.site_state.specs.declared.entry.Entry.{Entry}
 use Rattle.site_state.specs.declared.entry.Entry.TheVariants.{Local, Done, Error, Executed, Dropped, Refreshed}
-use Rattle.site_state.specs.State.{SenderState, SiteState, is_among}
+use Rattle.site_state.specs.State.{SenderState, SiteState}
+use Rattle.rep_schema.specs.Sites.{is_among}
 use Rattle.site_state.specs.Making.{new_sender}
 use Rattle.site_state.specs.Streams.{with_one}
 use Rattle.proc_state.specs.declared.procedure.Procedure.{Procedure}

@@ -2,14 +2,13 @@
 use Rattle.std.proofs.Common.{◌≡◌, ℕ, ◌≤◌, List, [], ◌∷◌, ◌++◌, Bool, true, false, Some, None, refl, sym, ap, ◌∙◌, arith, subst}
 use Rattle.std.specs.Prelude.{Option}
 use Rattle.std.specs.List.{AllByRecursion}
-use Rattle.rep_lists.proofs.Each.{each_then}
+use Rattle.rep_lists.proofs.Each.{each_then, all-append}
 use Rattle.rep_values.specs.declared.name.SiteName.{SiteName}
 use Rattle.rep_schema.specs.declared.schema.Schema.{Schema}
 use Rattle.packet_code.specs.declared.packet.Packet.{Packet}
 use Rattle.net_plan.specs.declared.fate.Fate.{Fate}
 use Rattle.net_plan.specs.Directions.{Direction, at_direction, first_between, on_way_between, released, delivered, with_fates}
 use Rattle.site_state.specs.Journal.{low_water}
-use Rattle.world_laws.proofs.Links.{all-append}
 use Rattle.proc_state.specs.declared.procedure.Procedure.{Procedure}
 use Rattle.proc_state.specs.State.{ProcState}
 use Rattle.proc_state.specs.Packets.{proc_mark, proc_accept}
@@ -20,10 +19,10 @@ use Rattle.proc_state.specs.Events.{ProcEvent, Accept, Apply, Pass, Execute, aft
 use Rattle.proc_state.proofs.Names.{IsProcSite, reached_names}
 use Rattle.proc_state.proofs.Fitting.{every_site_fits}
 use Rattle.proc_state.proofs.Sending.{is_sent, sent_packets_fit}
-use Rattle.event_laws.specs.Events.{without}
+use Rattle.site_events.specs.Events.{without}
 use Rattle.world_state.specs.Procs.{Procs, proc_schema, early_masters, proc_made, proc_of, at_proc}
 use Rattle.world_state.specs.Pushes.{sent_on, emptied}
-use Rattle.world_state.specs.Rounds.{sender_names}
+use Rattle.site_state.specs.Rounds.{sender_names}
 use Rattle.world_state.specs.CallPushes.{calls_release, calls_from, calls_send, calls_send_each, calls_positions, calls_send_above, calls_taken_each, calls_deliver, calls_taken_one, calls_deliver_one, proc_passes, proc_until_quiet, calls_until_quiet, calls_mark_from, calls_send_mark, calls_return_mark, calls_pushed_in, calls_push}
 use Rattle.procedure_worlds.specs.Streams.{low_at, IsOfStreams, NetCarries, ArrivedOfStreams, MarksAreLow, JournalOfStreams}
 use Rattle.procedure_worlds.specs.Built.{ComesFromCalls, AreMade}

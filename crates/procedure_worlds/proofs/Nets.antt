@@ -2,13 +2,12 @@
 use Rattle.std.proofs.Common.{◌≡◌, List, [], ◌∷◌, Bool, true, false, cond, Some, None, refl}
 use Rattle.std.specs.Prelude.{Option}
 use Rattle.std.specs.List.{AllByRecursion}
-use Rattle.rep_lists.proofs.Each.{each_then, each_drop}
+use Rattle.rep_lists.proofs.Each.{each_then, each_drop, all-append}
 use Rattle.rep_values.specs.declared.name.SiteName.{SiteName}
 use Rattle.packet_code.specs.declared.packet.Packet.{Packet}
 use Rattle.net_plan.specs.declared.fate.Fate.{Fate}
 use Rattle.net_plan.specs.declared.fate.Fate.TheVariants.{Pass, Lose, Twice, Late}
 use Rattle.net_plan.specs.Directions.{Direction, is_between, direction_of, at_direction, first_of, first_in, first_between, on_way_in, on_way_between, released, delivered, next_fate, with_packet, with_fate_taken, with_sent, net_of}
-use Rattle.world_laws.proofs.Links.{all-append}
 use Rattle.world_state.specs.Pushes.{sent_on, emptied}
 use Rattle.procedure_worlds.specs.Streams.{NetCarries}
 

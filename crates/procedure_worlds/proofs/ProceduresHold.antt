@@ -8,7 +8,8 @@ use Rattle.rep_schema.specs.declared.schema.Schema.{Schema}
 use Rattle.rep_schema.specs.Tables.{Rows}
 use Rattle.rep_calls.specs.declared.call.Txn.{Txn}
 use Rattle.txn_effects.specs.Transactions.{Failure}
-use Rattle.deferred_queue.specs.Streams.{is_same_site, acked_by}
+use Rattle.deferred_queue.specs.Streams.{acked_by}
+use Rattle.rep_values.specs.SiteNames.{is_same_site}
 use Rattle.deferred_queue.proofs.Sites.{is_same_site-true}
 use Rattle.packet_code.specs.declared.packet.Packet.{Packet}
 use Rattle.packet_code.specs.declared.packet.Packet.TheVariants.{Carry, Mark}
@@ -21,9 +22,8 @@ use Rattle.site_state.specs.State.{SenderState, sender_of, arrived_in, arrived_a
 use Rattle.site_state.specs.Journal.{error_at}
 use Rattle.site_state.specs.Ready.{stale_of}
 use Rattle.site_state.proofs.Stepping.{arrived_has}
-use Rattle.journal_order.specs.Sorting.{IsFinishedOnce}
-use Rattle.journal_order.specs.Waited.{EachBehind}
-use Rattle.event_laws.specs.Events.{without}
+use Rattle.site_state.specs.Waited.{EachBehind, IsFinishedOnce}
+use Rattle.site_events.specs.Events.{without}
 use Rattle.proc_state.specs.declared.procedure.Procedure.{Procedure}
 use Rattle.proc_state.specs.Carriers.{txn_after}
 use Rattle.proc_state.specs.State.{ProcState, as_site, journal_tables}

@@ -12,9 +12,10 @@ use Rattle.rep_schema.specs.Shape.{HasShape}
 use Rattle.rep_schema.specs.Named.{is_table, table_place}
 use Rattle.rep_schema.specs.Sites.{linked_pairs}
 use Rattle.net_plan.specs.Directions.{is_up}
-use Rattle.deferred_queue.specs.Streams.{is_same_site, acked_by}
+use Rattle.deferred_queue.specs.Streams.{acked_by}
+use Rattle.rep_values.specs.SiteNames.{is_same_site}
 use Rattle.site_state.specs.Making.{new_sender}
-use Rattle.event_laws.specs.Events.{without}
+use Rattle.site_events.specs.Events.{without}
 use Rattle.schema_rules.specs.Rules.{broken_rule}
 use Rattle.proc_state.specs.declared.procedure.Action.{Action}
 use Rattle.proc_state.specs.declared.procedure.Procedure.{Procedure}

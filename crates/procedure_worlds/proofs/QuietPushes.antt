@@ -10,19 +10,19 @@ use Rattle.rep_values.proofs.RefusalSteps.{or_then-None, refused_not-None}
 use Rattle.rep_schema.specs.declared.schema.Schema.{Schema}
 use Rattle.rep_schema.specs.Tables.{Rows}
 use Rattle.txn_effects.specs.Transactions.{Failure}
-use Rattle.deferred_queue.specs.Streams.{is_same_site}
+use Rattle.rep_values.specs.SiteNames.{is_same_site}
 use Rattle.deferred_queue.proofs.Sites.{is_same_site-true}
 use Rattle.packet_code.specs.declared.packet.Packet.{Packet}
 use Rattle.net_plan.specs.Directions.{is_up, on_way_between}
 use Rattle.site_state.specs.declared.answers.Why.{Why}
 use Rattle.site_state.specs.declared.arrival.Arrival.{Arrival}
-use Rattle.site_state.specs.State.{SenderState, sender_of, arrived_at, arrivals, is_among}
+use Rattle.site_state.specs.State.{SenderState, sender_of, arrived_at, arrivals}
+use Rattle.rep_schema.specs.Sites.{is_among}
 use Rattle.site_state.specs.Journal.{is_position, finished, low_water}
 use Rattle.site_state.specs.Ready.{is_due, stale_of, is_ready}
 use Rattle.site_state.proofs.LowWater.{low_water-below, low_water-greatest}
-use Rattle.journal_order.proofs.Waited.{due_dep}
-use Rattle.event_laws.specs.Events.{without}
-use Rattle.event_laws.proofs.PassLaws.{found_holds}
+use Rattle.site_state.proofs.Waited.{due_dep, found_holds}
+use Rattle.site_events.specs.Events.{without}
 use Rattle.proc_state.specs.State.{ProcState, as_site, other_masters}
 use Rattle.proc_state.specs.Packets.{proc_accept}
 use Rattle.proc_state.specs.Passes.{txn_here, finished_by, applied_unless, proc_apply, apply_each, proc_pass}
@@ -36,7 +36,7 @@ use Rattle.script_parse.specs.declared.proc_line.ProcLine.TheVariants as proc_li
 use Rattle.world_state.specs.World.{WorldState}
 use Rattle.world_state.specs.Phases.{behind_setup_step}
 use Rattle.world_state.specs.Procs.{Procs, early_masters, proc_of, at_proc}
-use Rattle.world_state.specs.Rounds.{sender_names}
+use Rattle.site_state.specs.Rounds.{sender_names}
 use Rattle.world_state.specs.CallPushes.{calls_release, calls_taken_each, calls_send_mark, proc_passes, proc_until_quiet, calls_until_quiet, calls_return_mark, calls_pushed_in, calls_push}
 use Rattle.world_state.specs.ProcRefusals.{is_other, are_two_masters, proc_steps}
 use Rattle.world_state.specs.Steps.{step_by}

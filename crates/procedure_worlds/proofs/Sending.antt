@@ -21,7 +21,7 @@ use Rattle.rep_schema.specs.Tables.{columns_of}
 use Rattle.rep_schema.specs.Fitting.{fits_kind, row_fits}
 use Rattle.rep_schema.specs.Kinds.{is_of_kind, value_in_range, row_in_range}
 use Rattle.rep_laws.proofs.SoundSchemas.{both_hold}
-use Rattle.local_txn.specs.Literals.{literal_fits, literals_fit, values_of}
+use Rattle.txn_effects.specs.Literals.{literal_fits, literals_fit, values_of}
 use Rattle.site_state.specs.Steps.{is_empty}
 use Rattle.proc_state.specs.declared.procedure.Action.{Action}
 use Rattle.proc_state.specs.declared.procedure.Action.TheVariants as action

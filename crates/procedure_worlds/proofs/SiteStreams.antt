@@ -9,7 +9,8 @@ use Rattle.rep_schema.specs.Tables.{Rows}
 use Rattle.rep_calls.specs.declared.call.Txn.{Txn}
 use Rattle.rep_calls.specs.declared.past.PastEntry.{PastEntry}
 use Rattle.txn_effects.specs.Transactions.{Failure}
-use Rattle.deferred_queue.specs.Streams.{Mark as Acked, is_same_site, acked_by, raised_mark}
+use Rattle.deferred_queue.specs.Streams.{Mark as Acked, acked_by, raised_mark}
+use Rattle.rep_values.specs.SiteNames.{is_same_site}
 use Rattle.deferred_queue.proofs.Sites.{is_same_site-true}
 use Rattle.packet_code.specs.declared.packet.Packet.{Packet}
 use Rattle.packet_code.specs.declared.packet.Packet.TheVariants.{Carry, Mark}
@@ -18,7 +19,8 @@ use Rattle.site_state.specs.declared.entry.Entry.{Entry}
 use Rattle.site_state.specs.declared.entry.Entry.TheVariants.{Local, Done, Error, Executed, Dropped, Refreshed}
 use Rattle.site_state.specs.declared.answers.Why.{Why}
 use Rattle.site_state.specs.declared.arrival.Arrival.{Arrival}
-use Rattle.site_state.specs.State.{SenderState, sender_of, at_sender, arrival_beside, arrived_at, arrivals, is_among}
+use Rattle.site_state.specs.State.{SenderState, sender_of, at_sender, arrival_beside, arrived_at, arrivals}
+use Rattle.rep_schema.specs.Sites.{is_among}
 use Rattle.site_state.specs.Packets.{with_arrival, arrived_by}
 use Rattle.site_state.specs.Journal.{error_at}
 use Rattle.site_state.specs.Ready.{stale_of}

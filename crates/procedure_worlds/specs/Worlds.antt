@@ -9,8 +9,7 @@ use Rattle.site_state.specs.declared.arrival.Arrival.{Arrival}
 use Rattle.site_state.specs.State.{arrived_at}
 use Rattle.site_state.specs.Journal.{error_at}
 use Rattle.site_state.specs.Ready.{is_ready}
-use Rattle.journal_order.specs.Sorting.{IsFinishedOnce}
-use Rattle.journal_order.specs.Waited.{EachBehind}
+use Rattle.site_state.specs.Waited.{EachBehind, IsFinishedOnce}
 use Rattle.proc_state.specs.Carriers.{txn_after}
 use Rattle.proc_state.specs.State.{ProcState, as_site, journal_tables}
 use Rattle.proc_state.specs.Fits.{ProcFits}

@@ -16,3 +16,6 @@ pub mod ContentAfter
 pub mod EitherOrder
 mod WorkedIndependence
 mod PlainCalls
+pub mod FormShapes
+pub mod ConvergentRows
+pub mod SiteColumns

@@ -2,3 +2,4 @@
 pub mod SoundSchemas
 pub mod Commuting
 pub mod Packets
+pub mod GroupForms

@@ -37,3 +37,7 @@ pub each_found : {X : Type 0} (P : X → Type 0) (xs : List X) (i : ℕ) → i <
 each_found P [] i within all = absurd (omega arith)
 each_found P (x ∷ xs) zero within all = (x, refl, all.0)
 each_found P (x ∷ xs) (suc i) within all = each_found P xs i (omega arith) all.1
+
+pub all-append : {X : Type 0} (P : X → Type 0) (xs ys : List X) → AllByRecursion P xs → AllByRecursion P ys → AllByRecursion P (xs ++ ys)
+all-append P [] ys left right = right
+all-append P (x ∷ xs) ys left right = (left.0, all-append P xs ys left.1 right)

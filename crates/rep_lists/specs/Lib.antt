@@ -3,3 +3,4 @@ pub mod Rising
 pub mod RisingLaws
 pub mod Roomy
 pub mod Lends
+pub mod Counting

@@ -1,5 +1,5 @@
 -- What is found by key among a table's rows, after a put and after a take, and that it determines the rows.
-use Rattle.std.proofs.Common.{◌≡◌, ◌≢◌, List, [], ◌∷◌, Some, None, refl, ap, subst}
+use Rattle.std.proofs.Common.{◌≡◌, ◌≢◌, List, [], ◌∷◌, Some, None, refl, ap, subst, ℕ, ◌+◌, ◌++◌, take, ◌∙◌}
 use Rattle.std.specs.List.{AllByRecursion}
 use Rattle.std.specs.declared.cmp.Ordering.{Ordering}
 use Rattle.std.specs.declared.cmp.Ordering.TheVariants.{Less, Equal, Greater}
@@ -9,6 +9,9 @@ use Rattle.rep_values.specs.Order.{key_cmp}
 use Rattle.rep_values.specs.OrderLaws.{key_cmp_total, exact_keys}
 use Rattle.rep_schema.specs.declared.schema.Column.{Column}
 use Rattle.rep_schema.specs.Tables.{Cells, Rows, key_of, row_beside, row_cmp, find_row, put_row, take_row}
+use Rattle.std.specs.Prelude.{slice_get}
+use Rattle.std.proofs.lemmas.List.{take_more}
+use Rattle.std.proofs.lemmas.Option.{slice_get_within, get_or_from_slice_get}
 
 module _ (columns : List Column) where
   -- a row that was put is found under its key
@@ -67,3 +70,7 @@ take_absent at (x ∷ xs) absent = go (at x) absent (take_absent at xs)
 
 pub take_row-absent : (columns : List Column) (key : Cells) (rows : Rows) → find_row columns key rows ≡ None → take_row columns key rows ≡ rows
 take_row-absent columns key rows absent = take_absent (row_beside columns key) rows absent
+
+-- one more is the value that stands at the place
+pub take_found : {X : Type 0} (xs : List X) (i : ℕ) (x : X) → slice_get xs i ≡ Some x → take (i + 1) xs ≡ take i xs ++ x ∷ []
+take_found xs i x found = take_more xs i x (slice_get_within xs i x found) ∙ ap (λ y. take i xs ++ y ∷ []) (get_or_from_slice_get xs i x x found)

@@ -1,11 +1,12 @@
 -- The sites of a schema: who sends to whom, and which tables one holds.
 use Rattle.std.specs.Prelude.{ℕ, Bool, false, not, ◌&&◌, ◌||◌, List, [], Option, Some, None, map, filter, flat_map, slice_index_or}
-use Rattle.std.specs.List.{find}
+use Rattle.std.specs.List.{find, list_any}
 use Rattle.rep_values.specs.declared.name.SiteName.{SiteName}
 use Rattle.rep_schema.specs.declared.schema.Schema.{Schema}
 use Rattle.rep_schema.specs.declared.schema.SiteEntry.{SiteEntry}
 use Rattle.rep_schema.specs.Shape.{is_master, is_early_master}
 use Rattle.rep_schema.specs.Named.{is_site, site_named}
+use Rattle.rep_values.specs.SiteNames.{is_same_site}
 
 -- the first declared of the master sites that are there from the start
 abbrev pub first_master : Schema → Option SiteEntry
@@ -51,3 +52,15 @@ linked_pairs entries = flat_map (λ (a : SiteEntry). map (λ (b : SiteEntry). (a
 -- a table is among those of a set
 abbrev pub has_table : List Bool → ℕ → Bool
 has_table set table = slice_index_or set table false
+
+-- a site of this name is a master site of the schema, there from the start or late
+abbrev pub is_master_site : Schema → SiteName → Bool
+is_master_site schema name = list_any (λ site. is_site name site && is_master site) schema.sites
+
+-- a name is among these
+abbrev pub is_among : List SiteName → SiteName → Bool
+is_among names name = list_any (λ (n : SiteName). is_same_site n name) names
+
+-- a site of this name is a late master of the schema: it isn't there from the start
+abbrev pub is_late_master : Schema → SiteName → Bool
+is_late_master schema name = list_any (λ site. is_site name site && (is_master site && site.late)) schema.sites

@@ -10,3 +10,4 @@ pub mod Order
 pub mod OrderLaws
 pub mod Refusal
 pub mod RefusalSteps
+pub mod SiteNames

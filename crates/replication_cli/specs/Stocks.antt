@@ -8,7 +8,7 @@ use Rattle.rep_values.specs.Equality.{value_eq}
 use Rattle.rep_schema.specs.Tables.{Cells, Rows, rows_of}
 use Rattle.site_state.specs.State.{SiteState}
 use Rattle.site_state.specs.Contents.{tables_of}
-use Rattle.event_laws.specs.Cluster.{site_of}
+use Rattle.site_events.specs.Cluster.{site_of}
 use Rattle.world_state.specs.World.{WorldState}
 use Rattle.replication_cli.specs.declared.stocks.Totals.{Totals}
 use Rattle.storm_script.specs.Sites.{site_a, site_b, site_c}

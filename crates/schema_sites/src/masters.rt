@@ -2,9 +2,7 @@
 ghost use Rattle.std.specs.Prelude.{◌≡◌, ◌&&◌, option_map};
 ghost use Rattle.rep_schema.specs.Shape.{is_master};
 ghost use Rattle.rep_schema.specs.Named.{is_site};
-ghost use Rattle.rep_schema.specs.Sites.{first_master};
-ghost use Rattle.site_state.specs.State.{is_master_site};
-ghost use Rattle.site_state.specs.Making.{is_late_master};
+ghost use Rattle.rep_schema.specs.Sites.{first_master, is_master_site, is_late_master};
 
 use rep_schema::{Schema, SiteEntry};
 use rep_values::SiteName;

@@ -1,7 +1,6 @@
 //! Which site sends to which.
 ghost use Rattle.std.specs.Prelude.{◌≡◌, List, [], map, filter, option_copied, IfOk};
-ghost use Rattle.rep_schema.specs.Sites.{sends_to, names_of, senders_of, destinations_of};
-ghost use Rattle.site_state.specs.State.{is_among};
+ghost use Rattle.rep_schema.specs.Sites.{sends_to, names_of, senders_of, destinations_of, is_among};
 
 use rep_lists::{Items, NoMemory};
 use rep_schema::{Schema, SiteEntry};

@@ -12,7 +12,7 @@ use Rattle.std.proofs.lemmas.Option.{slice_get_within, get_or_from_slice_get}
 use Rattle.rep_lists.specs.Rising.{IsRising, find_at, put_at, found_here, put_here}
 use Rattle.rep_lists.proofs.Rising.{all_put}
 use Rattle.rep_calls.specs.declared.past.PastEntry.{PastEntry}
-use Rattle.deferred_queue.specs.Streams.{is_same_site}
+use Rattle.rep_values.specs.SiteNames.{is_same_site}
 use Rattle.deferred_queue.proofs.Sites.{is_same_site-true}
 use Rattle.origin_marks.proofs.Counts.{cmp_less}
 use Rattle.site_state.specs.declared.arrival.Arrival.{Arrival}

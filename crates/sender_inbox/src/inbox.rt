@@ -1,7 +1,7 @@
 //! What arrived from one sender.
 ghost use Rattle.std.specs.Prelude.{◌≡◌, ◌≢◌, ◌↔◌, ℕ, ◌<◌, ◌≤◌, ◌==◌, ◌||◌, false, [], None, Some, length, slice_get, option_copied, is_some, IsTrue, OnOk, OnErr};
 ghost use Rattle.rep_lists.specs.Rising.{find_at};
-ghost use Rattle.deferred_queue.specs.Streams.{is_same_site};
+ghost use Rattle.rep_values.specs.SiteNames.{is_same_site};
 ghost use Rattle.origin_marks.specs.Marks.{finished, IsLowWater};
 ghost use Rattle.site_state.specs.State.{arrival_beside};
 ghost use Rattle.site_state.specs.Arrivals.{NamesOthers};

@@ -20,11 +20,11 @@ use Rattle.rep_calls.specs.declared.statement.Statement.{Statement}
 use Rattle.rep_calls.specs.declared.statement.Statement.TheVariants.{Insert, Update, Delete}
 use Rattle.rep_calls.specs.declared.statement.Set.{Set}
 use Rattle.rep_calls.specs.declared.statement.How.TheVariants.{To, Add}
-use Rattle.local_txn.specs.declared.local.Here.{Here}
-use Rattle.local_txn.specs.declared.local.Stamps.{Stamps}
-use Rattle.local_txn.specs.declared.local.LocalStop.{LocalStop}
-use Rattle.local_txn.specs.Statements.{statement_refusal, statement_changes}
-use Rattle.local_txn.specs.Locals.{BlockEffect, block_beginning, local_effect}
+use Rattle.txn_effects.specs.declared.local.Here.{Here}
+use Rattle.txn_effects.specs.declared.local.Stamps.{Stamps}
+use Rattle.txn_effects.specs.declared.local.LocalStop.{LocalStop}
+use Rattle.txn_effects.specs.Statements.{statement_refusal, statement_changes}
+use Rattle.txn_effects.specs.Locals.{BlockEffect, block_beginning, local_effect}
 
 abbrev column : List ℕ → Kind → Bool → Column
 column name kind key = record { name = name; kind = kind; key = key }

@@ -1,12 +1,12 @@
 //! A site of the cases.
 ghost use Rattle.std.specs.Prelude.{◌≡◌, [], length, replicate, IfOk};
 ghost use Rattle.rep_schema.specs.Shape.{HasShape};
-ghost use Rattle.rep_schema.specs.Sites.{senders_of, destinations_of};
-ghost use Rattle.site_state.specs.State.{is_master_site};
+ghost use Rattle.rep_schema.specs.Sites.{senders_of, destinations_of, is_master_site};
 ghost use Rattle.site_state.specs.Fits.{SchemaIsKeyed};
 
 use case_lines::CaseStop;
-use local_txn::{Here, fill_base_rows, put_base_row, sound_schemas_fill_freely};
+use local_txn::{fill_base_rows, put_base_row, sound_schemas_fill_freely};
+use txn_effects::Here;
 use master_join::copy_site;
 use rep_calls::PastEntry;
 use rep_laws::sound_schemas_have_keys;

@@ -8,7 +8,7 @@ use Rattle.rep_schema.specs.declared.schema.SiteEntry.{SiteEntry}
 use Rattle.rep_schema.specs.Shape.{HasShape}
 use Rattle.rep_schema.specs.Named.{site_named}
 use Rattle.rep_schema.specs.Sites.{names_of, sends_to, senders_to, senders_of, destinations_from, destinations_of}
-use Rattle.deferred_queue.specs.Streams.{is_same_site}
+use Rattle.rep_values.specs.SiteNames.{is_same_site}
 use Rattle.deferred_queue.proofs.Sites.{is_same_site-true}
 use Rattle.site_state.specs.State.{SenderState, DestinationState, sender_of, destination_of}
 use Rattle.site_state.specs.Deferrals as queue

@@ -10,12 +10,12 @@ use Rattle.rep_schema.specs.declared.change.Change.{Change}
 use Rattle.rep_schema.specs.Tables.{Cells, Rows}
 use Rattle.rep_schema.specs.Putting.{is_unchanged, changes_between}
 use Rattle.rep_calls.specs.declared.statement.Statement.{Statement}
-use Rattle.local_txn.specs.declared.local.Here.{Here}
-use Rattle.local_txn.specs.declared.local.Stamps.{Stamps}
-use Rattle.local_txn.specs.declared.local.LocalStop.{LocalStop}
-use Rattle.local_txn.specs.Held.{statement_table}
-use Rattle.local_txn.specs.Statements.{BlockState, outcome_in, statement_refusal, statement_changes, block_state_after, changes_at}
-use Rattle.local_txn.specs.Locals.{BlockEffect, unless_refused, block_effect_behind, statements_effect, block_beginning, stop_at, most_statements, local_effect}
+use Rattle.txn_effects.specs.declared.local.Here.{Here}
+use Rattle.txn_effects.specs.declared.local.Stamps.{Stamps}
+use Rattle.txn_effects.specs.declared.local.LocalStop.{LocalStop}
+use Rattle.txn_effects.specs.Held.{statement_table}
+use Rattle.txn_effects.specs.Statements.{BlockState, outcome_in, statement_refusal, statement_changes, block_state_after, changes_at}
+use Rattle.txn_effects.specs.Locals.{BlockEffect, unless_refused, block_effect_behind, statements_effect, block_beginning, stop_at, most_statements, local_effect}
 use Rattle.rep_schema.specs.Named.{table_place}
 
 -- a row changes once at most

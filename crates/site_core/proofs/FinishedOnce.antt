@@ -8,15 +8,18 @@ use Rattle.rep_schema.specs.declared.change.Change.{Change}
 use Rattle.rep_calls.specs.declared.past.PastEntry.{PastEntry}
 use Rattle.txn_effects.specs.Calls.{Effect}
 use Rattle.txn_effects.specs.Transactions.{Failure}
-use Rattle.deferred_queue.specs.Streams.{is_same_site}
+use Rattle.rep_values.specs.SiteNames.{is_same_site}
 use Rattle.deferred_queue.proofs.Sites.{is_same_site-true}
 use Rattle.site_state.specs.declared.entry.Entry.{Entry}
 use Rattle.site_state.specs.declared.arrival.Arrival.{Arrival}
-use Rattle.site_state.specs.State.{SiteState, is_master_site}
+use Rattle.site_state.specs.State.{SiteState}
+use Rattle.rep_schema.specs.Sites.{is_master_site}
 use Rattle.site_state.specs.Journal.{finishes, finished}
 use Rattle.site_state.specs.Streams.{count_of}
-use Rattle.site_state.specs.Steps.{count_where, is_empty, is_open}
-use Rattle.journal_order.specs.Sorting.{IsFinishedOnce, StaysWithMasters}
+use Rattle.site_state.specs.Steps.{is_empty, is_open}
+use Rattle.rep_lists.specs.Counting.{count_where}
+use Rattle.journal_order.specs.Sorting.{StaysWithMasters}
+use Rattle.site_state.specs.Waited.{IsFinishedOnce}
 use Rattle.site_core.specs.Applying.{onward_of, entry_by, onward_past}
 use Rattle.journal_steps.proofs.ChangedInbox.{Finishes}
 use Rattle.site_core.proofs.Onward.{onward_is}

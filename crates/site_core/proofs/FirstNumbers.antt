@@ -7,10 +7,10 @@ use Rattle.rep_schema.specs.declared.schema.Schema.{Schema}
 use Rattle.rep_schema.specs.Tables.{Rows}
 use Rattle.rep_calls.specs.declared.call.Txn.{Txn}
 use Rattle.unique_resolve.specs.Numbers.{Numbers}
-use Rattle.deferred_queue.specs.Streams.{is_same_site}
+use Rattle.rep_values.specs.SiteNames.{is_same_site}
 use Rattle.origin_marks.specs.Marks as marks
-use Rattle.local_txn.specs.declared.local.Here.{Here}
-use Rattle.local_txn.specs.declared.local.Stamps.{Stamps}
+use Rattle.txn_effects.specs.declared.local.Here.{Here}
+use Rattle.txn_effects.specs.declared.local.Stamps.{Stamps}
 use Rattle.error_queue.specs.ErrorLists.{ErrorList}
 use Rattle.site_state.specs.declared.entry.Entry.{Entry}
 use Rattle.site_state.specs.State.{SenderState, sender_of, at_sender}

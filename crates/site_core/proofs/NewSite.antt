@@ -4,15 +4,14 @@ use Rattle.std.specs.List.{AllByRecursion}
 use Rattle.rep_values.specs.declared.name.SiteName.{SiteName}
 use Rattle.rep_schema.specs.declared.schema.Schema.{Schema}
 use Rattle.rep_schema.specs.Tables.{Rows, AreTables}
-use Rattle.rep_schema.specs.Sites.{senders_of, destinations_of}
+use Rattle.rep_schema.specs.Sites.{senders_of, destinations_of, is_master_site}
 use Rattle.rep_calls.specs.declared.call.Txn.{Txn}
 use Rattle.unique_resolve.specs.Numbers.{Numbers, first_numbers}
 use Rattle.unique_resolve.proofs.Settlements.{AreCounters-first}
-use Rattle.local_txn.specs.declared.local.Here.{Here}
+use Rattle.txn_effects.specs.declared.local.Here.{Here}
 use Rattle.origin_marks.specs.Marks as marks
 use Rattle.snapshot_query.specs.declared.snapshot.Snapshot.{Snapshot}
 use Rattle.error_queue.specs.ErrorLists.{ErrorList, no_errors, in_order}
-use Rattle.site_state.specs.State.{is_master_site}
 use Rattle.site_state.specs.Deferrals as queue
 use Rattle.site_state.specs.Making.{new_sender, new_destination}
 use Rattle.site_state.specs.Fits.{SchemaIsKeyed, SendersHave, AreWithin, SnapshotsApart}

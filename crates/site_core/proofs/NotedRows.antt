@@ -7,10 +7,9 @@ use Rattle.rep_schema.specs.declared.change.Change.{Change}
 use Rattle.txn_effects.specs.Calls.{Effect}
 use Rattle.txn_effects.specs.Transactions.{Failure}
 use Rattle.snapshot_query.specs.declared.snapshot.Snapshot.{Snapshot}
-use Rattle.site_state.specs.State.{LogState}
+use Rattle.snapshot_log.specs.LogState.{LogState}
 use Rattle.site_state.specs.Contents.{changes_by}
-use Rattle.site_state.specs.Notes.{logged_in, touched_in}
-use Rattle.site_state.specs.Refreshes.{renewed}
+use Rattle.snapshot_log.specs.Noting.{logged_in, touched_in, renewed}
 use Rattle.site_state.specs.Fits.{SnapshotsApart}
 use Rattle.site_notes.specs.Noted.{NotesState}
 use Rattle.site_core.specs.Noting.{RowsAreNoted}

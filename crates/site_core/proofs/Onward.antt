@@ -11,7 +11,8 @@ use Rattle.rep_schema.specs.Putting.{after_changes}
 use Rattle.rep_calls.specs.declared.call.Txn.{Txn}
 use Rattle.rep_calls.specs.declared.past.PastEntry.{PastEntry}
 use Rattle.conflict_detect.specs.ChangeCalls.{call_of}
-use Rattle.site_state.specs.State.{SiteState, is_master_site}
+use Rattle.site_state.specs.State.{SiteState}
+use Rattle.rep_schema.specs.Sites.{is_master_site}
 use Rattle.site_state.specs.Contents.{txn_of}
 use Rattle.site_state.specs.Streams.{with_one, went_onward, count_of}
 use Rattle.site_state.specs.Pasts.{past_of, pasts_of}

@@ -19,13 +19,13 @@ use Rattle.site_state.specs.declared.answers.Applied.TheVariants as applied
 use Rattle.site_state.specs.State.{SiteState, arrived_at, arrivals}
 use Rattle.site_state.specs.Journal.{finished, low_water}
 use Rattle.site_state.specs.Ready.{stale_of, is_ready, first_ready_in, first_ready}
-use Rattle.site_state.specs.Steps.{count_where}
+use Rattle.rep_lists.specs.Counting.{count_where}
 use Rattle.site_state.specs.Passes.{effect_here, finished_by, applied_unless, site_apply, apply_answer_by, apply_answer_unless, apply_answer, apply_each, site_pass, is_done, is_error, added_count, pass_answer}
 use Rattle.site_state.proofs.LowWater.{low_water-below}
 use Rattle.site_state.proofs.Stepping.{apply_steps}
 use Rattle.sender_inbox.specs.Incoming.{IsFirstAbove}
 use Rattle.journal_steps.specs.Steps.{done_by, errors_by}
-use Rattle.site_refresh.proofs.Taking.{take_found}
+use Rattle.rep_schema.proofs.FoundRows.{take_found}
 
 -- ---- one position
 

@@ -7,8 +7,8 @@ use Rattle.rep_calls.specs.declared.call.Txn.{Txn}
 use Rattle.conflict_detect.specs.Fits.{TxnFits}
 use Rattle.unique_resolve.specs.Numbers.{Numbers, first_numbers}
 use Rattle.unique_resolve.proofs.Settlements.{AreCounters-first}
-use Rattle.local_txn.specs.declared.local.Here.{Here}
-use Rattle.local_txn.specs.declared.local.Stamps.{Stamps}
+use Rattle.txn_effects.specs.declared.local.Here.{Here}
+use Rattle.txn_effects.specs.declared.local.Stamps.{Stamps}
 use Rattle.error_queue.specs.ErrorLists.{ErrorList, in_order}
 use Rattle.site_state.specs.declared.entry.Entry.{Entry}
 use Rattle.site_state.specs.declared.entry.Entry.TheVariants.{Refreshed}
@@ -16,7 +16,8 @@ use Rattle.site_state.specs.declared.rows.TableRows.{TableRows}
 use Rattle.site_state.specs.State.{SiteState}
 use Rattle.site_state.specs.Streams.{queue_after}
 use Rattle.site_state.specs.Pasts.{pasts_of}
-use Rattle.site_state.specs.Refreshes.{with_tables, renewed, site_refresh}
+use Rattle.site_state.specs.Refreshes.{with_tables, site_refresh}
+use Rattle.snapshot_log.specs.Noting.{renewed}
 use Rattle.site_state.specs.Fits.{AreWithin}
 use Rattle.site_state.proofs.Growing.{queue_after-rebased}
 use Rattle.site_state.proofs.FittingSites.{within_renewed}

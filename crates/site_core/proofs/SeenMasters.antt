@@ -9,7 +9,7 @@ use Rattle.std.proofs.lemmas.Cmp.{nat_list_cmp_total}
 use Rattle.rep_schema.specs.declared.schema.Schema.{Schema}
 use Rattle.rep_calls.specs.declared.past.PastEntry.{PastEntry}
 use Rattle.site_state.specs.declared.entry.Entry.{Entry}
-use Rattle.site_state.specs.State.{is_master_site}
+use Rattle.rep_schema.specs.Sites.{is_master_site}
 use Rattle.site_state.specs.Pasts.{with_seen, past_at}
 use Rattle.sender_inbox.specs.Incoming.{Incoming, seen_in}
 use Rattle.journal_steps.specs.Inboxes.{senders_in, Follows}

@@ -8,7 +8,8 @@ use Rattle.rep_calls.specs.declared.call.Txn.{Txn}
 use Rattle.rep_calls.specs.declared.past.PastEntry.{PastEntry}
 use Rattle.deferred_queue.specs.declared.queued_txn.QueuedTxn.{QueuedTxn}
 use Rattle.deferred_queue.specs.declared.destination.Destination.{Destination}
-use Rattle.deferred_queue.specs.Streams.{Deferred, InStream, is_same_site, destination_to, queue_stream_to, at_position, unpurged, last_position}
+use Rattle.deferred_queue.specs.Streams.{Deferred, InStream, destination_to, queue_stream_to, at_position, unpurged, last_position}
+use Rattle.rep_values.specs.SiteNames.{is_same_site}
 use Rattle.deferred_queue.specs.Streams as queue
 use Rattle.packet_code.specs.declared.packet.Packet.TheVariants.{Carry}
 use Rattle.site_state.specs.State.{DestinationState, SiteState, opened_of}

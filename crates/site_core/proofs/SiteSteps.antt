@@ -23,16 +23,17 @@ use Rattle.txn_apply.specs.declared.stop.ApplyStop.{ApplyStop}
 use Rattle.txn_apply.specs.declared.stop.ApplyStop.TheVariants.{Failed, Memory}
 use Rattle.txn_apply.specs.Stops.{StopsAs}
 use Rattle.txn_effects.specs.Transactions.{Failure, txn_effect, tables_by, numbers_by}
-use Rattle.deferred_queue.specs.Streams.{Deferred, is_same_site, at_position, unpurged, last_position}
+use Rattle.deferred_queue.specs.Streams.{Deferred, at_position, unpurged, last_position}
+use Rattle.rep_values.specs.SiteNames.{is_same_site}
 use Rattle.deferred_queue.specs.Streams as outgoing
 use Rattle.origin_marks.specs.Marks as marks
 use Rattle.packet_code.specs.declared.packet.Packet.{Packet}
 use Rattle.packet_code.specs.declared.packet.Packet.TheVariants.{Carry, Mark}
 use Rattle.packet_code.specs.Limits.{IsPlainTxn, IsCausalPast}
 use Rattle.packet_code.specs.Texts.{TxnHasTextForm, PastHasForm}
-use Rattle.local_txn.specs.declared.local.Here.{Here}
-use Rattle.local_txn.specs.declared.local.Stamps.{Stamps}
-use Rattle.local_txn.specs.Locals.{BlockEffect}
+use Rattle.txn_effects.specs.declared.local.Here.{Here}
+use Rattle.txn_effects.specs.declared.local.Stamps.{Stamps}
+use Rattle.txn_effects.specs.Locals.{BlockEffect}
 use Rattle.error_queue.specs.declared.entry.ErrorEntry.{ErrorEntry}
 use Rattle.error_queue.specs.ErrorLists.{ErrorList, IsOrigin, error_in, in_order, removed}
 use Rattle.site_state.specs.declared.entry.Entry.{Entry}
@@ -48,7 +49,7 @@ use Rattle.site_state.specs.Streams.{with_one, queue_of, count_of, stream_to}
 use Rattle.site_state.specs.Pasts.{past_of, pasts_of}
 use Rattle.site_state.specs.Packets.{past_in, with_arrival, acknowledged, is_known_past, is_foreign, site_packet, site_accept, accept_answer}
 use Rattle.site_state.specs.Joining.{opened_at, site_open}
-use Rattle.site_state.specs.Notes.{logged_in, touched_in}
+use Rattle.snapshot_log.specs.Noting.{logged_in, touched_in}
 use Rattle.site_state.specs.Notes.{noted as noted_at}
 use Rattle.site_state.specs.Ready.{stale_of}
 use Rattle.site_state.specs.Steps.{is_empty, journalled}
@@ -64,8 +65,8 @@ use Rattle.site_state.proofs.Pasts.{arrived_at-put, finished_have_arrived, pasts
 use Rattle.site_state.proofs.Deferring.{length-deferred_in, stream_to-closed}
 use Rattle.site_state.proofs.PastLimits.{ArePasts-pasts_after}
 use Rattle.rep_laws.specs.Packets.{FittingTransactionsArePlain}
-use Rattle.journal_order.specs.Waited.{HaveWaited}
-use Rattle.journal_order.proofs.Waited.{have_waited, HaveWaited-put}
+use Rattle.site_state.specs.Waited.{HaveWaited}
+use Rattle.site_state.proofs.Waited.{have_waited, HaveWaited-put}
 use Rattle.site_state.proofs.DeclaredSites.{sites_in, sites_in-at_destination, steps_names, accept_names, still_declared}
 use Rattle.site_state.proofs.FittingSites.{commit_fits, apply_fits, execute_fits, drop_fits, accept_fits}
 use Rattle.site_state.proofs.FittingSites as fitting

@@ -8,8 +8,8 @@ use Rattle.rep_schema.specs.Tables.{Rows}
 use Rattle.unique_resolve.specs.Numbers.{Numbers}
 use Rattle.txn_effects.specs.Contents.{Content}
 use Rattle.rep_laws.specs.Commuting.{IsSound}
-use Rattle.local_txn.specs.declared.local.Here.{Here}
-use Rattle.local_txn.specs.declared.local.Stamps.{Stamps}
+use Rattle.txn_effects.specs.declared.local.Here.{Here}
+use Rattle.txn_effects.specs.declared.local.Stamps.{Stamps}
 use Rattle.error_queue.specs.ErrorLists.{ErrorList}
 use Rattle.site_state.specs.declared.entry.Entry.{Entry}
 use Rattle.site_state.specs.declared.arrival.Arrival.{Arrival}

@@ -12,7 +12,7 @@ use Rattle.rep_values.specs.declared.name.SiteName.{SiteName}
 use Rattle.rep_schema.specs.Tables.{Rows}
 use Rattle.rep_calls.specs.declared.past.PastEntry.{PastEntry}
 use Rattle.unique_resolve.specs.Numbers.{Numbers}
-use Rattle.deferred_queue.specs.Streams.{is_same_site}
+use Rattle.rep_values.specs.SiteNames.{is_same_site}
 use Rattle.deferred_queue.proofs.Sites.{is_same_site-true}
 use Rattle.origin_marks.specs.Marks.{IsLowWater}
 use Rattle.origin_marks.specs.Marks as marks

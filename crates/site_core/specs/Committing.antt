@@ -8,7 +8,7 @@ use Rattle.rep_calls.specs.declared.past.PastEntry.{PastEntry}
 use Rattle.conflict_detect.specs.ChangeCalls.{call_of}
 use Rattle.unique_resolve.specs.Numbers.{Numbers}
 use Rattle.txn_effects.specs.Transactions.{txn_effect}
-use Rattle.local_txn.specs.declared.local.Here.{Here}
+use Rattle.txn_effects.specs.declared.local.Here.{Here}
 use Rattle.site_state.specs.Steps.{is_empty}
 use Rattle.site_outbox.specs.Outgoing.{Outgoing, Keeps}
 use Rattle.site_core.specs.declared.committing.Queued.{Queued}

@@ -5,7 +5,7 @@ use Rattle.rep_lists.specs.Rising.{put_at}
 use Rattle.rep_values.specs.Order.{name_cmp}
 use Rattle.rep_schema.specs.declared.schema.Schema.{Schema}
 use Rattle.rep_calls.specs.declared.past.PastEntry.{PastEntry}
-use Rattle.site_state.specs.State.{is_master_site}
+use Rattle.rep_schema.specs.Sites.{is_master_site}
 use Rattle.site_state.specs.Pasts.{beside_name}
 use Rattle.sender_inbox.specs.Incoming.{Incoming, seen_in}
 

@@ -5,8 +5,8 @@ use Rattle.rep_schema.specs.declared.schema.Schema.{Schema}
 use Rattle.rep_schema.specs.Tables.{Rows, AreTables}
 use Rattle.rep_calls.specs.declared.call.Txn.{Txn}
 use Rattle.unique_resolve.specs.Numbers.{Numbers}
-use Rattle.local_txn.specs.declared.local.Here.{Here}
-use Rattle.local_txn.specs.declared.local.Stamps.{Stamps}
+use Rattle.txn_effects.specs.declared.local.Here.{Here}
+use Rattle.txn_effects.specs.declared.local.Stamps.{Stamps}
 use Rattle.error_queue.specs.ErrorLists.{ErrorList, in_order}
 use Rattle.site_state.specs.declared.entry.Entry.{Entry}
 use Rattle.site_state.specs.State.{SiteState}
@@ -19,8 +19,8 @@ use Rattle.site_notes.specs.Noted.{NotesState}
 use Rattle.sender_inbox.specs.Incoming.{Incoming}
 use Rattle.site_outbox.specs.Outgoing.{Outgoing, Keeps}
 use Rattle.journal_steps.specs.Inboxes.{senders_in, Follows, error_list}
-use Rattle.journal_order.specs.Sorting.{IsFinishedOnce, StaysWithMasters}
-use Rattle.journal_order.specs.Waited.{HaveWaited}
+use Rattle.journal_order.specs.Sorting.{StaysWithMasters}
+use Rattle.site_state.specs.Waited.{HaveWaited, IsFinishedOnce}
 
 -- the site that the fields mean
 abbrev pub state_of : Schema → Here → List Rows → List Entry → List Incoming → Outgoing → NotesState → Stamps → ℕ → SiteState

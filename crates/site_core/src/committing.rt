@@ -7,14 +7,15 @@ ghost use Rattle.rep_calls.specs.declared.call.Txn.{Txn as TxnValue};
 ghost use Rattle.rep_calls.specs.declared.past.PastEntry.{PastEntry as PastValue};
 ghost use Rattle.rep_values.specs.declared.refusal.Refusal.TheVariants as refusal;
 ghost use Rattle.conflict_detect.specs.Fits.{TxnFits};
-ghost use Rattle.local_txn.specs.Locals.{local_effect};
+ghost use Rattle.txn_effects.specs.Locals.{local_effect};
 ghost use Rattle.local_txn.specs.Running.{EndsAs};
 ghost use Rattle.site_state.specs.Steps.{is_empty};
 ghost use Rattle.site_state.specs.Fits.{SchemaIsKeyed};
 ghost use Rattle.site_outbox.specs.Outgoing.{Keeps};
 ghost use Rattle.site_core.specs.Committing.{IsQueued};
 
-use local_txn::{Here, Local, LocalStop, Stamps, run_local};
+use local_txn::run_local;
+use txn_effects::{Here, Local, LocalStop, Stamps};
 use rep_calls::{PastEntry, Statement, Txn};
 use rep_lists::{Items, NoMemory};
 use rep_schema::{Changes, RowStore, Schema, undo};

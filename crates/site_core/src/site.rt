@@ -1,17 +1,16 @@
 //! One site over a store of rows.
 ghost use Rattle.std.specs.Prelude.{◌≡◌, ℕ, ◌+◌, ◌<◌, ◌^◌, true, length, map, reverse, slice_get, option_copied, IfOk};
-ghost use Rattle.rep_schema.specs.Sites.{senders_of, destinations_of, has_table};
+ghost use Rattle.rep_schema.specs.Sites.{senders_of, destinations_of, has_table, is_master_site};
 ghost use Rattle.error_queue.specs.ErrorLists.{in_order};
-ghost use Rattle.site_state.specs.State.{is_master_site};
 ghost use Rattle.site_state.specs.Contents.{tables_of};
 ghost use Rattle.site_state.specs.Commits.{site_clock};
 ghost use Rattle.site_state.specs.Deferrals.{deferred_of, deferred_marks};
 ghost use Rattle.site_state.specs.Errors.{errors_of};
-ghost use Rattle.site_state.specs.Making.{new_log, new_site, tables_in};
+ghost use Rattle.site_state.specs.Making.{new_site};
+ghost use Rattle.snapshot_log.specs.LogState.{new_log, tables_in};
 ghost use Rattle.site_state.specs.Steps.{begun};
 ghost use Rattle.site_state.specs.Fits.{SchemaIsKeyed, AreWithin, SnapshotsApart, SiteFits};
-ghost use Rattle.journal_order.specs.Sorting.{IsFinishedOnce};
-ghost use Rattle.journal_order.specs.Waited.{FinishesEarlierFirst};
+ghost use Rattle.site_state.specs.Waited.{FinishesEarlierFirst, IsFinishedOnce};
 
 mod commit;
 mod errors;
@@ -28,7 +27,7 @@ mod work;
 use deferred_queue::Queue;
 use error_queue::Errors;
 use journal_steps::from_senders;
-use local_txn::{Here, Stamps};
+use txn_effects::{Here, Stamps};
 use rep_lists::{Items, NoMemory, RoomyList};
 use rep_schema::{RowStore, TableSet};
 use rep_values::SiteName;

@@ -7,9 +7,9 @@ use Rattle.rep_values.specs.declared.name.SiteName.{SiteName}
 use Rattle.rep_schema.specs.declared.schema.SiteEntry.{SiteEntry}
 use Rattle.rep_schema.specs.Shape.{AreDistinct}
 use Rattle.rep_schema.specs.Sites.{names_of}
-use Rattle.deferred_queue.specs.Streams.{is_same_site}
+use Rattle.rep_values.specs.SiteNames.{is_same_site}
 use Rattle.site_state.proofs.SchemaSites.{AreApart, are_apart}
-use Rattle.event_laws.specs.Events.{without}
+use Rattle.site_events.specs.Events.{without}
 
 -- no two of these names are the same
 abbrev Apart : List SiteName → Type 0

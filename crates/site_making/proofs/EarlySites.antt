@@ -10,8 +10,8 @@ use Rattle.rep_schema.specs.declared.schema.SiteEntry.{SiteEntry}
 use Rattle.rep_schema.specs.Shape.{is_master, HasShape}
 use Rattle.rep_schema.specs.Tables.{Rows}
 use Rattle.rep_schema.specs.Named.{site_named}
-use Rattle.deferred_queue.specs.Streams.{is_same_site}
-use Rattle.site_state.specs.State.{is_master_site}
+use Rattle.rep_values.specs.SiteNames.{is_same_site}
+use Rattle.rep_schema.specs.Sites.{is_master_site}
 use Rattle.site_state.specs.Fits.{AreWithin}
 use Rattle.site_state.proofs.SchemaSites.{are_apart, found_any, any_found, place_found}
 use Rattle.world_state.specs.declared.declared_snapshot.DeclaredSnapshot.{DeclaredSnapshot}

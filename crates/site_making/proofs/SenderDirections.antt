@@ -8,10 +8,9 @@ use Rattle.rep_values.specs.declared.name.SiteName.{SiteName}
 use Rattle.rep_schema.specs.declared.schema.Schema.{Schema}
 use Rattle.rep_schema.specs.declared.schema.SiteEntry.{SiteEntry}
 use Rattle.rep_schema.specs.Named.{is_site, site_named}
-use Rattle.rep_schema.specs.Sites.{sends_to, names_of, senders_to, senders_of, are_linked, linked_pairs}
-use Rattle.deferred_queue.specs.Streams.{is_same_site}
+use Rattle.rep_schema.specs.Sites.{sends_to, names_of, senders_to, senders_of, are_linked, linked_pairs, is_among}
+use Rattle.rep_values.specs.SiteNames.{is_same_site}
 use Rattle.net_plan.specs.Directions.{new_direction, net_of, direction_of, HasDirection}
-use Rattle.site_state.specs.State.{is_among}
 use Rattle.site_state.proofs.SchemaSites.{found_any}
 
 -- ---- tests of lists

@@ -3,7 +3,7 @@ ghost use Rattle.std.specs.Prelude.{◌≡◌, map, filter, IfOk};
 ghost use Rattle.rep_schema.specs.Shape.{AreDistinct, is_early_master};
 ghost use Rattle.rep_schema.specs.Sites.{names_of};
 ghost use Rattle.site_state.specs.Fits.{SchemaIsKeyed};
-ghost use Rattle.event_laws.specs.Events.{without};
+ghost use Rattle.site_events.specs.Events.{without};
 ghost use Rattle.proc_state.specs.Calls.{AreProcedures};
 ghost use Rattle.world_state.specs.Procs.{proc_schema, early_masters, proc_made};
 

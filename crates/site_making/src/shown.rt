@@ -5,7 +5,7 @@ ghost use Rattle.rep_schema.specs.Tables.{rows_of, IsTable};
 ghost use Rattle.snapshot_query.specs.Parents.{picks_by};
 ghost use Rattle.site_state.specs.Fits.{SchemaIsKeyed};
 ghost use Rattle.site_state.specs.Refreshes.{with_tables};
-ghost use Rattle.event_laws.specs.Rules.{rows_ruled, IsParentWithin};
+ghost use Rattle.site_events.specs.Rules.{rows_ruled, IsParentWithin};
 ghost use Rattle.world_state.specs.Making.{snapshots_at};
 
 use fast_refresh::{refresh_complete, rows_shown};

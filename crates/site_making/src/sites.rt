@@ -2,18 +2,18 @@
 ghost use Rattle.std.specs.Prelude.{◌≡◌, ◌<◌, ℕ, true, false, [], length, map, filter, None, IfOk, OnOk};
 ghost use Rattle.std.specs.List.{AllByRecursion};
 ghost use Rattle.rep_values.specs.declared.name.SiteName.{SiteName as SiteNameValue};
-ghost use Rattle.rep_schema.specs.Sites.{has_table};
+ghost use Rattle.rep_schema.specs.Sites.{has_table, is_master_site};
 ghost use Rattle.rep_laws.specs.Commuting.{IsSound};
-ghost use Rattle.site_state.specs.State.{is_master_site};
 ghost use Rattle.site_state.specs.Making.{master_here, new_site};
 ghost use Rattle.site_state.specs.Fits.{SchemaIsKeyed, AreWithin, SnapshotsApart};
-ghost use Rattle.event_laws.specs.Rules.{IsParentWithin};
+ghost use Rattle.site_events.specs.Rules.{IsParentWithin};
 ghost use Rattle.world_state.specs.Making.{rows_made, snapshots_at, snapshot_here, rows_of_snapshots, site_made, entry_made, is_early, sites_made};
 ghost use Rattle.site_making.specs.Entries.{IsEntryOf};
 
 use crate::shown::show_each;
 use crate::table_sets::{logged_at, snapshot_here};
-use local_txn::{Here, fill_base_rows, sound_schemas_fill_freely};
+use local_txn::{fill_base_rows, sound_schemas_fill_freely};
+use txn_effects::Here;
 use page_tables::PageTables;
 use rep_laws::sound_schemas_have_keys;
 use rep_lists::{Copies, Items, NoMemory};

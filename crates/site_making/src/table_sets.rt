@@ -5,7 +5,7 @@ ghost use Rattle.rep_schema.specs.Sites.{has_table};
 ghost use Rattle.world_state.specs.Declaring.{is_snapshot_of, has_snapshot};
 ghost use Rattle.world_state.specs.Making.{is_of_parents, goes_by_log, needs_log, is_snapshot_site_of, is_logged, logged_at, snapshot_here};
 
-use local_txn::Here;
+use txn_effects::Here;
 use rep_lists::NoMemory;
 use rep_schema::{Schema, SiteEntry, TableSet};
 use rep_values::SiteName;

@@ -3,8 +3,9 @@ use Rattle.std.proofs.Common.{◌≡◌, ℕ, zero, suc, ◌-◌, ◌^◌, List,
 use Rattle.std.specs.Prelude.{slice_get, option_map, OnOk, OnErr}
 use Rattle.snapshot_query.specs.declared.snapshot.Snapshot.{Snapshot}
 use Rattle.snapshot_log.specs.Logs.{RoomyLog}
-use Rattle.site_state.specs.Refreshes.{renewed}
-use Rattle.site_notes.specs.RoomyNotes.{RoomySnapshot, snapshots_in, log_spares, least, least_room}
+use Rattle.snapshot_log.specs.Noting.{renewed}
+use Rattle.site_notes.specs.RoomyNotes.{RoomySnapshot, snapshots_in, log_spares, least_room}
+use Rattle.rep_lists.specs.Counting.{least}
 use Rattle.site_notes.specs.Noted.{as_lent, with_query, without_query, at_place}
 use Rattle.site_notes.proofs.Parts.{part_stays}
 

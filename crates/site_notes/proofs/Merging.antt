@@ -9,8 +9,8 @@ use Rattle.rep_lists.proofs.Each.{each_then}
 use Rattle.rep_values.specs.Order.{key_cmp}
 use Rattle.rep_values.specs.OrderLaws.{key_cmp_total}
 use Rattle.rep_schema.specs.Tables.{Cells}
-use Rattle.site_state.specs.Notes.{with_keys}
-use Rattle.site_state.proofs.RisingKeys.{rising-with_keys}
+use Rattle.snapshot_log.specs.Noting.{with_keys}
+use Rattle.snapshot_log.proofs.RisingKeys.{rising-with_keys}
 use Rattle.site_notes.proofs.RisingKeys.{rising_drop}
 
 -- a key below all that come among others stays in front of them

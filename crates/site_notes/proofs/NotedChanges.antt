@@ -4,8 +4,8 @@ use Rattle.rep_schema.specs.declared.schema.Schema.{Schema}
 use Rattle.rep_schema.specs.declared.change.Change.{Change}
 use Rattle.snapshot_query.specs.declared.snapshot.Snapshot.{Snapshot}
 use Rattle.snapshot_log.specs.Logs.{key_noted}
-use Rattle.site_state.specs.State.{LogState}
-use Rattle.site_state.specs.Notes.{key_changed, logged_in, touched_in}
+use Rattle.snapshot_log.specs.LogState.{LogState}
+use Rattle.snapshot_log.specs.Noting.{key_changed, logged_in, touched_in}
 use Rattle.site_notes.specs.Noted.{key_touched}
 
 module _ (schema : Schema) (change : Change) (more : List Change) where

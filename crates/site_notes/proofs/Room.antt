@@ -2,7 +2,7 @@
 use Rattle.std.proofs.Common.{ℕ, zero, suc, ◌+◌, ◌<◌, ◌≤◌, List, [], ◌∷◌, length, get_or, set, map, take, arith, add-one}
 use Rattle.std.proofs.lemmas.List.{map-set, length-map}
 use Rattle.site_notes.proofs.Parts.{part_at}
-use Rattle.site_notes.specs.RoomyNotes.{least}
+use Rattle.rep_lists.specs.Counting.{least}
 
 -- the numbers, of which the first so many are raised
 abbrev pub raised : ℕ → ℕ → List ℕ → List ℕ

@@ -4,9 +4,8 @@ use Rattle.std.specs.Prelude.{nat_le, nat_lt, option_map}
 use Rattle.std.specs.List.{filter, find}
 use Rattle.std.proofs.lemmas.Bool.Decides.{nat_tests}
 use Rattle.snapshot_log.specs.Logs.{RoomyLog, count_up_to}
-use Rattle.site_state.specs.State.{LoggedKey, LogState}
-use Rattle.site_state.specs.Notes.{log_of, keys_in}
-use Rattle.site_state.specs.Purges.{log_purged, purged_where}
+use Rattle.snapshot_log.specs.LogState.{LoggedKey, LogState, log_purged, purged_where}
+use Rattle.snapshot_log.specs.Noting.{log_of, keys_in}
 use Rattle.site_notes.specs.RoomyNotes.{log_in, logs_in}
 
 -- the first log of a table

@@ -3,7 +3,7 @@ use Rattle.std.proofs.Common.{◌≡◌, ℕ, zero, suc, ◌+◌, ◌-◌, ◌<�
 use Rattle.std.specs.List.{filter, range_with_len}
 use Rattle.std.proofs.lemmas.List.{append_assoc}
 use Rattle.rep_schema.specs.Sites.{has_table}
-use Rattle.site_state.specs.Making.{tables_in}
+use Rattle.snapshot_log.specs.LogState.{tables_in}
 
 -- a set has only numbers below its length
 within : (set : List Bool) (table : ℕ) → has_table set table ≡ true → table < length set

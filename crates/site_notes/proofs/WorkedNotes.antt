@@ -3,9 +3,8 @@ use Rattle.std.proofs.Common.{◌≡◌, ℕ, [], ◌∷◌, pos, Some, None, re
 use Rattle.rep_values.specs.declared.value.Value.TheVariants.{Num}
 use Rattle.rep_schema.specs.Tables.{Cells}
 use Rattle.snapshot_query.specs.declared.snapshot.Snapshot.{Snapshot}
-use Rattle.site_state.specs.State.{LoggedKey, LogState}
-use Rattle.site_state.specs.Notes.{with_keys, pending_keys}
-use Rattle.site_state.specs.Refreshes.{renewed}
+use Rattle.snapshot_log.specs.LogState.{LoggedKey, LogState}
+use Rattle.snapshot_log.specs.Noting.{with_keys, pending_keys, renewed}
 use Rattle.site_notes.specs.Noted.{key_touched, as_lent, without_query, with_query, at_place}
 
 abbrev key : ℕ → Cells

@@ -8,8 +8,8 @@ use Rattle.rep_schema.specs.declared.change.Change.{Change}
 use Rattle.rep_schema.specs.Tables.{Cells}
 use Rattle.snapshot_query.specs.declared.query.Query.{Query}
 use Rattle.snapshot_query.specs.declared.snapshot.Snapshot.{Snapshot}
-use Rattle.site_state.specs.State.{LogState}
-use Rattle.site_state.specs.Notes.{with_keys, touched_in, pending_keys}
+use Rattle.snapshot_log.specs.LogState.{LogState}
+use Rattle.snapshot_log.specs.Noting.{with_keys, touched_in, pending_keys}
 
 -- the logs and the snapshots of a site, and how many changed rows can be noted there without memory
 pub record NotesState : Type 0 where

@@ -1,8 +1,9 @@
 -- How the notes of a site are kept: logs and snapshots, each with room for more keys.
-use Rattle.std.specs.Prelude.{ℕ, ◌-◌, ◌^◌, min, List, [], ◌∷◌, map}
+use Rattle.std.specs.Prelude.{ℕ, ◌-◌, ◌^◌, List, ◌∷◌, map}
 use Rattle.snapshot_query.specs.declared.snapshot.Snapshot.{Snapshot}
-use Rattle.site_state.specs.State.{LogState}
+use Rattle.snapshot_log.specs.LogState.{LogState}
 use Rattle.snapshot_log.specs.Logs.{RoomyLog}
+use Rattle.rep_lists.specs.Counting.{least}
 
 -- a snapshot, and how many keys can be noted at it without memory
 pub record RoomySnapshot : Type 0 where
@@ -30,11 +31,6 @@ snapshots_in watched = map snapshot_in watched
 -- the room of each snapshot
 abbrev pub snapshot_spares : List RoomySnapshot → List ℕ
 snapshot_spares watched = map (λ (w : RoomySnapshot). w.spare) watched
-
--- the least of a number and a list of numbers
-abbrev pub least : ℕ → List ℕ → ℕ
-least number [] = number
-least number (n ∷ ns) = min n (least number ns)
 
 -- the least room of all logs and snapshots, the greatest number where there are none
 abbrev pub least_room : List RoomyLog → List RoomySnapshot → ℕ

@@ -2,7 +2,7 @@
 ghost use Rattle.std.specs.Prelude.{◌≡◌, ◌+◌, ◌≤◌, length};
 ghost use Rattle.std.specs.List.{AllByRecursion};
 ghost use Rattle.rep_schema.specs.Changes.{ChangeFits};
-ghost use Rattle.site_state.specs.Notes.{key_changed, logged_in, touched_in};
+ghost use Rattle.snapshot_log.specs.Noting.{key_changed, logged_in, touched_in};
 
 use crate::Watched;
 use rep_schema::{Change, Schema, key_in};

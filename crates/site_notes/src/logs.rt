@@ -2,10 +2,10 @@
 ghost use Rattle.std.specs.Prelude.{◌≡◌, ℕ, ◌+◌, ◌≤◌, length, map, option_map, option_copied, IsOk, IfOk, OnOk};
 ghost use Rattle.std.specs.List.{AllByRecursion};
 ghost use Rattle.rep_schema.specs.Changes.{ChangeFits};
-ghost use Rattle.site_state.specs.Making.{new_log};
-ghost use Rattle.site_state.specs.Notes.{log_of, keys_in, logged_in};
-ghost use Rattle.site_state.specs.Purges.{purged_where};
-ghost use Rattle.site_notes.specs.RoomyNotes.{log_in, logs_in, log_spares, least};
+ghost use Rattle.snapshot_log.specs.LogState.{new_log, purged_where};
+ghost use Rattle.snapshot_log.specs.Noting.{log_of, keys_in, logged_in};
+ghost use Rattle.site_notes.specs.RoomyNotes.{log_in, logs_in, log_spares};
+ghost use Rattle.rep_lists.specs.Counting.{least};
 
 use crate::changed::note_in;
 use rep_lists::NoMemory;

@@ -2,7 +2,7 @@
 ghost use Rattle.std.specs.Prelude.{◌≡◌, ◌++◌, IfOk, OnOk};
 ghost use Rattle.rep_lists.specs.Rising.{IsRising};
 ghost use Rattle.rep_values.specs.Order.{key_cmp};
-ghost use Rattle.site_state.specs.Notes.{with_keys};
+ghost use Rattle.snapshot_log.specs.Noting.{with_keys};
 
 use rep_lists::{Items, NoMemory};
 use rep_values::{Key, compare_keys};

@@ -2,9 +2,9 @@
 ghost use Rattle.std.specs.Prelude.{◌≡◌, ℕ, ◌+◌, ◌≤◌, length, map, IsOk, IfOk, OnOk};
 ghost use Rattle.std.specs.List.{AllByRecursion};
 ghost use Rattle.rep_schema.specs.Changes.{ChangeFits};
-ghost use Rattle.site_state.specs.Notes.{touched_in};
-ghost use Rattle.site_state.specs.Refreshes.{renewed};
-ghost use Rattle.site_notes.specs.RoomyNotes.{snapshots_in, snapshot_spares, least};
+ghost use Rattle.snapshot_log.specs.Noting.{touched_in, renewed};
+ghost use Rattle.site_notes.specs.RoomyNotes.{snapshots_in, snapshot_spares};
+ghost use Rattle.rep_lists.specs.Counting.{least};
 
 use crate::Watched;
 use crate::changed::touch_in;

@@ -1,7 +1,7 @@
 //! The tables of a set, by number.
 ghost use Rattle.std.specs.Prelude.{◌≡◌, ℕ, ◌<◌, ◌++◌, [], ◌∷◌, true, filter, IfOk, OnOk};
 ghost use Rattle.rep_schema.specs.Sites.{has_table};
-ghost use Rattle.site_state.specs.Making.{tables_in};
+ghost use Rattle.snapshot_log.specs.LogState.{tables_in};
 
 use rep_lists::{Items, NoMemory};
 use rep_schema::TableSet;

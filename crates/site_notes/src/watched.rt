@@ -2,9 +2,8 @@
 ghost use Rattle.std.specs.Prelude.{◌≡◌, ◌+◌, ◌≤◌, List, option_map, option_copied, IsOk, IfOk, OnOk};
 ghost use Rattle.rep_lists.specs.Rising.{IsRising};
 ghost use Rattle.rep_values.specs.Order.{key_cmp};
-ghost use Rattle.site_state.specs.State.{LogState};
-ghost use Rattle.site_state.specs.Notes.{log_of, pending_keys};
-ghost use Rattle.site_state.specs.Refreshes.{renewed};
+ghost use Rattle.snapshot_log.specs.LogState.{LogState};
+ghost use Rattle.snapshot_log.specs.Noting.{log_of, pending_keys, renewed};
 ghost use Rattle.site_notes.specs.RoomyNotes.{log_in};
 ghost use Rattle.site_notes.specs.Noted.{key_touched, as_lent, without_query, with_query};
 

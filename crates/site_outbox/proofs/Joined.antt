@@ -4,12 +4,14 @@ use Rattle.std.specs.Prelude.{◌||◌, is_some}
 use Rattle.std.specs.List.{AllByRecursion, list_any}
 use Rattle.rep_values.specs.declared.name.SiteName.{SiteName}
 use Rattle.rep_schema.specs.declared.schema.Schema.{Schema}
-use Rattle.deferred_queue.specs.Streams.{Mark, is_same_site, acked_by, raised_mark, last_position}
+use Rattle.deferred_queue.specs.Streams.{Mark, acked_by, raised_mark, last_position}
+use Rattle.rep_values.specs.SiteNames.{is_same_site}
 use Rattle.deferred_queue.proofs.Sites.{is_same_site-true}
 use Rattle.site_state.specs.State.{DestinationState, destination_of, at_destination, acked_in}
 use Rattle.site_state.specs.Steps.{is_open}
 use Rattle.site_state.specs.Packets.{acknowledged, count_opened}
-use Rattle.site_state.specs.Making.{is_late_master, new_destination}
+use Rattle.site_state.specs.Making.{new_destination}
+use Rattle.rep_schema.specs.Sites.{is_late_master}
 use Rattle.site_state.specs.Deferrals.{StandApart}
 use Rattle.site_state.proofs.Destinations.{destination_split}
 use Rattle.site_state.proofs.Deferring.{AreFound, apart_names, all_found, acked_by-marks}

@@ -9,7 +9,8 @@ use Rattle.dependency_index.specs.Dependencies.{NotedStream, IsNoted, noted_coun
 use Rattle.dependency_index.proofs.FoundStreams.{sites_of}
 use Rattle.dependency_index.proofs.Destinations.{IsIndexed-same}
 use Rattle.deferred_queue.specs.declared.destination.Destination.{Destination}
-use Rattle.deferred_queue.specs.Streams.{Mark, is_same_site}
+use Rattle.deferred_queue.specs.Streams.{Mark}
+use Rattle.rep_values.specs.SiteNames.{is_same_site}
 use Rattle.deferred_queue.proofs.Sites.{is_same_site-true, is_same_site-refl}
 use Rattle.site_state.specs.State.{DestinationState, destination_of, opened_in}
 use Rattle.site_state.specs.Streams.{with_one}

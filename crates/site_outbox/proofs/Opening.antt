@@ -9,7 +9,8 @@ use Rattle.rep_calls.specs.declared.call.Txn.{Txn}
 use Rattle.rep_calls.specs.declared.past.PastEntry.{PastEntry}
 use Rattle.dependency_index.specs.Tokens.{txn_tokens}
 use Rattle.dependency_index.specs.Dependencies.{NotedStream, IsNoted}
-use Rattle.deferred_queue.specs.Streams.{Deferred, Mark, is_same_site, last_position}
+use Rattle.deferred_queue.specs.Streams.{Deferred, Mark, last_position}
+use Rattle.rep_values.specs.SiteNames.{is_same_site}
 use Rattle.deferred_queue.proofs.Sites.{is_same_site-true}
 use Rattle.site_state.specs.State.{DestinationState, destination_of, at_destination, opened_in}
 use Rattle.site_state.specs.Streams.{stream_in}

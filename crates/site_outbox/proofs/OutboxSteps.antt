@@ -15,14 +15,16 @@ use Rattle.dependency_index.proofs.FoundStreams.{sites_of}
 use Rattle.dependency_index.proofs.Destinations.{IsIndexed-Contains, IsIndexed-same}
 use Rattle.deferred_queue.specs.declared.queued_txn.QueuedTxn.{QueuedTxn}
 use Rattle.deferred_queue.specs.declared.destination.Destination.{Destination}
-use Rattle.deferred_queue.specs.Streams.{Deferred, InStream, Mark, is_same_site, destination_to, with_one, queue_stream_to, at_position, unpurged, in_order, last_position, raised_mark, purged}
+use Rattle.deferred_queue.specs.Streams.{Deferred, InStream, Mark, destination_to, with_one, queue_stream_to, at_position, unpurged, in_order, last_position, raised_mark, purged}
+use Rattle.rep_values.specs.SiteNames.{is_same_site}
 use Rattle.deferred_queue.proofs.Sites.{eq_true, eq_false}
 use Rattle.site_state.specs.State.{DestinationState, destination_of, at_destination, opened_in}
 use Rattle.site_state.specs.Streams as streams
 use Rattle.site_state.specs.Packets.{acknowledged}
 use Rattle.site_state.specs.Purges.{acknowledged_by_all}
 use Rattle.site_state.specs.Deferrals.{place_for, deferred_in, StandApart}
-use Rattle.site_state.specs.Making.{is_late_master, new_destination}
+use Rattle.site_state.specs.Making.{new_destination}
+use Rattle.rep_schema.specs.Sites.{is_late_master}
 use Rattle.site_state.proofs.Destinations.{opened_in-acknowledged}
 use Rattle.site_state.proofs.Deferring.{length-deferred_in, purged-deferred_in}
 use Rattle.site_outbox.specs.declared.destination_entry.DestinationEntry.{DestinationEntry}

@@ -11,7 +11,8 @@ use Rattle.dependency_index.specs.Tokens.{txn_tokens, share_token}
 use Rattle.dependency_index.specs.Dependencies.{dependency_number}
 use Rattle.dependency_index.proofs.NotedTokens.{last_where-bound}
 use Rattle.deferred_queue.specs.declared.destination.Destination.{Destination}
-use Rattle.deferred_queue.specs.Streams.{Mark, Deferrals, CanBeSent, IsDestination, DestinationsApart, is_same_site, destination_to, in_order, last_position}
+use Rattle.deferred_queue.specs.Streams.{Mark, Deferrals, CanBeSent, IsDestination, DestinationsApart, destination_to, in_order, last_position}
+use Rattle.rep_values.specs.SiteNames.{is_same_site}
 use Rattle.deferred_queue.proofs.Sites.{is_same_site-true}
 use Rattle.site_state.specs.State.{DestinationState, destination_of, opened_in}
 use Rattle.site_state.specs.Streams.{stream_in}

@@ -3,9 +3,10 @@ use Rattle.std.specs.Prelude.{◌≡◌, ℕ, false, cond, List, [], ◌∷◌, 
 use Rattle.std.specs.List.{AllByRecursion}
 use Rattle.rep_values.specs.declared.name.SiteName.{SiteName}
 use Rattle.rep_schema.specs.declared.schema.Schema.{Schema}
-use Rattle.deferred_queue.specs.Streams.{Mark, is_same_site, acked_by}
+use Rattle.deferred_queue.specs.Streams.{Mark, acked_by}
+use Rattle.rep_values.specs.SiteNames.{is_same_site}
 use Rattle.site_state.specs.State.{DestinationState}
-use Rattle.site_state.specs.Making.{is_late_master}
+use Rattle.rep_schema.specs.Sites.{is_late_master}
 use Rattle.site_state.specs.Joining.{opened_from}
 use Rattle.site_outbox.specs.declared.destination_entry.DestinationEntry.{DestinationEntry}
 

@@ -5,7 +5,7 @@ use Rattle.rep_values.specs.declared.name.SiteName.{SiteName}
 use Rattle.dependency_index.specs.declared.token.Token.{Token}
 use Rattle.dependency_index.specs.Dependencies.{NotedStream, IsNoted, IsIndexed, noted_count, room_for, dependency_number}
 use Rattle.deferred_queue.specs.declared.destination.Destination.{Destination}
-use Rattle.deferred_queue.specs.Streams.{is_same_site}
+use Rattle.rep_values.specs.SiteNames.{is_same_site}
 use Rattle.site_state.specs.Streams.{with_one}
 use Rattle.site_outbox.specs.declared.destination_entry.DestinationEntry.{DestinationEntry}
 

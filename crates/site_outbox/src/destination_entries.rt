@@ -1,7 +1,8 @@
 //! The destinations of an outbox, in the order of its queue's marks.
 ghost use Rattle.std.specs.Prelude.{◌≡◌, ◌-◌, ◌+◌, ◌≤◌, [], length, map, is_some, IfOk, vec_len, vec_capacity};
 ghost use Rattle.std.specs.List.{AllByRecursion, list_any};
-ghost use Rattle.deferred_queue.specs.Streams.{is_same_site, acked_by};
+ghost use Rattle.deferred_queue.specs.Streams.{acked_by};
+ghost use Rattle.rep_values.specs.SiteNames.{is_same_site};
 ghost use Rattle.site_state.specs.Packets.{count_opened};
 ghost use Rattle.site_state.specs.Purges.{acknowledged_by_all};
 ghost use Rattle.site_outbox.specs.DestinationEntries.{new_destination_entry, destination_entry_opened, with_mark, EntriesApart};

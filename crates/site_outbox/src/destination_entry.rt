@@ -2,7 +2,8 @@
 ghost use Rattle.std.specs.Prelude.{◌≡◌, ◌≢◌, ◌+◌, ◌≤◌, length, map, is_some};
 ghost use Rattle.rep_values.specs.declared.name.SiteName.{SiteName};
 ghost use Rattle.dependency_index.specs.Dependencies.{room_for};
-ghost use Rattle.deferred_queue.specs.Streams.{is_same_site, acked_by};
+ghost use Rattle.deferred_queue.specs.Streams.{acked_by};
+ghost use Rattle.rep_values.specs.SiteNames.{is_same_site};
 ghost use Rattle.site_state.specs.Packets.{count_opened};
 ghost use Rattle.site_state.specs.Purges.{acknowledged_by};
 ghost use Rattle.site_outbox.specs.DestinationEntries.{new_destination_entry, destination_entry_opened};

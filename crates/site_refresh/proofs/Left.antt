@@ -11,8 +11,8 @@ use Rattle.rep_schema.specs.Putting.{StoreState}
 use Rattle.snapshot_query.specs.declared.snapshot.Snapshot.{Snapshot}
 use Rattle.snapshot_query.specs.Queries.{matches}
 use Rattle.site_state.specs.declared.rows.TableRows.{TableRows}
-use Rattle.site_state.specs.State.{LogState}
-use Rattle.site_state.specs.Notes.{pending_keys}
+use Rattle.snapshot_log.specs.LogState.{LogState}
+use Rattle.snapshot_log.specs.Noting.{pending_keys}
 use Rattle.site_state.specs.Refreshes.{row_count}
 use Rattle.site_state.specs.Fits.{SnapshotsApart}
 use Rattle.fast_refresh.specs.Showing.{ShowsOthers}

@@ -3,7 +3,7 @@ ghost use Rattle.std.specs.Prelude.{◌≡◌, ℕ, ◌+◌, ◌<◌, ◌≤◌,
 ghost use Rattle.rep_schema.specs.Tables.{columns_of, rows_of, AreTables};
 ghost use Rattle.snapshot_query.specs.declared.snapshot.Snapshot.{Snapshot as SnapshotValue};
 ghost use Rattle.snapshot_query.specs.Queries.{matches, query_rows};
-ghost use Rattle.site_state.specs.Notes.{pending_keys};
+ghost use Rattle.snapshot_log.specs.Noting.{pending_keys};
 ghost use Rattle.site_state.specs.Refreshes.{rows_shown, with_tables};
 ghost use Rattle.site_state.specs.Fits.{SchemaIsKeyed, SnapshotsApart, AreWithin};
 ghost use Rattle.fast_refresh.specs.Showing.{ShowsOthers};

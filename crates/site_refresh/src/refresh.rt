@@ -3,7 +3,8 @@ ghost use Rattle.std.specs.Prelude.{◌≡◌, ℕ, ◌+◌, ◌≤◌, List, le
 ghost use Rattle.rep_schema.specs.Tables.{Rows, AreTables};
 ghost use Rattle.rep_schema.specs.Changes.{HaveLed, LeadsTo, room_for};
 ghost use Rattle.site_state.specs.Fits.{SchemaIsKeyed, SnapshotsApart, AreWithin};
-ghost use Rattle.site_state.specs.Refreshes.{renewed, rows_shown, with_tables};
+ghost use Rattle.site_state.specs.Refreshes.{rows_shown, with_tables};
+ghost use Rattle.snapshot_log.specs.Noting.{renewed};
 ghost use Rattle.site_refresh.specs.Refreshing.{OthersAreShown, AreGivenFor, pending_count, counted};
 ghost use Rattle.site_refresh.specs.Done.{all_changes};
 

@@ -11,7 +11,7 @@ use Rattle.std.specs.BTreeMap.{is_at}
 use Rattle.std.proofs.lemmas.Map.Keys.{sorted_head, sorted_tail}
 use Rattle.rep_lists.specs.Rising.{IsRising, find_at, found_here}
 use Rattle.rep_values.specs.declared.name.SiteName.{SiteName}
-use Rattle.deferred_queue.specs.Streams.{is_same_site}
+use Rattle.rep_values.specs.SiteNames.{is_same_site}
 use Rattle.deferred_queue.proofs.Sites.{is_same_site-true}
 use Rattle.error_queue.specs.declared.entry.ErrorEntry.{ErrorEntry}
 use Rattle.error_queue.specs.ErrorLists.{error_beside}
@@ -23,7 +23,7 @@ use Rattle.site_state.specs.State.{SenderState}
 use Rattle.site_state.specs.Journal.{is_position, error_at}
 use Rattle.site_state.specs.Errors.{errors_from}
 use Rattle.site_state.proofs.Stepping.{error_found}
-use Rattle.world_laws.proofs.Links.{all-append}
+use Rattle.rep_lists.proofs.Each.{all-append}
 use Rattle.site_rounds.specs.NewErrors.{brings, brought_of, error_entry_text, text_found, text_at, text_where_new, StandsBy}
 
 -- ---- by position

@@ -6,10 +6,11 @@ use Rattle.site_state.specs.declared.arrival.Arrival.{Arrival}
 use Rattle.site_state.specs.declared.entry.Entry.{Entry}
 use Rattle.site_state.specs.State.{SiteState, arrivals}
 use Rattle.site_state.specs.Passes.{site_apply, apply_each, site_pass, is_done, is_error, added_count, pass_answer}
-use Rattle.site_state.specs.Steps.{begun, count_where}
+use Rattle.site_state.specs.Steps.{begun}
+use Rattle.rep_lists.specs.Counting.{count_where}
 use Rattle.site_state.proofs.Growing.{IsFront, front_none}
 use Rattle.site_state.proofs.Stepping.{apply_steps, steps_later}
-use Rattle.world_state.specs.Rounds.{has_ready, passed_where_ready, round, rounds, sender_names, arrived_count, site_until_quiet}
+use Rattle.site_state.specs.Rounds.{has_ready, passed_where_ready, round, rounds, sender_names, arrived_count, site_until_quiet}
 use Rattle.site_rounds.specs.Parts.{finished_in}
 use Rattle.site_rounds.proofs.Parts.{count_at_most}
 

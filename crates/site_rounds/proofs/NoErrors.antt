@@ -9,7 +9,7 @@ use Rattle.site_state.specs.declared.entry.Entry.TheVariants.{Local, Done, Error
 use Rattle.site_state.specs.State.{SenderState, SiteState}
 use Rattle.site_state.specs.Journal.{is_position, error_at}
 use Rattle.site_state.specs.Passes.{is_error, added_count}
-use Rattle.site_state.specs.Steps.{count_where}
+use Rattle.rep_lists.specs.Counting.{count_where}
 use Rattle.site_state.specs.Errors.{errors_from}
 use Rattle.site_rounds.proofs.Growing.{Grows, take-front, count_where-append}
 

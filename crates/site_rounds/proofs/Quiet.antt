@@ -6,10 +6,8 @@ use Rattle.std.proofs.lemmas.List.{length-map, drop_all}
 use Rattle.rep_values.specs.declared.name.SiteName.{SiteName}
 use Rattle.site_state.specs.State.{SenderState, SiteState, arrivals}
 use Rattle.site_state.specs.Passes.{site_pass}
-use Rattle.world_state.specs.Rounds.{is_ready_here, has_ready, passed_where_ready, round, rounds, sender_names, arrived_count, site_rounds}
-use Rattle.world_laws.specs.Worlds.{NothingReady}
-use Rattle.world_laws.proofs.Calling.{rounds_more}
-use Rattle.world_laws.proofs.RoundsEnd.{round_goes, round_same, rounds_same, rounds_leave_nothing}
+use Rattle.site_state.specs.Rounds.{is_ready_here, has_ready, passed_where_ready, round, rounds, sender_names, arrived_count, site_rounds, NothingReady}
+use Rattle.event_laws.proofs.RoundsEnd.{round_goes, round_same, rounds_same, rounds_leave_nothing, rounds_more}
 
 abbrev pub any_ready : List SiteName → SiteState → Bool
 any_ready names x = list_any (λ origin. has_ready origin x) names

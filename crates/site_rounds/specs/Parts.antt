@@ -3,8 +3,10 @@ use Rattle.std.specs.Prelude.{◌≡◌, ℕ, ◌≤◌, true, Bool, List, [], �
 use Rattle.rep_values.specs.declared.name.SiteName.{SiteName}
 use Rattle.site_state.specs.declared.answers.PassCount.{PassCount}
 use Rattle.site_state.specs.declared.entry.Entry.{Entry}
-use Rattle.site_state.specs.State.{SiteState, is_master_site}
-use Rattle.site_state.specs.Steps.{begun, count_where}
+use Rattle.site_state.specs.State.{SiteState}
+use Rattle.rep_schema.specs.Sites.{is_master_site}
+use Rattle.site_state.specs.Steps.{begun}
+use Rattle.rep_lists.specs.Counting.{count_where}
 use Rattle.site_state.specs.Passes.{is_done, is_error, added_count}
 use Rattle.event_laws.specs.Confluence.{applied_in_turn, CanPassInAnyOrder}
 

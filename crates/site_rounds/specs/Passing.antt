@@ -4,7 +4,8 @@ use Rattle.std.specs.declared.alloc.Global.{Global}
 use Rattle.rep_lists.specs.declared.memory.NoMemory.{NoMemory}
 use Rattle.rep_values.specs.declared.name.SiteName.{SiteName}
 use Rattle.site_state.specs.declared.answers.PassCount.{PassCount}
-use Rattle.site_state.specs.State.{SiteState, is_master_site}
+use Rattle.site_state.specs.State.{SiteState}
+use Rattle.rep_schema.specs.Sites.{is_master_site}
 use Rattle.site_state.specs.Passes.{site_pass, pass_answer}
 use Rattle.event_laws.specs.Confluence.{CanPassInAnyOrder}
 use Rattle.site_rounds.specs.Parts.{part_of}

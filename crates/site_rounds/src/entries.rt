@@ -1,7 +1,7 @@
 //! The newest entries of a journal.
 ghost use Rattle.std.specs.Prelude.{◌≡◌, ◌+◌, ◌<◌, ◌≤◌, ◌^◌, ◌∷◌, [], length, take, drop};
 ghost use Rattle.site_state.specs.Passes.{is_done, is_error};
-ghost use Rattle.site_state.specs.Steps.{count_where};
+ghost use Rattle.rep_lists.specs.Counting.{count_where};
 ghost use Rattle.site_rounds.specs.Parts.{finished_in};
 
 use crate::Journalled;

@@ -2,9 +2,9 @@
 ghost use Rattle.std.specs.Prelude.{◌≡◌, ◌+◌, ◌<◌, ◌^◌, ◌∷◌, Bool, false, length, drop, is_some, IfOk, IfErr};
 ghost use Rattle.std.specs.List.{list_any};
 ghost use Rattle.site_state.specs.declared.entry.Entry.{Entry};
-ghost use Rattle.site_state.specs.Steps.{count_where};
+ghost use Rattle.rep_lists.specs.Counting.{count_where};
 ghost use Rattle.site_state.specs.Passes.{site_pass, is_done, is_error, added_count};
-ghost use Rattle.world_state.specs.Rounds.{has_ready, passed_where_ready, round, sender_names, site_until_quiet};
+ghost use Rattle.site_state.specs.Rounds.{has_ready, passed_where_ready, round, sender_names, site_until_quiet};
 ghost use Rattle.site_rounds.specs.Parts.{PartlyApplied, MastersCanPass, Passes};
 
 use crate::passed::{NOTHING, Passed, added, joined};

@@ -4,8 +4,8 @@ use Rattle.std.specs.Prelude.{Option}
 use Rattle.rep_values.specs.declared.name.SiteName.{SiteName}
 use Rattle.rep_schema.specs.declared.schema.Schema.{Schema}
 use Rattle.rep_schema.specs.Sites.{senders_of, destinations_of}
-use Rattle.deferred_queue.specs.Streams.{is_same_site}
-use Rattle.local_txn.specs.declared.local.Here.{Here}
+use Rattle.rep_values.specs.SiteNames.{is_same_site}
+use Rattle.txn_effects.specs.declared.local.Here.{Here}
 use Rattle.packet_code.specs.declared.packet.Packet.{Packet}
 use Rattle.packet_code.specs.declared.packet.Packet.TheVariants.{Carry, Mark}
 use Rattle.site_state.specs.declared.arrival.Arrival.{Arrival}

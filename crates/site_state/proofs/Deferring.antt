@@ -12,7 +12,8 @@ use Rattle.packet_code.specs.declared.packet.Packet.{Packet}
 use Rattle.packet_code.specs.declared.packet.Packet.TheVariants.{Carry}
 use Rattle.deferred_queue.specs.declared.queued_txn.QueuedTxn.{QueuedTxn}
 use Rattle.deferred_queue.specs.declared.destination.Destination.{Destination}
-use Rattle.deferred_queue.specs.Streams.{Deferred, InStream, is_same_site, destination_to, queue_stream_to, at_position, unpurged, acked_by, last_position, is_acknowledged, purged}
+use Rattle.deferred_queue.specs.Streams.{Deferred, InStream, destination_to, queue_stream_to, at_position, unpurged, acked_by, last_position, is_acknowledged, purged}
+use Rattle.rep_values.specs.SiteNames.{is_same_site}
 use Rattle.deferred_queue.specs.Streams as queue
 use Rattle.deferred_queue.proofs.Sites.{is_same_site-true, is_same_site-refl}
 use Rattle.site_state.specs.State.{DestinationState, SiteState, destination_of, opened_in, acked_in, opened_of}

@@ -20,14 +20,14 @@ use Rattle.txn_effects.specs.Contents.{Content, effect_on, content_after, IsCont
 use Rattle.txn_effects.specs.Laws.{IsApplied}
 use Rattle.txn_effects.proofs.TransactionEffects.{IsApplied-none, IsApplied-then, IsApplied-txn_effect}
 use Rattle.txn_effects.proofs.OwnCalls.{calls_effect-own}
-use Rattle.local_txn.specs.declared.local.Here.{Here}
-use Rattle.local_txn.specs.declared.local.LocalStop.{LocalStop}
-use Rattle.local_txn.specs.declared.local.Stamps.{Stamps}
-use Rattle.local_txn.specs.Held.{statement_table}
-use Rattle.local_txn.specs.Statements.{BlockState, statement_refusal, statement_changes, changes_at, block_state_at, block_state_after}
-use Rattle.local_txn.specs.Locals.{BlockEffect, stop_at, unless_refused, block_effect_behind, statements_effect, block_beginning, local_effect, most_statements}
-use Rattle.local_txn.proofs.StatementEffects.{effect_with}
-use Rattle.local_txn.proofs.BlockSteps.{IsApplied-one}
+use Rattle.txn_effects.specs.declared.local.Here.{Here}
+use Rattle.txn_effects.specs.declared.local.LocalStop.{LocalStop}
+use Rattle.txn_effects.specs.declared.local.Stamps.{Stamps}
+use Rattle.txn_effects.specs.Held.{statement_table}
+use Rattle.txn_effects.specs.Statements.{BlockState, statement_refusal, statement_changes, changes_at, block_state_at, block_state_after}
+use Rattle.txn_effects.specs.Locals.{BlockEffect, stop_at, unless_refused, block_effect_behind, statements_effect, block_beginning, local_effect, most_statements}
+use Rattle.txn_effects.proofs.StatementEffects.{effect_with}
+use Rattle.txn_effects.proofs.StatementsApplied.{IsApplied-one}
 use Rattle.rep_schema.specs.Named.{table_place}
 use Rattle.site_state.specs.Contents.{txn_of, changes_by}
 use Rattle.site_state.specs.Fits.{SchemaIsKeyed}

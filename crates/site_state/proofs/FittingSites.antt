@@ -16,11 +16,11 @@ use Rattle.conflict_detect.specs.FitTests.{txn_fits}
 use Rattle.conflict_detect.proofs.FitTested.{txn_test}
 use Rattle.txn_effects.specs.Calls.{Effect}
 use Rattle.txn_effects.specs.Transactions.{Failure}
-use Rattle.deferred_queue.specs.Streams.{is_same_site}
+use Rattle.rep_values.specs.SiteNames.{is_same_site}
 use Rattle.packet_code.specs.declared.packet.Packet.{Packet}
 use Rattle.packet_code.specs.declared.packet.Packet.TheVariants.{Carry, Mark}
-use Rattle.local_txn.specs.declared.local.LocalStop.{LocalStop}
-use Rattle.local_txn.specs.Locals.{BlockEffect}
+use Rattle.txn_effects.specs.declared.local.LocalStop.{LocalStop}
+use Rattle.txn_effects.specs.Locals.{BlockEffect}
 use Rattle.snapshot_query.specs.declared.snapshot.Snapshot.{Snapshot}
 use Rattle.site_state.specs.declared.entry.Entry.{Entry}
 use Rattle.site_state.specs.declared.entry.Entry.TheVariants.{Local, Done, Error, Executed, Dropped, Refreshed}
@@ -31,15 +31,14 @@ use Rattle.site_state.specs.State.{SenderState, SiteState, sender_of, at_sender,
 use Rattle.site_state.specs.Journal.{is_position, error_at}
 use Rattle.site_state.specs.Contents.{content_of, tables_of, txn_of}
 use Rattle.site_state.specs.Streams.{with_one, went_onward, queue_of}
-use Rattle.site_state.specs.Notes.{touched_in}
+use Rattle.snapshot_log.specs.Noting.{touched_in, renewed}
 use Rattle.site_state.specs.Ready.{stale_of}
 use Rattle.site_state.specs.Steps.{is_empty}
 use Rattle.site_state.specs.Commits.{block_at, committed_by, committed, site_commit}
 use Rattle.site_state.specs.Packets.{with_arrival, arrived_by, is_known_past, is_foreign, taken_unless, site_accept}
 use Rattle.site_state.specs.Passes.{effect_here, finished_by, applied_unless, site_apply}
 use Rattle.site_state.specs.Errors.{effect_of_error, executed_by, executed_found, site_execute, dropped_found, site_drop}
-use Rattle.site_state.specs.Refreshes.{renewed}
-use Rattle.local_txn.proofs.StatementEffects.{effect_with}
+use Rattle.txn_effects.proofs.StatementEffects.{effect_with}
 use Rattle.site_state.specs.Fits.{EntryHas, SendersHave, AreWithin, SiteFits}
 use Rattle.site_state.proofs.FittingBlocks.{IsContent-content_after, TxnFits-led, TxnFits-changes_by, block_applied}
 

@@ -1,15 +1,15 @@
 -- Queues and streams only get more in front, and the dependency numbers in them stay.
-use Rattle.std.proofs.Common.{◌≡◌, ℕ, suc, ◌+◌, ◌<◌, ◌≤◌, ◌==◌, List, [], ◌∷◌, ◌++◌, length, map, Bool, true, false, cond, Some, refl, ap, arith, length-append}
+use Rattle.std.proofs.Common.{◌≡◌, ℕ, suc, ◌+◌, ◌<◌, ◌≤◌, ◌==◌, List, [], ◌∷◌, ◌++◌, length, map, Bool, true, false, cond, Some, refl, ap, arith, length-append, reverse}
 use Rattle.std.specs.Prelude.{nat_lt}
 use Rattle.std.proofs.lemmas.Bool.Decides.{nat_tests}
-use Rattle.std.proofs.lemmas.List.{length-map}
+use Rattle.std.proofs.lemmas.List.{length-map, reverse-append}
 use Rattle.rep_schema.specs.declared.schema.Schema.{Schema}
 use Rattle.rep_schema.specs.Tables.{Rows}
 use Rattle.rep_calls.specs.declared.call.Txn.{Txn}
 use Rattle.dependency_index.specs.Tokens.{txn_tokens, share_token}
 use Rattle.dependency_index.specs.Dependencies.{last_where}
 use Rattle.dependency_index.proofs.NotedTokens.{last_where-bound}
-use Rattle.local_txn.specs.declared.local.Here.{Here}
+use Rattle.txn_effects.specs.declared.local.Here.{Here}
 use Rattle.deferred_queue.specs.Streams.{at_position}
 use Rattle.deferred_queue.proofs.Positions.{found_position}
 use Rattle.site_state.specs.declared.entry.Entry.{Entry}
@@ -138,3 +138,11 @@ dep_at-earlier schema (x ∷ xs) p t found = go (p == length xs + 1) refl found 
         let place : p ≡ length xs + 1 = grind (arith, nat_tests) in
         omega (arith, place, last_where-bound (share_token (txn_tokens schema x)) (map (txn_tokens schema) xs), length-map xs (txn_tokens schema))
     go false is found later = later found
+
+-- one more at the end is one more in front of the list turned around
+pub reverse_push : {X : Type 0} (xs : List X) (x : X) → reverse (xs ++ x ∷ []) ≡ x ∷ reverse xs
+reverse_push xs x = reverse-append xs (x ∷ [])
+
+-- the same, where the list and the list with one more are known by equations
+pub one_entry_more : {X : Type 0} (old same new : List X) (x : X) → new ≡ same ++ x ∷ [] → same ≡ old → reverse new ≡ x ∷ reverse old
+one_entry_more old same new x pushed is = rw (pushed, is) (reverse_push old x)

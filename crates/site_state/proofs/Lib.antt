@@ -7,7 +7,6 @@ pub mod Changing
 pub mod Pasts
 pub mod Queueing
 pub mod Deferring
-pub mod RisingKeys
 pub mod SchemaSites
 pub mod DeclaredSites
 pub mod PastLimits
@@ -15,3 +14,4 @@ pub mod FittingBlocks
 pub mod FittingSites
 pub mod WorkedSites
 mod WorkedAnswers
+pub mod Waited

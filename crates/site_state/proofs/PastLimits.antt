@@ -18,16 +18,16 @@ use Rattle.rep_schema.specs.declared.schema.Schema.{Schema}
 use Rattle.rep_schema.specs.declared.schema.SiteEntry.{SiteEntry}
 use Rattle.rep_schema.specs.Shape.{is_master, HasShape}
 use Rattle.rep_schema.specs.Named.{is_site, site_named}
-use Rattle.rep_schema.specs.Sites.{sends_to, names_of, senders_to, senders_of}
+use Rattle.rep_schema.specs.Sites.{sends_to, names_of, senders_to, senders_of, is_master_site}
 use Rattle.rep_calls.specs.declared.past.PastEntry.{PastEntry}
-use Rattle.deferred_queue.specs.Streams.{is_same_site}
+use Rattle.rep_values.specs.SiteNames.{is_same_site}
 use Rattle.deferred_queue.proofs.Sites.{is_same_site-refl}
-use Rattle.local_txn.specs.declared.local.Here.{Here}
+use Rattle.txn_effects.specs.declared.local.Here.{Here}
 use Rattle.packet_code.specs.Limits.{IsPastEntry, IsCausalPast}
 use Rattle.packet_code.specs.Texts.{PastHasForm}
 use Rattle.site_state.specs.declared.entry.Entry.{Entry}
 use Rattle.site_state.specs.declared.entry.Entry.TheVariants.{Local, Done, Error, Executed, Dropped, Refreshed}
-use Rattle.site_state.specs.State.{SenderState, is_master_site}
+use Rattle.site_state.specs.State.{SenderState}
 use Rattle.site_state.specs.Streams.{with_one, went_onward}
 use Rattle.site_state.specs.Pasts.{beside_name, with_seen, seen_of, past_at, pasts_after}
 use Rattle.site_state.proofs.DeclaredSites.{origins}

@@ -9,11 +9,9 @@ use Rattle.rep_schema.specs.declared.schema.Schema.{Schema}
 use Rattle.rep_schema.specs.declared.schema.SiteEntry.{SiteEntry}
 use Rattle.rep_schema.specs.Shape.{AreDistinct, is_master, is_early_master, HasMaster, HasShape}
 use Rattle.rep_schema.specs.Named.{is_site, site_named}
-use Rattle.rep_schema.specs.Sites.{addresses, sends_to, names_of, senders_to, senders_of, destinations_of}
-use Rattle.deferred_queue.specs.Streams.{is_same_site}
+use Rattle.rep_schema.specs.Sites.{addresses, sends_to, names_of, senders_to, senders_of, destinations_of, is_master_site, is_among, is_late_master}
+use Rattle.rep_values.specs.SiteNames.{is_same_site}
 use Rattle.deferred_queue.proofs.Sites.{is_same_site-true, is_same_site-refl}
-use Rattle.site_state.specs.State.{is_master_site, is_among}
-use Rattle.site_state.specs.Making.{is_late_master}
 
 -- ---- entries by name
 

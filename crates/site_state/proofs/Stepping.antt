@@ -12,9 +12,10 @@ use Rattle.rep_calls.specs.declared.call.Txn.{Txn}
 use Rattle.rep_calls.specs.declared.statement.Statement.{Statement}
 use Rattle.txn_effects.specs.Calls.{Effect}
 use Rattle.txn_effects.specs.Transactions.{Failure}
-use Rattle.local_txn.specs.declared.local.LocalStop.{LocalStop}
-use Rattle.local_txn.specs.Locals.{BlockEffect}
-use Rattle.deferred_queue.specs.Streams.{is_same_site, at_position}
+use Rattle.txn_effects.specs.declared.local.LocalStop.{LocalStop}
+use Rattle.txn_effects.specs.Locals.{BlockEffect}
+use Rattle.deferred_queue.specs.Streams.{at_position}
+use Rattle.rep_values.specs.SiteNames.{is_same_site}
 use Rattle.deferred_queue.proofs.Sites.{is_same_site-true}
 use Rattle.deferred_queue.proofs.Positions.{found_position}
 use Rattle.site_state.specs.declared.entry.Entry.{Entry}

@@ -1,8 +1,8 @@
 -- A site as the schema declares it.
 use Rattle.std.specs.Prelude.{◌≡◌, map}
 use Rattle.rep_schema.specs.declared.schema.Schema.{Schema}
-use Rattle.rep_schema.specs.Sites.{senders_of, destinations_of}
-use Rattle.site_state.specs.State.{SenderState, DestinationState, SiteState, is_master_site}
+use Rattle.rep_schema.specs.Sites.{senders_of, destinations_of, is_master_site}
+use Rattle.site_state.specs.State.{SenderState, DestinationState, SiteState}
 
 -- a site is a master where the schema says so, and its senders and destinations are those that the schema gives it
 pub record IsDeclared (schema : Schema) (x : SiteState) : Type 0 where

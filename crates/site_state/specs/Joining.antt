@@ -2,12 +2,12 @@
 use Rattle.std.specs.Prelude.{ℕ, ◌+◌, not, cond, List, [], ◌∷◌, map, sum, count_by, Option, Some, None}
 use Rattle.std.specs.List.{range_with_len}
 use Rattle.rep_values.specs.declared.name.SiteName.{SiteName}
-use Rattle.rep_schema.specs.Sites.{senders_of}
+use Rattle.rep_schema.specs.Sites.{senders_of, is_master_site}
 use Rattle.rep_calls.specs.declared.past.PastEntry.{PastEntry}
-use Rattle.deferred_queue.specs.Streams.{is_same_site}
-use Rattle.local_txn.specs.declared.local.Here.{Here}
+use Rattle.rep_values.specs.SiteNames.{is_same_site}
+use Rattle.txn_effects.specs.declared.local.Here.{Here}
 use Rattle.error_queue.specs.declared.entry.ErrorEntry.{ErrorEntry}
-use Rattle.site_state.specs.State.{SenderState, DestinationState, SiteState, is_master_site, at_sender, at_destination}
+use Rattle.site_state.specs.State.{SenderState, DestinationState, SiteState, at_sender, at_destination}
 use Rattle.site_state.specs.Journal.{finished}
 use Rattle.site_state.specs.Contents.{tables_of}
 use Rattle.site_state.specs.Streams.{count_of}

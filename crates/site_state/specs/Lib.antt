@@ -19,3 +19,5 @@ pub mod Joining
 pub mod Deferrals
 pub mod DeclaredSites
 pub mod Fits
+pub mod Waited
+pub mod Rounds

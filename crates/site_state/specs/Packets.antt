@@ -6,13 +6,15 @@ use Rattle.rep_values.specs.declared.name.SiteName.{SiteName}
 use Rattle.rep_calls.specs.declared.call.Txn.{Txn}
 use Rattle.rep_calls.specs.declared.past.PastEntry.{PastEntry}
 use Rattle.conflict_detect.specs.FitTests.{txn_fits}
-use Rattle.deferred_queue.specs.Streams.{is_same_site, at_position}
+use Rattle.deferred_queue.specs.Streams.{at_position}
+use Rattle.rep_values.specs.SiteNames.{is_same_site}
 use Rattle.packet_code.specs.declared.packet.Packet.{Packet}
 use Rattle.packet_code.specs.declared.packet.Packet.TheVariants.{Carry, Mark}
 use Rattle.site_state.specs.declared.answers.Accepted.{Accepted}
 use Rattle.site_state.specs.declared.answers.Accepted.TheVariants as accepted
 use Rattle.site_state.specs.declared.arrival.Arrival.{Arrival}
-use Rattle.site_state.specs.State.{SenderState, DestinationState, SiteState, is_master_site, sender_of, at_sender, arrival_beside, arrived_at, destination_of, at_destination, opened_of}
+use Rattle.site_state.specs.State.{SenderState, DestinationState, SiteState, sender_of, at_sender, arrival_beside, arrived_at, destination_of, at_destination, opened_of}
+use Rattle.rep_schema.specs.Sites.{is_master_site}
 use Rattle.site_state.specs.Journal.{low_water}
 use Rattle.site_state.specs.Streams.{stream_to, dep_at}
 use Rattle.site_state.specs.Pasts.{pasts_of}

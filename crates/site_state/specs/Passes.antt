@@ -16,7 +16,8 @@ use Rattle.site_state.specs.State.{SiteState, arrived_at, arrivals}
 use Rattle.site_state.specs.Contents.{content_of}
 use Rattle.site_state.specs.Ready.{stale_of}
 use Rattle.site_state.specs.Notes.{noted}
-use Rattle.site_state.specs.Steps.{journalled, begun, onward_number, count_where}
+use Rattle.site_state.specs.Steps.{journalled, begun, onward_number}
+use Rattle.rep_lists.specs.Counting.{count_where}
 
 -- what an arrival does to the site's tables now
 abbrev pub effect_here : SiteName → Arrival → SiteState → Result Effect Failure

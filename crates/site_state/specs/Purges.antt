@@ -1,9 +1,10 @@
 -- What a site lets go of: queued transactions that each of their destinations has acknowledged, and logged keys.
-use Rattle.std.specs.Prelude.{ℕ, ◌+◌, ◌-◌, ◌==◌, nat_lt, nat_le, cond, max, min, List, [], ◌∷◌, map, filter, Option, Some, None}
-use Rattle.site_state.specs.State.{LoggedKey, LogState, DestinationState, SiteState}
+use Rattle.std.specs.Prelude.{ℕ, ◌+◌, ◌-◌, ◌==◌, nat_le, max, min, List, [], ◌∷◌, map, Option, Some, None}
+use Rattle.site_state.specs.State.{DestinationState, SiteState}
+use Rattle.snapshot_log.specs.LogState.{LoggedKey, purged_where}
 use Rattle.site_state.specs.Streams.{count_of}
-use Rattle.site_state.specs.Notes.{log_of, keys_in}
-use Rattle.site_state.specs.Steps.{count_where}
+use Rattle.snapshot_log.specs.Noting.{log_of, keys_in}
+use Rattle.rep_lists.specs.Counting.{count_where}
 
 -- up to which number of so many a destination has acknowledged all that it has: it has what was queued since it was
 -- opened, and nothing as long as it isn't open
@@ -23,13 +24,6 @@ site_purge x = record x { purged = max x.purged (acknowledged_by_all (count_of x
 -- how many transactions a purge takes
 abbrev pub purge_answer : SiteState → ℕ
 purge_answer x = (site_purge x).purged - x.purged
-
--- a log without the keys that have a moment up to this one
-abbrev pub log_purged : ℕ → LogState → LogState
-log_purged moment log = record { table = log.table; keys = filter (λ (logged : LoggedKey). nat_lt moment logged.moment) log.keys; purged = max log.purged moment }
-
-abbrev pub purged_where : ℕ → ℕ → LogState → LogState
-purged_where table moment log = cond (log.table == table) (log_purged moment log) log
 
 -- the log of a table is purged up to the present moment
 abbrev pub site_purge_log : ℕ → SiteState → SiteState

@@ -6,9 +6,10 @@ use Rattle.snapshot_query.specs.Queries.{query_rows}
 use Rattle.site_state.specs.declared.entry.Entry.TheVariants.{Refreshed}
 use Rattle.site_state.specs.declared.answers.RefreshCount.{RefreshCount}
 use Rattle.site_state.specs.declared.rows.TableRows.{TableRows}
-use Rattle.site_state.specs.State.{LogState, SiteState}
+use Rattle.site_state.specs.State.{SiteState}
+use Rattle.snapshot_log.specs.LogState.{LogState}
 use Rattle.site_state.specs.Contents.{tables_of}
-use Rattle.site_state.specs.Notes.{pending_keys}
+use Rattle.snapshot_log.specs.Noting.{pending_keys, renewed}
 use Rattle.site_state.specs.Steps.{journalled}
 
 -- what snapshots show of a master's tables: of each its query
@@ -19,10 +20,6 @@ rows_shown tables snapshots = map (λ (s : Snapshot). record { table = s.table; 
 abbrev pub with_tables : List TableRows → List Rows → List Rows
 with_tables [] tables = tables
 with_tables (t ∷ ts) tables = with_tables ts (slice_set tables t.table t.rows)
-
--- a snapshot as its refresh leaves it
-abbrev pub renewed : ℕ → Snapshot → Snapshot
-renewed moment s = record s { mark = moment; touched = [] }
 
 -- the snapshots get these rows, at this moment of the master: the tables with them are the base rows from then on
 abbrev pub site_refresh : List TableRows → ℕ → SiteState → SiteState

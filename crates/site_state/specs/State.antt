@@ -1,20 +1,18 @@
 -- What a site keeps. All else of a site is computed from it.
-use Rattle.std.specs.Prelude.{ℕ, ◌&&◌, Bool, cond, List, [], ◌∷◌, Option, Some, None}
-use Rattle.std.specs.List.{list_any}
+use Rattle.std.specs.Prelude.{ℕ, ◌&&◌, cond, List, [], ◌∷◌, Option, Some, None}
 use Rattle.std.specs.Ordering.{nat_cmp}
 use Rattle.std.specs.declared.cmp.Ordering.{Ordering}
 use Rattle.rep_lists.specs.Rising.{find_at}
 use Rattle.rep_values.specs.declared.name.SiteName.{SiteName}
 use Rattle.rep_schema.specs.declared.schema.Schema.{Schema}
-use Rattle.rep_schema.specs.Tables.{Cells, Rows}
-use Rattle.rep_schema.specs.Shape.{is_master}
-use Rattle.rep_schema.specs.Named.{is_site}
-use Rattle.deferred_queue.specs.Streams.{is_same_site}
-use Rattle.local_txn.specs.declared.local.Here.{Here}
-use Rattle.local_txn.specs.declared.local.Stamps.{Stamps}
+use Rattle.rep_schema.specs.Tables.{Rows}
+use Rattle.rep_values.specs.SiteNames.{is_same_site}
+use Rattle.txn_effects.specs.declared.local.Here.{Here}
+use Rattle.txn_effects.specs.declared.local.Stamps.{Stamps}
 use Rattle.snapshot_query.specs.declared.snapshot.Snapshot.{Snapshot}
 use Rattle.site_state.specs.declared.arrival.Arrival.{Arrival}
 use Rattle.site_state.specs.declared.entry.Entry.{Entry}
+use Rattle.snapshot_log.specs.LogState.{LogState}
 
 -- a sender: its queue count when this site joined, 0 where the site was there from the start; and what arrived from it, in
 -- rising order of position
@@ -30,17 +28,6 @@ pub record DestinationState : Type 0 where
   pub opened : Option ℕ
   pub acked : ℕ
 
--- the key of a row that was changed, and the last moment at which it was
-pub record LoggedKey : Type 0 where
-  pub key : Cells
-  pub moment : ℕ
-
--- the log of a table: its keys in rising order, and the greatest moment up to which it was purged, at first 0
-pub record LogState : Type 0 where
-  pub table : ℕ
-  pub keys : List LoggedKey
-  pub purged : ℕ
-
 -- a site: the journal stands newest first, senders and destinations as declared; the queue's numbers up to `purged` are
 -- purged; the moment counts commits, passes, executions and drops
 pub record SiteState : Type 0 where
@@ -55,14 +42,6 @@ pub record SiteState : Type 0 where
   pub logs : List LogState
   pub snapshots : List Snapshot
   pub moment : ℕ
-
--- a site of this name is a master site of the schema, there from the start or late
-abbrev pub is_master_site : Schema → SiteName → Bool
-is_master_site schema name = list_any (λ site. is_site name site && is_master site) schema.sites
-
--- a name is among these
-abbrev pub is_among : List SiteName → SiteName → Bool
-is_among names name = list_any (λ (n : SiteName). is_same_site n name) names
 
 -- ---- senders
 

@@ -4,7 +4,8 @@ use Rattle.std.specs.List.{list_any}
 use Rattle.rep_values.specs.declared.name.SiteName.{SiteName}
 use Rattle.rep_schema.specs.declared.change.Change.{Change}
 use Rattle.site_state.specs.declared.entry.Entry.{Entry}
-use Rattle.site_state.specs.State.{DestinationState, SiteState, is_master_site}
+use Rattle.site_state.specs.State.{DestinationState, SiteState}
+use Rattle.rep_schema.specs.Sites.{is_master_site}
 use Rattle.site_state.specs.Streams.{count_of}
 
 abbrev pub is_empty : {X : Type 0} → List X → Bool
@@ -29,8 +30,3 @@ goes_onward origin changes x = x.here.is_master && not (is_master_site x.schema 
 -- the number under which changed rows are queued onward, 0 where they aren't
 abbrev pub onward_number : SiteName → List Change → SiteState → ℕ
 onward_number origin changes x = cond (goes_onward origin changes x) (count_of x + 1) 0
-
--- how many of a list pass a test
-abbrev pub count_where : {X : Type 0} → (X → Bool) → List X → ℕ
-count_where test [] = 0
-count_where test (x ∷ xs) = cond (test x) (count_where test xs + 1) (count_where test xs)

@@ -2,9 +2,10 @@
 use Rattle.std.proofs.Common.{◌≡◌, List, [], ◌∷◌, Bool, true, false, cond, Some, None, refl}
 use Rattle.std.specs.Prelude.{◌||◌, Option}
 use Rattle.rep_values.specs.declared.name.SiteName.{SiteName}
-use Rattle.deferred_queue.specs.Streams.{is_same_site}
-use Rattle.site_state.specs.State.{SiteState, is_among}
-use Rattle.event_laws.specs.Events.{without, master_of, without_found, begun_after}
+use Rattle.rep_values.specs.SiteNames.{is_same_site}
+use Rattle.site_state.specs.State.{SiteState}
+use Rattle.rep_schema.specs.Sites.{is_among}
+use Rattle.site_events.specs.Events.{without, master_of, without_found, begun_after}
 
 -- another site is among more names only where it was before
 pub is_among-more : (name site : SiteName) (names : List SiteName) → is_same_site name site ≡ false → is_among (name ∷ names) site ≡ true → is_among names site ≡ true

@@ -10,8 +10,8 @@ use Rattle.txn_effects.specs.Calls.{Effect}
 use Rattle.txn_effects.specs.Transactions.{Failure, tables_by}
 use Rattle.txn_effects.specs.Contents.{effect_on}
 use Rattle.txn_effects.proofs.TransactionEffects.{IsApplied-txn_effect}
-use Rattle.local_txn.specs.declared.local.LocalStop.{LocalStop}
-use Rattle.local_txn.specs.Locals.{BlockEffect}
+use Rattle.txn_effects.specs.declared.local.LocalStop.{LocalStop}
+use Rattle.txn_effects.specs.Locals.{BlockEffect}
 use Rattle.packet_code.specs.declared.packet.Packet.{Packet}
 use Rattle.packet_code.specs.declared.packet.Packet.TheVariants.{Carry, Mark}
 use Rattle.error_queue.specs.declared.entry.ErrorEntry.{ErrorEntry}

@@ -11,7 +11,7 @@ use Rattle.rep_schema.specs.Groups.{are_same}
 use Rattle.rep_schema.specs.Changes.{after_change_in, after_change, row_like, IsChange, LeadsTo}
 use Rattle.rep_schema.proofs.FoundRows.{find_row-put_other, find_row-take_other, key_of-found}
 use Rattle.rep_schema.proofs.TakingBack.{AreTables-made}
-use Rattle.site_state.specs.Notes.{key_between, key_changed, keys_changed}
+use Rattle.snapshot_log.specs.Noting.{key_between, key_changed, keys_changed}
 use Rattle.fast_refresh.specs.Showing.{has_key}
 use Rattle.snapshot_laws.proofs.Keys.{neither, same_own}
 

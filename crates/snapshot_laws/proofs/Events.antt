@@ -5,8 +5,8 @@ use Rattle.rep_schema.specs.declared.schema.Schema.{Schema}
 use Rattle.site_state.specs.State.{SiteState}
 use Rattle.site_state.specs.Steps.{begun}
 use Rattle.site_state.specs.Purges.{site_purge_log}
-use Rattle.event_laws.specs.Cluster.{Cluster, site_of}
-use Rattle.event_laws.specs.Events.{Event, without, refreshed, begun_after, run}
+use Rattle.site_events.specs.Cluster.{Cluster, site_of}
+use Rattle.site_events.specs.Events.{Event, without, refreshed, begun_after, run}
 use Rattle.snapshot_laws.specs.Starts.{IsSnapshotStart}
 use Rattle.snapshot_laws.proofs.Moves.{all_weaker}
 use Rattle.snapshot_laws.proofs.SnapshotsKeepUp.{KeepsUp, own_moves, fewer_begun, begin_master, purge_master, purge_own}

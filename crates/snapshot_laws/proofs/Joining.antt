@@ -3,13 +3,13 @@ use Rattle.std.proofs.Common.{◌≡◌, List, [], ◌∷◌, Bool, true, false,
 use Rattle.std.specs.Prelude.{Option, option_map}
 use Rattle.rep_values.specs.declared.name.SiteName.{SiteName}
 use Rattle.rep_schema.specs.declared.schema.Schema.{Schema}
-use Rattle.deferred_queue.specs.Streams.{is_same_site}
+use Rattle.rep_values.specs.SiteNames.{is_same_site}
 use Rattle.site_state.specs.State.{SiteState}
 use Rattle.site_state.specs.Making.{master_here}
 use Rattle.site_state.specs.Joining.{site_open, site_copy}
-use Rattle.event_laws.specs.Cluster.{site_of}
-use Rattle.event_laws.specs.Joins.{queue_counts, copied, with_joined}
-use Rattle.event_laws.specs.Events.{master_of, found_site}
+use Rattle.site_events.specs.Cluster.{site_of}
+use Rattle.site_events.specs.Joins.{queue_counts, copied, with_joined}
+use Rattle.site_events.specs.Events.{master_of, found_site}
 use Rattle.event_laws.proofs.Sites.{found_or, site_of-joined}
 use Rattle.event_laws.proofs.NewSites.{open_to_each_keeps}
 use Rattle.site_state.specs.Fits.{SnapshotsApart}

@@ -12,9 +12,8 @@ use Rattle.rep_schema.specs.declared.change.Change.{Change}
 use Rattle.rep_schema.specs.Tables.{Cells}
 use Rattle.rep_schema.specs.Groups.{are_same}
 use Rattle.rep_schema.proofs.ValuesAt.{are_same-Decides}
-use Rattle.site_state.specs.State.{LoggedKey, LogState}
-use Rattle.site_state.specs.Notes.{keys_changed, beside_key, logged_each, logged_in, with_keys, log_of, keys_in, purged_in, purged_of, logged_above}
-use Rattle.site_state.specs.Purges.{log_purged, purged_where}
+use Rattle.snapshot_log.specs.LogState.{LoggedKey, LogState, log_purged, purged_where}
+use Rattle.snapshot_log.specs.Noting.{keys_changed, beside_key, logged_each, logged_in, with_keys, log_of, keys_in, purged_in, purged_of, logged_above}
 use Rattle.fast_refresh.specs.Showing.{has_key}
 
 -- ---- a key among keys

@@ -7,18 +7,20 @@ use Rattle.rep_lists.proofs.Rising.{all_put}
 use Rattle.rep_values.specs.declared.name.SiteName.{SiteName}
 use Rattle.rep_schema.specs.declared.schema.Schema.{Schema}
 use Rattle.rep_schema.specs.Tables.{Cells}
-use Rattle.deferred_queue.specs.Streams.{is_same_site}
+use Rattle.rep_values.specs.SiteNames.{is_same_site}
 use Rattle.deferred_queue.proofs.Sites.{is_same_site-true}
-use Rattle.local_txn.specs.declared.local.Here.{Here}
-use Rattle.site_state.specs.State.{LoggedKey, LogState, SiteState, is_among}
-use Rattle.site_state.specs.Notes.{keys_changed, beside_key, logged_each, logged_in}
+use Rattle.txn_effects.specs.declared.local.Here.{Here}
+use Rattle.site_state.specs.State.{SiteState}
+use Rattle.snapshot_log.specs.LogState.{LoggedKey, LogState, log_purged, purged_where}
+use Rattle.rep_schema.specs.Sites.{is_among}
+use Rattle.snapshot_log.specs.Noting.{keys_changed, beside_key, logged_each, logged_in}
 use Rattle.site_state.specs.Steps.{begun}
-use Rattle.site_state.specs.Purges.{log_purged, purged_where, site_purge_log}
+use Rattle.site_state.specs.Purges.{site_purge_log}
 use Rattle.site_state.specs.Making.{master_here}
 use Rattle.site_state.specs.Joining.{site_open, site_copy}
-use Rattle.event_laws.specs.Cluster.{Cluster, site_of, at_site}
-use Rattle.event_laws.specs.Joins.{queue_counts, copied, with_joined}
-use Rattle.event_laws.specs.Events.{without, refreshed, begun_after, run}
+use Rattle.site_events.specs.Cluster.{Cluster, site_of, at_site}
+use Rattle.site_events.specs.Joins.{queue_counts, copied, with_joined}
+use Rattle.site_events.specs.Events.{without, refreshed, begun_after, run}
 use Rattle.event_laws.proofs.Sites.{KeepsHere, found_or, site_of-joined}
 use Rattle.event_laws.proofs.Happening.{IsRefreshed, refreshed_is}
 use Rattle.event_laws.proofs.Happening as happening

@@ -12,10 +12,9 @@ use Rattle.rep_schema.specs.declared.change.Change.{Change}
 use Rattle.rep_schema.specs.Tables.{Cells}
 use Rattle.rep_schema.proofs.FilteredRows.{all_filter}
 use Rattle.snapshot_query.specs.declared.parent.Parent.{Parent}
-use Rattle.site_state.specs.State.{LoggedKey, LogState}
-use Rattle.site_state.specs.Notes.{keys_changed, beside_key, logged_each, logged_in, log_of, keys_in}
-use Rattle.site_state.specs.Purges.{log_purged, purged_where}
-use Rattle.event_laws.specs.Rules.{parents_above}
+use Rattle.snapshot_log.specs.LogState.{LoggedKey, LogState, log_purged, purged_where}
+use Rattle.snapshot_log.specs.Noting.{keys_changed, beside_key, logged_each, logged_in, log_of, keys_in}
+use Rattle.site_events.specs.Rules.{parents_above}
 use Rattle.snapshot_laws.specs.Waiting.{logged_cmp, DoParentsRise}
 use Rattle.snapshot_laws.proofs.Keys.{table-purged_where}
 use Rattle.snapshot_laws.proofs.Moves.{all_map}

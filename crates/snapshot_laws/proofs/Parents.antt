@@ -9,10 +9,9 @@ use Rattle.rep_schema.specs.Shown.{shown_by}
 use Rattle.snapshot_query.specs.declared.query.Query.{Query}
 use Rattle.snapshot_query.specs.declared.parent.Parent.{Parent}
 use Rattle.snapshot_query.specs.Parents.{parent_key, found_matches, picks_by}
-use Rattle.site_state.specs.State.{LogState}
-use Rattle.site_state.specs.Notes.{logged_in, log_of, purged_in, purged_of}
-use Rattle.site_state.specs.Purges.{log_purged, purged_where}
-use Rattle.event_laws.specs.Rules.{parents_above, IsParentLogged}
+use Rattle.snapshot_log.specs.LogState.{LogState, log_purged, purged_where}
+use Rattle.snapshot_log.specs.Noting.{logged_in, log_of, purged_in, purged_of}
+use Rattle.site_events.specs.Rules.{parents_above, IsParentLogged}
 use Rattle.snapshot_laws.specs.Waiting.{is_waiting, IsParentOld}
 use Rattle.snapshot_laws.proofs.Keys.{is_some-logged, purged_of-logged, told-logged, table-purged_where, is_some-purged, told-purged}
 use Rattle.snapshot_laws.proofs.ChangedRows.{find_row-led}

@@ -9,12 +9,14 @@ use Rattle.rep_schema.specs.Tables.{Rows, columns_of, find_row, rows_of, AreTabl
 use Rattle.rep_schema.proofs.FilteredRows.{find_row-filter}
 use Rattle.snapshot_query.specs.declared.snapshot.Snapshot.{Snapshot}
 use Rattle.snapshot_query.specs.Parents.{picks, rule_rows}
-use Rattle.site_state.specs.State.{SiteState, is_among}
+use Rattle.site_state.specs.State.{SiteState}
+use Rattle.rep_schema.specs.Sites.{is_among}
 use Rattle.site_state.specs.Contents.{tables_of}
-use Rattle.site_state.specs.Refreshes.{with_tables, renewed, site_refresh}
-use Rattle.event_laws.specs.Cluster.{site_of}
-use Rattle.event_laws.specs.Rules.{rows_ruled}
-use Rattle.event_laws.specs.Events.{master_of, found_site, refreshed, without_found, begun_after}
+use Rattle.site_state.specs.Refreshes.{with_tables, site_refresh}
+use Rattle.snapshot_log.specs.Noting.{renewed}
+use Rattle.site_events.specs.Cluster.{site_of}
+use Rattle.site_events.specs.Rules.{rows_ruled}
+use Rattle.site_events.specs.Events.{master_of, found_site, refreshed, without_found, begun_after}
 use Rattle.event_laws.proofs.Sites.{KeepsHere, found_name}
 use Rattle.event_laws.proofs.Happening.{IsRefreshed, refreshed_is}
 use Rattle.event_laws.proofs.Happening as happening

@@ -6,19 +6,19 @@ use Rattle.rep_lists.specs.Rising.{IsRising}
 use Rattle.rep_values.specs.declared.name.SiteName.{SiteName}
 use Rattle.rep_values.specs.Order.{key_cmp}
 use Rattle.rep_schema.specs.declared.schema.Schema.{Schema}
-use Rattle.deferred_queue.specs.Streams.{is_same_site}
+use Rattle.rep_values.specs.SiteNames.{is_same_site}
 use Rattle.deferred_queue.proofs.Sites.{is_same_site-true}
 use Rattle.snapshot_query.specs.declared.snapshot.Snapshot.{Snapshot}
-use Rattle.site_state.specs.State.{SiteState, is_among}
-use Rattle.site_state.specs.Notes.{keys_changed, touched_in, log_of, keys_in, logged_above}
-use Rattle.site_state.specs.Refreshes.{renewed}
+use Rattle.site_state.specs.State.{SiteState}
+use Rattle.rep_schema.specs.Sites.{is_among}
+use Rattle.snapshot_log.specs.Noting.{keys_changed, touched_in, log_of, keys_in, logged_above, renewed}
 use Rattle.site_state.specs.Steps.{begun}
 use Rattle.site_state.specs.Purges.{site_purge_log}
 use Rattle.site_state.specs.Joining.{site_open}
-use Rattle.site_state.proofs.RisingKeys.{rising-with_keys}
-use Rattle.event_laws.specs.Cluster.{Cluster, site_of, at_site}
-use Rattle.event_laws.specs.Joins.{copied, with_joined}
-use Rattle.event_laws.specs.Events.{refreshed, run}
+use Rattle.snapshot_log.proofs.RisingKeys.{rising-with_keys}
+use Rattle.site_events.specs.Cluster.{Cluster, site_of, at_site}
+use Rattle.site_events.specs.Joins.{copied, with_joined}
+use Rattle.site_events.specs.Events.{refreshed, run}
 use Rattle.event_laws.proofs.Sites.{KeepsHere, found_all, found_or, site_of-joined}
 use Rattle.event_laws.proofs.Happening.{IsRefreshed, refreshed_is}
 use Rattle.event_laws.proofs.Happening as happening

@@ -4,14 +4,15 @@ use Rattle.std.specs.Prelude.{◌⊎◌, Option, option_map}
 use Rattle.rep_values.specs.declared.name.SiteName.{SiteName}
 use Rattle.rep_schema.specs.declared.schema.Schema.{Schema}
 use Rattle.rep_schema.specs.Tables.{AreTables}
-use Rattle.deferred_queue.specs.Streams.{is_same_site}
+use Rattle.rep_values.specs.SiteNames.{is_same_site}
 use Rattle.deferred_queue.proofs.Sites.{is_same_site-true}
-use Rattle.local_txn.specs.declared.local.Here.{Here}
+use Rattle.txn_effects.specs.declared.local.Here.{Here}
 use Rattle.snapshot_query.specs.declared.snapshot.Snapshot.{Snapshot}
-use Rattle.site_state.specs.State.{SiteState, is_among}
+use Rattle.site_state.specs.State.{SiteState}
+use Rattle.rep_schema.specs.Sites.{is_among}
 use Rattle.site_state.specs.Contents.{tables_of}
-use Rattle.event_laws.specs.Cluster.{site_of, at_site}
-use Rattle.event_laws.specs.Events.{master_of, found_site}
+use Rattle.site_events.specs.Cluster.{site_of, at_site}
+use Rattle.site_events.specs.Events.{master_of, found_site}
 use Rattle.event_laws.proofs.Sites.{KeepsHere, found_name}
 use Rattle.site_state.specs.Fits.{SnapshotsApart}
 use Rattle.snapshot_laws.proofs.Moves.{all_weaker, Moves, apart_moves, none_moves}

@@ -6,18 +6,19 @@ use Rattle.std.proofs.lemmas.Bool.Decides.{nat_tests}
 use Rattle.rep_values.specs.declared.name.SiteName.{SiteName}
 use Rattle.rep_schema.specs.declared.schema.Schema.{Schema}
 use Rattle.rep_schema.specs.Tables.{Rows, columns_of, rows_of, AreTables}
-use Rattle.deferred_queue.specs.Streams.{is_same_site}
+use Rattle.rep_values.specs.SiteNames.{is_same_site}
 use Rattle.deferred_queue.proofs.Sites.{is_same_site-true}
 use Rattle.snapshot_query.specs.declared.parent.Parent.{Parent}
 use Rattle.snapshot_query.specs.declared.snapshot.Snapshot.{Snapshot}
 use Rattle.snapshot_query.specs.Parents.{picks, rule_rows}
-use Rattle.site_state.specs.State.{LogState, SiteState}
+use Rattle.site_state.specs.State.{SiteState}
+use Rattle.snapshot_log.specs.LogState.{LogState}
 use Rattle.site_state.specs.Contents.{tables_of}
-use Rattle.site_state.specs.Notes.{purged_of, is_too_young}
-use Rattle.site_state.specs.Refreshes.{renewed, site_refresh}
-use Rattle.event_laws.specs.Cluster.{Cluster, site_of, at_site}
-use Rattle.event_laws.specs.Rules.{rows_ruled, is_purged_above, has_young_parents, is_young}
-use Rattle.event_laws.specs.Events.{Event, master_of, found_site, refreshed_from, refreshed, run}
+use Rattle.snapshot_log.specs.Noting.{purged_of, is_too_young, renewed}
+use Rattle.site_state.specs.Refreshes.{site_refresh}
+use Rattle.site_events.specs.Cluster.{Cluster, site_of, at_site}
+use Rattle.site_events.specs.Rules.{rows_ruled, is_purged_above, has_young_parents, is_young}
+use Rattle.site_events.specs.Events.{Event, master_of, found_site, refreshed_from, refreshed, run}
 use Rattle.site_state.specs.Fits.{SnapshotsApart}
 use Rattle.snapshot_laws.specs.Waiting.{outdated_keys, IsParentOld}
 use Rattle.snapshot_laws.specs.Pending.{pending_table, pending_rows}

@@ -6,15 +6,16 @@ use Rattle.rep_values.specs.declared.name.SiteName.{SiteName}
 use Rattle.rep_schema.specs.declared.schema.Schema.{Schema}
 use Rattle.rep_schema.specs.Tables.{Cells, columns_of, find_row, rows_of, AreTables}
 use Rattle.rep_schema.specs.Shown.{shown_by}
-use Rattle.local_txn.specs.declared.local.Here.{Here}
+use Rattle.txn_effects.specs.declared.local.Here.{Here}
 use Rattle.snapshot_query.specs.declared.snapshot.Snapshot.{Snapshot}
 use Rattle.snapshot_query.specs.Parents.{picks}
-use Rattle.site_state.specs.State.{SiteState, is_among}
+use Rattle.site_state.specs.State.{SiteState}
+use Rattle.rep_schema.specs.Sites.{is_among}
 use Rattle.site_state.specs.Contents.{tables_of}
-use Rattle.site_state.specs.Notes.{keys_changed, touched_in, log_of, purged_of}
+use Rattle.snapshot_log.specs.Noting.{keys_changed, touched_in, log_of, purged_of}
 use Rattle.site_state.specs.Steps.{begun}
 use Rattle.site_state.specs.Purges.{site_purge_log}
-use Rattle.event_laws.specs.Rules.{pending_parents, IsParentWithin, IsParentLogged}
+use Rattle.site_events.specs.Rules.{pending_parents, IsParentWithin, IsParentLogged}
 use Rattle.fast_refresh.specs.Showing.{has_key}
 use Rattle.snapshot_laws.specs.Waiting.{is_waiting, DoParentsRise, IsParentOld}
 use Rattle.snapshot_laws.proofs.Keys.{has_key-with_keys, told, is_some-logged, purged_of-logged, told-logged, is_some-purged, told-purged}

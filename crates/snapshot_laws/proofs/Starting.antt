@@ -9,12 +9,13 @@ use Rattle.rep_schema.proofs.FilteredRows.{find_row-filter}
 use Rattle.snapshot_query.specs.declared.snapshot.Snapshot.{Snapshot}
 use Rattle.snapshot_query.specs.Parents.{picks, rule_rows}
 use Rattle.site_state.specs.declared.entry.Entry.{Entry}
-use Rattle.site_state.specs.State.{SiteState, is_among}
+use Rattle.site_state.specs.State.{SiteState}
+use Rattle.rep_schema.specs.Sites.{is_among}
 use Rattle.site_state.specs.Contents.{journal_content, tables_of}
 use Rattle.site_state.specs.Fits.{AreWithin}
-use Rattle.event_laws.specs.Cluster.{Cluster, site_of}
-use Rattle.event_laws.specs.Rules.{IsParentWithin}
-use Rattle.event_laws.specs.Events.{master_of, found_site}
+use Rattle.site_events.specs.Cluster.{Cluster, site_of}
+use Rattle.site_events.specs.Rules.{IsParentWithin}
+use Rattle.site_events.specs.Events.{master_of, found_site}
 use Rattle.event_laws.specs.Starts.{IsNewSite}
 use Rattle.event_laws.specs.Fitting.{StartsFit}
 use Rattle.event_laws.proofs.Sites.{found_all}

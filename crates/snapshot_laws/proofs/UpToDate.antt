@@ -12,9 +12,9 @@ use Rattle.rep_schema.specs.Tables.{Cells, Rows, columns_of, key_of, row_beside,
 use Rattle.rep_schema.specs.Groups.{are_same}
 use Rattle.snapshot_query.specs.declared.parent.Parent.{Parent}
 use Rattle.snapshot_query.specs.declared.snapshot.Snapshot.{Snapshot}
-use Rattle.site_state.specs.State.{LogState}
-use Rattle.site_state.specs.Notes.{pending_keys}
-use Rattle.event_laws.specs.Rules.{pending_parents}
+use Rattle.snapshot_log.specs.LogState.{LogState}
+use Rattle.snapshot_log.specs.Noting.{pending_keys}
+use Rattle.site_events.specs.Rules.{pending_parents}
 use Rattle.fast_refresh.specs.Showing.{has_key}
 use Rattle.snapshot_laws.specs.Waiting.{waits_for, is_waiting, waiting_keys, outdated_keys}
 use Rattle.snapshot_laws.proofs.Keys.{neither, same_own}

@@ -12,12 +12,12 @@ use Rattle.snapshot_query.specs.declared.query.Op.TheVariants.{Eq}
 use Rattle.site_state.specs.declared.rows.TableRows.{TableRows}
 use Rattle.site_state.specs.State.{SiteState}
 use Rattle.site_state.specs.Contents.{tables_of}
-use Rattle.site_state.specs.Notes.{pending_keys}
+use Rattle.snapshot_log.specs.Noting.{pending_keys}
 use Rattle.site_state.specs.Making.{new_site}
 use Rattle.site_state.proofs.WorkedSites.{a, s, master, snapshot_of, number_column, key_column, table_t, n, at_first}
-use Rattle.event_laws.specs.Cluster.{Cluster, site_of}
-use Rattle.event_laws.specs.Rules.{rows_ruled, is_young}
-use Rattle.event_laws.specs.Events.{Commit, Send, SendMark, Deliver, Begin, Apply, PurgeLog, Refresh, run}
+use Rattle.site_events.specs.Cluster.{Cluster, site_of}
+use Rattle.site_events.specs.Rules.{rows_ruled, is_young}
+use Rattle.site_events.specs.Events.{Commit, Send, SendMark, Deliver, Begin, Apply, PurgeLog, Refresh, run}
 use Rattle.snapshot_laws.specs.Pending.{pending_rows}
 
 -- ---- rows with a zone, at a master, and a snapshot of zone 1

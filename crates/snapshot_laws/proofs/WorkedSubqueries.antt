@@ -17,13 +17,13 @@ use Rattle.site_state.specs.declared.answers.RefreshCount.{RefreshCount}
 use Rattle.site_state.specs.declared.rows.TableRows.{TableRows}
 use Rattle.site_state.specs.State.{SiteState}
 use Rattle.site_state.specs.Contents.{tables_of}
-use Rattle.site_state.specs.Notes.{pending_keys, purged_of, is_too_young}
+use Rattle.snapshot_log.specs.Noting.{pending_keys, purged_of, is_too_young}
 use Rattle.site_state.specs.Purges.{purge_log_answer}
 use Rattle.site_state.specs.Making.{master_here, new_site}
 use Rattle.site_state.proofs.WorkedSites.{a, s, master, snapshot_of, number_column, key_column, n}
-use Rattle.event_laws.specs.Cluster.{Cluster, site_of}
-use Rattle.event_laws.specs.Rules.{rows_ruled, pending_parents, has_young_parents, is_young, refresh_ruled_answer}
-use Rattle.event_laws.specs.Events.{Commit, PurgeLog, Refresh, run}
+use Rattle.site_events.specs.Cluster.{Cluster, site_of}
+use Rattle.site_events.specs.Rules.{rows_ruled, pending_parents, has_young_parents, is_young, refresh_ruled_answer}
+use Rattle.site_events.specs.Events.{Commit, PurgeLog, Refresh, run}
 use Rattle.snapshot_laws.specs.Pending.{pending_rows}
 
 -- ---- customers and their orders at a master, and a snapshot of the orders of the customers of zone 1

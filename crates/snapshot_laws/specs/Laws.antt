@@ -8,12 +8,13 @@ use Rattle.rep_schema.specs.declared.schema.Schema.{Schema}
 use Rattle.rep_schema.specs.Tables.{columns_of, rows_of}
 use Rattle.snapshot_query.specs.declared.snapshot.Snapshot.{Snapshot}
 use Rattle.snapshot_query.specs.Parents.{picks}
-use Rattle.site_state.specs.State.{LogState, SiteState}
+use Rattle.site_state.specs.State.{SiteState}
+use Rattle.snapshot_log.specs.LogState.{LogState}
 use Rattle.site_state.specs.Contents.{tables_of}
-use Rattle.site_state.specs.Notes.{pending_keys}
-use Rattle.event_laws.specs.Cluster.{Cluster, site_of}
-use Rattle.event_laws.specs.Rules.{rows_ruled, pending_parents, is_young, IsParentWithin}
-use Rattle.event_laws.specs.Events.{Event, Refresh, run}
+use Rattle.snapshot_log.specs.Noting.{pending_keys}
+use Rattle.site_events.specs.Cluster.{Cluster, site_of}
+use Rattle.site_events.specs.Rules.{rows_ruled, pending_parents, is_young, IsParentWithin}
+use Rattle.site_events.specs.Events.{Event, Refresh, run}
 use Rattle.fast_refresh.specs.Showing.{ShowsOthers}
 use Rattle.snapshot_laws.specs.Waiting.{outdated_keys}
 use Rattle.snapshot_laws.specs.Pending.{pending_rows}

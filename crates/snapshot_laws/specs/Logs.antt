@@ -3,9 +3,10 @@ use Rattle.std.specs.Prelude.{◌≡◌, ℕ, ◌<◌, ◌≤◌, true, List, So
 use Rattle.std.specs.List.{AllByRecursion}
 use Rattle.rep_values.specs.declared.name.SiteName.{SiteName}
 use Rattle.rep_schema.specs.declared.schema.Schema.{Schema}
-use Rattle.site_state.specs.State.{LoggedKey, LogState, SiteState}
-use Rattle.event_laws.specs.Cluster.{Cluster, site_of}
-use Rattle.event_laws.specs.Events.{Event, run}
+use Rattle.site_state.specs.State.{SiteState}
+use Rattle.snapshot_log.specs.LogState.{LoggedKey, LogState}
+use Rattle.site_events.specs.Cluster.{Cluster, site_of}
+use Rattle.site_events.specs.Events.{Event, run}
 use Rattle.snapshot_laws.specs.Starts.{IsLogStart}
 
 -- a key was noted behind the moment up to which its log is purged, and not behind this one

@@ -9,7 +9,7 @@ use Rattle.site_state.specs.State.{SiteState}
 use Rattle.site_state.specs.Contents.{tables_of}
 use Rattle.site_state.specs.Refreshes.{site_refresh}
 use Rattle.site_state.specs.Fits.{SnapshotsApart, AreWithin}
-use Rattle.event_laws.specs.Rules.{rows_ruled}
+use Rattle.site_events.specs.Rules.{rows_ruled}
 
 -- a snapshot's table has the rows that it picks of the master's, its mark is a moment, and nothing is touched
 pub record IsRuled (schema : Schema) (master : List Rows) (moment : ℕ) (tables : List Rows) (s : Snapshot) : Type 0 where

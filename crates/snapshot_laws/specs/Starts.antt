@@ -7,12 +7,13 @@ use Rattle.rep_schema.specs.declared.schema.Schema.{Schema}
 use Rattle.rep_schema.specs.Tables.{rows_of}
 use Rattle.snapshot_query.specs.declared.snapshot.Snapshot.{Snapshot}
 use Rattle.snapshot_query.specs.Parents.{rule_rows}
-use Rattle.site_state.specs.State.{LogState, SiteState}
-use Rattle.site_state.specs.Notes.{log_of}
+use Rattle.site_state.specs.State.{SiteState}
+use Rattle.snapshot_log.specs.LogState.{LogState}
+use Rattle.snapshot_log.specs.Noting.{log_of}
 use Rattle.site_state.specs.Fits.{SnapshotsApart}
-use Rattle.event_laws.specs.Cluster.{Cluster}
-use Rattle.event_laws.specs.Rules.{IsParentWithin, IsParentLogged}
-use Rattle.event_laws.specs.Events.{master_of, found_site}
+use Rattle.site_events.specs.Cluster.{Cluster}
+use Rattle.site_events.specs.Rules.{IsParentWithin, IsParentLogged}
+use Rattle.site_events.specs.Events.{master_of, found_site}
 use Rattle.event_laws.specs.Fitting.{IsFitStart}
 use Rattle.snapshot_laws.specs.Waiting.{DoParentsRise}
 

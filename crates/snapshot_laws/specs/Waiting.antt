@@ -9,9 +9,9 @@ use Rattle.rep_schema.specs.Tables.{Cells, Rows, columns_of, key_of, rows_of}
 use Rattle.snapshot_query.specs.declared.parent.Parent.{Parent}
 use Rattle.snapshot_query.specs.declared.snapshot.Snapshot.{Snapshot}
 use Rattle.snapshot_query.specs.Parents.{parent_key}
-use Rattle.site_state.specs.State.{LoggedKey, LogState}
-use Rattle.site_state.specs.Notes.{log_of, keys_in, purged_of, pending_keys}
-use Rattle.event_laws.specs.Rules.{pending_parents}
+use Rattle.snapshot_log.specs.LogState.{LoggedKey, LogState}
+use Rattle.snapshot_log.specs.Noting.{log_of, keys_in, purged_of, pending_keys}
+use Rattle.site_events.specs.Rules.{pending_parents}
 use Rattle.fast_refresh.specs.Showing.{has_key}
 
 -- ---- rows that wait

@@ -6,7 +6,7 @@ use Rattle.std.specs.declared.cmp.Ordering.TheVariants.{Less}
 use Rattle.std.proofs.lemmas.Bool.Decides.{nat_tests}
 use Rattle.rep_lists.specs.Rising.{IsRising}
 use Rattle.rep_values.specs.Order.{key_cmp}
-use Rattle.site_state.specs.State.{LoggedKey}
+use Rattle.snapshot_log.specs.LogState.{LoggedKey}
 use Rattle.snapshot_log.specs.Logs.{by_key, count_up_to}
 
 -- the keys alone rise as the logged keys do

@@ -10,9 +10,8 @@ use Rattle.rep_lists.proofs.FoundByKey.{find_put_own, find_put_other}
 use Rattle.rep_values.specs.Order.{key_cmp}
 use Rattle.rep_values.specs.OrderLaws.{key_cmp_total, exact_keys}
 use Rattle.rep_schema.specs.Tables.{Cells}
-use Rattle.site_state.specs.State.{LoggedKey, LogState}
-use Rattle.site_state.specs.Notes.{beside_key}
-use Rattle.site_state.specs.Purges.{log_purged}
+use Rattle.snapshot_log.specs.LogState.{LoggedKey, LogState, log_purged}
+use Rattle.snapshot_log.specs.Noting.{beside_key}
 use Rattle.snapshot_log.specs.Logs.{by_key, key_noted, moment_in}
 use Rattle.snapshot_log.specs.LogLaws.{unless_up_to}
 use Rattle.snapshot_log.proofs.KeysLeft.{all_left}

@@ -3,3 +3,4 @@ mod WorkedLogs
 pub mod KeysLeft
 mod LastMoments
 pub mod Crossing
+pub mod RisingKeys

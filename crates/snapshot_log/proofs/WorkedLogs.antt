@@ -2,10 +2,8 @@
 use Rattle.std.proofs.Common.{◌≡◌, ℕ, [], ◌∷◌, pos, Some, None, refl}
 use Rattle.rep_values.specs.declared.value.Value.TheVariants.{Num}
 use Rattle.rep_schema.specs.Tables.{Cells}
-use Rattle.site_state.specs.State.{LoggedKey, LogState}
-use Rattle.site_state.specs.Making.{new_log}
-use Rattle.site_state.specs.Notes.{logged_above}
-use Rattle.site_state.specs.Purges.{log_purged}
+use Rattle.snapshot_log.specs.LogState.{LoggedKey, LogState, new_log, log_purged}
+use Rattle.snapshot_log.specs.Noting.{logged_above}
 use Rattle.snapshot_log.specs.Logs.{key_noted, moment_in, count_up_to}
 
 abbrev key : ℕ → Cells

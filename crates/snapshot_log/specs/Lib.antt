@@ -1,3 +1,5 @@
 -- The definitions of this crate.
+pub mod LogState
+pub mod Noting
 pub mod Logs
 pub mod LogLaws

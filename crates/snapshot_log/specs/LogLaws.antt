@@ -2,8 +2,7 @@
 use Rattle.std.specs.Prelude.{◌≡◌, ◌≢◌, ℕ, nat_lt, cond, Option, Some, None}
 use Rattle.rep_lists.specs.Rising.{IsRising}
 use Rattle.rep_schema.specs.Tables.{Cells}
-use Rattle.site_state.specs.State.{LogState}
-use Rattle.site_state.specs.Purges.{log_purged}
+use Rattle.snapshot_log.specs.LogState.{LogState, log_purged}
 use Rattle.snapshot_log.specs.Logs.{by_key, key_noted, moment_in}
 
 -- a moment that a purge up to a mark doesn't reach

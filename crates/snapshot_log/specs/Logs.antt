@@ -4,9 +4,9 @@ use Rattle.std.specs.declared.cmp.Ordering.{Ordering}
 use Rattle.rep_lists.specs.Rising.{find_at}
 use Rattle.rep_values.specs.Order.{key_cmp}
 use Rattle.rep_schema.specs.Tables.{Cells}
-use Rattle.site_state.specs.State.{LoggedKey, LogState}
-use Rattle.site_state.specs.Notes.{beside_key, logged_each}
-use Rattle.site_state.specs.Steps.{count_where}
+use Rattle.snapshot_log.specs.LogState.{LoggedKey, LogState}
+use Rattle.snapshot_log.specs.Noting.{beside_key, logged_each}
+use Rattle.rep_lists.specs.Counting.{count_where}
 
 -- the log of a table, and how many keys can be noted in it without memory
 pub record RoomyLog : Type 0 where

@@ -13,7 +13,7 @@ pub struct LogEntry {
 }
 
 impl Model for LogEntry {
-    ghost use Rattle.site_state.specs.State.{LoggedKey};
+    ghost use Rattle.snapshot_log.specs.LogState.{LoggedKey};
 
     ghost Value = { LoggedKey };
 

@@ -2,9 +2,8 @@
 ghost use Rattle.std.specs.Prelude.{◌≡◌, ◌+◌, ◌≤◌, ◌↔◌, [], length, slice_get, option_copied, IsTrue, IsOk, IfOk, OnOk};
 ghost use Rattle.rep_lists.specs.Rising.{IsRising, put_at};
 ghost use Rattle.rep_values.specs.Order.{key_cmp};
-ghost use Rattle.site_state.specs.Making.{new_log};
-ghost use Rattle.site_state.specs.Notes.{beside_key, logged_above};
-ghost use Rattle.site_state.specs.Purges.{log_purged};
+ghost use Rattle.snapshot_log.specs.LogState.{new_log, log_purged};
+ghost use Rattle.snapshot_log.specs.Noting.{beside_key, logged_above};
 ghost use Rattle.snapshot_log.specs.Logs.{by_key, key_noted, moment_in, count_up_to};
 
 use crate::LogEntry;

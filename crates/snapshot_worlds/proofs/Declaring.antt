@@ -22,8 +22,8 @@ use Rattle.rep_declare.specs.Shaping.{table_shaped, ShapesNoRows}
 use Rattle.schema_rules.specs.Rules.{broken_rule}
 use Rattle.site_state.specs.Steps.{is_empty}
 use Rattle.snapshot_query.specs.declared.parent.Parent.{Parent}
-use Rattle.event_laws.specs.Rules.{IsParentWithin}
-use Rattle.event_laws.specs.Events.{master_of}
+use Rattle.site_events.specs.Rules.{IsParentWithin}
+use Rattle.site_events.specs.Events.{master_of}
 use Rattle.script_parse.specs.declared.command.ParentWords.{ParentWords}
 use Rattle.script_parse.specs.declared.command.TestWords.{TestWords}
 use Rattle.snapshot_laws.proofs.Moves.{all_weaker}

@@ -12,13 +12,13 @@ use Rattle.rep_schema.specs.declared.schema.SiteEntry.{SiteEntry}
 use Rattle.rep_schema.specs.Shape.{is_master, is_early_master, HasMaster, HasShape}
 use Rattle.rep_schema.specs.Tables.{Rows}
 use Rattle.rep_schema.specs.Named.{is_site, site_named}
-use Rattle.deferred_queue.specs.Streams.{is_same_site}
+use Rattle.rep_values.specs.SiteNames.{is_same_site}
 use Rattle.deferred_queue.proofs.Sites.{is_same_site-true}
-use Rattle.site_state.specs.State.{SiteState, is_master_site}
-use Rattle.site_state.specs.Making.{is_late_master}
+use Rattle.site_state.specs.State.{SiteState}
+use Rattle.rep_schema.specs.Sites.{is_master_site, is_late_master}
 use Rattle.site_state.proofs.SchemaSites.{AreApart, are_apart, find_holds, any_found, place_found}
-use Rattle.event_laws.specs.Cluster.{site_of}
-use Rattle.event_laws.specs.Events.{master_of}
+use Rattle.site_events.specs.Cluster.{site_of}
+use Rattle.site_events.specs.Events.{master_of}
 use Rattle.world_state.specs.declared.declared_snapshot.DeclaredSnapshot.{DeclaredSnapshot}
 use Rattle.world_state.specs.Making.{site_made, entry_made, is_early}
 

@@ -30,7 +30,7 @@ use Rattle.schema_rules.specs.Soundness.{KeepsAllRules}
 use Rattle.schema_rules.specs.Rules.{broken_rule}
 use Rattle.schema_rules.proofs.SoundRules.{KeepsAllRules-unbroken}
 use Rattle.rep_laws.proofs.SoundSchemas.{passes}
-use Rattle.local_txn.specs.Filled.{Filling, value_filled, filled_from, filled_row, everywhere}
+use Rattle.txn_effects.specs.Filled.{Filling, value_filled, filled_from, filled_row, everywhere}
 use Rattle.local_txn.specs.BaseRows.{filled_tables, IsNotFilled, FillsFreely}
 use Rattle.snapshot_laws.proofs.Moves.{all_map}
 use Rattle.world_state.specs.Making.{filled_by, rows_made}

@@ -13,11 +13,10 @@ use Rattle.rep_schema.specs.Named.{is_site}
 use Rattle.rep_schema.specs.Sites.{has_table}
 use Rattle.deferred_queue.proofs.Sites.{is_same_site-refl}
 use Rattle.snapshot_query.specs.declared.parent.Parent.{Parent}
-use Rattle.site_state.specs.State.{LogState}
-use Rattle.site_state.specs.Notes.{log_of, keys_in}
-use Rattle.site_state.specs.Making.{new_log, tables_in}
-use Rattle.event_laws.specs.Rules.{IsParentWithin, IsParentLogged}
-use Rattle.event_laws.specs.Events.{master_of}
+use Rattle.snapshot_log.specs.LogState.{LogState, new_log, tables_in}
+use Rattle.snapshot_log.specs.Noting.{log_of, keys_in}
+use Rattle.site_events.specs.Rules.{IsParentWithin, IsParentLogged}
+use Rattle.site_events.specs.Events.{master_of}
 use Rattle.snapshot_laws.specs.Waiting.{logged_cmp, DoParentsRise}
 use Rattle.world_state.specs.declared.declared_snapshot.DeclaredSnapshot.{DeclaredSnapshot}
 use Rattle.world_state.specs.Making.{is_snapshot_site_of, needs_log, is_logged, logged_at}

@@ -18,8 +18,8 @@ use Rattle.rep_declare.specs.Shaping.{table_shaped}
 use Rattle.rep_declare.proofs.DeclaredTables.{AreTables-declared}
 use Rattle.schema_rules.specs.Rules.{broken_rule}
 use Rattle.local_txn.specs.BaseRows.{base_refusal}
-use Rattle.event_laws.specs.Cluster.{Cluster, site_of}
-use Rattle.event_laws.specs.Events.{run}
+use Rattle.site_events.specs.Cluster.{Cluster, site_of}
+use Rattle.site_events.specs.Events.{run}
 use Rattle.event_laws.specs.Waiting.{SitesLinkAsDeclared}
 use Rattle.site_state.specs.State.{SiteState}
 use Rattle.script_parse.specs.declared.command.Command.{Command}

@@ -15,14 +15,15 @@ use Rattle.snapshot_query.specs.declared.parent.Parent.{Parent}
 use Rattle.snapshot_query.specs.declared.snapshot.Snapshot.{Snapshot}
 use Rattle.snapshot_query.specs.Parents.{picks}
 use Rattle.site_state.specs.declared.rows.TableRows.{TableRows}
-use Rattle.site_state.specs.State.{LogState, SiteState, is_master_site}
+use Rattle.site_state.specs.State.{SiteState}
+use Rattle.snapshot_log.specs.LogState.{LogState}
+use Rattle.rep_schema.specs.Sites.{is_master_site}
 use Rattle.site_state.specs.Contents.{tables_of}
-use Rattle.site_state.specs.Notes.{purged_of, is_too_young}
-use Rattle.site_state.specs.Refreshes.{renewed}
+use Rattle.snapshot_log.specs.Noting.{purged_of, is_too_young, renewed}
 use Rattle.site_state.specs.Fits.{AreWithin}
-use Rattle.event_laws.specs.Cluster.{Cluster, site_of, at_site}
-use Rattle.event_laws.specs.Rules.{table_ruled, rows_ruled, is_purged_above, has_young_parents, is_young}
-use Rattle.event_laws.specs.Events.{Event, master_of, found_site, refreshed, run}
+use Rattle.site_events.specs.Cluster.{Cluster, site_of, at_site}
+use Rattle.site_events.specs.Rules.{table_ruled, rows_ruled, is_purged_above, has_young_parents, is_young}
+use Rattle.site_events.specs.Events.{Event, master_of, found_site, refreshed, run}
 use Rattle.event_laws.specs.Starts.{IsStart}
 use Rattle.event_laws.specs.Declared.{AreDeclared}
 use Rattle.event_laws.proofs.Sites.{found_name, found_all}

@@ -12,11 +12,12 @@ use Rattle.rep_schema.specs.Named.{site_named}
 use Rattle.snapshot_query.specs.declared.snapshot.Snapshot.{Snapshot}
 use Rattle.snapshot_query.specs.Parents.{rule_rows}
 use Rattle.site_state.specs.State.{SiteState}
-use Rattle.site_state.specs.Notes.{log_of}
-use Rattle.site_state.specs.Making.{is_late_master, new_log, tables_in}
+use Rattle.snapshot_log.specs.Noting.{log_of}
+use Rattle.snapshot_log.specs.LogState.{new_log, tables_in}
+use Rattle.rep_schema.specs.Sites.{is_late_master}
 use Rattle.site_state.specs.Fits.{SnapshotsApart}
-use Rattle.event_laws.specs.Rules.{IsParentWithin}
-use Rattle.event_laws.specs.Events.{master_of, found_site}
+use Rattle.site_events.specs.Rules.{IsParentWithin}
+use Rattle.site_events.specs.Events.{master_of, found_site}
 use Rattle.event_laws.specs.Fitting.{IsFitStart}
 use Rattle.snapshot_laws.specs.Starts.{StartsShown, StartsFrom, StartsWithSnapshots, IsNewLog}
 use Rattle.snapshot_laws.proofs.Moves.{all_weaker}

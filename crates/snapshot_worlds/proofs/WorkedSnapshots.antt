@@ -8,10 +8,11 @@ use Rattle.rep_schema.specs.Tables.{Cells}
 use Rattle.rep_schema.specs.Groups.{group_columns_of}
 use Rattle.rep_declare.specs.Refusals.{columns_step}
 use Rattle.schema_rules.specs.Rules.{broken_rule}
-use Rattle.site_state.specs.State.{SiteState, LogState}
-use Rattle.site_state.specs.Notes.{pending_keys}
+use Rattle.site_state.specs.State.{SiteState}
+use Rattle.snapshot_log.specs.LogState.{LogState}
+use Rattle.snapshot_log.specs.Noting.{pending_keys}
 use Rattle.site_state.proofs.WorkedSites.{a, s, n, row, set_to}
-use Rattle.event_laws.specs.Cluster.{site_of}
+use Rattle.site_events.specs.Cluster.{site_of}
 use Rattle.script_parse.specs.declared.command.Command.{Command}
 use Rattle.script_parse.specs.declared.command.Command.TheVariants as command
 use Rattle.script_parse.specs.declared.command.Refresh.TheVariants as how

@@ -26,9 +26,9 @@ use Rattle.rep_schema.proofs.TableSteps.{IsTable-put, AreTables-set}
 use Rattle.rep_lists.proofs.Places.{found_at}
 use Rattle.unique_resolve.specs.Settling.{is_held}
 use Rattle.unique_resolve.proofs.HeldValues.{held_test}
-use Rattle.local_txn.specs.Literals.{names_site, literal_fits, literals_fit, values_of}
-use Rattle.local_txn.specs.Filled.{blank_value, written_columns, with_written, row_written}
-use Rattle.local_txn.specs.Statements.{row_at, taken_step, unique_steps, check_step, row_steps}
+use Rattle.txn_effects.specs.Literals.{names_site, literal_fits, literals_fit, values_of}
+use Rattle.txn_effects.specs.Filled.{blank_value, written_columns, with_written, row_written}
+use Rattle.txn_effects.specs.Statements.{row_at, taken_step, unique_steps, check_step, row_steps}
 use Rattle.local_txn.specs.BaseRows.{base_row, base_steps, base_refusal, tables_with, tables_with_row}
 
 -- ---- it fits

@@ -9,9 +9,9 @@ use Rattle.site_state.specs.declared.rows.TableRows.{TableRows}
 use Rattle.site_state.specs.State.{SiteState}
 use Rattle.site_state.specs.Contents.{tables_of}
 use Rattle.site_state.specs.Fits.{SchemaIsKeyed, SnapshotsApart, AreWithin}
-use Rattle.event_laws.specs.Cluster.{site_of}
-use Rattle.event_laws.specs.Rules.{rows_ruled}
-use Rattle.event_laws.specs.Events.{master_of, found_site}
+use Rattle.site_events.specs.Cluster.{site_of}
+use Rattle.site_events.specs.Rules.{rows_ruled}
+use Rattle.site_events.specs.Events.{master_of, found_site}
 use Rattle.fast_refresh.specs.Showing.{ShowsOthers}
 use Rattle.snapshot_laws.specs.Waiting.{outdated_keys}
 use Rattle.snapshot_laws.specs.Laws.{KeysRise, ParentsRise}

@@ -1,6 +1,6 @@
 -- Where the laws of snapshots begin.
 use Rattle.std.specs.Prelude.{[]}
-use Rattle.event_laws.specs.Cluster.{Cluster}
+use Rattle.site_events.specs.Cluster.{Cluster}
 use Rattle.world_state.specs.World.{WorldState}
 use Rattle.world_state.specs.Making.{world_made}
 use Rattle.snapshot_laws.specs.Starts.{IsSnapshotStart, IsLogStart}

@@ -3,7 +3,7 @@ use Rattle.std.specs.Prelude.{◌≡◌, true, false, List, [], ◌∷◌, None}
 use Rattle.std.specs.List.{AllByRecursion}
 use Rattle.rep_schema.specs.declared.schema.Schema.{Schema}
 use Rattle.schema_rules.specs.Rules.{broken_rule}
-use Rattle.event_laws.specs.Rules.{IsParentWithin}
+use Rattle.site_events.specs.Rules.{IsParentWithin}
 use Rattle.script_parse.specs.declared.command.Command.{Command}
 use Rattle.script_parse.specs.Named.{NamesColumn}
 use Rattle.world_state.specs.declared.declared_snapshot.DeclaredSnapshot.{DeclaredSnapshot}

@@ -13,11 +13,11 @@ use Rattle.rep_calls.specs.declared.statement.Statement.{Statement}
 use Rattle.rep_calls.specs.declared.call.Txn.{Txn}
 use Rattle.packet_code.specs.declared.packet.Packet.{Packet}
 use Rattle.packet_code.specs.declared.packet.Packet.TheVariants.{Carry, Mark}
-use Rattle.local_txn.specs.declared.local.Here.{Here}
-use Rattle.deferred_queue.specs.Streams.{is_same_site}
+use Rattle.txn_effects.specs.declared.local.Here.{Here}
+use Rattle.rep_values.specs.SiteNames.{is_same_site}
 use Rattle.deferred_queue.proofs.Sites.{is_same_site-true, is_same_site-refl}
-use Rattle.site_state.specs.State.{SenderState, DestinationState, SiteState, is_master_site, is_among, arrived_at}
-use Rattle.rep_schema.specs.Sites.{senders_of, destinations_of}
+use Rattle.site_state.specs.State.{SenderState, DestinationState, SiteState, arrived_at}
+use Rattle.rep_schema.specs.Sites.{senders_of, destinations_of, is_master_site, is_among}
 use Rattle.site_state.specs.declared.arrival.Arrival.{Arrival}
 use Rattle.site_state.specs.Making.{new_sender, new_destination}
 use Rattle.site_state.specs.Streams.{stream_to}
@@ -26,9 +26,9 @@ use Rattle.event_laws.specs.Starts.{IsNewSite}
 use Rattle.site_state.specs.Commits.{site_commit, block_at, committed_by, committed}
 use Rattle.site_state.specs.Packets.{site_packet, packet_found, carry_of, stream_number, site_accept, is_foreign, taken_unless, taken_in, arrived_by}
 use Rattle.site_state.specs.DeclaredSites.{IsDeclared}
-use Rattle.event_laws.specs.Cluster.{at_site}
-use Rattle.event_laws.specs.Events.{Event, run, receiver}
-use Rattle.event_laws.specs.Events.Event.{Commit, Send, Deliver, Begin, Apply}
+use Rattle.site_events.specs.Cluster.{at_site}
+use Rattle.site_events.specs.Events.{Event, run, receiver}
+use Rattle.site_events.specs.Events.Event.{Commit, Send, Deliver, Begin, Apply}
 use Rattle.event_laws.specs.Fitting.{StartsFit}
 use Rattle.event_laws.proofs.Sites.{KeepsHere, found_changed, found_other}
 use Rattle.event_laws.proofs.NewSites.{new_site_is_new}

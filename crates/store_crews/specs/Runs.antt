@@ -5,18 +5,19 @@ use Rattle.rep_values.specs.declared.name.SiteName.{SiteName}
 use Rattle.rep_schema.specs.declared.schema.Schema.{Schema}
 use Rattle.rep_calls.specs.declared.statement.Statement.{Statement}
 use Rattle.packet_code.specs.declared.packet.Packet.{Packet}
-use Rattle.local_txn.specs.declared.local.Here.{Here}
-use Rattle.deferred_queue.specs.Streams.{is_same_site}
+use Rattle.txn_effects.specs.declared.local.Here.{Here}
+use Rattle.rep_values.specs.SiteNames.{is_same_site}
 use Rattle.site_state.specs.declared.arrival.Arrival.{Arrival}
-use Rattle.site_state.specs.State.{SiteState, is_master_site}
+use Rattle.site_state.specs.State.{SiteState}
+use Rattle.rep_schema.specs.Sites.{is_master_site}
 use Rattle.site_state.specs.Steps.{begun}
 use Rattle.site_state.specs.Passes.{apply_each}
 use Rattle.site_state.specs.Making.{new_site}
 use Rattle.site_state.specs.Commits.{site_commit}
 use Rattle.site_state.specs.Packets.{site_packet, site_accept}
 use Rattle.rep_laws.specs.Commuting.{IsSound}
-use Rattle.event_laws.specs.Cluster.{Cluster, site_of}
-use Rattle.event_laws.specs.Events.{Event, run}
+use Rattle.site_events.specs.Cluster.{Cluster, site_of}
+use Rattle.site_events.specs.Events.{Event, run}
 use Rattle.event_laws.specs.Fitting.{IsFitStart}
 use Rattle.event_laws.specs.Declared.{AreDeclared}
 use Rattle.event_laws.specs.Confluence.{CanPassInAnyOrder}

@@ -3,15 +3,14 @@ ghost use Rattle.std.specs.Prelude.{◌≡◌, ◌+◌, ◌^◌, ◌<◌, [], le
 ghost use Rattle.event_laws.specs.Confluence.{CanPassInAnyOrder};
 ghost use Rattle.rep_schema.specs.Shape.{HasShape};
 ghost use Rattle.rep_laws.specs.Commuting.{IsSound};
-ghost use Rattle.rep_schema.specs.Sites.{senders_of, destinations_of};
-ghost use Rattle.site_state.specs.State.{is_master_site};
+ghost use Rattle.rep_schema.specs.Sites.{senders_of, destinations_of, is_master_site};
 ghost use Rattle.store_crews.specs.Runs.{AreInARun, opened};
 
 use crate::blocks::Block;
 use crate::laws::two_sites_run;
 use crate::noting::{NotingTables, Puts};
 use case_lines::CaseStop;
-use local_txn::Here;
+use txn_effects::Here;
 use rep_calls::Statement;
 use rep_laws::sound_schemas_have_keys;
 use rep_lists::{Copies, Items};

@@ -7,3 +7,10 @@ pub mod RoomForChanges
 pub mod OwnParts
 pub mod OwnCalls
 mod WorkedTransactions
+pub mod KindRows
+mod ModifiedColumns
+mod FreeRows
+pub mod NewRows
+pub mod StatementRows
+pub mod StatementEffects
+pub mod StatementsApplied

@@ -1,19 +1,15 @@
 -- What loops over packets and positions need: one packet at a time, one position at a time, and the test whether something is
 -- ready; and the place of a site among the others.
-use Rattle.std.proofs.Common.{◌≡◌, ℕ, zero, suc, ◌+◌, ◌<◌, List, [], ◌∷◌, ◌++◌, drop, Bool, true, false, cond, Some, None, refl, sym, ap, arith, subst}
-use Rattle.std.specs.Prelude.{◌&&◌, ◌||◌, not, nat_lt, is_some, slice_get, slice_set, Option}
-use Rattle.std.specs.List.{list_any, AllByRecursion}
-use Rattle.std.proofs.lemmas.Bool.Decides.{nat_tests}
+use Rattle.std.proofs.Common.{◌≡◌, ℕ, suc, ◌+◌, ◌<◌, List, [], ◌∷◌, ◌++◌, drop, Bool, true, false, cond, Some, None, refl, sym, ap, arith, subst}
+use Rattle.std.specs.Prelude.{◌&&◌, ◌||◌, not, slice_get, slice_set, Option}
+use Rattle.std.specs.List.{AllByRecursion}
 use Rattle.rep_values.specs.declared.name.SiteName.{SiteName}
-use Rattle.deferred_queue.specs.Streams.{is_same_site}
+use Rattle.rep_values.specs.SiteNames.{is_same_site}
 use Rattle.packet_code.specs.declared.packet.Packet.{Packet}
 use Rattle.net_plan.specs.Directions.{Direction, is_between, direction_of, at_direction, on_way_in, on_way_between, first_of, first_in, first_between, delivered}
-use Rattle.site_state.specs.declared.arrival.Arrival.{Arrival}
 use Rattle.site_state.specs.State.{SiteState}
-use Rattle.site_state.specs.Ready.{is_ready, first_ready_in}
-use Rattle.event_laws.specs.Cluster.{site_of, at_site}
+use Rattle.site_events.specs.Cluster.{site_of, at_site}
 use Rattle.world_state.specs.World.{WorldState}
-use Rattle.world_state.specs.Rounds.{is_ready_here, passed_where_ready, round, rounds}
 use Rattle.world_state.specs.Pushes.{taken_each, taken_one, emptied, world_deliver_one, world_deliver, world_send, world_send_each}
 use Rattle.world_laws.specs.Simulation.{WasSent, AreEvents}
 use Rattle.world_laws.specs.Places.{site_place}
@@ -101,26 +97,7 @@ send_more from to position (one ∷ more) w = send_more from to position more (w
 
 -- ---- senders and rounds, one by one
 
-pub round_more : (origin : SiteName) (origins : List SiteName) (x : SiteState) → round (origins ++ origin ∷ []) x ≡ passed_where_ready origin (round origins x)
-round_more origin [] x = refl
-round_more origin (one ∷ more) x = round_more origin more (passed_where_ready one x)
-
-pub rounds_more : (n : ℕ) (origins : List SiteName) (x : SiteState) → rounds (suc n) origins x ≡ round origins (rounds n origins x)
-rounds_more zero origins x = refl
-rounds_more (suc n) origins x = rounds_more n origins (round origins x)
-
 -- ---- is something ready
-
--- a site's least ready position tells it, where positions are from 1
-pub ready_first : (origin : SiteName) (x : SiteState) (arrived : List Arrival) → AllByRecursion (λ (a : Arrival). 0 < a.position) arrived → list_any (is_ready_here origin x) arrived ≡ is_some (first_ready_in origin 0 x arrived)
-ready_first origin x [] all = refl
-ready_first origin x (a ∷ arrived) all = go (nat_lt 0 a.position) (grind (arith, nat_tests, all.0)) (is_ready origin a.position x) (ready_first origin x arrived all.1)
-  where
-    go : (b : Bool) → b ≡ true → (c : Bool) → list_any (is_ready_here origin x) arrived ≡ is_some (first_ready_in origin 0 x arrived)
-        → (c || list_any (is_ready_here origin x) arrived) ≡ is_some (cond (b && c) (Some a.position) (first_ready_in origin 0 x arrived))
-    go true is true later = refl
-    go true is false later = later
-    go false is c later = absurd (cc is)
 
 -- ---- a site's place
 

@@ -15,8 +15,8 @@ use Rattle.rep_calls.specs.declared.statement.Statement.{Statement}
 use Rattle.txn_effects.specs.Calls.{Effect}
 use Rattle.txn_effects.specs.Transactions.{Failure}
 use Rattle.txn_effects.specs.Contents.{effect_on}
-use Rattle.local_txn.specs.declared.local.LocalStop.{LocalStop}
-use Rattle.local_txn.specs.Locals.{BlockEffect}
+use Rattle.txn_effects.specs.declared.local.LocalStop.{LocalStop}
+use Rattle.txn_effects.specs.Locals.{BlockEffect}
 use Rattle.deferred_queue.proofs.Sites.{is_same_site-refl, eq_true}
 use Rattle.packet_code.specs.declared.packet.Packet.{Packet}
 use Rattle.packet_code.specs.declared.packet.Packet.TheVariants.{Carry, Mark}
@@ -42,9 +42,9 @@ use Rattle.site_state.proofs.LowWater.{finished-append}
 use Rattle.site_state.proofs.SchemaSites.{found_any}
 use Rattle.site_state.proofs.Stepping.{Steps, clock_steps, begun_steps, purge_log_steps, commit_steps, apply_steps, execute_steps, drop_steps}
 use Rattle.site_state.proofs.Changing.{accept_later}
-use Rattle.event_laws.specs.Cluster.{Cluster, site_of, at_site}
-use Rattle.event_laws.specs.Joins.{copied, may_join, with_joined, joined_by, joined}
-use Rattle.event_laws.specs.Events.{Event, Commit, SetClock, Send, SendMark, Deliver, Begin, Apply, Execute, Drop, Purge, PurgeLog, Refresh, Join, receiver, delivered, may_apply, applied_where, refreshed, happens, run}
+use Rattle.site_events.specs.Cluster.{Cluster, site_of, at_site}
+use Rattle.site_events.specs.Joins.{copied, may_join, with_joined, joined_by, joined}
+use Rattle.site_events.specs.Events.{Event, Commit, SetClock, Send, SendMark, Deliver, Begin, Apply, Execute, Drop, Purge, PurgeLog, Refresh, Join, receiver, delivered, may_apply, applied_where, refreshed, happens, run}
 use Rattle.event_laws.specs.Starts.{IsNewSite, IsStart}
 use Rattle.event_laws.specs.Waiting.{SitesLinkAsDeclared}
 use Rattle.event_laws.proofs.Sites.{KeepsHere, at_split, found_or, site_of-joined, found_all}

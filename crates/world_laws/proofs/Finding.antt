@@ -2,10 +2,10 @@
 use Rattle.std.proofs.Common.{◌≡◌, List, [], ◌∷◌, Bool, true, false, cond, Some, None, refl, ap}
 use Rattle.std.specs.Prelude.{◌≢◌, Option}
 use Rattle.rep_values.specs.declared.name.SiteName.{SiteName}
-use Rattle.deferred_queue.specs.Streams.{is_same_site}
-use Rattle.local_txn.specs.declared.local.Here.{Here}
+use Rattle.rep_values.specs.SiteNames.{is_same_site}
+use Rattle.txn_effects.specs.declared.local.Here.{Here}
 use Rattle.site_state.specs.State.{SiteState}
-use Rattle.event_laws.specs.Cluster.{site_of, at_site}
+use Rattle.site_events.specs.Cluster.{site_of, at_site}
 use Rattle.event_laws.proofs.Sites.{KeepsHere, at_split}
 pub use Rattle.event_laws.proofs.Sites.{at_twice}
 

@@ -7,9 +7,9 @@ use Rattle.rep_schema.specs.declared.schema.Schema.{Schema}
 use Rattle.rep_schema.specs.declared.schema.SiteEntry.{SiteEntry}
 use Rattle.rep_schema.specs.Tables.{Rows, AreTables}
 use Rattle.rep_schema.proofs.TableSteps.{AreTables-empty}
-use Rattle.deferred_queue.specs.Streams.{is_same_site}
+use Rattle.rep_values.specs.SiteNames.{is_same_site}
 use Rattle.site_state.specs.Fits.{AreWithin}
-use Rattle.event_laws.specs.Cluster.{site_of}
+use Rattle.site_events.specs.Cluster.{site_of}
 use Rattle.event_laws.specs.Fitting.{StartsFit, IsFitStart}
 use Rattle.event_laws.proofs.QueryTables.{AreTables-rows_ruled}
 use Rattle.event_laws.proofs.FittingSites.{every_site_fits}

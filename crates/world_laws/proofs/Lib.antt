@@ -3,14 +3,12 @@ pub mod Finding
 pub mod Links
 pub mod SiteSteps
 pub mod Pieces
-pub mod RoundsEnd
 pub mod Pushes
 pub mod Sending
 pub mod Starting
 pub mod Failures
 pub mod StandingErrors
 pub mod WorldLaws
-pub mod PushCounts
 pub mod Calling
 pub mod Reached
 pub mod RefusedLines

@@ -3,7 +3,7 @@ use Rattle.std.proofs.Common.{◌≡◌, suc, List, [], ◌∷◌, ◌++◌, dro
 use Rattle.std.specs.Prelude.{◌&&◌}
 use Rattle.std.specs.List.{AllByRecursion}
 use Rattle.rep_values.specs.declared.name.SiteName.{SiteName}
-use Rattle.deferred_queue.specs.Streams.{is_same_site}
+use Rattle.rep_values.specs.SiteNames.{is_same_site}
 use Rattle.deferred_queue.proofs.Sites.{is_same_site-true}
 use Rattle.packet_code.specs.declared.packet.Packet.{Packet}
 use Rattle.net_plan.specs.declared.fate.Fate.{Fate}
@@ -11,10 +11,7 @@ use Rattle.net_plan.specs.declared.fate.Fate.TheVariants.{Pass, Lose, Twice, Lat
 use Rattle.net_plan.specs.Directions.{Direction, is_between, direction_of, at_direction, on_way_in, on_way_between, released, delivered, next_fate, with_packet, with_fate_taken, with_sent, net_of}
 use Rattle.world_state.specs.Pushes.{emptied}
 use Rattle.world_laws.specs.Simulation.{WasSent, CarriesSent}
-
-pub all-append : {X : Type 0} (P : X → Type 0) (xs ys : List X) → AllByRecursion P xs → AllByRecursion P ys → AllByRecursion P (xs ++ ys)
-all-append P [] ys left right = right
-all-append P (x ∷ xs) ys left right = (left.0, all-append P xs ys left.1 right)
+use Rattle.rep_lists.proofs.Each.{all-append}
 
 all_map : {X : Type 0} (P Q : X → Type 0) (xs : List X) → ((x : X) → P x → Q x) → AllByRecursion P xs → AllByRecursion Q xs
 all_map P Q [] go all = tt

@@ -11,10 +11,10 @@ use Rattle.net_plan.specs.Directions.{Direction, at_direction, on_way_between, i
 use Rattle.site_state.specs.State.{SiteState}
 use Rattle.site_state.specs.Streams.{stream_to}
 use Rattle.site_state.specs.Packets.{stream_number, carry_of, packet_found}
-use Rattle.event_laws.specs.Cluster.{Cluster, site_of, at_site}
-use Rattle.event_laws.specs.Joins.{joined}
-use Rattle.event_laws.specs.Events.{Event, receiver, with_packet, packet_from, mark_from, refreshed, happens, run}
-use Rattle.event_laws.specs.Events as event
+use Rattle.site_events.specs.Cluster.{Cluster, site_of, at_site}
+use Rattle.site_events.specs.Joins.{joined}
+use Rattle.site_events.specs.Events.{Event, receiver, with_packet, packet_from, mark_from, refreshed, happens, run}
+use Rattle.site_events.specs.Events as event
 use Rattle.world_state.specs.declared.phase.Phase.{Phase}
 use Rattle.world_state.specs.declared.phase.Phase.TheVariants as phase
 use Rattle.world_state.specs.declared.block.Block.{Block}
@@ -24,7 +24,7 @@ use Rattle.script_parse.specs.declared.command.ParentWords.{ParentWords}
 use Rattle.script_parse.specs.declared.command.TestWords.{TestWords}
 use Rattle.world_state.specs.World.{WorldState, with_site}
 use Rattle.world_state.specs.Declaring.{with_snapshot_at, tests_in}
-use Rattle.world_state.specs.Rounds.{site_until_quiet}
+use Rattle.site_state.specs.Rounds.{site_until_quiet}
 use Rattle.world_state.specs.Pushes.{world_release, sent_on, world_send, world_send_each, positions_above, world_send_above, taken_each, emptied, world_deliver, world_until_quiet, world_send_mark, world_deliver_mark, world_return_mark, pushed_in, world_push}
 use Rattle.world_state.specs.Blocks.{closed, is_commit, committed_block, world_commit}
 use Rattle.world_state.specs.CallBlocks.{sent_to}

@@ -8,15 +8,15 @@ use Rattle.site_state.specs.State.{SiteState}
 use Rattle.site_state.specs.Packets.{site_accept}
 use Rattle.site_state.specs.Passes.{site_pass}
 use Rattle.site_state.proofs.Changing.{accept_later}
-use Rattle.event_laws.specs.Cluster.{site_of, at_site}
+use Rattle.site_events.specs.Cluster.{site_of, at_site}
 use Rattle.event_laws.proofs.Sites.{KeepsHere}
 use Rattle.world_state.specs.World.{WorldState}
-use Rattle.world_state.specs.Rounds.{site_until_quiet}
+use Rattle.site_state.specs.Rounds.{site_until_quiet, NothingReady}
 use Rattle.world_state.specs.Pushes.{taken_each, world_until_quiet, world_send_mark, world_release, world_deliver_mark, world_return_mark, pushed_in}
-use Rattle.world_laws.specs.Worlds.{NothingReady, PushesLeaveNothingReady}
+use Rattle.world_laws.specs.Worlds.{PushesLeaveNothingReady}
 use Rattle.world_laws.proofs.Finding.{at_none, of_at, of_other}
 use Rattle.world_laws.proofs.SiteSteps.{until_quiet_does}
-use Rattle.world_laws.proofs.RoundsEnd.{rounds_leave_nothing}
+use Rattle.event_laws.proofs.RoundsEnd.{rounds_leave_nothing}
 
 taken_other : (name other : SiteName) (packets : List Packet) (xs : List SiteState) → name ≢ other → site_of other (taken_each name packets xs) ≡ site_of other xs
 taken_other name other [] xs off = refl

@@ -5,7 +5,7 @@ use mathlib.Core.Logic.{∥∥₁_elim, ∥∥₁_map}
 use Rattle.std.proofs.Math.Bridge.{le_prop}
 use Rattle.std.proofs.Math.Bool.{Bool-set}
 use Rattle.rep_schema.specs.Shape.{HasShape}
-use Rattle.event_laws.specs.Events.{run}
+use Rattle.site_events.specs.Events.{run}
 use Rattle.event_laws.specs.Marks.{MarksAreLow, PurgedIsFinished, AreWellNumbered}
 use Rattle.event_laws.specs.Orders.{AreFinishedOnce, AreClearedOnce}
 use Rattle.script_parse.specs.declared.command.Command.{Command}

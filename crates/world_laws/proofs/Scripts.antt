@@ -13,8 +13,8 @@ use Rattle.rep_schema.specs.Named.{table_place}
 use Rattle.rep_declare.specs.Refusals.{declare_refusal}
 use Rattle.rep_declare.proofs.DeclaredShapes.{HasShape-declared}
 use Rattle.site_state.proofs.SchemaSites.{own_is_no_sender}
-use Rattle.event_laws.specs.Cluster.{Cluster, site_of}
-use Rattle.event_laws.specs.Events.{run}
+use Rattle.site_events.specs.Cluster.{Cluster, site_of}
+use Rattle.site_events.specs.Events.{run}
 use Rattle.world_state.specs.declared.phase.Phase.{Phase}
 use Rattle.world_state.specs.declared.phase.Phase.TheVariants as phase
 use Rattle.script_parse.specs.declared.command.Command.{Command}

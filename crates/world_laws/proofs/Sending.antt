@@ -5,7 +5,8 @@ use Rattle.std.specs.List.{AllByRecursion}
 use Rattle.std.proofs.lemmas.Bool.Decides.{nat_tests}
 use Rattle.rep_values.specs.declared.name.SiteName.{SiteName}
 use Rattle.rep_calls.specs.declared.call.Txn.{Txn}
-use Rattle.deferred_queue.specs.Streams.{is_same_site, at_position}
+use Rattle.deferred_queue.specs.Streams.{at_position}
+use Rattle.rep_values.specs.SiteNames.{is_same_site}
 use Rattle.deferred_queue.proofs.Positions.{found_position}
 use Rattle.packet_code.specs.declared.packet.Packet.{Packet}
 use Rattle.site_state.specs.declared.arrival.Arrival.{Arrival}
@@ -13,7 +14,7 @@ use Rattle.site_state.specs.State.{SenderState, SiteState, sender_of, arrived_in
 use Rattle.site_state.specs.Streams.{stream_to, stream_in, queue_of}
 use Rattle.site_state.specs.Packets.{count_opened, stream_number, packet_found, site_packet}
 use Rattle.site_state.proofs.Changing.{PurgedIsAcked}
-use Rattle.event_laws.specs.Cluster.{site_of}
+use Rattle.site_events.specs.Cluster.{site_of}
 use Rattle.event_laws.proofs.RunInvariants.{SentBy, ArrivalHolds, SendersHold, HoldsAt, Holds}
 use Rattle.world_laws.specs.Worlds.{EachIsSent, AreFrom1}
 

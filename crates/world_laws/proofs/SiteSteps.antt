@@ -6,17 +6,18 @@ use Rattle.rep_values.specs.declared.name.SiteName.{SiteName}
 use Rattle.deferred_queue.proofs.Sites.{is_same_site-refl}
 use Rattle.packet_code.specs.declared.packet.Packet.{Packet}
 use Rattle.site_state.specs.declared.arrival.Arrival.{Arrival}
-use Rattle.site_state.specs.State.{SiteState, is_among, arrivals}
+use Rattle.site_state.specs.State.{SiteState, arrivals}
+use Rattle.rep_schema.specs.Sites.{is_among}
 use Rattle.site_state.specs.Packets.{site_accept}
 use Rattle.site_state.specs.Passes.{site_apply, apply_each, site_pass}
 use Rattle.site_state.specs.Steps.{begun}
 use Rattle.site_state.proofs.Stepping.{apply_steps}
-use Rattle.event_laws.specs.Cluster.{Cluster, site_of, at_site}
-use Rattle.event_laws.specs.Events.{Event, delivered, is_master_in, applied_where, happens, run}
-use Rattle.event_laws.specs.Events as event
+use Rattle.site_events.specs.Cluster.{Cluster, site_of, at_site}
+use Rattle.site_events.specs.Events.{Event, delivered, is_master_in, applied_where, happens, run}
+use Rattle.site_events.specs.Events as event
 use Rattle.event_laws.proofs.Sites.{KeepsHere, at_same, at_twice}
 pub use Rattle.event_laws.proofs.Runs.{run-append}
-use Rattle.world_state.specs.Rounds.{has_ready, passed_where_ready, round, rounds, sender_names, arrived_count, site_rounds, site_until_quiet}
+use Rattle.site_state.specs.Rounds.{has_ready, passed_where_ready, round, rounds, sender_names, arrived_count, site_rounds, site_until_quiet}
 use Rattle.world_state.specs.Pushes.{taken_each}
 use Rattle.world_laws.specs.Simulation.{WasSent}
 use Rattle.world_laws.proofs.Finding.{at_none, at_found, of_at}

@@ -9,14 +9,14 @@ use Rattle.rep_schema.specs.declared.schema.SiteEntry.{SiteEntry}
 use Rattle.rep_schema.specs.Shape.{is_master, HasShape}
 use Rattle.rep_schema.specs.Tables.{Rows}
 use Rattle.rep_schema.specs.Named.{is_site}
-use Rattle.rep_schema.specs.Sites.{senders_of, destinations_of, linked_pairs}
-use Rattle.deferred_queue.specs.Streams.{is_same_site}
+use Rattle.rep_schema.specs.Sites.{senders_of, destinations_of, linked_pairs, is_master_site, is_among, is_late_master}
+use Rattle.rep_values.specs.SiteNames.{is_same_site}
 use Rattle.deferred_queue.proofs.Sites.{is_same_site-true, is_same_site-refl}
-use Rattle.site_state.specs.State.{SenderState, DestinationState, SiteState, is_master_site, is_among, destination_of, opened_in, opened_of}
-use Rattle.site_state.specs.Making.{is_late_master, master_here, new_sender, new_destination}
+use Rattle.site_state.specs.State.{SenderState, DestinationState, SiteState, destination_of, opened_in, opened_of}
+use Rattle.site_state.specs.Making.{master_here, new_sender, new_destination}
 use Rattle.site_state.specs.DeclaredSites.{IsDeclared}
 use Rattle.site_state.proofs.SchemaSites.{AreApart, are_apart, found_any, any_found, sender_has_destination}
-use Rattle.event_laws.specs.Cluster.{Cluster, site_of}
+use Rattle.site_events.specs.Cluster.{Cluster, site_of}
 use Rattle.event_laws.specs.Starts.{IsNewSite, IsStart}
 use Rattle.event_laws.specs.Declared.{AreDeclared}
 use Rattle.event_laws.specs.Waiting.{IsFirstNumber, AreFirsts, StreamsMeet, AbsentAreClosed, SitesLinkAsDeclared}

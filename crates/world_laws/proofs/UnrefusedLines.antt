@@ -7,18 +7,17 @@ use Rattle.rep_values.specs.declared.name.SiteName.{SiteName}
 use Rattle.rep_values.specs.declared.refusal.Refusal.TheVariants as refusal
 use Rattle.rep_values.proofs.RefusalSteps.{or_then-None, refused-None}
 use Rattle.rep_schema.specs.declared.schema.SiteEntry.{SiteEntry}
-use Rattle.rep_schema.specs.Sites.{names_of}
-use Rattle.deferred_queue.specs.Streams.{is_same_site}
+use Rattle.rep_schema.specs.Sites.{names_of, is_among, is_late_master}
+use Rattle.rep_values.specs.SiteNames.{is_same_site}
 use Rattle.deferred_queue.proofs.Sites.{is_same_site-true}
-use Rattle.site_state.specs.State.{SiteState, is_among}
+use Rattle.site_state.specs.State.{SiteState}
 use Rattle.site_state.specs.Contents.{tables_of}
 use Rattle.site_state.specs.Refreshes.{site_refresh}
-use Rattle.site_state.specs.Making.{is_late_master}
-use Rattle.event_laws.specs.Cluster.{site_of}
-use Rattle.event_laws.specs.Quiet.{unquiet_at, is_quiet_at, are_quiet}
-use Rattle.event_laws.specs.Joins.{with_joined, joined}
-use Rattle.event_laws.specs.Rules.{rows_ruled}
-use Rattle.event_laws.specs.Events.{master_of, found_site, refreshed_from, refreshed}
+use Rattle.site_events.specs.Cluster.{site_of}
+use Rattle.site_events.specs.Quiet.{unquiet_at, is_quiet_at, are_quiet}
+use Rattle.site_events.specs.Joins.{with_joined, joined}
+use Rattle.site_events.specs.Rules.{rows_ruled}
+use Rattle.site_events.specs.Events.{master_of, found_site, refreshed_from, refreshed}
 use Rattle.world_state.specs.Refusals.{unquiet_told, unquiet_step, quiet_step}
 
 -- a snapshot site gets its rows from its master

@@ -15,7 +15,7 @@ use Rattle.site_state.specs.Journal.{clears_error, error_at}
 use Rattle.site_state.specs.Contents.{journal_content}
 use Rattle.site_state.specs.Streams.{queue_after, stream_to}
 use Rattle.site_state.specs.Errors.{errors_of}
-use Rattle.event_laws.specs.Cluster.{site_of}
+use Rattle.site_events.specs.Cluster.{site_of}
 
 -- an error of a position at a site: it is in the error queue, and the journal has its entry; its transaction, with all its calls, is
 -- the one that the origin has at that position for the site, and the one that arrived there; on the tables and counters that the

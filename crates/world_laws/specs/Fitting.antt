@@ -4,8 +4,9 @@ use Rattle.std.specs.List.{AllByRecursion}
 use Rattle.rep_values.specs.declared.name.SiteName.{SiteName}
 use Rattle.rep_schema.specs.Tables.{AreTables}
 use Rattle.rep_laws.specs.Commuting.{IsSound}
-use Rattle.site_state.specs.State.{SiteState, is_master_site}
-use Rattle.event_laws.specs.Cluster.{site_of}
+use Rattle.site_state.specs.State.{SiteState}
+use Rattle.rep_schema.specs.Sites.{is_master_site}
+use Rattle.site_events.specs.Cluster.{site_of}
 use Rattle.event_laws.specs.Fitting.{FitsHere}
 use Rattle.event_laws.specs.Confluence.{CanPassInAnyOrder}
 use Rattle.script_parse.specs.declared.command.Command.{Command}

@@ -2,7 +2,7 @@
 use Rattle.std.specs.Prelude.{◌≡◌, true, [], None}
 use Rattle.rep_schema.specs.declared.schema.Schema.{Schema}
 use Rattle.rep_schema.specs.Shape.{HasShape}
-use Rattle.event_laws.specs.Cluster.{Cluster}
+use Rattle.site_events.specs.Cluster.{Cluster}
 use Rattle.event_laws.specs.Starts.{IsStart}
 use Rattle.event_laws.specs.Waiting.{SitesLinkAsDeclared}
 use Rattle.world_state.specs.World.{WorldState}

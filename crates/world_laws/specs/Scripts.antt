@@ -5,7 +5,7 @@ use Rattle.rep_values.specs.declared.name.SiteName.{SiteName}
 use Rattle.rep_values.specs.declared.refusal.Refusal.{Refusal}
 use Rattle.rep_schema.specs.Shape.{HasShape}
 use Rattle.site_state.specs.State.{SiteState}
-use Rattle.event_laws.specs.Cluster.{site_of}
+use Rattle.site_events.specs.Cluster.{site_of}
 use Rattle.script_parse.specs.declared.command.Command.{Command}
 use Rattle.script_parse.specs.declared.command.Command.TheVariants as command
 use Rattle.script_parse.specs.declared.proc_line.ProcLine.TheVariants as proc_line
@@ -14,7 +14,8 @@ use Rattle.world_state.specs.World.{WorldState, first_world}
 use Rattle.world_state.specs.CallBlocks.{calls_closed}
 use Rattle.world_state.specs.Refusals.{world_refusal}
 use Rattle.world_state.specs.Steps.{world_step, world_steps}
-use Rattle.world_laws.specs.Worlds.{EachWaitsForNothing, WorldHolds, NothingReady}
+use Rattle.world_laws.specs.Worlds.{EachWaitsForNothing, WorldHolds}
+use Rattle.site_state.specs.Rounds.{NothingReady}
 
 -- the world after the lines of a script
 abbrev pub script_world : List Command → WorldState

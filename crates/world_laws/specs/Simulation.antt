@@ -5,8 +5,8 @@ use Rattle.rep_values.specs.declared.name.SiteName.{SiteName}
 use Rattle.rep_values.specs.declared.refusal.Refusal.{Refusal}
 use Rattle.packet_code.specs.declared.packet.Packet.{Packet}
 use Rattle.net_plan.specs.Directions.{Direction}
-use Rattle.event_laws.specs.Cluster.{Cluster}
-use Rattle.event_laws.specs.Events.{Event, receiver, run}
+use Rattle.site_events.specs.Cluster.{Cluster}
+use Rattle.site_events.specs.Events.{Event, receiver, run}
 use Rattle.script_parse.specs.declared.command.Command.{Command}
 use Rattle.world_state.specs.World.{WorldState}
 use Rattle.world_state.specs.Phases.{is_setup}

@@ -1,5 +1,5 @@
 -- What holds of every world that lines lead to from the one that Setup's end makes.
-use Rattle.std.specs.Prelude.{◌≡◌, ◌≢◌, ℕ, ◌<◌, ◌≤◌, false, List, length, Option, Some, None}
+use Rattle.std.specs.Prelude.{◌≡◌, ◌≢◌, ℕ, ◌<◌, ◌≤◌, List, length, Option, Some, None}
 use Rattle.std.specs.List.{AllByRecursion}
 use Rattle.rep_values.specs.declared.name.SiteName.{SiteName}
 use Rattle.rep_schema.specs.Shape.{HasShape}
@@ -8,8 +8,7 @@ use Rattle.site_state.specs.Arrivals.{CanPass}
 use Rattle.site_state.specs.State.{SiteState, arrivals, acked_of}
 use Rattle.site_state.specs.Streams.{stream_to}
 use Rattle.site_state.specs.Packets.{site_packet}
-use Rattle.site_state.specs.Ready.{is_ready}
-use Rattle.event_laws.specs.Cluster.{site_of}
+use Rattle.site_events.specs.Cluster.{site_of}
 use Rattle.event_laws.specs.Marks.{MarksAreLow, PurgedIsFinished, AreWellNumbered}
 use Rattle.event_laws.specs.Orders.{AreFinishedOnce, AreClearedOnce, EarlierComesFirst}
 use Rattle.event_laws.specs.Waiting.{StreamsMeet, IsDelivered, PassesFinishNothing, NothingWaits}
@@ -20,6 +19,7 @@ use Rattle.world_state.specs.Making.{world_made}
 use Rattle.world_state.specs.Pushes.{world_push}
 use Rattle.world_state.specs.Steps.{world_steps}
 use Rattle.world_laws.specs.Errors.{EachErrorIsWhole, EachUnclearedErrorStands}
+use Rattle.site_state.specs.Rounds.{NothingReady}
 
 -- every site can make a pass for every sender
 abbrev pub EachCanPass : List SiteState → Type 0
@@ -57,10 +57,6 @@ pub record WorldHolds (w : WorldState) : Type 0 where
 -- they hold of the world that Setup's end makes of a schema that has its shape, and of each that further lines make of it
 abbrev pub WorldsHold : Type 0
 WorldsHold = (w : WorldState) → HasShape w.schema → (number : ℕ) (lines : List Command) → WorldHolds (world_steps number lines (world_made w))
-
--- no position of any sender is ready at a site
-abbrev pub NothingReady : SiteState → Type 0
-NothingReady x = (origin : SiteName) (position : ℕ) → is_ready origin position x ≡ false
 
 -- once a push to another site is done no position of any sender is ready at the receiver
 abbrev pub PushesLeaveNothingReady : Type 0

@@ -8,12 +8,12 @@ use Rattle.rep_values.specs.declared.name.SiteName.{SiteName}
 use Rattle.rep_values.specs.declared.refusal.Refusal.TheVariants as refusal
 use Rattle.rep_values.specs.RefusalSteps.{refused}
 use Rattle.rep_values.proofs.RefusalSteps.{or_then-None, refused-None, refused_not-None}
-use Rattle.deferred_queue.specs.Streams.{is_same_site}
+use Rattle.rep_values.specs.SiteNames.{is_same_site}
 use Rattle.deferred_queue.proofs.Sites.{is_same_site-true, is_same_site-refl}
 use Rattle.site_state.specs.State.{SiteState}
 use Rattle.site_state.specs.Steps.{begun}
-use Rattle.event_laws.specs.Cluster.{site_of, at_site}
-use Rattle.event_laws.specs.Events.{is_master_in}
+use Rattle.site_events.specs.Cluster.{site_of, at_site}
+use Rattle.site_events.specs.Events.{is_master_in}
 use Rattle.event_laws.proofs.Sites.{found_changed, found_name}
 use Rattle.join_laws.specs.Names.{SitesApart}
 use Rattle.world_state.specs.World.{WorldState, is_there}

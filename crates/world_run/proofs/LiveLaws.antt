@@ -21,7 +21,7 @@ use Rattle.script_parse.specs.LiveLines.{as_plain}
 use Rattle.script_parse.specs.LiveLaws.{is_live}
 use Rattle.script_parse.proofs.LiveLinesAgain.{keeps_lines, keeps_commands}
 use Rattle.script_drive.specs.Lines.{most_lines, most_bytes, line_step}
-use Rattle.event_laws.specs.Cluster.{site_of}
+use Rattle.site_events.specs.Cluster.{site_of}
 use Rattle.live_laws.specs.declared.turn.LiveTurn.{LiveTurn}
 use Rattle.world_state.specs.World.{WorldState}
 use Rattle.world_state.specs.Procs.{proc_of}
@@ -29,7 +29,7 @@ use Rattle.world_state.specs.Steps.{world_step}
 use Rattle.procedure_worlds.proofs.QuietPushes.{push_leaves_none_ready}
 use Rattle.procedure_worlds.proofs.ProceduresHold.{procedures_hold_of}
 use Rattle.environment_lines.specs.Following.{IsBuilt}
-use Rattle.environment_lines.specs.Reached.{HoldsOfConvergence}
+use Rattle.convergent_worlds.specs.Convergence.{HoldsOfConvergence}
 use Rattle.environment_lines.specs.Worlds.{ShowsItsMaster}
 use Rattle.environment_lines.specs.Joining.{TakesOver}
 use Rattle.environment_lines.proofs.Worlds.{of_script_holds, reported_pushes_leave_nothing_ready}

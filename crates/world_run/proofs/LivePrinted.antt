@@ -7,21 +7,21 @@ use Rattle.rep_values.specs.declared.name.SiteName.{SiteName}
 use Rattle.rep_schema.specs.declared.schema.Schema.{Schema}
 use Rattle.rep_schema.specs.declared.schema.SiteEntry.{SiteEntry}
 use Rattle.rep_schema.specs.Named.{site_named}
-use Rattle.rep_schema.specs.Sites.{sends_to, names_of, senders_to, senders_of}
+use Rattle.rep_schema.specs.Sites.{sends_to, names_of, senders_to, senders_of, is_master_site, is_among}
 use Rattle.rep_lines.specs.Lines.{lines_after}
 use Rattle.rep_lines.specs.Runs.{Stepped, halts, printed, last_state}
 use Rattle.rep_lines.specs.Limits.{limited}
 use Rattle.report_text.specs.Texts.{malformed_text}
-use Rattle.deferred_queue.specs.Streams.{is_same_site}
+use Rattle.rep_values.specs.SiteNames.{is_same_site}
 use Rattle.deferred_queue.proofs.Sites.{is_same_site-true}
 use Rattle.script_parse.specs.declared.live_lines.LiveCommand.{LiveCommand}
 use Rattle.script_parse.specs.declared.live_lines.LiveCommand.TheVariants as live_command
 use Rattle.script_parse.specs.LiveLines.{live_parsed}
 use Rattle.script_drive.specs.Lines.{most_lines, most_bytes, line_step}
-use Rattle.site_state.specs.State.{SiteState, is_master_site, is_among}
+use Rattle.site_state.specs.State.{SiteState}
 use Rattle.site_state.specs.Steps.{begun}
-use Rattle.event_laws.specs.Cluster.{Cluster, site_of}
-use Rattle.event_laws.specs.Events.{Event, run}
+use Rattle.site_events.specs.Cluster.{Cluster, site_of}
+use Rattle.site_events.specs.Events.{Event, run}
 use Rattle.event_laws.specs.Starts.{IsStart}
 use Rattle.event_laws.specs.Waiting.{SitesLinkAsDeclared}
 use Rattle.event_laws.proofs.Sites.{found_all}

@@ -27,8 +27,8 @@ use Rattle.site_state.specs.State.{SiteState}
 use Rattle.site_state.specs.Steps.{begun}
 use Rattle.site_state.specs.Packets.{site_accept}
 use Rattle.site_state.proofs.Changing.{accept_later}
-use Rattle.event_laws.specs.Cluster.{site_of, at_site}
-use Rattle.event_laws.specs.Events.{is_master_in, run}
+use Rattle.site_events.specs.Cluster.{site_of, at_site}
+use Rattle.site_events.specs.Events.{is_master_in, run}
 use Rattle.live_laws.specs.declared.turn.LiveTurn.{LiveTurn}
 use Rattle.live_laws.specs.declared.turn.Session.{Session}
 use Rattle.live_laws.specs.Turns.{site_after}

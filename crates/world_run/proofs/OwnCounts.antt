@@ -15,9 +15,9 @@ use Rattle.rep_declare.specs.declared.declaration.Declare.TheVariants as declare
 use Rattle.rep_declare.specs.Additions.{with_changed, with_site_level, declared}
 use Rattle.txn_effects.specs.Calls.{Effect}
 use Rattle.txn_effects.specs.Transactions.{Failure}
-use Rattle.local_txn.specs.declared.local.LocalStop.{LocalStop}
-use Rattle.local_txn.specs.Locals.{BlockEffect}
-use Rattle.deferred_queue.specs.Streams.{is_same_site}
+use Rattle.txn_effects.specs.declared.local.LocalStop.{LocalStop}
+use Rattle.txn_effects.specs.Locals.{BlockEffect}
+use Rattle.rep_values.specs.SiteNames.{is_same_site}
 use Rattle.error_queue.specs.declared.entry.ErrorEntry.{ErrorEntry}
 use Rattle.packet_code.specs.declared.packet.Packet.{Packet}
 use Rattle.packet_code.specs.declared.packet.Packet.TheVariants.{Carry, Mark}
@@ -31,7 +31,8 @@ use Rattle.site_state.specs.declared.arrival.Arrival.{Arrival}
 use Rattle.site_state.specs.declared.entry.Entry.{Entry}
 use Rattle.site_state.specs.declared.entry.Entry.TheVariants.{Local, Done, Error, Executed, Dropped, Refreshed}
 use Rattle.site_state.specs.State.{SiteState, arrived_at, arrivals}
-use Rattle.site_state.specs.Steps.{is_empty, begun, count_where}
+use Rattle.site_state.specs.Steps.{is_empty, begun}
+use Rattle.rep_lists.specs.Counting.{count_where}
 use Rattle.site_state.specs.Journal.{error_at}
 use Rattle.site_state.specs.Ready.{stale_of}
 use Rattle.site_state.specs.Commits.{block_at, committed, committed_by, site_commit, site_clock}
@@ -40,9 +41,9 @@ use Rattle.site_state.specs.Passes.{effect_here, finished_by, applied_unless, si
 use Rattle.site_state.specs.Errors.{effect_of_error, executed_by, executed_found, site_execute, dropped_found, site_drop}
 use Rattle.site_state.specs.Purges.{site_purge, site_purge_log}
 use Rattle.site_state.specs.Joining.{site_open}
-use Rattle.event_laws.specs.Cluster.{site_of, at_site}
-use Rattle.event_laws.specs.Events.{master_of, found_site, refreshed_from, refreshed}
-use Rattle.event_laws.specs.Joins.{open_to_each, copied, with_joined, may_join, joined_by, joined}
+use Rattle.site_events.specs.Cluster.{site_of, at_site}
+use Rattle.site_events.specs.Events.{master_of, found_site, refreshed_from, refreshed}
+use Rattle.site_events.specs.Joins.{open_to_each, copied, with_joined, may_join, joined_by, joined}
 use Rattle.world_state.specs.declared.phase.Phase.{Phase}
 use Rattle.world_state.specs.declared.phase.Phase.TheVariants as phase
 use Rattle.world_state.specs.declared.block.Block.{Block}
@@ -50,7 +51,7 @@ use Rattle.world_state.specs.declared.declared_snapshot.DeclaredSnapshot.{Declar
 use Rattle.world_state.specs.World.{WorldState, first_world, with_site}
 use Rattle.world_state.specs.Declaring.{with_snapshot_at, tests_in}
 use Rattle.world_state.specs.Blocks.{closed, committed_block, is_commit}
-use Rattle.world_state.specs.Rounds.{has_ready, passed_where_ready, round, rounds, sender_names, arrived_count, site_until_quiet}
+use Rattle.site_state.specs.Rounds.{has_ready, passed_where_ready, round, rounds, sender_names, arrived_count, site_until_quiet}
 use Rattle.world_state.specs.Pushes.{world_release, world_send, world_send_each, positions_above, world_send_above, taken_each, world_until_quiet, world_send_mark, world_deliver_mark, world_return_mark, pushed_in, world_push}
 use Rattle.world_state.specs.CallBlocks.{sent_to}
 use Rattle.world_state.specs.Making.{is_early, rows_made, site_made, entry_made}

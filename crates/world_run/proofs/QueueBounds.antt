@@ -13,22 +13,22 @@ use Rattle.rep_schema.specs.declared.schema.Schema.{Schema}
 use Rattle.rep_schema.specs.declared.schema.SiteEntry.{SiteEntry}
 use Rattle.rep_schema.specs.Shape.{is_master, is_snapshot, HasShape}
 use Rattle.rep_schema.specs.Named.{site_named}
-use Rattle.rep_schema.specs.Sites.{sends_to, names_of, senders_to, senders_of}
+use Rattle.rep_schema.specs.Sites.{sends_to, names_of, senders_to, senders_of, is_master_site, is_among}
 use Rattle.rep_schema.specs.Tables.{Rows}
 use Rattle.rep_calls.specs.declared.call.Txn.{Txn}
-use Rattle.local_txn.specs.declared.local.Here.{Here}
-use Rattle.deferred_queue.specs.Streams.{is_same_site}
+use Rattle.txn_effects.specs.declared.local.Here.{Here}
+use Rattle.rep_values.specs.SiteNames.{is_same_site}
 use Rattle.deferred_queue.proofs.Sites.{is_same_site-true, eq_true}
 use Rattle.deferred_queue.proofs.Positions.{found_position}
 use Rattle.site_state.specs.declared.arrival.Arrival.{Arrival}
 use Rattle.site_state.specs.declared.entry.Entry.{Entry}
 use Rattle.site_state.specs.declared.entry.Entry.TheVariants.{Local, Done, Error, Executed, Dropped, Refreshed}
-use Rattle.site_state.specs.State.{SenderState, SiteState, is_master_site, is_among, sender_of, arrived_in, arrival_beside, arrived_at, opened_of, first_number}
-use Rattle.site_state.specs.Steps.{count_where}
+use Rattle.site_state.specs.State.{SenderState, SiteState, sender_of, arrived_in, arrival_beside, arrived_at, opened_of, first_number}
+use Rattle.rep_lists.specs.Counting.{count_where}
 use Rattle.site_state.specs.Journal.{finishes, clears_error, finished}
 use Rattle.site_state.specs.Streams.{with_one, queue_after, queue_of, count_of, queued_behind, stream_in, stream_to}
 use Rattle.site_state.specs.DeclaredSites.{IsDeclared}
-use Rattle.event_laws.specs.Cluster.{site_of}
+use Rattle.site_events.specs.Cluster.{site_of}
 use Rattle.event_laws.specs.Marks.{journal_in}
 use Rattle.event_laws.specs.Orders.{AreFinishedOnce, AreClearedOnce}
 use Rattle.event_laws.proofs.Sites.{found_name, found_all}

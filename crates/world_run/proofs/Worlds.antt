@@ -18,7 +18,7 @@ use Rattle.script_parse.specs.declared.proc_line.ProcLine.TheVariants as proc_li
 use Rattle.script_parse.specs.Named.{NamesColumn}
 use Rattle.script_parse.specs.Parsed.{parsed}
 use Rattle.script_parse.proofs.NamedLines.{parsed-Ok}
-use Rattle.event_laws.specs.Cluster.{site_of}
+use Rattle.site_events.specs.Cluster.{site_of}
 use Rattle.world_state.specs.declared.refused.Refused.{Refused}
 use Rattle.world_state.specs.World.{WorldState, first_world}
 use Rattle.world_state.specs.Procs.{proc_of}
@@ -28,7 +28,7 @@ use Rattle.procedure_worlds.proofs.QuietPushes.{push_leaves_none_ready}
 use Rattle.procedure_worlds.proofs.ProceduresHold.{procedures_hold_of}
 use Rattle.environment_lines.proofs.Worlds.{of_script_holds, reported_pushes_leave_nothing_ready}
 use Rattle.environment_lines.proofs.Worlds.{snapshots_hold_of, refreshes_show_of}
-use Rattle.environment_lines.specs.Reached.{HoldsOfConvergence}
+use Rattle.convergent_worlds.specs.Convergence.{HoldsOfConvergence}
 use Rattle.environment_lines.proofs.Scripts.{of_snapshots}
 use Rattle.environment_lines.specs.Following.{IsBuilt}
 use Rattle.environment_lines.specs.Texts.{world_text}

@@ -12,13 +12,13 @@ use Rattle.script_parse.specs.Parsed.{parsed}
 use Rattle.script_parse.specs.LiveLaws.{is_live}
 use Rattle.script_drive.specs.Lines.{most_lines, line_step}
 use Rattle.site_state.specs.State.{SiteState}
-use Rattle.event_laws.specs.Cluster.{site_of}
+use Rattle.site_events.specs.Cluster.{site_of}
 use Rattle.proc_state.specs.State.{ProcState}
 use Rattle.live_laws.specs.declared.turn.LiveTurn.{LiveTurn}
 use Rattle.world_state.specs.Procs.{proc_of}
 use Rattle.world_state.specs.Refusals.{world_refusal}
 use Rattle.procedure_worlds.specs.Worlds.{NoCallsReady}
-use Rattle.environment_lines.specs.Worlds.{NothingReady}
+use Rattle.site_state.specs.Rounds.{NothingReady}
 use Rattle.environment_lines.specs.Worlds.{ShowsItsMaster}
 use Rattle.environment_lines.specs.Joining.{TakesOver}
 use Rattle.world_run.specs.declared.live_part.LivePart.{LivePart}

@@ -4,13 +4,13 @@ use Rattle.rep_values.specs.declared.name.SiteName.{SiteName}
 use Rattle.rep_values.specs.declared.refusal.Limit.TheVariants as limit
 use Rattle.rep_values.specs.declared.refusal.Refusal.{Refusal}
 use Rattle.rep_values.specs.declared.refusal.Refusal.TheVariants as refusal
-use Rattle.rep_schema.specs.Sites.{senders_of}
+use Rattle.rep_schema.specs.Sites.{senders_of, is_master_site}
 use Rattle.rep_calls.specs.declared.statement.Statement.{Statement}
-use Rattle.local_txn.specs.Locals.{most_statements}
+use Rattle.txn_effects.specs.Locals.{most_statements}
 use Rattle.script_parse.specs.declared.command.Command.{Command}
 use Rattle.script_parse.specs.declared.command.Command.TheVariants as command
-use Rattle.site_state.specs.State.{SiteState, is_master_site}
-use Rattle.event_laws.specs.Cluster.{site_of}
+use Rattle.site_state.specs.State.{SiteState}
+use Rattle.site_events.specs.Cluster.{site_of}
 use Rattle.live_laws.specs.declared.turn.LiveTurn.{LiveTurn}
 use Rattle.live_laws.specs.declared.turn.Block.{Block}
 use Rattle.live_laws.specs.declared.turn.Session.{Session}

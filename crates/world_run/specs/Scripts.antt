@@ -11,14 +11,15 @@ use Rattle.script_parse.specs.declared.command.Command.TheVariants as command
 use Rattle.script_parse.specs.declared.proc_line.ProcLine.TheVariants as proc_line
 use Rattle.script_parse.specs.Parsed.{parsed}
 use Rattle.site_state.specs.State.{SiteState}
-use Rattle.event_laws.specs.Cluster.{site_of}
+use Rattle.site_events.specs.Cluster.{site_of}
 use Rattle.proc_state.specs.State.{ProcState}
 use Rattle.world_state.specs.World.{WorldState, first_world}
 use Rattle.world_state.specs.Procs.{proc_of}
 use Rattle.world_state.specs.Refusals.{world_refusal}
 use Rattle.world_state.specs.Steps.{world_step}
 use Rattle.procedure_worlds.specs.Worlds.{ProceduresHold, NoCallsReady}
-use Rattle.environment_lines.specs.Worlds.{WorldHolds, NothingReady}
+use Rattle.environment_lines.specs.Worlds.{WorldHolds}
+use Rattle.site_state.specs.Rounds.{NothingReady}
 use Rattle.environment_lines.specs.Worlds.{SnapshotsHold}
 use Rattle.environment_lines.specs.Worlds.{ShowsItsMaster}
 use Rattle.environment_lines.specs.Convergence.{ConvergenceHolds}

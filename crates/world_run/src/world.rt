@@ -2,7 +2,7 @@
 ghost use Rattle.std.specs.Prelude.{◌≡◌, Some, None, option_copied, IfOk, IfErr, OnOk, OnErr};
 ghost use Rattle.script_parse.specs.Named.{NamesColumn};
 ghost use Rattle.rep_values.specs.declared.name.SiteName.{SiteName as SiteNameValue};
-ghost use Rattle.event_laws.specs.Cluster.{site_of};
+ghost use Rattle.site_events.specs.Cluster.{site_of};
 ghost use Rattle.environment_lines.specs.Following.{IsBuilt};
 ghost use Rattle.world_state.specs.World.{first_world};
 ghost use Rattle.world_state.specs.Procs.{proc_of};

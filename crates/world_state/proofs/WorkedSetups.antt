@@ -10,7 +10,8 @@ use Rattle.rep_schema.specs.Groups.{group_columns_of}
 use Rattle.rep_declare.specs.Refusals.{columns_step}
 use Rattle.schema_rules.specs.Rules.{broken_rule}
 use Rattle.net_plan.specs.Directions.{is_up}
-use Rattle.site_state.specs.State.{LogState, SiteState, opened_of}
+use Rattle.site_state.specs.State.{SiteState, opened_of}
+use Rattle.snapshot_log.specs.LogState.{LogState}
 use Rattle.site_state.proofs.WorkedSites.{a, b, d, s, row}
 use Rattle.script_parse.specs.declared.command.Command.{Command}
 use Rattle.script_parse.specs.declared.command.Command.TheVariants as command

@@ -2,19 +2,20 @@
 use Rattle.std.specs.Prelude.{ℕ, Bool, true, false, sum, map, length, List, Option, Some, None, Result, Ok, Err, is_none}
 use Rattle.rep_values.specs.declared.name.SiteName.{SiteName}
 use Rattle.rep_schema.specs.Tables.{Rows}
-use Rattle.local_txn.specs.declared.local.LocalStop.{LocalStop}
+use Rattle.txn_effects.specs.declared.local.LocalStop.{LocalStop}
 use Rattle.snapshot_query.specs.declared.snapshot.Snapshot.{Snapshot}
 use Rattle.script_parse.specs.declared.command.Refresh.{Refresh}
 use Rattle.script_parse.specs.declared.command.Refresh.TheVariants as refresh
 use Rattle.site_state.specs.declared.answers.RefreshCount.{RefreshCount}
-use Rattle.site_state.specs.State.{LogState, SiteState}
+use Rattle.site_state.specs.State.{SiteState}
+use Rattle.snapshot_log.specs.LogState.{LogState}
 use Rattle.site_state.specs.Contents.{tables_of}
 use Rattle.site_state.specs.Commits.{commit_answer}
 use Rattle.site_state.specs.Purges.{purge_answer, purge_log_answer}
 use Rattle.site_state.specs.Refreshes.{refresh_complete_answer}
-use Rattle.event_laws.specs.Cluster.{site_of}
-use Rattle.event_laws.specs.Rules.{rows_ruled, refresh_ruled_answer}
-use Rattle.event_laws.specs.Events.{master_of, found_site}
+use Rattle.site_events.specs.Cluster.{site_of}
+use Rattle.site_events.specs.Rules.{rows_ruled, refresh_ruled_answer}
+use Rattle.site_events.specs.Events.{master_of, found_site}
 use Rattle.world_state.specs.declared.block.Block.{Block}
 use Rattle.world_state.specs.World.{WorldState}
 use Rattle.world_state.specs.Refusals.{young_step}

@@ -3,13 +3,13 @@ use Rattle.std.specs.Prelude.{ℕ, ◌-◌, Bool, true, false, nat_lt, cond, Lis
 use Rattle.rep_values.specs.declared.name.SiteName.{SiteName}
 use Rattle.rep_values.specs.declared.refusal.Refusal.{Refusal}
 use Rattle.rep_calls.specs.declared.statement.Statement.{Statement}
-use Rattle.local_txn.specs.declared.local.LocalStop.{LocalStop}
-use Rattle.local_txn.specs.Locals.{most_statements}
+use Rattle.txn_effects.specs.declared.local.LocalStop.{LocalStop}
+use Rattle.txn_effects.specs.Locals.{most_statements}
 use Rattle.script_parse.specs.declared.command.Command.{Command}
 use Rattle.script_parse.specs.declared.command.Command.TheVariants as command
 use Rattle.site_state.specs.State.{SiteState}
 use Rattle.site_state.specs.Commits.{site_commit, commit_answer}
-use Rattle.event_laws.specs.Cluster.{site_of}
+use Rattle.site_events.specs.Cluster.{site_of}
 use Rattle.world_state.specs.declared.block.Block.{Block}
 use Rattle.world_state.specs.World.{WorldState, with_site}
 

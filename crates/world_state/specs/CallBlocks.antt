@@ -13,9 +13,9 @@ use Rattle.rep_schema.specs.declared.schema.Kind.TheVariants as kind
 use Rattle.rep_schema.specs.Tables.{columns_of}
 use Rattle.rep_schema.specs.Kinds.{is_of_kind, row_in_range}
 use Rattle.rep_declare.specs.Additions.{place_or_zero}
-use Rattle.local_txn.specs.Literals.{literals_fit, values_of}
+use Rattle.txn_effects.specs.Literals.{literals_fit, values_of}
 use Rattle.txn_effects.specs.Transactions.{Failure}
-use Rattle.site_state.specs.State.{is_among}
+use Rattle.rep_schema.specs.Sites.{is_among}
 use Rattle.site_state.specs.Steps.{is_empty}
 use Rattle.proc_state.specs.declared.call.ProcCall.{ProcCall}
 use Rattle.proc_state.specs.declared.procedure.Action.{Action}

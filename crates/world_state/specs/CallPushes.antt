@@ -16,7 +16,7 @@ use Rattle.report_text.specs.declared.printed.PushCount.{PushCount}
 use Rattle.world_state.specs.Procs.{Procs, proc_of, at_proc}
 use Rattle.world_state.specs.Pushes.{sent_on, emptied}
 use Rattle.world_state.specs.PushAnswers.{entries_since}
-use Rattle.world_state.specs.Rounds.{sender_names}
+use Rattle.site_state.specs.Rounds.{sender_names}
 
 -- ---- what is sent
 

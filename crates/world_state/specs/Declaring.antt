@@ -12,7 +12,7 @@ use Rattle.rep_schema.specs.Named.{table_place}
 use Rattle.rep_declare.specs.declared.declaration.Declare.{Declare}
 use Rattle.rep_declare.specs.Additions.{declared, column_number}
 use Rattle.rep_declare.specs.Shaping.{rows_with}
-use Rattle.deferred_queue.specs.Streams.{is_same_site}
+use Rattle.rep_values.specs.SiteNames.{is_same_site}
 use Rattle.local_txn.specs.BaseRows.{tables_with_row}
 use Rattle.snapshot_query.specs.declared.query.Test.{Test}
 use Rattle.snapshot_query.specs.declared.query.Query.{Query}

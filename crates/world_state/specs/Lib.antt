@@ -5,7 +5,6 @@ pub mod Declaring
 pub mod ProcDeclaring
 pub mod Testing
 pub mod Making
-pub mod Rounds
 pub mod Pushes
 pub mod PushAnswers
 pub mod CallPushes

@@ -5,17 +5,17 @@ use Rattle.rep_values.specs.declared.name.SiteName.{SiteName}
 use Rattle.rep_schema.specs.declared.schema.Schema.{Schema}
 use Rattle.rep_schema.specs.declared.schema.SiteEntry.{SiteEntry}
 use Rattle.rep_schema.specs.Tables.{Rows}
-use Rattle.rep_schema.specs.Sites.{first_master, linked_pairs}
-use Rattle.deferred_queue.specs.Streams.{is_same_site}
-use Rattle.local_txn.specs.declared.local.Here.{Here}
+use Rattle.rep_schema.specs.Sites.{first_master, linked_pairs, is_late_master}
+use Rattle.rep_values.specs.SiteNames.{is_same_site}
+use Rattle.txn_effects.specs.declared.local.Here.{Here}
 use Rattle.local_txn.specs.BaseRows.{filled_tables}
 use Rattle.snapshot_query.specs.declared.parent.Parent.{Parent}
 use Rattle.snapshot_query.specs.declared.snapshot.Snapshot.{Snapshot}
 use Rattle.net_plan.specs.Directions.{net_of}
 use Rattle.site_state.specs.State.{SiteState}
-use Rattle.site_state.specs.Making.{is_late_master, master_here, new_site}
+use Rattle.site_state.specs.Making.{master_here, new_site}
 use Rattle.site_state.specs.Refreshes.{with_tables}
-use Rattle.event_laws.specs.Rules.{rows_ruled}
+use Rattle.site_events.specs.Rules.{rows_ruled}
 use Rattle.world_state.specs.declared.phase.Phase.TheVariants as phase
 use Rattle.world_state.specs.declared.declared_snapshot.DeclaredSnapshot.{DeclaredSnapshot}
 use Rattle.world_state.specs.World.{WorldState}

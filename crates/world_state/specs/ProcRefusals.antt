@@ -17,7 +17,7 @@ use Rattle.rep_declare.specs.declared.declaration.Declare.{Declare}
 use Rattle.rep_declare.specs.declared.declaration.Declare.TheVariants as declare
 use Rattle.rep_declare.specs.Refusals.{share_a_name}
 use Rattle.net_plan.specs.Directions.{is_up}
-use Rattle.site_state.specs.State.{is_among}
+use Rattle.rep_schema.specs.Sites.{is_among}
 use Rattle.proc_state.specs.State.{ProcState, other_masters}
 use Rattle.proc_state.specs.Errors.{proc_execute_refusal}
 use Rattle.script_parse.specs.declared.command.TestWords.{TestWords}

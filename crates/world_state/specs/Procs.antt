@@ -5,9 +5,9 @@ use Rattle.rep_schema.specs.declared.schema.Schema.{Schema}
 use Rattle.rep_schema.specs.declared.schema.TableEntry.{TableEntry}
 use Rattle.rep_schema.specs.Shape.{is_early_master}
 use Rattle.rep_schema.specs.Sites.{names_of, linked_pairs}
-use Rattle.deferred_queue.specs.Streams.{is_same_site}
+use Rattle.rep_values.specs.SiteNames.{is_same_site}
 use Rattle.net_plan.specs.Directions.{Direction, net_of}
-use Rattle.event_laws.specs.Events.{without}
+use Rattle.site_events.specs.Events.{without}
 use Rattle.proc_state.specs.declared.procedure.Procedure.{Procedure}
 use Rattle.proc_state.specs.State.{ProcState, new_proc}
 use Rattle.world_state.specs.declared.call_block.CallBlock.{CallBlock}

@@ -7,10 +7,10 @@ use Rattle.site_state.specs.State.{SiteState}
 use Rattle.site_state.specs.Journal.{low_water}
 use Rattle.site_state.specs.Passes.{is_done, is_error, added_count}
 use Rattle.site_state.specs.Errors.{errors_from}
-use Rattle.event_laws.specs.Cluster.{site_of}
+use Rattle.site_events.specs.Cluster.{site_of}
 use Rattle.report_text.specs.declared.printed.PushCount.{PushCount}
 use Rattle.world_state.specs.World.{WorldState}
-use Rattle.world_state.specs.Rounds.{site_until_quiet}
+use Rattle.site_state.specs.Rounds.{site_until_quiet}
 use Rattle.world_state.specs.Pushes.{positions_above, pushed_in}
 
 abbrev pub count_in : ℕ → SiteName → Option SiteState → PushCount

@@ -7,10 +7,10 @@ use Rattle.net_plan.specs.Directions.{Direction, at_direction, is_up, first_betw
 use Rattle.site_state.specs.State.{SiteState, acked_of}
 use Rattle.site_state.specs.Streams.{stream_to}
 use Rattle.site_state.specs.Packets.{site_accept}
-use Rattle.event_laws.specs.Cluster.{site_of, at_site}
-use Rattle.event_laws.specs.Events.{packet_from, mark_from}
+use Rattle.site_events.specs.Cluster.{site_of, at_site}
+use Rattle.site_events.specs.Events.{packet_from, mark_from}
 use Rattle.world_state.specs.World.{WorldState, with_site}
-use Rattle.world_state.specs.Rounds.{site_until_quiet}
+use Rattle.site_state.specs.Rounds.{site_until_quiet}
 
 -- ---- what is sent
 

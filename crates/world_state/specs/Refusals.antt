@@ -18,14 +18,15 @@ use Rattle.local_txn.specs.BaseRows.{base_refusal}
 use Rattle.snapshot_query.specs.declared.parent.Parent.{Parent}
 use Rattle.snapshot_query.specs.declared.snapshot.Snapshot.{Snapshot}
 use Rattle.net_plan.specs.Directions.{is_up}
-use Rattle.site_state.specs.State.{DestinationState, LogState, SiteState}
+use Rattle.site_state.specs.State.{DestinationState, SiteState}
+use Rattle.snapshot_log.specs.LogState.{LogState}
 use Rattle.site_state.specs.Streams.{stream_to}
-use Rattle.site_state.specs.Notes.{log_of, purged_of, is_too_young}
+use Rattle.snapshot_log.specs.Noting.{log_of, purged_of, is_too_young}
 use Rattle.site_state.specs.Errors.{execute_refusal, drop_refusal}
-use Rattle.site_state.specs.Making.{is_late_master}
-use Rattle.event_laws.specs.Cluster.{site_of}
-use Rattle.event_laws.specs.Quiet.{unquiet_at}
-use Rattle.event_laws.specs.Events.{is_all_acked, master_of, found_site, is_master_in}
+use Rattle.rep_schema.specs.Sites.{is_late_master}
+use Rattle.site_events.specs.Cluster.{site_of}
+use Rattle.site_events.specs.Quiet.{unquiet_at}
+use Rattle.site_events.specs.Events.{is_all_acked, master_of, found_site, is_master_in}
 use Rattle.script_parse.specs.declared.command.Refresh.{Refresh}
 use Rattle.script_parse.specs.declared.command.Refresh.TheVariants as refresh
 use Rattle.script_parse.specs.declared.command.Shown.{Shown}

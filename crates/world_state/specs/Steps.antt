@@ -7,8 +7,8 @@ use Rattle.net_plan.specs.Directions.{at_direction, with_link, with_fates, witho
 use Rattle.site_state.specs.Commits.{site_clock}
 use Rattle.site_state.specs.Errors.{site_execute, site_drop}
 use Rattle.site_state.specs.Purges.{site_purge, site_purge_log}
-use Rattle.event_laws.specs.Joins.{joined}
-use Rattle.event_laws.specs.Events.{refreshed}
+use Rattle.site_events.specs.Joins.{joined}
+use Rattle.site_events.specs.Events.{refreshed}
 use Rattle.world_state.specs.declared.phase.Phase.{Phase}
 use Rattle.world_state.specs.declared.phase.Phase.TheVariants as phase
 use Rattle.world_state.specs.declared.refused.Refused.{Refused}

@@ -4,10 +4,10 @@ use Rattle.rep_values.specs.declared.name.SiteName.{SiteName}
 use Rattle.rep_schema.specs.declared.schema.Schema.{Schema}
 use Rattle.rep_schema.specs.Shape.{no_schema}
 use Rattle.rep_schema.specs.Tables.{Rows}
-use Rattle.rep_schema.specs.Sites.{senders_of}
+use Rattle.rep_schema.specs.Sites.{senders_of, is_among}
 use Rattle.net_plan.specs.Directions.{Direction}
-use Rattle.site_state.specs.State.{SiteState, is_among}
-use Rattle.event_laws.specs.Cluster.{site_of, at_site}
+use Rattle.site_state.specs.State.{SiteState}
+use Rattle.site_events.specs.Cluster.{site_of, at_site}
 use Rattle.world_state.specs.declared.phase.Phase.{Phase}
 use Rattle.world_state.specs.declared.phase.Phase.TheVariants as phase
 use Rattle.world_state.specs.declared.block.Block.{Block}

@@ -6,7 +6,7 @@ ghost use Rattle.site_state.specs.Commits.{block_at, site_commit, commit_answer}
 use super::Site;
 use crate::committing::{Block, no_memory, run_block};
 use crate::journal::reserve_noting;
-use local_txn::LocalStop;
+use txn_effects::LocalStop;
 use rep_calls::Statement;
 use rep_schema::RowStore;
 use site_state::Entry;

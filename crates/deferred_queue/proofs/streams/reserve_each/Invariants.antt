@@ -1,6 +1,7 @@
 -- The streams up to the place have room, and what they hold is as it was.
 use Rattle.std.proofs.Common.{◌≡◌, ◌≤◌, ℕ, take}
-use Rattle.deferred_queue.specs.QueueState.{kept_of, swept_of, rooms_of, least}
+use Rattle.deferred_queue.specs.QueueState.{kept_of, swept_of, rooms_of}
+use Rattle.rep_lists.specs.Counting.{least}
 use Rattle.deferred_queue.proofs.streams.reserve_each.Given as goal
 
 abbrev pub invariant-loop-stream : goal.invariant-loop-stream

@@ -2,7 +2,7 @@ use Rattle.std.proofs.Common.{◌≡◌, ◌-◌, ◌^◌, ◌≤◌, length, ap
 use Rattle.std.specs.Prelude.{min}
 use Rattle.std.proofs.lemmas.List.{drop_all}
 use Rattle.std.proofs.lemmas.List.Sums.{sum_by-drop_more}
-use Rattle.event_laws.specs.Quiet.{unquiet_at}
+use Rattle.site_events.specs.Quiet.{unquiet_at}
 use Rattle.environment.specs.Joining.{unfinished_from}
 use Rattle.environment.proofs.Quiet.{unquiet_sum}
 use Rattle.environment.proofs.joins.unquiet_told.Goals as goal

@@ -1,7 +1,7 @@
 -- Adding up what isn't finished of each other master.
 use Rattle.std.proofs.Common.{◌≡◌, ◌+◌, ◌-◌, ◌^◌, ◌≤◌, drop}
 use Rattle.std.specs.Prelude.{min, sum_by}
-use Rattle.event_laws.specs.Quiet.{unquiet_at}
+use Rattle.site_events.specs.Quiet.{unquiet_at}
 use Rattle.environment.specs.Joining.{unfinished_from}
 use Rattle.environment.proofs.joins.unquiet_told.Given as goal
 

@@ -1,6 +1,6 @@
 -- Testing literal after literal.
 use Rattle.std.proofs.Common.{◌≡◌, drop}
-use Rattle.local_txn.specs.Literals.{literals_fit}
+use Rattle.txn_effects.specs.Literals.{literals_fit}
 use Rattle.environment_calls.proofs.literals.literals_fit.Given as goal
 
 -- what is left decides

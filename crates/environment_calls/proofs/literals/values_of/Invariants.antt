@@ -1,6 +1,6 @@
 -- Gathering values one by one.
 use Rattle.std.proofs.Common.{◌≡◌, ◌++◌, drop}
-use Rattle.local_txn.specs.Literals.{values_of}
+use Rattle.txn_effects.specs.Literals.{values_of}
 use Rattle.environment_calls.proofs.literals.values_of.Given as goal
 
 -- those so far, and those of the literals to come

@@ -1,6 +1,6 @@
 use Rattle.std.proofs.Common.{inl, inr, sym, ap, ◌∙◌}
 use Rattle.std.proofs.lemmas.Result.{err_from_is_err_and}
-use Rattle.event_laws.specs.Cluster.{site_of}
+use Rattle.site_events.specs.Cluster.{site_of}
 use Rattle.site_state.specs.Commits.{block_at, site_commit, commit_answer, commit_answer_by}
 use Rattle.world_state.specs.Blocks.{stop_in, stop_at_site}
 use Rattle.world_state.specs.Answers.{number_there, answered_number}

@@ -2,7 +2,7 @@ use Rattle.std.proofs.Common.{List, ap, ◌∙◌}
 use Rattle.rep_calls.specs.declared.past.PastEntry.{PastEntry}
 use Rattle.site_state.specs.Making.{master_here}
 use Rattle.site_state.specs.Joining.{site_copy}
-use Rattle.event_laws.specs.Joins.{open_to_each}
+use Rattle.site_events.specs.Joins.{open_to_each}
 use Rattle.environment_lines.proofs.joins.copied.Goals as goal
 
 pub returns : goal.returns

@@ -1,6 +1,6 @@
 use Rattle.std.proofs.Common.{◌≡◌, ap, ◌∙◌}
 use Rattle.rep_schema.specs.declared.schema.Schema.{Schema}
-use Rattle.local_txn.specs.declared.local.Here.{Here}
+use Rattle.txn_effects.specs.declared.local.Here.{Here}
 use Rattle.site_state.specs.Making.{master_here}
 use Rattle.site_state.specs.Joining.{site_copy}
 use Rattle.environment_lines.proofs.joins.first_copy.Goals as goal

@@ -4,7 +4,7 @@ use Rattle.rep_lists.proofs.Places.{drop_from_place}
 use Rattle.rep_values.specs.declared.name.SiteName.{SiteName}
 use Rattle.site_state.specs.State.{SiteState}
 use Rattle.site_state.specs.Joining.{site_open}
-use Rattle.event_laws.specs.Joins.{open_to_each}
+use Rattle.site_events.specs.Joins.{open_to_each}
 use Rattle.environment_lines.proofs.joins.open_to_each.Goals as goal
 
 pub loop-other-preserved : goal.loop-other-preserved

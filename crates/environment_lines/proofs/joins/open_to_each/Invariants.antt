@@ -1,6 +1,6 @@
 -- Opening a site to one after the other.
 use Rattle.std.proofs.Common.{◌≡◌, drop}
-use Rattle.event_laws.specs.Joins.{open_to_each}
+use Rattle.site_events.specs.Joins.{open_to_each}
 use Rattle.environment_lines.proofs.joins.open_to_each.Given as goal
 
 -- once it is open to those that are left it is open to all

@@ -2,7 +2,7 @@
 use Rattle.std.proofs.Common.{◌≡◌, List, [], ◌++◌, drop, sym, ap, ◌∙◌}
 use Rattle.std.proofs.lemmas.List.{append-nil, drop_all}
 use Rattle.site_state.specs.State.{SiteState}
-use Rattle.event_laws.specs.Joins.{queue_counts}
+use Rattle.site_events.specs.Joins.{queue_counts}
 use Rattle.environment_lines.proofs.QueueCounts.{counted, not_counted}
 use Rattle.environment_lines.proofs.joins.queue_counts.Goals as goal
 use Rattle.environment_lines.proofs.joins.queue_counts.Goals.{then-is_master+in_ok-push, else-is_master}

@@ -1,6 +1,6 @@
 -- Gathering how much each master has queued.
 use Rattle.std.proofs.Common.{◌≡◌, ◌++◌, drop}
-use Rattle.event_laws.specs.Joins.{queue_counts}
+use Rattle.site_events.specs.Joins.{queue_counts}
 use Rattle.environment_lines.proofs.joins.queue_counts.Given as goal
 
 -- the masters so far, and those of the sites to come

@@ -1,6 +1,6 @@
 -- Looking for a snapshot with a parent.
 use Rattle.std.proofs.Common.{drop}
-use Rattle.event_laws.specs.Rules.{HaveNoParents}
+use Rattle.site_events.specs.Rules.{HaveNoParents}
 use Rattle.environment_lines.proofs.ruled.have_parents.Given as goal
 
 -- those so far have none

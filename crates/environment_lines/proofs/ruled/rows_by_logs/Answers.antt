@@ -1,8 +1,8 @@
 -- The snapshot's own rows have what is up to date by its rule.
 use Rattle.std.proofs.Common.{◌≡◌, ap, sym, ◌∙◌}
 use Rattle.rep_schema.specs.Tables.{rows_of}
-use Rattle.site_state.specs.Notes.{pending_keys}
-use Rattle.event_laws.specs.Rules.{pending_parents}
+use Rattle.snapshot_log.specs.Noting.{pending_keys}
+use Rattle.site_events.specs.Rules.{pending_parents}
 use Rattle.environment_lines.proofs.RuledRows.{up_to_date_so}
 use Rattle.environment_lines.proofs.ruled.rows_by_logs.Goals as goal
 

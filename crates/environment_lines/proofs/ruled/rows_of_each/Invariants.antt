@@ -1,6 +1,6 @@
 -- Copying what snapshots show, one by one.
 use Rattle.std.proofs.Common.{◌≡◌, ◌++◌, drop}
-use Rattle.event_laws.specs.Rules.{rows_ruled}
+use Rattle.site_events.specs.Rules.{rows_ruled}
 use Rattle.environment_lines.proofs.ruled.rows_of_each.Given as goal
 
 -- what those so far show, and what those to come show

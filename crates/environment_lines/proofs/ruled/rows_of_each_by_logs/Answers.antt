@@ -2,7 +2,7 @@
 use Rattle.std.proofs.Common.{◌+◌, drop, refl, arith}
 use Rattle.std.proofs.lemmas.List.Sums.{sum_by-cons}
 use Rattle.rep_lists.proofs.Places.{drop_from_found}
-use Rattle.event_laws.specs.Rules.{looked_up}
+use Rattle.site_events.specs.Rules.{looked_up}
 use Rattle.environment_lines.proofs.ShownRows.{shown_next}
 use Rattle.environment_lines.proofs.ruled.rows_of_each_by_logs.Goals as goal
 

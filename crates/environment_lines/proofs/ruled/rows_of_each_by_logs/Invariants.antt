@@ -1,7 +1,7 @@
 -- Making what snapshots show by the logs, one by one.
 use Rattle.std.proofs.Common.{◌≡◌, ◌+◌, ◌++◌, drop}
 use Rattle.std.specs.Prelude.{sum_by}
-use Rattle.event_laws.specs.Rules.{rows_ruled, looked_up}
+use Rattle.site_events.specs.Rules.{rows_ruled, looked_up}
 use Rattle.environment_lines.proofs.ruled.rows_of_each_by_logs.Given as goal
 
 -- what those so far show, and what those to come show; and what is looked up for them

@@ -1,7 +1,7 @@
 -- The site at the place that is found is the one of the name.
 use Rattle.std.proofs.Common.{◌≡◌, ◌++◌, None, Option, append-nil, sym, ap, ◌∙◌}
 use Rattle.site_state.specs.State.{SiteState}
-use Rattle.event_laws.specs.Cluster.{site_of}
+use Rattle.site_events.specs.Cluster.{site_of}
 use Rattle.world_state.specs.World.{WorldState}
 use Rattle.environment.specs.Texts.{shown_found}
 use Rattle.environment.proofs.Written.{site_of-world}

@@ -1,7 +1,7 @@
 use Rattle.std.proofs.Common.{sym, ap, ◌∙◌}
 use Rattle.std.proofs.lemmas.Result.{on_ok_weaker}
 use Rattle.site_state.specs.Packets.{site_accept}
-use Rattle.event_laws.specs.Cluster.{site_of}
+use Rattle.site_events.specs.Cluster.{site_of}
 use Rattle.world_laws.proofs.Finding.{at_none}
 use Rattle.environment.proofs.Written.{at_site-written}
 use Rattle.environment_push.proofs.deliver.accept_at.Goals as goal

@@ -1,5 +1,5 @@
 use Rattle.std.proofs.Common.{refl, sym, ap, ◌∙◌}
-use Rattle.event_laws.specs.Events.{is_master_in}
+use Rattle.site_events.specs.Events.{is_master_in}
 use Rattle.environment.proofs.Written.{site_of-read}
 use Rattle.environment_push.proofs.lending.is_master_there.Goals as goal
 

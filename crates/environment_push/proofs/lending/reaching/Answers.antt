@@ -2,8 +2,7 @@
 use Rattle.std.proofs.Common.{◌≡◌, List, true, ap, ◌∙◌, subst}
 use Rattle.rep_values.specs.declared.name.SiteName.{SiteName}
 use Rattle.rep_schema.specs.declared.schema.Schema.{Schema}
-use Rattle.rep_schema.specs.Sites.{senders_of}
-use Rattle.site_state.specs.State.{is_among}
+use Rattle.rep_schema.specs.Sites.{senders_of, is_among}
 use Rattle.world_state.specs.World.{WorldState}
 use Rattle.environment_push.proofs.OneAfterAnother.{next_among, senders_linked}
 use Rattle.environment_push.proofs.lending.reaching.Goals as goal

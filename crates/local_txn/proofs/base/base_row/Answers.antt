@@ -4,9 +4,9 @@ use Rattle.std.specs.Prelude.{◌&&◌, is_some}
 use Rattle.rep_values.specs.RefusalSteps.{first_refusal}
 use Rattle.rep_schema.specs.Tables.{columns_of, key_of}
 use Rattle.rep_schema.specs.Fitting.{is_keyed}
-use Rattle.local_txn.specs.Literals.{literals_fit}
-use Rattle.local_txn.specs.Filled.{written_columns}
-use Rattle.local_txn.specs.Statements.{row_at, row_steps}
+use Rattle.txn_effects.specs.Literals.{literals_fit}
+use Rattle.txn_effects.specs.Filled.{written_columns}
+use Rattle.txn_effects.specs.Statements.{row_at, row_steps}
 use Rattle.local_txn.specs.BaseRows.{base_row}
 use Rattle.local_txn.proofs.BaseRefusals.{IsRowLen-base, length-base, IsKindly-base, IsBaseRow-accepted}
 use Rattle.local_txn.proofs.base.base_row.Goals as goal

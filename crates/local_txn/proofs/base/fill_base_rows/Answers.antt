@@ -2,7 +2,7 @@
 use Rattle.std.proofs.Common.{◌≡◌, ◌≢◌, ◌+◌, ◌<◌, ◌≤◌, [], length, set, map, refl, sym, ap, ◌∙◌, arith}
 use Rattle.std.proofs.lemmas.List.{length-set, get_or-set_other}
 use Rattle.rep_schema.specs.Tables.{columns_of, rows_of}
-use Rattle.local_txn.specs.Filled.{filled_row}
+use Rattle.txn_effects.specs.Filled.{filled_row}
 use Rattle.local_txn.specs.BaseRows.{filled_on}
 use Rattle.local_txn.proofs.BaseFilling.{base_filling}
 use Rattle.local_txn.proofs.BaseTables.{filled_on-more}

@@ -4,7 +4,7 @@ use Rattle.std.specs.Prelude.{slice_get}
 use Rattle.std.proofs.lemmas.List.{get_or-set_same, set-set}
 use Rattle.rep_schema.specs.Tables.{columns_of, key_of, take_row, put_row, rows_of}
 use Rattle.rep_schema.proofs.Shapes.{length-columns_of}
-use Rattle.local_txn.specs.Filled.{filled_row}
+use Rattle.txn_effects.specs.Filled.{filled_row}
 use Rattle.local_txn.proofs.BaseFilling.{base_filling, find_row-there, length-there, RowFits-filled_there, IsUniqueRow-filled, put_row-filled}
 use Rattle.local_txn.proofs.base.fill_row.Goals as goal
 

@@ -4,7 +4,7 @@ use Rattle.std.proofs.lemmas.List.{get_or-set_same, set-set}
 use Rattle.std.proofs.lemmas.Option.{slice_get-get_or}
 use Rattle.rep_lists.proofs.InPlace.{changed_more}
 use Rattle.rep_schema.specs.Tables.{Cells, Rows, columns_of, rows_of}
-use Rattle.local_txn.specs.Filled.{filled_row}
+use Rattle.txn_effects.specs.Filled.{filled_row}
 use Rattle.local_txn.specs.BaseSteps.{fill_count}
 use Rattle.local_txn.proofs.BaseFilling.{base_filling}
 use Rattle.local_txn.proofs.BaseTables.{length-changed_to, filled_rows-all, fill_count-within}

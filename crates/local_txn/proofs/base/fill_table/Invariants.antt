@@ -2,7 +2,7 @@
 use Rattle.std.proofs.Common.{◌≡◌, ℕ, ◌+◌, ◌≤◌, ◌++◌, map, take, drop, set}
 use Rattle.std.specs.Prelude.{◌≢◌, slice_index}
 use Rattle.rep_schema.specs.Tables.{columns_of, rows_of}
-use Rattle.local_txn.specs.Filled.{filled_row}
+use Rattle.txn_effects.specs.Filled.{filled_row}
 use Rattle.local_txn.specs.BaseSteps.{fill_count}
 use Rattle.local_txn.proofs.BaseFilling.{base_filling}
 use Rattle.local_txn.proofs.base.fill_table.Given as goal

@@ -2,7 +2,7 @@ use Rattle.std.proofs.Common.{◌==◌, sym, ap, ◌∙◌}
 use Rattle.std.specs.Prelude.{slice_get}
 use Rattle.std.specs.Ordering.{ordering_index, is_lt}
 use Rattle.rep_schema.specs.Tables.{cell_cmp}
-use Rattle.local_txn.specs.ByColumn.{row_by}
+use Rattle.txn_effects.specs.ByColumn.{row_by}
 use Rattle.local_txn.proofs.SetWalk.{cell_cmp-turned, is_lt-reversed}
 use Rattle.local_txn.proofs.convergent.grows.Goals as goal
 

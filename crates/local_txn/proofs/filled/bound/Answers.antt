@@ -1,6 +1,6 @@
 use Rattle.std.proofs.Common.{◌≡◌, max, sym, ◌∙◌, arith, refl}
-use Rattle.local_txn.specs.Filled.{above_value}
-use Rattle.local_txn.specs.Chosen.{chosen_at}
+use Rattle.txn_effects.specs.Filled.{above_value}
+use Rattle.txn_effects.specs.Chosen.{chosen_at}
 use Rattle.local_txn.proofs.FilledRows.{ord_max-max, bound-more, bound-other}
 use Rattle.local_txn.proofs.filled.bound.Goals as goal
 use Rattle.local_txn.proofs.filled.bound.Goals.{then-gets_stamp, else-gets_stamp}

@@ -1,7 +1,7 @@
 -- The stamps of a row, one after another.
 use Rattle.std.proofs.Common.{◌≡◌, max, drop}
-use Rattle.local_txn.specs.Filled.{bound_from}
-use Rattle.local_txn.specs.Chosen.{chosen_at}
+use Rattle.txn_effects.specs.Filled.{bound_from}
+use Rattle.txn_effects.specs.Chosen.{chosen_at}
 use Rattle.local_txn.proofs.filled.bound.Given as goal
 
 -- the bound so far, and that of the stamps to come

@@ -1,7 +1,7 @@
 -- Marking place after place.
 use Rattle.std.proofs.Common.{◌≡◌, ℕ, ◌||◌, length, take}
 use Rattle.rep_schema.specs.Kinds.{has_place}
-use Rattle.local_txn.specs.Chosen.{chosen_at}
+use Rattle.txn_effects.specs.Chosen.{chosen_at}
 use Rattle.local_txn.proofs.filled.choose.Given as goal
 
 -- the places so far are marked

@@ -7,7 +7,7 @@ use Rattle.rep_schema.specs.Groups.{differ_in, group_values, group_columns_of}
 use Rattle.rep_schema.proofs.ValuesAt.{are_same-Decides}
 use Rattle.rep_schema.proofs.Coverage.{group_columns_of-below}
 use Rattle.rep_schema.proofs.Shapes.{length-columns_of}
-use Rattle.local_txn.specs.Chosen.{chosen_at}
+use Rattle.txn_effects.specs.Chosen.{chosen_at}
 use Rattle.local_txn.proofs.FilledRows.{or_false}
 use Rattle.local_txn.proofs.filled.choose_differing.Goals as goal
 

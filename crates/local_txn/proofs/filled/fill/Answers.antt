@@ -1,7 +1,7 @@
 use Rattle.std.proofs.Common.{◌≡◌, set, sym, ap, ◌∙◌}
 use Rattle.std.proofs.lemmas.List.{length-set}
-use Rattle.local_txn.specs.Filled.{Filling, filling_value}
-use Rattle.local_txn.specs.Chosen.{chosen_at}
+use Rattle.txn_effects.specs.Filled.{Filling, filling_value}
+use Rattle.txn_effects.specs.Chosen.{chosen_at}
 use Rattle.local_txn.proofs.FilledRows.{filled-more, filled-other}
 use Rattle.local_txn.proofs.filled.fill.Goals as goal
 use Rattle.local_txn.proofs.filled.fill.Goals.{then-gets_filled, else-gets_filled}

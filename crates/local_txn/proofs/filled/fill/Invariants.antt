@@ -1,7 +1,7 @@
 -- Filling column after column in.
 use Rattle.std.proofs.Common.{◌≡◌, ◌++◌, length, drop, take}
-use Rattle.local_txn.specs.Filled.{filled_from}
-use Rattle.local_txn.specs.Chosen.{chosen_at}
+use Rattle.txn_effects.specs.Filled.{filled_from}
+use Rattle.txn_effects.specs.Chosen.{chosen_at}
 use Rattle.local_txn.proofs.filled.fill.Given as goal
 
 -- the columns so far are filled in, and those to come are as they were

@@ -1,7 +1,7 @@
 use Rattle.std.proofs.Common.{true, ◌∙◌, arith, zero-add}
 use Rattle.std.specs.Prelude.{replicate}
-use Rattle.local_txn.specs.Filled.{everywhere}
-use Rattle.local_txn.specs.Chosen.{chosen_at}
+use Rattle.txn_effects.specs.Filled.{everywhere}
+use Rattle.txn_effects.specs.Chosen.{chosen_at}
 use Rattle.local_txn.proofs.FilledRows.{filled_from-same, chosen_at-all}
 use Rattle.local_txn.proofs.filled.fill_everywhere.Goals as goal
 

@@ -1,7 +1,7 @@
 -- Looking for a STAMP.
 use Rattle.std.proofs.Common.{◌≡◌, drop}
-use Rattle.local_txn.specs.Filled.{has_stamp_from}
-use Rattle.local_txn.specs.Chosen.{chosen_at}
+use Rattle.txn_effects.specs.Filled.{has_stamp_from}
+use Rattle.txn_effects.specs.Chosen.{chosen_at}
 use Rattle.local_txn.proofs.filled.has_stamp.Given as goal
 
 -- what is left decides

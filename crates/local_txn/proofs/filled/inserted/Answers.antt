@@ -1,8 +1,8 @@
 use Rattle.std.proofs.Common.{true, sym, ◌∙◌, arith}
 use Rattle.std.specs.Prelude.{replicate}
-use Rattle.local_txn.specs.Filled.{everywhere, next_stamp}
+use Rattle.txn_effects.specs.Filled.{everywhere, next_stamp}
 use Rattle.txn_effects.specs.Stamps.{capped}
-use Rattle.local_txn.specs.Chosen.{chosen_at}
+use Rattle.txn_effects.specs.Chosen.{chosen_at}
 use Rattle.local_txn.proofs.FilledRows.{made_with-none, made_with-same, chosen_at-all}
 use Rattle.local_txn.proofs.filled.inserted.Goals as goal
 

@@ -3,7 +3,7 @@ use Rattle.std.specs.Prelude.{◌||◌}
 use Rattle.std.specs.List.{list_any, range_with_len}
 use Rattle.rep_schema.specs.Groups.{groups_of, shadow_group}
 use Rattle.rep_schema.proofs.GroupShapes.{length-groups_of}
-use Rattle.local_txn.specs.Chosen.{is_modified_in}
+use Rattle.txn_effects.specs.Chosen.{is_modified_in}
 use Rattle.local_txn.proofs.FilledRows.{list_any-range_more, is_modified-groups, chosen_at-none}
 use Rattle.local_txn.proofs.filled.modified_places.Goals as goal
 

@@ -1,7 +1,7 @@
 -- Marking the columns of group after group.
 use Rattle.std.proofs.Common.{◌≡◌, ℕ}
 use Rattle.std.specs.List.{list_any, range_with_len}
-use Rattle.local_txn.specs.Chosen.{chosen_at, is_modified_in}
+use Rattle.txn_effects.specs.Chosen.{chosen_at, is_modified_in}
 use Rattle.local_txn.proofs.filled.modified_places.Given as goal
 
 -- those of the groups so far are marked

@@ -1,8 +1,8 @@
 use Rattle.std.proofs.Common.{◌≡◌, ℕ, Bool, ◌+◌, refl, sym, ◌∙◌}
 use Rattle.rep_schema.specs.Tables.{columns_of}
-use Rattle.local_txn.specs.Filled.{is_modified, bound_from, next_stamp}
+use Rattle.txn_effects.specs.Filled.{is_modified, bound_from, next_stamp}
 use Rattle.txn_effects.specs.Stamps.{capped}
-use Rattle.local_txn.specs.Chosen.{chosen_at}
+use Rattle.txn_effects.specs.Chosen.{chosen_at}
 use Rattle.local_txn.proofs.FilledRows.{made_with-none, made_with-same, bound_from-same}
 use Rattle.local_txn.proofs.filled.updated.Goals as goal
 

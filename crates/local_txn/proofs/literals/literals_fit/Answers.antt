@@ -1,7 +1,7 @@
 use Rattle.std.proofs.Common.{◌≡◌, ◌+◌, drop, true, false, sym, ◌∙◌, arith}
 use Rattle.std.specs.Prelude.{slice_get, filter}
 use Rattle.std.proofs.lemmas.List.{drop_all}
-use Rattle.local_txn.specs.Literals.{literal_there, is_given}
+use Rattle.txn_effects.specs.Literals.{literal_there, is_given}
 use Rattle.local_txn.proofs.LiteralWalk.{fails-here, fits-here, counted, literals_fit-end, given-more, given-other}
 use Rattle.local_txn.proofs.literals.literals_fit.Goals as goal
 use Rattle.local_txn.proofs.literals.literals_fit.Goals.{then-is_given+else-not-fits_there, else-is_given}

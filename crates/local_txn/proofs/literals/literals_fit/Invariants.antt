@@ -1,7 +1,7 @@
 -- Testing the literals of the given columns, one after another.
 use Rattle.std.proofs.Common.{◌≡◌, ◌≤◌, length, drop}
 use Rattle.std.specs.Prelude.{filter}
-use Rattle.local_txn.specs.Literals.{literals_fit, is_given}
+use Rattle.txn_effects.specs.Literals.{literals_fit, is_given}
 use Rattle.local_txn.proofs.literals.literals_fit.Given as goal
 
 -- what is left decides

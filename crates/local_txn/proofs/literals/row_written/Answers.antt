@@ -2,8 +2,8 @@ use Rattle.std.proofs.Common.{◌≡◌, length, ap, sym, ◌∙◌}
 use Rattle.std.proofs.lemmas.List.{drop_all, append-nil}
 use Rattle.std.proofs.lemmas.Bool.{false≢true}
 use Rattle.rep_values.specs.Number.{IsRowLen}
-use Rattle.local_txn.specs.Filled.{row_written}
-use Rattle.local_txn.specs.Literals.{values_of}
+use Rattle.txn_effects.specs.Filled.{row_written}
+use Rattle.txn_effects.specs.Literals.{values_of}
 use Rattle.local_txn.proofs.LiteralWalk.{length-row_written}
 use Rattle.local_txn.proofs.literals.row_written.Goals as goal
 

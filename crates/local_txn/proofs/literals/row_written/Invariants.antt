@@ -1,7 +1,7 @@
 -- Gathering the values of literals and blanks.
 use Rattle.std.proofs.Common.{◌≡◌, ◌+◌, ◌++◌, length, drop}
-use Rattle.local_txn.specs.Literals.{values_of}
-use Rattle.local_txn.specs.Filled.{written_columns, row_written}
+use Rattle.txn_effects.specs.Literals.{values_of}
+use Rattle.txn_effects.specs.Filled.{written_columns, row_written}
 use Rattle.local_txn.proofs.literals.row_written.Given as goal
 
 -- the values so far are gathered, and there is a literal for each of the columns to come

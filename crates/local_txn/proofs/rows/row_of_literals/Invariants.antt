@@ -1,6 +1,6 @@
 -- Gathering the values of literals.
 use Rattle.std.proofs.Common.{◌≡◌, take}
-use Rattle.local_txn.specs.Literals.{values_of}
+use Rattle.txn_effects.specs.Literals.{values_of}
 use Rattle.local_txn.proofs.rows.row_of_literals.Given as goal
 
 -- the values so far are gathered

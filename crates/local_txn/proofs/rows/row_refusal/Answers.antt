@@ -3,8 +3,8 @@ use Rattle.std.proofs.Common.{◌≡◌, true, refl, sym, ◌∙◌}
 use Rattle.std.specs.Prelude.{None, Some}
 use Rattle.rep_values.specs.RefusalSteps.{first_refusal}
 use Rattle.rep_schema.specs.Kinds.{row_in_range}
-use Rattle.local_txn.specs.Statements.{unique_steps, check_step}
-use Rattle.local_txn.proofs.NewRows.{row_steps-parts}
+use Rattle.txn_effects.specs.Statements.{unique_steps, check_step}
+use Rattle.txn_effects.proofs.NewRows.{row_steps-parts}
 use Rattle.local_txn.proofs.rows.row_refusal.Goals as goal
 
 pub returns-in-Some : goal.returns-in-Some

@@ -2,7 +2,7 @@
 use Rattle.std.proofs.Common.{◌≡◌, map, drop}
 use Rattle.rep_schema.specs.Tables.{constraints_of}
 use Rattle.rep_values.specs.RefusalSteps.{first_refusal}
-use Rattle.local_txn.specs.Statements.{taken_step}
+use Rattle.txn_effects.specs.Statements.{taken_step}
 use Rattle.local_txn.proofs.rows.unique_refusal.Given as goal
 
 -- none of the constraints so far refuses, and those that are left decide

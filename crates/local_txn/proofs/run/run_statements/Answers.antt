@@ -6,7 +6,7 @@ use Rattle.rep_schema.specs.Putting.{after_changes, changes_of}
 use Rattle.txn_effects.proofs.TransactionEffects.{IsApplied-none}
 use Rattle.unique_resolve.specs.Numbers.{first_numbers}
 use Rattle.unique_resolve.proofs.Settlements.{AreCounters-first}
-use Rattle.local_txn.specs.Statements.{BlockState, statement_refusal, statement_changes, block_state_after}
+use Rattle.txn_effects.specs.Statements.{BlockState, statement_refusal, statement_changes, block_state_after}
 use Rattle.local_txn.specs.Running.{StatementGoesOn, StatementStopsAs, block_state_of}
 use Rattle.local_txn.proofs.BlockSteps.{room_for-more, IsApplied-more, made_all-more, so_far-none, so_far-Ok, so_far-Err}
 use Rattle.local_txn.proofs.run.run_statements.Goals as goal

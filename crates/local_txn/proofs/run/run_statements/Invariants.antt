@@ -4,9 +4,9 @@ use Rattle.std.specs.Prelude.{slice_index, vec_len, vec_capacity}
 use Rattle.rep_schema.specs.Changes.{room_for}
 use Rattle.txn_effects.specs.Laws.{IsApplied}
 use Rattle.rep_schema.specs.Putting.{after_changes}
-use Rattle.local_txn.specs.Locals.{block_effect_behind, statements_effect}
+use Rattle.txn_effects.specs.Locals.{block_effect_behind, statements_effect}
 use Rattle.local_txn.specs.Running.{block_state_of}
-use Rattle.local_txn.proofs.StatementEffects.{effect_with}
+use Rattle.txn_effects.proofs.StatementEffects.{effect_with}
 use Rattle.local_txn.proofs.run.run_statements.Given as goal
 
 -- the statements so far have run, and those that are left decide

@@ -1,7 +1,7 @@
 use Rattle.std.proofs.Common.{◌≡◌, true, false, refl, sym, ◌∙◌}
 use Rattle.std.specs.Prelude.{is_some}
 use Rattle.rep_schema.specs.Kinds.{is_filled}
-use Rattle.local_txn.specs.ByColumn.{set_at}
+use Rattle.txn_effects.specs.ByColumn.{set_at}
 use Rattle.local_txn.proofs.SetWalk.{fills_some-more, is_some-copied}
 use Rattle.local_txn.proofs.sets.fills_some.Goals as goal
 use Rattle.local_txn.proofs.sets.fills_some.Goals.{else-is_filled-via-then-is_filled+else-is_some, else-is_filled-via-else-is_filled}

@@ -1,6 +1,6 @@
 -- Column after column.
 use Rattle.std.proofs.Common.{◌≡◌, drop}
-use Rattle.local_txn.specs.ByColumn.{fills_some}
+use Rattle.txn_effects.specs.ByColumn.{fills_some}
 use Rattle.local_txn.proofs.sets.fills_some.Given as goal
 
 -- what is left decides

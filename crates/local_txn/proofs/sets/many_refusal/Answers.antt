@@ -1,5 +1,5 @@
 use Rattle.std.proofs.Common.{◌≡◌, true, false, refl, sym, ◌∙◌}
-use Rattle.local_txn.specs.Sets.{names_columns}
+use Rattle.txn_effects.specs.Sets.{names_columns}
 use Rattle.local_txn.proofs.ManySets.{twice_of_many}
 use Rattle.local_txn.proofs.sets.many_refusal.Goals as goal
 

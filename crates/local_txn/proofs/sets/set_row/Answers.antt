@@ -1,7 +1,7 @@
 use Rattle.std.proofs.Common.{◌≡◌, ◌<◌, ◌≤◌, length, get_or, set, Some, refl, sym, ap, ◌∙◌, arith}
 use Rattle.std.proofs.lemmas.List.{length-set}
-use Rattle.local_txn.specs.Sets.{value_after}
-use Rattle.local_txn.specs.ByColumn.{set_at}
+use Rattle.txn_effects.specs.Sets.{value_after}
+use Rattle.txn_effects.specs.ByColumn.{set_at}
 use Rattle.local_txn.proofs.SetWalk.{set-more, set-kept, set-end, out-here, where_in_range-None, where_in_range-Some, row_in_range-set}
 use Rattle.local_txn.proofs.sets.set_row.Goals as goal
 use Rattle.local_txn.proofs.sets.set_row.Goals.{in-Some+in_ok-value, in_default}

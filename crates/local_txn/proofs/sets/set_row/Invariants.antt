@@ -1,7 +1,7 @@
 -- Value after value.
 use Rattle.std.proofs.Common.{◌≡◌, ◌++◌, true, length, drop, take}
 use Rattle.rep_schema.specs.Kinds.{row_in_range}
-use Rattle.local_txn.specs.ByColumn.{row_by}
+use Rattle.txn_effects.specs.ByColumn.{row_by}
 use Rattle.local_txn.proofs.sets.set_row.Given as goal
 
 -- the values so far are set, and all are in range

@@ -1,6 +1,6 @@
 -- Column after column.
 use Rattle.std.proofs.Common.{◌≡◌, drop}
-use Rattle.local_txn.specs.ByColumn.{takes_each}
+use Rattle.txn_effects.specs.ByColumn.{takes_each}
 use Rattle.local_txn.proofs.sets.takes_each.Given as goal
 
 -- what is left decides

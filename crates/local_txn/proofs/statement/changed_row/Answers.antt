@@ -3,9 +3,9 @@ use Rattle.std.proofs.Common.{◌≡◌, sym, ◌∙◌}
 use Rattle.std.specs.Prelude.{Some}
 use Rattle.rep_schema.specs.Tables.{columns_of}
 use Rattle.rep_schema.proofs.RowFit.{length-fits}
-use Rattle.local_txn.specs.ByColumn.{row_by, row_where_in_range}
+use Rattle.txn_effects.specs.ByColumn.{row_by, row_where_in_range}
 use Rattle.local_txn.proofs.SetWalk.{length-row_by}
-use Rattle.local_txn.proofs.KindRows.{are_of-RowFits}
+use Rattle.txn_effects.proofs.KindRows.{are_of-RowFits}
 use Rattle.local_txn.proofs.StatementSteps.{set_row-Some}
 use Rattle.local_txn.proofs.statement.changed_row.Goals as goal
 

@@ -2,7 +2,7 @@
 use Rattle.std.proofs.Common.{◌≡◌, true, sym, ap, ◌∙◌}
 use Rattle.std.specs.Prelude.{slice_set}
 use Rattle.rep_schema.specs.Tables.{columns_of, find_row, rows_of}
-use Rattle.local_txn.specs.Literals.{key_literals_fit}
+use Rattle.txn_effects.specs.Literals.{key_literals_fit}
 use Rattle.local_txn.proofs.StatementSteps.{there_is, IsKeyLen-fits, made_in-found, room_kept}
 use Rattle.local_txn.proofs.statement.delete_row.Goals as goal
 

@@ -5,11 +5,12 @@ use Rattle.rep_values.specs.RefusalSteps.{first_refusal}
 use Rattle.rep_schema.specs.Tables.{columns_of, rows_of, RowFits, IsUniqueRow}
 use Rattle.rep_schema.specs.Changes.{row_like}
 use Rattle.rep_schema.proofs.Shapes.{length-columns_of}
-use Rattle.local_txn.specs.declared.filled.RowMade.{RowMade}
-use Rattle.local_txn.specs.Literals.{literals_fit, values_of}
-use Rattle.local_txn.specs.Filled.{written_columns, row_written}
-use Rattle.local_txn.specs.Running.{FitsButForRange, inserted_capped, block_state_of, progress_after}
-use Rattle.local_txn.specs.Statements.{new_row_steps}
+use Rattle.txn_effects.specs.declared.row_made.RowMade.{RowMade}
+use Rattle.txn_effects.specs.Literals.{literals_fit, values_of}
+use Rattle.txn_effects.specs.Filled.{written_columns, row_written}
+use Rattle.local_txn.specs.Running.{inserted_capped, block_state_of, progress_after}
+use Rattle.txn_effects.specs.NewRows.{FitsButForRange}
+use Rattle.txn_effects.specs.Statements.{new_row_steps}
 use Rattle.local_txn.proofs.StatementSteps.{IsRowLen-able, length-literals_fit, length-written, IsKindly-inserted, insert_refusal, RowFits-inserted, IsUniqueRow-inserted, RunsAs-inserted}
 use Rattle.local_txn.proofs.statement.insert_row.Goals as goal
 

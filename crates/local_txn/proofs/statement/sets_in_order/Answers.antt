@@ -3,8 +3,8 @@ use Rattle.std.proofs.Common.{◌≡◌, true, false, sym, ◌∙◌}
 use Rattle.std.specs.Prelude.{◌&&◌}
 use Rattle.std.proofs.lemmas.Bool.{and_from, and_left, and_right}
 use Rattle.rep_schema.specs.Tables.{columns_of}
-use Rattle.local_txn.specs.Literals.{key_literals_fit}
-use Rattle.local_txn.specs.ByColumn.{AreSets, takes_each, fills_some}
+use Rattle.txn_effects.specs.Literals.{key_literals_fit}
+use Rattle.txn_effects.specs.ByColumn.{AreSets, takes_each, fills_some}
 use Rattle.local_txn.proofs.StatementSteps.{order_RowShape, order_FilledBySite, AreInOrder-found}
 use Rattle.local_txn.proofs.statement.sets_in_order.Goals.{then-not-key_literals_fit-via-then-not-key_literals_fit, then-not-key_literals_fit-via-else-not-key_literals_fit+then-not-takes_each}
 use Rattle.local_txn.proofs.statement.sets_in_order.Goals as goal

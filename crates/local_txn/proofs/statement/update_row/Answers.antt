@@ -8,10 +8,10 @@ use Rattle.rep_schema.specs.Tables.{columns_of, rows_of}
 use Rattle.rep_schema.specs.Groups.{are_same}
 use Rattle.rep_schema.specs.Changes.{row_like}
 use Rattle.rep_schema.proofs.ValuesAt.{are_same-Decides}
-use Rattle.local_txn.specs.Literals.{values_of}
-use Rattle.local_txn.specs.Statements.{row_at, row_steps}
+use Rattle.txn_effects.specs.Literals.{values_of}
+use Rattle.txn_effects.specs.Statements.{row_at, row_steps}
 use Rattle.local_txn.specs.Running.{AreInOrder, ChangesTo, block_state_of}
-use Rattle.local_txn.specs.ByColumn.{row_by}
+use Rattle.txn_effects.specs.ByColumn.{row_by}
 use Rattle.local_txn.proofs.StatementSteps.{update_order, IsKeyLen-key, before_fits, update_refused, IsKindly-made, update_row_refused, RowFits-made, IsUniqueRow-made, row_like-made, RunsAs-updated}
 use Rattle.local_txn.proofs.statement.update_row.Goals as goal
 

@@ -4,7 +4,7 @@ use Rattle.std.proofs.lemmas.List.{drop_all}
 use Rattle.rep_schema.specs.declared.schema.Schema.{Schema}
 use Rattle.error_queue.specs.declared.entry.ErrorEntry.{ErrorEntry}
 use Rattle.error_queue.specs.ErrorLists.{in_order}
-use Rattle.site_state.specs.State.{is_master_site}
+use Rattle.rep_schema.specs.Sites.{is_master_site}
 use Rattle.master_join.proofs.UnfinishedPositions.{is_of_master, count_here}
 use Rattle.master_join.proofs.quiet.master_errors.Goals as goal
 use Rattle.master_join.proofs.quiet.master_errors.Goals.{then-is_master_site, else-is_master_site}

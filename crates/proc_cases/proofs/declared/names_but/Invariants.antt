@@ -1,7 +1,7 @@
 -- Gathering the names of the other sites.
 use Rattle.std.proofs.Common.{◌≡◌, ◌++◌, drop, filter, not}
 use Rattle.rep_schema.specs.Sites.{names_of}
-use Rattle.deferred_queue.specs.Streams.{is_same_site}
+use Rattle.rep_values.specs.SiteNames.{is_same_site}
 use Rattle.proc_cases.proofs.declared.names_but.Given as goal
 
 -- the names so far, and those of the sites to come

@@ -1,6 +1,6 @@
 use Rattle.std.proofs.Common.{◌≡◌, ◌-◌, true, Some, reverse, refl, sym, ap, ◌∙◌, arith}
 use Rattle.std.specs.Prelude.{slice_get}
-use Rattle.site_state.specs.State.{is_master_site}
+use Rattle.rep_schema.specs.Sites.{is_master_site}
 use Rattle.site_cases.proofs.Newest.{newest_can_be_sorted}
 use Rattle.site_cases.proofs.works.settle_newest.Goals as goal
 

@@ -1,6 +1,6 @@
 -- Gathering the other names.
 use Rattle.std.proofs.Common.{◌≡◌, ◌++◌, drop}
-use Rattle.event_laws.specs.Events.{without}
+use Rattle.site_events.specs.Events.{without}
 use Rattle.site_making.proofs.procs.without.Given as goal
 
 -- the others so far, and those among the names to come

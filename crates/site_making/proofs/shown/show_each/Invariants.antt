@@ -1,7 +1,7 @@
 -- Making the snapshots of a site.
 use Rattle.std.proofs.Common.{◌≡◌, ◌++◌, drop}
 use Rattle.site_state.specs.Refreshes.{with_tables}
-use Rattle.event_laws.specs.Rules.{rows_ruled}
+use Rattle.site_events.specs.Rules.{rows_ruled}
 use Rattle.world_state.specs.Making.{snapshots_at}
 use Rattle.site_making.proofs.shown.show_each.Given as goal
 

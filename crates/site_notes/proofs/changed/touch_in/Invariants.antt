@@ -1,6 +1,6 @@
 -- Noting the rows that are left leads to what noting all does, and there is room for them.
 use Rattle.std.proofs.Common.{◌≡◌, ◌+◌, ◌≤◌, drop}
-use Rattle.site_state.specs.Notes.{touched_in}
+use Rattle.snapshot_log.specs.Noting.{touched_in}
 use Rattle.site_notes.proofs.changed.touch_in.Given as goal
 
 abbrev pub invariant-loop-change : goal.invariant-loop-change

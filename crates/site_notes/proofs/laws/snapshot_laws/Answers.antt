@@ -1,5 +1,5 @@
-use Rattle.site_state.specs.Notes.{logged_above, keys_changed, keys_in, log_of}
-use Rattle.site_state.proofs.RisingKeys.{rising-with_keys}
+use Rattle.snapshot_log.specs.Noting.{logged_above, keys_changed, keys_in, log_of}
+use Rattle.snapshot_log.proofs.RisingKeys.{rising-with_keys}
 use Rattle.site_notes.proofs.Lending.{lent_return}
 use Rattle.site_notes.proofs.laws.snapshot_laws.Goals as goal
 

@@ -1,6 +1,6 @@
 -- The log is among those that are left.
 use Rattle.std.proofs.Common.{◌≡◌, drop}
-use Rattle.site_state.specs.Notes.{log_of}
+use Rattle.snapshot_log.specs.Noting.{log_of}
 use Rattle.site_notes.specs.RoomyNotes.{logs_in}
 use Rattle.site_notes.proofs.logs.find.Given as goal
 

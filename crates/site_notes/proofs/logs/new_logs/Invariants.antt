@@ -1,6 +1,6 @@
 -- A log for each table so far.
 use Rattle.std.proofs.Common.{◌≡◌, take, map}
-use Rattle.site_state.specs.Making.{new_log}
+use Rattle.snapshot_log.specs.LogState.{new_log}
 use Rattle.site_notes.specs.RoomyNotes.{logs_in}
 use Rattle.site_notes.proofs.logs.new_logs.Given as goal
 

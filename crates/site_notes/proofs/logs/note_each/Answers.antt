@@ -1,6 +1,6 @@
 use Rattle.std.proofs.Common.{◌∙◌, length, arith}
 use Rattle.std.proofs.lemmas.List.{length-set}
-use Rattle.site_state.specs.Notes.{logged_in}
+use Rattle.snapshot_log.specs.Noting.{logged_in}
 use Rattle.snapshot_log.specs.Logs.{RoomyLog}
 use Rattle.site_notes.specs.RoomyNotes.{log_in, log_spares}
 use Rattle.site_notes.proofs.Parts.{part_changes}

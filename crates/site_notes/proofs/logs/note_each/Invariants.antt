@@ -1,7 +1,8 @@
 -- The changed rows are noted in the logs up to the place, and no more room is used there than by one key for each.
 use Rattle.std.proofs.Common.{◌≡◌, ◌≤◌, ℕ, ◌++◌, length, map, take, drop}
-use Rattle.site_state.specs.Notes.{logged_in}
-use Rattle.site_notes.specs.RoomyNotes.{logs_in, log_spares, least}
+use Rattle.snapshot_log.specs.Noting.{logged_in}
+use Rattle.site_notes.specs.RoomyNotes.{logs_in, log_spares}
+use Rattle.rep_lists.specs.Counting.{least}
 use Rattle.site_notes.proofs.Room.{raised}
 use Rattle.site_notes.proofs.logs.note_each.Given as goal
 

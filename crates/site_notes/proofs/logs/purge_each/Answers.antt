@@ -1,7 +1,7 @@
 use Rattle.std.proofs.Common.{◌∙◌, arith}
 use Rattle.std.proofs.lemmas.List.{length-set}
 use Rattle.snapshot_log.specs.Logs.{RoomyLog}
-use Rattle.site_state.specs.Purges.{purged_where}
+use Rattle.snapshot_log.specs.LogState.{purged_where}
 use Rattle.site_notes.specs.RoomyNotes.{log_in}
 use Rattle.site_notes.proofs.Parts.{part_changes}
 use Rattle.site_notes.proofs.Room.{room_kept}

@@ -1,7 +1,8 @@
 -- The logs of the table up to the place are purged, and no room is given up.
 use Rattle.std.proofs.Common.{◌≡◌, ◌≤◌, ℕ, length, ◌++◌, map, take, drop}
-use Rattle.site_state.specs.Purges.{purged_where}
-use Rattle.site_notes.specs.RoomyNotes.{logs_in, log_spares, least}
+use Rattle.snapshot_log.specs.LogState.{purged_where}
+use Rattle.site_notes.specs.RoomyNotes.{logs_in, log_spares}
+use Rattle.rep_lists.specs.Counting.{least}
 use Rattle.site_notes.proofs.logs.purge_each.Given as goal
 
 abbrev pub invariant-loop-log : goal.invariant-loop-log

@@ -1,6 +1,7 @@
 -- The logs up to the place have room, and they are as they were.
 use Rattle.std.proofs.Common.{◌≡◌, ◌≤◌, ℕ, length, take}
-use Rattle.site_notes.specs.RoomyNotes.{logs_in, log_spares, least}
+use Rattle.site_notes.specs.RoomyNotes.{logs_in, log_spares}
+use Rattle.rep_lists.specs.Counting.{least}
 use Rattle.site_notes.proofs.logs.reserve_each.Given as goal
 
 abbrev pub invariant-loop-log : goal.invariant-loop-log

@@ -2,7 +2,7 @@ use Rattle.std.proofs.Common.{◌≡◌, ◌+◌, ◌-◌, [], ◌∷◌, ◌++�
 use Rattle.std.specs.declared.cmp.Ordering.TheVariants.{Less, Equal, Greater}
 use Rattle.std.proofs.lemmas.List.{append_assoc, take_all, length-drop}
 use Rattle.rep_values.specs.Order.{key_cmp}
-use Rattle.site_state.specs.Notes.{with_keys}
+use Rattle.snapshot_log.specs.Noting.{with_keys}
 use Rattle.site_notes.proofs.Merging.{left-less, left-equal, left-greater, left-no_more, left-no_keys}
 use Rattle.site_notes.proofs.merge.with_keys.Goals as goal
 use Rattle.site_notes.proofs.merge.with_keys.Goals.{then-loop-next-test+else-place-keys, else-loop-next-test}

@@ -1,6 +1,6 @@
 -- The keys so far, and what is left of the two lists, come to all.
 use Rattle.std.proofs.Common.{◌≡◌, ◌+◌, ◌-◌, ◌≤◌, ◌++◌, drop, length}
-use Rattle.site_state.specs.Notes.{with_keys}
+use Rattle.snapshot_log.specs.Noting.{with_keys}
 use Rattle.site_notes.proofs.merge.with_keys.Given as goal
 
 abbrev pub invariant-loop-next : goal.invariant-loop-next

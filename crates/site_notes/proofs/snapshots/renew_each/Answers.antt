@@ -1,6 +1,6 @@
 use Rattle.std.proofs.Common.{◌∙◌, arith}
 use Rattle.std.proofs.lemmas.List.{length-set}
-use Rattle.site_state.specs.Refreshes.{renewed}
+use Rattle.snapshot_log.specs.Noting.{renewed}
 use Rattle.site_notes.specs.RoomyNotes.{RoomySnapshot, snapshot_in}
 use Rattle.site_notes.proofs.Parts.{part_changes}
 use Rattle.site_notes.proofs.Room.{room_kept}

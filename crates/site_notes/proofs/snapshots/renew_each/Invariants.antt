@@ -1,7 +1,8 @@
 -- The snapshots up to the place are refreshed, and no room is given up.
 use Rattle.std.proofs.Common.{◌≡◌, ◌≤◌, ℕ, length, ◌++◌, map, take, drop}
-use Rattle.site_state.specs.Refreshes.{renewed}
-use Rattle.site_notes.specs.RoomyNotes.{snapshots_in, snapshot_spares, least}
+use Rattle.snapshot_log.specs.Noting.{renewed}
+use Rattle.site_notes.specs.RoomyNotes.{snapshots_in, snapshot_spares}
+use Rattle.rep_lists.specs.Counting.{least}
 use Rattle.site_notes.proofs.snapshots.renew_each.Given as goal
 
 abbrev pub invariant-loop-one : goal.invariant-loop-one

@@ -1,6 +1,7 @@
 -- The snapshots up to the place have room, and they are as they were.
 use Rattle.std.proofs.Common.{◌≡◌, ◌≤◌, ℕ, length, take}
-use Rattle.site_notes.specs.RoomyNotes.{snapshots_in, snapshot_spares, least}
+use Rattle.site_notes.specs.RoomyNotes.{snapshots_in, snapshot_spares}
+use Rattle.rep_lists.specs.Counting.{least}
 use Rattle.site_notes.proofs.snapshots.reserve_each.Given as goal
 
 abbrev pub invariant-loop-one : goal.invariant-loop-one

@@ -1,6 +1,6 @@
 use Rattle.std.proofs.Common.{◌∙◌, length, arith}
 use Rattle.std.proofs.lemmas.List.{length-set}
-use Rattle.site_state.specs.Notes.{touched_in}
+use Rattle.snapshot_log.specs.Noting.{touched_in}
 use Rattle.site_notes.specs.RoomyNotes.{RoomySnapshot, snapshot_in, snapshot_spares}
 use Rattle.site_notes.proofs.Parts.{part_changes}
 use Rattle.site_notes.proofs.Room.{room_used, room_yet, raised-all}

@@ -1,7 +1,8 @@
 -- The changed rows are noted at the snapshots up to the place, and no more room is used there than by one key for each.
 use Rattle.std.proofs.Common.{◌≡◌, ◌≤◌, ℕ, ◌++◌, length, map, take, drop}
-use Rattle.site_state.specs.Notes.{touched_in}
-use Rattle.site_notes.specs.RoomyNotes.{snapshots_in, snapshot_spares, least}
+use Rattle.snapshot_log.specs.Noting.{touched_in}
+use Rattle.site_notes.specs.RoomyNotes.{snapshots_in, snapshot_spares}
+use Rattle.rep_lists.specs.Counting.{least}
 use Rattle.site_notes.proofs.Room.{raised}
 use Rattle.site_notes.proofs.snapshots.touch_each.Given as goal
 

@@ -8,7 +8,7 @@ use Rattle.rep_schema.specs.Putting.{StoreState}
 use Rattle.rep_schema.proofs.Leading.{AreTables-led}
 use Rattle.snapshot_query.specs.declared.snapshot.Snapshot.{Snapshot}
 use Rattle.snapshot_query.specs.Queries.{query_rows}
-use Rattle.site_state.specs.Notes.{pending_keys}
+use Rattle.snapshot_log.specs.Noting.{pending_keys}
 use Rattle.site_state.specs.Refreshes.{rows_shown, with_tables}
 use Rattle.site_notes.specs.RoomyNotes.{snapshot_in}
 use Rattle.site_refresh.specs.Done.{all_changes}

@@ -2,7 +2,7 @@
 use Rattle.std.proofs.Common.{sym, ap, ◌∙◌}
 use Rattle.std.proofs.lemmas.Result.{err_from_is_err_and}
 use Rattle.site_state.specs.Passes.{is_done, is_error, added_count}
-use Rattle.world_state.specs.Rounds.{site_rounds, site_until_quiet}
+use Rattle.site_state.specs.Rounds.{site_rounds, site_until_quiet}
 use Rattle.site_rounds.proofs.Parts.{partly_then, passes_then}
 use Rattle.site_rounds.proofs.Quiet.{untrue, site_rounds-round, last_round, last_same}
 use Rattle.site_rounds.proofs.rounds.apply_until_quiet.Goals as goal

@@ -1,6 +1,6 @@
 -- Rounds from here on lead where all rounds lead.
 use Rattle.std.proofs.Common.{◌≡◌}
-use Rattle.world_state.specs.Rounds.{site_rounds, site_until_quiet}
+use Rattle.site_state.specs.Rounds.{site_rounds, site_until_quiet}
 use Rattle.site_rounds.specs.Parts.{Passes}
 use Rattle.site_rounds.proofs.rounds.apply_until_quiet.Given as goal
 

@@ -2,7 +2,7 @@
 use Rattle.std.proofs.Common.{sym, ap, ◌∙◌}
 use Rattle.std.specs.Prelude.{is_some}
 use Rattle.site_state.specs.State.{arrivals}
-use Rattle.world_laws.proofs.Calling.{ready_first}
+use Rattle.event_laws.proofs.RoundsEnd.{ready_first}
 use Rattle.site_rounds.proofs.rounds.has_ready.Goals as goal
 
 pub returns : goal.returns

@@ -2,7 +2,7 @@
 use Rattle.std.proofs.Common.{◌≡◌, ◌+◌, List, ◌∷◌, drop, sym, subst, ◌∙◌, arith}
 use Rattle.std.proofs.lemmas.Result.{err_from_is_err_and}
 use Rattle.site_state.specs.State.{SenderState}
-use Rattle.world_state.specs.Rounds.{sender_names}
+use Rattle.site_state.specs.Rounds.{sender_names}
 use Rattle.site_rounds.proofs.Parts.{partly_then, passes_then}
 use Rattle.site_rounds.proofs.Quiet.{round_goes_on, quiet_goes_on, none_at_end, first_false, second_false}
 use Rattle.site_rounds.proofs.rounds.round.Goals as goal

@@ -1,6 +1,6 @@
 -- The senders before the place had their turn.
 use Rattle.std.proofs.Common.{◌≡◌, drop, false}
-use Rattle.world_state.specs.Rounds.{round, sender_names}
+use Rattle.site_state.specs.Rounds.{round, sender_names}
 use Rattle.site_rounds.specs.Parts.{Passes}
 use Rattle.site_rounds.proofs.Quiet.{any_ready}
 use Rattle.site_rounds.proofs.rounds.round.Given as goal

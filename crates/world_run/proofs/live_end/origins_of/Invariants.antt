@@ -1,6 +1,6 @@
 -- Gathering the other masters.
 use Rattle.std.proofs.Common.{◌≡◌, ◌++◌, drop, filter}
-use Rattle.site_state.specs.State.{is_master_site}
+use Rattle.rep_schema.specs.Sites.{is_master_site}
 use Rattle.world_run.proofs.live_end.origins_of.Given as goal
 
 -- those so far, and those among the senders to come

@@ -1,7 +1,8 @@
 use Rattle.std.proofs.Common.{◌≡◌, ℕ, ◌-◌, ◌^◌, ◌≤◌, min, List, length, sym, ap, ◌∙◌, arith}
 use Rattle.std.specs.Prelude.{vec_len, vec_capacity}
 use Rattle.std.proofs.lemmas.List.{length-map}
-use Rattle.deferred_queue.specs.QueueState.{QueueState, kept_of, rooms_of, least}
+use Rattle.deferred_queue.specs.QueueState.{QueueState, kept_of, rooms_of}
+use Rattle.rep_lists.specs.Counting.{least}
 use Rattle.rep_lists.proofs.InPlace.{written_back}
 use Rattle.deferred_queue.proofs.Room.{least-all, least-more}
 use Rattle.deferred_queue.proofs.queue.Queue.reserve.Goals as goal

@@ -1,6 +1,6 @@
 -- The site at the place that is found is the one of the name.
 use Rattle.std.proofs.Common.{sym, ap, ◌∙◌}
-use Rattle.event_laws.specs.Events.{is_master_in}
+use Rattle.site_events.specs.Events.{is_master_in}
 use Rattle.environment.proofs.Written.{site_of-world}
 use Rattle.environment.proofs.parts.WorldParts.has_master.Goals as goal
 

@@ -1,7 +1,7 @@
 -- Where the names are right, what hinders quiet counts.
 use Rattle.std.proofs.Common.{sym, ap, ◌∙◌}
 use Rattle.rep_schema.specs.declared.schema.Schema.{Schema}
-use Rattle.site_state.specs.Making.{is_late_master}
+use Rattle.rep_schema.specs.Sites.{is_late_master}
 use Rattle.world_state.specs.World.{WorldState}
 use Rattle.environment.proofs.Joining.{names_pass, quiet_seen}
 use Rattle.environment.proofs.parts.WorldParts.join_refusal.Goals as goal

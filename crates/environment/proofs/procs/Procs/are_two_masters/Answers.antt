@@ -1,6 +1,6 @@
 -- The site at the place that is found is the one of the name.
 use Rattle.std.proofs.Common.{sym, ap, ◌∙◌}
-use Rattle.site_state.specs.State.{is_among}
+use Rattle.rep_schema.specs.Sites.{is_among}
 use Rattle.world_state.specs.ProcRefusals.{is_other}
 use Rattle.environment.proofs.ProcPlaces.{proc_of-procs}
 use Rattle.environment.proofs.procs.Procs.are_two_masters.Goals as goal

@@ -5,8 +5,8 @@ use Rattle.std.proofs.Math.Seq.{take-set-lt}
 use Rattle.std.proofs.lemmas.Option.{slice_get_read}
 use Rattle.rep_lists.proofs.Each.{each_set, each_at}
 use Rattle.rep_lists.proofs.Places.{drop_from_place}
-use Rattle.local_txn.specs.Sets.{names_one_twice, sets_by_column}
-use Rattle.local_txn.specs.ByColumn.{set_of, set_at}
+use Rattle.txn_effects.specs.Sets.{names_one_twice, sets_by_column}
+use Rattle.txn_effects.specs.ByColumn.{set_of, set_at}
 use Rattle.local_txn.proofs.NamedSets.{named-within, nothing_set, numbered-none, set_at-cells, unknown-set, known-more, twice-more, each-more}
 use Rattle.local_txn.proofs.sets.SetsByColumn.of.Goals as goal
 use Rattle.local_txn.proofs.sets.SetsByColumn.of.Goals.{then-twice, else-twice}

@@ -2,8 +2,8 @@
 use Rattle.std.proofs.Common.{◌≡◌, true, length, map, take, drop}
 use Rattle.std.specs.Prelude.{is_some}
 use Rattle.std.specs.List.{AllByRecursion}
-use Rattle.local_txn.specs.Sets.{names_columns, names_one_twice, sets_by_column}
-use Rattle.local_txn.specs.ByColumn.{set_of}
+use Rattle.txn_effects.specs.Sets.{names_columns, names_one_twice, sets_by_column}
+use Rattle.txn_effects.specs.ByColumn.{set_of}
 use Rattle.local_txn.proofs.sets.SetsByColumn.of.Given as goal
 
 -- the sets from here on name columns, and each column has its number

@@ -2,8 +2,7 @@
 use Rattle.std.proofs.Common.{subst}
 use Rattle.site_state.specs.State.{SiteState}
 use Rattle.site_state.specs.Fits.{SiteFits}
-use Rattle.journal_order.specs.Sorting.{IsFinishedOnce}
-use Rattle.journal_order.specs.Waited.{FinishesEarlierFirst}
+use Rattle.site_state.specs.Waited.{FinishesEarlierFirst, IsFinishedOnce}
 use Rattle.office.proofs.desk.Office.laws.Goals as goal
 
 pub returns-clause-fits : goal.returns-clause-fits

@@ -1,7 +1,7 @@
 use Rattle.std.proofs.Common.{◌<◌, ◌+◌, ◌^◌, ◌∙◌, Some, [], filter, length, arith}
 use Rattle.rep_values.specs.declared.name.SiteName.{SiteName}
 use Rattle.deferred_queue.specs.Streams.{in_order}
-use Rattle.site_state.specs.State.{is_among}
+use Rattle.rep_schema.specs.Sites.{is_among}
 use Rattle.proc_state.specs.Carriers.{proc_tokens}
 use Rattle.proc_calls.proofs.Queued.{streams_in, can_be_noted, apart_placed, sites_apart, same_sites, ordered, sent, IsOutbox-pushed, lists_in-pushed, Keeps-pushed}
 use Rattle.proc_calls.proofs.outbox.CallOutbox.push.Goals as goal

@@ -4,7 +4,7 @@ use Rattle.std.proofs.lemmas.Result.{err_from_is_err_and}
 use Rattle.origin_marks.specs.Edges.{is_between}
 use Rattle.journal_steps.specs.Inboxes.{sender_in}
 use Rattle.journal_steps.proofs.ChangedInbox.{senders_in-same}
-use Rattle.site_core.proofs.Taking.{one_entry_more}
+use Rattle.site_state.proofs.Growing.{one_entry_more}
 use Rattle.proc_state.specs.Passes.{proc_apply, proc_apply_answer}
 use Rattle.proc_calls.specs.ProcSiteInvariant.{state_of}
 use Rattle.proc_calls.proofs.ProcSiteSteps.{room_state_is, room_holds_is, ready_known, ready_unfinished, ready_arrived, ready_there, ready_fits, error_origin, error_absent, ready_follow, apply_state_is, apply_answer_is, apply_holds_is}

@@ -1,7 +1,7 @@
 use Rattle.std.proofs.Common.{◌≡◌, ◌∙◌, Ok, ap, refl, reverse, subst}
 use Rattle.std.proofs.lemmas.Result.{err_from_is_err_and}
 use Rattle.rep_schema.specs.Tables.{AreTables}
-use Rattle.site_core.proofs.Taking.{one_entry_more}
+use Rattle.site_state.proofs.Growing.{one_entry_more}
 use Rattle.proc_state.specs.Calling.{proc_call, proc_call_answer}
 use Rattle.proc_state.proofs.Fitting.{IsProcTxn-carried}
 use Rattle.proc_calls.specs.ProcSiteInvariant.{state_of}

@@ -1,5 +1,5 @@
 use Rattle.std.proofs.Common.{◌≡◌, None, ap, inr, refl, reverse, subst}
-use Rattle.site_core.proofs.Taking.{one_entry_more}
+use Rattle.site_state.proofs.Growing.{one_entry_more}
 use Rattle.proc_state.specs.Errors.{proc_execute, proc_execute_refusal}
 use Rattle.proc_calls.specs.ProcSiteInvariant.{state_of}
 use Rattle.proc_calls.proofs.ProcSiteSteps.{kept_holds_is, error_is, none_to_execute, error_fits, stops_as, execute_state_is, executes, execute_holds_is}

@@ -2,7 +2,7 @@ use Rattle.std.proofs.Common.{◌≡◌, ◌<◌, ◌≤◌, ◌∙◌, arith, l
 use Rattle.std.proofs.lemmas.List.{take_all}
 use Rattle.rep_lists.proofs.Places.{found_at}
 use Rattle.site_state.specs.State.{arrivals}
-use Rattle.site_state.specs.Steps.{count_where}
+use Rattle.rep_lists.specs.Counting.{count_where}
 use Rattle.site_state.specs.Passes.{is_done, is_error, added_count}
 use Rattle.proc_state.specs.State.{as_site}
 use Rattle.proc_state.specs.Passes.{proc_apply_answer, apply_each}

@@ -1,7 +1,7 @@
 -- The positions up to the place are applied.
 use Rattle.std.proofs.Common.{◌≡◌, ◌+◌, ◌≤◌, take}
 use Rattle.site_state.specs.State.{arrivals}
-use Rattle.site_state.specs.Steps.{count_where}
+use Rattle.rep_lists.specs.Counting.{count_where}
 use Rattle.site_state.specs.Passes.{is_done, is_error, added_count}
 use Rattle.proc_state.specs.State.{as_site}
 use Rattle.proc_state.specs.Passes.{apply_each}

@@ -2,7 +2,7 @@ use Rattle.std.proofs.Common.{◌≡◌, refl, ◌∙◌, ◌+◌, Ok, ap, subst
 use Rattle.site_state.specs.Commits.{site_commit, commit_answer}
 use Rattle.site_core.specs.SiteInvariant.{state_of}
 use Rattle.site_core.specs.Noting.{RowsAreNoted}
-use Rattle.site_core.proofs.Taking.{reverse_push, one_entry_more}
+use Rattle.site_state.proofs.Growing.{reverse_push, one_entry_more}
 use Rattle.site_core.proofs.Onward.{nothing_made}
 use Rattle.site_core.proofs.SiteSteps.{kept_holds_is, count_is, commit_state_is, commit_answer_is, commit_holds}
 use Rattle.site_core.proofs.site.Site.commit.Goals as goal

@@ -1,7 +1,7 @@
 use Rattle.std.proofs.Common.{◌≡◌, ◌+◌, arith, refl, reverse, subst}
 use Rattle.site_state.specs.Errors.{site_drop}
 use Rattle.site_core.specs.SiteInvariant.{state_of}
-use Rattle.site_core.proofs.Taking.{one_entry_more}
+use Rattle.site_state.proofs.Growing.{one_entry_more}
 use Rattle.site_core.proofs.SiteSteps.{error_is, none_to_drop, one_stands, drops, drop_state_is, drop_holds_is}
 use Rattle.site_core.proofs.site.Site.delete_error.Goals as goal
 

@@ -2,7 +2,7 @@ use Rattle.std.proofs.Common.{◌≡◌, ◌+◌, None, ap, arith, inr, refl, re
 use Rattle.site_state.specs.Errors.{site_execute, execute_refusal}
 use Rattle.site_core.specs.SiteInvariant.{state_of}
 use Rattle.site_core.specs.Noting.{RowsAreNoted}
-use Rattle.site_core.proofs.Taking.{one_entry_more}
+use Rattle.site_state.proofs.Growing.{one_entry_more}
 use Rattle.site_core.proofs.SiteSteps.{kept_holds_is, count_is, error_is, none_to_execute, error_fits, error_sized, stops_as, execute_state_is, execute_refusal_is, execute_holds_is}
 use Rattle.site_core.proofs.site.Site.execute_error.Goals as goal
 

@@ -1,5 +1,5 @@
 use Rattle.std.proofs.Common.{◌≡◌, ◌≤◌, arith, subst, sym}
-use Rattle.site_state.specs.Steps.{count_where}
+use Rattle.rep_lists.specs.Counting.{count_where}
 use Rattle.site_state.specs.Passes.{is_done, is_error, added_count}
 use Rattle.site_core.proofs.Passing.{count_done, count_errors, count_more, kept_more, pass_starts, nothing_added, one_at_most}
 use Rattle.site_core.proofs.Waiting.{passed_all, passed_next, next_within}

@@ -1,7 +1,7 @@
 -- The positions up to the place are applied.
 use Rattle.std.proofs.Common.{◌≡◌, ◌+◌, ◌-◌, ◌≤◌, length, take}
 use Rattle.site_state.specs.State.{arrivals}
-use Rattle.site_state.specs.Steps.{count_where}
+use Rattle.rep_lists.specs.Counting.{count_where}
 use Rattle.site_state.specs.Passes.{apply_each, is_done, is_error, added_count}
 use Rattle.site_core.proofs.site.Site.finish_pass.Given as goal
 

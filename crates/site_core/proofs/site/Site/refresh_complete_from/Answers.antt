@@ -1,7 +1,7 @@
 use Rattle.std.proofs.Common.{◌≡◌, ◌∙◌, ap, arith, refl, reverse, subst, sym}
 use Rattle.site_state.specs.Refreshes.{site_refresh}
 use Rattle.site_core.specs.SiteInvariant.{state_of}
-use Rattle.site_core.proofs.Taking.{one_entry_more}
+use Rattle.site_state.proofs.Growing.{one_entry_more}
 use Rattle.site_core.proofs.SiteSteps.{kept_holds_is}
 use Rattle.site_core.proofs.RefreshedSite.{refresh_state_is, refresh_holds_is}
 use Rattle.site_core.proofs.site.Site.refresh_complete_from.Goals as goal

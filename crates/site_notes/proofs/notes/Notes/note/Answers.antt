@@ -1,7 +1,8 @@
 use Rattle.std.proofs.Common.{◌≡◌, ◌-◌, ◌^◌, ◌≤◌, length, ◌∙◌, arith}
 use Rattle.rep_lists.proofs.InPlace.{written_back}
-use Rattle.site_state.specs.Notes.{logged_in, touched_in}
-use Rattle.site_notes.specs.RoomyNotes.{log_in, snapshot_in, log_spares, snapshot_spares, least, least_room}
+use Rattle.snapshot_log.specs.Noting.{logged_in, touched_in}
+use Rattle.site_notes.specs.RoomyNotes.{log_in, snapshot_in, log_spares, snapshot_spares, least_room}
+use Rattle.rep_lists.specs.Counting.{least}
 use Rattle.site_notes.proofs.Parts.{changed_length}
 use Rattle.site_notes.proofs.Room.{least-each, least-first, room_falls}
 use Rattle.site_notes.proofs.notes.Notes.note.Goals as goal

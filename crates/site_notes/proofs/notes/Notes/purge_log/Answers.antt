@@ -1,9 +1,8 @@
 use Rattle.std.proofs.Common.{◌≡◌, ◌-◌, ◌^◌, List, length, ap, ◌∙◌, arith}
 use Rattle.std.specs.List.{filter}
 use Rattle.rep_lists.proofs.InPlace.{written_back}
-use Rattle.site_state.specs.State.{LogState}
-use Rattle.site_state.specs.Notes.{log_of, keys_in}
-use Rattle.site_state.specs.Purges.{purged_where}
+use Rattle.snapshot_log.specs.LogState.{LogState, purged_where}
+use Rattle.snapshot_log.specs.Noting.{log_of, keys_in}
 use Rattle.site_notes.specs.RoomyNotes.{log_in, logs_in, log_spares, snapshot_spares}
 use Rattle.site_notes.proofs.Parts.{changed_length}
 use Rattle.site_notes.proofs.Room.{room_stays}

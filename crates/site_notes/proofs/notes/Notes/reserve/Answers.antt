@@ -1,7 +1,8 @@
 use Rattle.std.proofs.Common.{◌≡◌, ℕ, ◌-◌, ◌^◌, ◌≤◌, true, false, List, ◌++◌, length, take, ◌∙◌, arith}
 use Rattle.snapshot_log.specs.Logs.{RoomyLog}
 use Rattle.rep_lists.proofs.InPlace.{written_back}
-use Rattle.site_notes.specs.RoomyNotes.{RoomySnapshot, log_in, snapshot_in, log_spares, snapshot_spares, least, least_room}
+use Rattle.site_notes.specs.RoomyNotes.{RoomySnapshot, log_in, snapshot_in, log_spares, snapshot_spares, least_room}
+use Rattle.rep_lists.specs.Counting.{least}
 use Rattle.site_notes.proofs.Parts.{same_length}
 use Rattle.site_notes.proofs.Room.{least-each, least-first, least-all, room_stays}
 use Rattle.site_notes.proofs.notes.Notes.reserve.Goals as goal

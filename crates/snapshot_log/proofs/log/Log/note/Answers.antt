@@ -1,7 +1,7 @@
 use Rattle.rep_lists.proofs.Rising.{rising_put}
 use Rattle.rep_values.specs.Order.{key_cmp}
 use Rattle.rep_values.specs.OrderLaws.{key_cmp_total}
-use Rattle.site_state.specs.State.{LoggedKey}
+use Rattle.snapshot_log.specs.LogState.{LoggedKey}
 use Rattle.snapshot_log.proofs.log.Log.note.Goals as goal
 
 pub invariant_of-self : goal.invariant_of-self

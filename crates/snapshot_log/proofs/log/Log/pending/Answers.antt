@@ -1,5 +1,5 @@
 use Rattle.std.specs.Prelude.{nat_lt}
-use Rattle.site_state.specs.State.{LoggedKey}
+use Rattle.snapshot_log.specs.LogState.{LoggedKey}
 use Rattle.snapshot_log.proofs.KeysLeft.{rising_keys_left, given_weaker}
 use Rattle.snapshot_log.proofs.log.Log.pending.Goals as goal
 

@@ -1,6 +1,6 @@
 use Rattle.std.proofs.Common.{◌≡◌, ◌+◌, ap, arith, length}
 use Rattle.std.specs.Prelude.{nat_lt}
-use Rattle.site_state.specs.State.{LoggedKey}
+use Rattle.snapshot_log.specs.LogState.{LoggedKey}
 use Rattle.snapshot_log.specs.Logs.{count_up_to}
 use Rattle.snapshot_log.proofs.KeysLeft.{rising_left, count_up_to-rest}
 use Rattle.snapshot_log.proofs.log.Log.purge.Goals as goal

@@ -2,7 +2,7 @@
 use Rattle.std.proofs.Common.{◌≡◌, false, None, sym, subst}
 use Rattle.rep_schema.specs.declared.schema.Schema.{Schema}
 use Rattle.schema_rules.specs.Rules.{broken_rule}
-use Rattle.deferred_queue.specs.Streams.{is_same_site}
+use Rattle.rep_values.specs.SiteNames.{is_same_site}
 use Rattle.site_state.specs.State.{SiteState}
 use Rattle.store_crews.specs.Runs.{AreInARun, opened}
 use Rattle.store_crews.proofs.pair.Pair.open.Goals as goal

@@ -1,6 +1,6 @@
 -- The master is there once all came in, and is taken out.
 use Rattle.std.proofs.Common.{refl, sym, ap, ◌∙◌, subst}
-use Rattle.event_laws.specs.Cluster.{site_of}
+use Rattle.site_events.specs.Cluster.{site_of}
 use Rattle.environment_lines.specs.Following.{IsBuilt}
 use Rattle.environment_push.specs.Lending.{live_opened}
 use Rattle.world_run.specs.declared.world.World.TheInside.{Inside}

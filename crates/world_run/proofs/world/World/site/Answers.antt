@@ -5,7 +5,7 @@ use Rattle.std.specs.Borrow.{Bor}
 use Rattle.std.specs.Slice.{IsItemAt}
 use Rattle.std.proofs.lemmas.Option.{slice_get_read}
 use Rattle.site_state.specs.State.{SiteState}
-use Rattle.event_laws.specs.Cluster.{site_of}
+use Rattle.site_events.specs.Cluster.{site_of}
 use Rattle.world_run.specs.declared.world.World.TheInside.{Inside}
 use Rattle.world_run.specs.Lent.{site_here}
 use Rattle.world_run.proofs.Lent.{site_of-here}
