@@ -6,3 +6,8 @@ pub mod Laws
 pub mod Agreement
 pub mod Faults
 pub mod Onward
+pub mod Beginning
+pub mod Pairs
+pub mod Latest
+pub mod QuietAgreement
+pub mod Between

@@ -13,17 +13,17 @@ use Rattle.event_laws.proofs.Sites.{found_all, found_name}
 use Rattle.event_laws.proofs.MarkLaws.{IsOfSchema, run_schema}
 use Rattle.convergence_laws.specs.Laws.{AreJoined, AreJoinedSince, GroupsAreJoined, GroupsAreJoinedSince}
 use Rattle.convergence_laws.specs.Agreement.{LatestTellApart}
-use Rattle.agreement_laws.specs.Agreement.{drops_of_master, NothingWasDropped, MastersAgree, QuietMastersAgree}
-use Rattle.agreement_laws.specs.Latest.{LatestValuesTellApart}
+use Rattle.convergence_laws.specs.QuietAgreement.{drops_of_master, NothingWasDropped, MastersAgree, QuietMastersAgree}
+use Rattle.convergence_laws.specs.Latest.{LatestValuesTellApart}
 use Rattle.excuse_laws.specs.Excuses.{ErrorsAreSo, RefusalsAreSo, IsExcusedOn}
 use Rattle.excuse_laws.specs.Laws.{ErrorsAreExcused}
-use Rattle.causal_laws.specs.LostInserts.{NoRowIsOfALostInsert}
-use Rattle.causal_laws.specs.Laws.{MissingRowsAreOfInsertsInError}
+use Rattle.excuse_laws.specs.LostInserts.{NoRowIsOfALostInsert}
+use Rattle.excuse_laws.specs.LostInsertLaws.{MissingRowsAreOfInsertsInError}
 use Rattle.world_state.specs.World.{WorldState}
-use Rattle.snapshot_worlds.specs.Reached.{DeclaresSoFar, Goes}
-use Rattle.snapshot_worlds.proofs.Scripts.{snapshots_hold_of}
+use Rattle.world_laws.specs.SnapshotWorlds.{DeclaresSoFar, Goes}
+use Rattle.world_laws.proofs.SnapshotScripts.{snapshots_hold_of}
 use Rattle.convergent_worlds.specs.Convergence.{MastersAgreeWhenQuiet, EachErrorIsExcused, EachMissingRowIsLost, EachGroupIsJoined, EachGroupIsJoinedSince, EachHasGreatest}
-use Rattle.convergent_worlds.specs.Reached.{GoesOnAlike, IsOfConvergence, Declaring, Going}
+use Rattle.world_laws.specs.AlikeWorlds.{GoesOnAlike, IsOfConvergence, Declaring, Going}
 
 -- in Setup no site is there
 no_site : (w : WorldState) → DeclaresSoFar w → (site : SiteName) (x : SiteState) → site_of site w.sites ≡ Some x → ⊥

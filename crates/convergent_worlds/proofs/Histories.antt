@@ -5,17 +5,17 @@ use Rattle.site_state.specs.State.{SiteState}
 use Rattle.site_events.specs.Cluster.{Cluster, site_of}
 use Rattle.site_events.specs.Events.{Event, run}
 use Rattle.site_events.specs.Quiet.{are_quiet}
-use Rattle.agreement_laws.specs.Agreement.{NothingWasDroppedSince, MastersAgree, QuietMastersAgreeAgain}
-use Rattle.causal_laws.specs.Laws.{MissingRowsAreOfLostInserts}
+use Rattle.convergence_laws.specs.QuietAgreement.{NothingWasDroppedSince, MastersAgree, QuietMastersAgreeAgain}
+use Rattle.excuse_laws.specs.LostInsertLaws.{MissingRowsAreOfLostInserts}
 use Rattle.world_state.specs.World.{WorldState}
 use Rattle.world_state.specs.Phases.{is_setup}
 use Rattle.world_state.specs.Steps.{world_steps}
 use Rattle.world_laws.specs.Simulation.{Leads}
 use Rattle.world_laws.proofs.SiteSteps.{run-append}
 use Rattle.world_laws.proofs.WorldLaws.{lines_lead}
-use Rattle.convergent_worlds.specs.Beginning.{SitesBegin}
+use Rattle.world_laws.specs.AlikeMasters.{SitesBegin}
 use Rattle.convergent_worlds.specs.Histories.{MastersAgreeAgain, MastersAgreeSince, EachMissingRowWasLost, HasHistory}
-use Rattle.convergent_worlds.specs.Reached.{GoesOnAlike, IsOfConvergence, Declaring, Going}
+use Rattle.world_laws.specs.AlikeWorlds.{GoesOnAlike, IsOfConvergence, Declaring, Going}
 
 module _ (w : WorldState) (a : GoesOnAlike w) where
   same : w.sites ≡ (run a.leads.events a.start).sites

@@ -20,7 +20,7 @@ use Rattle.site_state.specs.State.{SiteState}
 use Rattle.site_state.proofs.WorkedSites.{a, b, n}
 use Rattle.site_events.specs.Quiet.{are_quiet}
 use Rattle.event_laws.proofs.Sites.{found_all}
-use Rattle.agreement_laws.specs.Agreement.{drops_of_master, NothingWasDropped}
+use Rattle.convergence_laws.specs.QuietAgreement.{drops_of_master, NothingWasDropped}
 use Rattle.script_parse.specs.declared.command.Command.{Command}
 use Rattle.script_parse.specs.declared.command.Command.TheVariants as command
 use Rattle.world_state.proofs.WorkedScripts.{t, master_line, table_line, resume, block, push, rows_at}

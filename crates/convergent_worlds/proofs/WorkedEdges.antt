@@ -33,7 +33,7 @@ use Rattle.site_events.specs.Cluster.{site_of}
 use Rattle.event_laws.specs.Marks.{journal_in}
 use Rattle.site_events.specs.Quiet.{are_quiet}
 use Rattle.event_laws.proofs.Sites.{found_all, found_name}
-use Rattle.agreement_laws.specs.Agreement.{drops_of_master, NothingWasDropped, NothingWasDroppedSince, MastersAgree}
+use Rattle.convergence_laws.specs.QuietAgreement.{drops_of_master, NothingWasDropped, NothingWasDroppedSince, MastersAgree}
 use Rattle.script_parse.specs.declared.command.Command.{Command}
 use Rattle.script_parse.specs.declared.command.Command.TheVariants as command
 use Rattle.world_state.proofs.WorkedScripts.{t, master_line, snapshot_site_line, table_line, added_up, resume, block, push, execute, drop_error, stepped, told, journal_at, rows_at}

@@ -1,3 +1,3 @@
 -- That the laws over events and of snapshots hold of worlds, for the crates above.
 pub use Rattle.world_laws.proofs.Scripts.{of_script_holds, reported_pushes_leave_nothing_ready}
-pub use Rattle.snapshot_worlds.proofs.Scripts.{snapshots_hold_of, refreshes_show_of}
+pub use Rattle.world_laws.proofs.SnapshotScripts.{snapshots_hold_of, refreshes_show_of}

@@ -9,12 +9,12 @@ use Rattle.site_events.specs.Cluster.{site_of}
 use Rattle.site_events.specs.Quiet.{are_quiet}
 use Rattle.convergence_laws.specs.Laws.{AreJoined, AreJoinedSince}
 use Rattle.convergence_laws.specs.Agreement.{LatestTellApart}
-use Rattle.agreement_laws.specs.Agreement.{NothingWasDropped, MastersAgree}
+use Rattle.convergence_laws.specs.QuietAgreement.{NothingWasDropped, MastersAgree}
 use Rattle.excuse_laws.specs.Excuses.{ErrorsAreSo, RefusalsAreSo, IsExcusedOn}
 use Rattle.world_state.specs.World.{WorldState}
 use Rattle.world_state.specs.Phases.{is_setup}
 use Rattle.convergent_worlds.specs.Histories.{MastersAgreeAgain, MissesLostRows, HasHistory}
-use Rattle.convergent_worlds.specs.Reached.{IsOfConvergence}
+use Rattle.world_laws.specs.AlikeWorlds.{IsOfConvergence}
 
 -- where all masters of a world are quiet and no error of a master's transaction was dropped, they agree
 abbrev pub MastersAgreeWhenQuiet : WorldState → Type 0

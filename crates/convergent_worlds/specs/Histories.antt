@@ -7,14 +7,14 @@ use Rattle.site_state.specs.State.{SiteState}
 use Rattle.site_events.specs.Cluster.{Cluster, site_of}
 use Rattle.site_events.specs.Events.{Event, run}
 use Rattle.site_events.specs.Quiet.{are_quiet}
-use Rattle.agreement_laws.specs.Agreement.{NothingWasDroppedSince, MastersAgree}
+use Rattle.convergence_laws.specs.QuietAgreement.{NothingWasDroppedSince, MastersAgree}
 use Rattle.excuse_laws.specs.Excuses.{ErrorsAreSo, RefusalsAreSo}
-use Rattle.causal_laws.specs.LostInserts.{dropped_before, NoRowIsOfALostInsert}
+use Rattle.excuse_laws.specs.LostInserts.{dropped_before, NoRowIsOfALostInsert}
 use Rattle.script_parse.specs.declared.command.Command.{Command}
 use Rattle.world_state.specs.World.{WorldState}
 use Rattle.world_state.specs.Phases.{is_setup}
 use Rattle.world_state.specs.Steps.{world_steps}
-use Rattle.convergent_worlds.specs.Beginning.{SitesBegin}
+use Rattle.world_laws.specs.AlikeMasters.{SitesBegin}
 
 -- ---- agreement
 

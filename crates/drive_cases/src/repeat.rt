@@ -1,7 +1,7 @@
 //! A runner of lines whose report is the script.
 ghost use Rattle.std.specs.Prelude.{⊤};
-ghost use Rattle.rep_lines.specs.Told.{Tells};
-ghost use Rattle.script_drive.specs.Lines.{line_step};
+ghost use Rattle.script_drive.specs.Told.{Tells};
+ghost use Rattle.script_drive.specs.LineBytes.{line_step};
 ghost use Rattle.script_drive.specs.Outcome.{Told};
 ghost use Rattle.script_drive.specs.Prompt.{ReadsPromptly};
 ghost use Rattle.drive_cases.specs.Repeats.{repeat_step};

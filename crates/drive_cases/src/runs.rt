@@ -1,6 +1,6 @@
 //! Runs of a script, with the reads and writes that fail.
 ghost use Rattle.std.specs.Prelude.{◌≡◌, [], map, All, IfOk};
-ghost use Rattle.script_drive.specs.Lines.{line_step};
+ghost use Rattle.script_drive.specs.LineBytes.{line_step};
 ghost use Rattle.script_drive.specs.Prompt.{IsPrompt, FaultIsLast};
 ghost use Rattle.drive_cases.specs.Notes.{asked_of};
 ghost use Rattle.drive_cases.specs.Repeats.{repeat_step};

@@ -10,8 +10,8 @@ use Rattle.site_state.specs.State.{SiteState}
 use Rattle.site_state.proofs.SchemaSites.{are_apart}
 use Rattle.site_events.specs.Cluster.{Cluster}
 use Rattle.site_events.specs.Events.{run}
-use Rattle.join_laws.specs.Names.{SitesApart}
-use Rattle.join_laws.proofs.Names.{names_stay_apart, apart_made}
+use Rattle.event_laws.specs.Names.{SitesApart}
+use Rattle.event_laws.proofs.Names.{names_stay_apart, apart_made}
 use Rattle.world_state.specs.declared.declared_snapshot.DeclaredSnapshot.{DeclaredSnapshot}
 use Rattle.world_state.specs.World.{WorldState}
 use Rattle.world_state.specs.Phases.{is_setup}

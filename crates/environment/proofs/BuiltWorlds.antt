@@ -50,10 +50,10 @@ use Rattle.world_laws.proofs.Pieces.{steps_are_events_however_refused}
 use Rattle.world_laws.proofs.Scripts.{HasShape-no_schema, step_of_script, first_of_script}
 use Rattle.world_laws.proofs.RefusedLines.{refused_leaves}
 use Rattle.site_making.proofs.SenderDirections.{direction_to_sender, direction_from_sender}
-use Rattle.convergent_worlds.specs.Reached.{IsOfConvergence}
-use Rattle.convergent_worlds.proofs.Scripts.{step_of_convergence, first_of_convergence}
-use Rattle.procedure_worlds.specs.Built.{AreProcsBuilt}
-use Rattle.procedure_worlds.proofs.ProceduresStay.{first_procs, step_procs}
+use Rattle.world_laws.specs.AlikeWorlds.{IsOfConvergence}
+use Rattle.world_laws.proofs.AlikeWorlds.{step_of_convergence, first_of_convergence}
+use Rattle.world_laws.specs.Built.{AreProcsBuilt}
+use Rattle.world_laws.proofs.ProceduresStay.{first_procs, step_procs}
 use Rattle.environment.specs.Procedures.{LinksForCalls}
 use Rattle.environment.specs.Following.{IsBuilt}
 use Rattle.environment.specs.Doing.{IsOutOfMemory, is_push_of_calls, is_push}

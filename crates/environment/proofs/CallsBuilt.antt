@@ -15,9 +15,9 @@ use Rattle.world_state.specs.World.{WorldState}
 use Rattle.world_state.specs.Phases.{is_setup}
 use Rattle.world_state.specs.Procs.{Procs, proc_schema}
 use Rattle.world_laws.specs.Simulation.{Simulates, Leads}
-use Rattle.procedure_worlds.specs.Built.{IsProcTable, tables_alone, AreProcsDeclared, AreMade}
-use Rattle.procedure_worlds.proofs.SiteStreams.{KeepsStreams, keeps_same, keeps_then, apply_keeps}
-use Rattle.procedure_worlds.proofs.Made.{Happens, none_happens, one_happens, then_happens, site_works, release_made, send_made, take_made, lose_made, mark_made}
+use Rattle.world_laws.specs.Built.{IsProcTable, tables_alone, AreProcsDeclared, AreMade}
+use Rattle.world_laws.proofs.SiteStreams.{KeepsStreams, keeps_same, keeps_then, apply_keeps}
+use Rattle.world_laws.proofs.Made.{Happens, none_happens, one_happens, then_happens, site_works, release_made, send_made, take_made, lose_made, mark_made}
 use Rattle.environment.specs.Following.{Travel, Release, Take, Lose, PushStep, There, Send, MakePasses, SendMark, Back, IsBuilt}
 use Rattle.environment.specs.Calling.{calls_travel, calls_applied, proc_parts, calls_step, calls_steps}
 use Rattle.environment.specs.Doing.{PushesCallsInPart}

@@ -26,9 +26,9 @@ use Rattle.world_laws.proofs.Pieces.{none_lead, then_lead, site_leads, release_l
 use Rattle.world_laws.proofs.Calling.{deliver_one_leads, lose_leads}
 use Rattle.site_rounds.specs.Parts.{parts_done}
 use Rattle.environment.proofs.PassParts.{parts_do}
-use Rattle.convergent_worlds.specs.Reached.{IsOfConvergence, Declaring, Going}
-use Rattle.convergent_worlds.proofs.Scripts.{goes_on_alike}
-use Rattle.procedure_worlds.proofs.ProceduresStay.{same_procs}
+use Rattle.world_laws.specs.AlikeWorlds.{IsOfConvergence, Declaring, Going}
+use Rattle.world_laws.proofs.AlikeWorlds.{goes_on_alike}
+use Rattle.world_laws.proofs.ProceduresStay.{same_procs}
 use Rattle.environment.specs.Procedures.{LinksForCalls}
 use Rattle.environment.specs.Following.{Travel, Release, Take, Lose, travel_done, PushStep, There, Send, MakePasses, SendMark, Back, step_done, steps_done, up_between, fates_in, fates_between, LeavesAllElse, PushesInPart, IsBuilt}
 use Rattle.environment.proofs.Apart.{apart_behind}

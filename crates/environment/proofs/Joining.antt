@@ -19,7 +19,7 @@ use Rattle.site_events.specs.Quiet.{are_quiet}
 use Rattle.site_events.specs.Joins.{may_join, with_joined, joined}
 use Rattle.site_events.specs.Events.{is_master_in}
 use Rattle.event_laws.proofs.DeclaredSites.{IsSiteOf, late_is_master}
-use Rattle.join_laws.proofs.Names.{found_by_name}
+use Rattle.event_laws.proofs.Names.{found_by_name}
 use Rattle.script_parse.specs.declared.command.Command.TheVariants as command
 use Rattle.world_state.specs.declared.phase.Phase.{Phase}
 use Rattle.world_state.specs.declared.phase.Phase.TheVariants as phase

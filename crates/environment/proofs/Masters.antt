@@ -25,7 +25,7 @@ use Rattle.event_laws.proofs.DeclaredSites.{IsSiteOf, becomes_sites_of, start_si
 use Rattle.world_state.specs.World.{WorldState}
 use Rattle.world_state.specs.Phases.{is_setup}
 use Rattle.convergent_worlds.specs.Worlds.{GoesOn}
-use Rattle.convergent_worlds.specs.Reached.{IsOfConvergence, Declaring, Going}
+use Rattle.world_laws.specs.AlikeWorlds.{IsOfConvergence, Declaring, Going}
 use Rattle.environment.specs.Finding.{IsAt}
 use Rattle.environment.specs.Following.{IsBuilt}
 use Rattle.environment.proofs.Written.{site_of-world}

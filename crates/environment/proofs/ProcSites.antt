@@ -7,7 +7,7 @@ use Rattle.deferred_queue.proofs.Sites.{is_same_site-true}
 use Rattle.rep_schema.specs.Sites.{is_among}
 use Rattle.proc_state.specs.State.{ProcState}
 use Rattle.world_state.specs.Procs.{proc_of, at_proc}
-use Rattle.procedure_worlds.specs.Built.{proc_names}
+use Rattle.world_laws.specs.Built.{proc_names}
 
 -- what changes a site leaves its name
 abbrev pub KeepsMe : (ProcState → ProcState) → Type 0

@@ -19,9 +19,9 @@ use Rattle.world_state.specs.World.{WorldState, gets_from}
 use Rattle.world_state.specs.Phases.{is_setup}
 use Rattle.world_state.specs.Procs.{proc_of, early_masters}
 use Rattle.world_state.specs.ProcRefusals.{is_other, are_two_masters}
-use Rattle.procedure_worlds.specs.Built.{AreProcsMade}
-use Rattle.procedure_worlds.proofs.Sites.{name-proc_of}
-use Rattle.procedure_worlds.proofs.Made.{site_is}
+use Rattle.world_laws.specs.Built.{AreProcsMade}
+use Rattle.world_laws.proofs.Sites.{name-proc_of}
+use Rattle.world_laws.proofs.Made.{site_is}
 use Rattle.environment.specs.Following.{IsBuilt}
 use Rattle.environment.proofs.ProcSites.{proc_found_among, among_found}
 use Rattle.environment.proofs.Masters.{found_among}

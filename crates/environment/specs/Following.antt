@@ -6,13 +6,13 @@ use Rattle.net_plan.specs.declared.fate.Fate.{Fate}
 use Rattle.net_plan.specs.Directions.{Direction, HasDirection, direction_of, at_direction, delivered}
 use Rattle.site_events.specs.Cluster.{site_of}
 use Rattle.site_rounds.specs.Parts.{parts_done}
-use Rattle.join_laws.specs.Names.{SitesApart}
+use Rattle.event_laws.specs.Names.{SitesApart}
 use Rattle.world_state.specs.World.{WorldState, with_site, gets_from}
 use Rattle.world_state.specs.Phases.{is_setup}
 use Rattle.world_state.specs.Pushes.{world_release, world_send, world_deliver_one, world_send_mark}
 use Rattle.world_laws.specs.Reached.{IsOfScript}
-use Rattle.convergent_worlds.specs.Reached.{IsOfConvergence}
-use Rattle.procedure_worlds.specs.Built.{AreProcsBuilt}
+use Rattle.world_laws.specs.AlikeWorlds.{IsOfConvergence}
+use Rattle.world_laws.specs.Built.{AreProcsBuilt}
 use Rattle.environment.specs.Procedures.{LinksForCalls}
 
 -- ---- what a push does

@@ -9,5 +9,5 @@ pub mod Texts
 pub mod Doing
 pub mod BuiltWorlds
 pub use Rattle.convergent_worlds.specs.Worlds
-pub use Rattle.convergent_worlds.specs.Reached
+pub use Rattle.world_laws.specs.AlikeWorlds
 pub use Rattle.convergent_worlds.specs.Convergence

@@ -15,7 +15,7 @@ use page_tables::PageTables;
 use rep_calls::PastEntry;
 use rep_schema::{RowStore, SiteEntry};
 use rep_values::{Refusal, SiteName};
-use schema_sites::is_late_master;
+use schema_names::is_late_master;
 use script_parse::Command;
 use site_making::Site;
 

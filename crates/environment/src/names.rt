@@ -7,7 +7,7 @@ use crate::WorldParts;
 use crate::parts::place_of;
 use rep_schema::RowStore;
 use rep_values::SiteName;
-use schema_sites::gets_from;
+use schema_names::gets_from;
 
 impl WorldParts {
     /// Whether a site is there.

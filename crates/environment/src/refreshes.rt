@@ -20,7 +20,7 @@ use rep_values::{Refusal, SiteName, TableName};
 use schema_names::table_place;
 use script_parse::{Command, Refresh};
 use site_making::Site;
-use site_notes::{Notes, Watched};
+use snapshot_log::{Notes, Watched};
 
 fn purged_of(logs: &Notes, table: u32) -> u64
     ensures { result ≡ purged_of table logs.now.logs }

@@ -19,7 +19,7 @@ use Rattle.proc_state.specs.State.{ProcState}
 use Rattle.proc_state.specs.Events.{AreCalls}
 use Rattle.world_state.specs.ProcDeclaring.{is_procedure}
 use Rattle.world_state.specs.CallBlocks.{most_calls, call_steps, call_refusal, words_stop, calls_of}
-use Rattle.procedure_worlds.proofs.Sending.{first_at, are_calls}
+use Rattle.world_laws.proofs.CallSending.{first_at, are_calls}
 
 module _ (x : ProcState) (calls : List CallWords) (place number : ℕ) (call : CallWords) (within : place < length calls) (is : call ≡ get_or calls place call)
     (rest : words_stop x number (drop place calls) ≡ words_stop x 1 calls) where

@@ -7,7 +7,7 @@ use Rattle.rep_schema.specs.Tables.{columns_in}
 use Rattle.rep_schema.specs.Named.{is_table}
 use Rattle.world_state.specs.Procs.{Procs}
 use Rattle.world_state.specs.ProcDeclaring.{proc_table_named}
-use Rattle.procedure_worlds.specs.Built.{IsProcTable, AreProcsDeclared}
+use Rattle.world_laws.specs.Built.{IsProcTable, AreProcsDeclared}
 
 few_in : (name : TableName) (tables : List TableEntry) → AllByRecursion IsProcTable tables → length (columns_in (proc_table_named tables name)) ≤ 32
 few_in name [] each = omega arith

@@ -2,7 +2,7 @@
 ghost use Rattle.std.specs.Prelude.{◌≡◌, ◌≤◌, None, length, IfOk, OnOk, OnErr};
 ghost use Rattle.rep_schema.specs.Tables.{columns_in};
 ghost use Rattle.world_state.specs.ProcDeclaring.{proc_table_named, with_proc_table, query_of, action_of, with_procedure};
-ghost use Rattle.procedure_worlds.specs.Built.{AreProcsDeclared};
+ghost use Rattle.world_laws.specs.Built.{AreProcsDeclared};
 ghost use Rattle.environment.specs.Following.{IsBuilt};
 ghost use Rattle.environment.specs.Precheck.{precheck_refusal};
 ghost use Rattle.environment.specs.Doing.{Does};

@@ -14,7 +14,7 @@ use Rattle.world_state.specs.Phases.{is_setup}
 use Rattle.world_state.specs.Declaring.{is_snapshot_of, has_snapshot}
 use Rattle.world_state.specs.Making.{snapshots_at}
 use Rattle.environment.specs.Worlds.{AreDeclaredOnce, DeclaresSoFar}
-use Rattle.environment.specs.Reached.{IsOfConvergence, Declaring, Going}
+use Rattle.environment.specs.AlikeWorlds.{IsOfConvergence, Declaring, Going}
 
 -- a declared snapshot as its site has it
 abbrev as_made : DeclaredSnapshot → Snapshot

@@ -7,7 +7,7 @@ use Rattle.snapshot_query.specs.declared.snapshot.Snapshot.{Snapshot}
 use Rattle.site_state.specs.declared.rows.TableRows.{TableRows}
 use Rattle.site_events.specs.Rules.{table_ruled, rows_ruled}
 use Rattle.site_state.specs.Fits.{SnapshotsApart}
-use Rattle.site_refresh.specs.Refreshing.{AreGivenOnce, AreGivenFor}
+use Rattle.fast_refresh.specs.Refreshing.{AreGivenOnce, AreGivenFor}
 
 any_first : {X : Type 0} (P : X → Type 0) (x : X) (xs : List X) → P x → Any P (x ∷ xs)
 any_first P x xs holds = (zero, x, omega arith, refl, holds)

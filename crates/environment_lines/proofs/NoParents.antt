@@ -15,10 +15,10 @@ use Rattle.snapshot_log.specs.LogState.{LogState}
 use Rattle.site_state.specs.Contents.{tables_of}
 use Rattle.snapshot_log.specs.Noting.{pending_keys}
 use Rattle.site_state.specs.Refreshes.{rows_shown, row_count, refresh_fast_answer}
-use Rattle.site_refresh.specs.Refreshing.{OthersAreShown}
+use Rattle.fast_refresh.specs.Refreshing.{OthersAreShown}
 use Rattle.site_events.specs.Rules.{rows_ruled, parents_above, looked_up, refresh_ruled_answer, HaveNoParents, QueriesAreRules}
 use Rattle.fast_refresh.specs.Showing.{ShowsOthers}
-use Rattle.snapshot_laws.specs.Waiting.{waits_for, waiting_keys}
+use Rattle.event_laws.specs.WaitingRows.{waits_for, waiting_keys}
 use Rattle.environment.specs.Worlds.{IsShown}
 
 -- no row waits

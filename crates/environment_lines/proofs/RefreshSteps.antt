@@ -25,7 +25,7 @@ use Rattle.world_laws.proofs.UnrefusedLines.{refreshed-made}
 use Rattle.world_laws.specs.Places.{site_place}
 use Rattle.environment.specs.Worlds.{CanRefreshFrom, SnapshotsHold}
 use Rattle.environment.proofs.Worlds.{snapshots_hold_of}
-use Rattle.environment.proofs.Scripts.{of_snapshots}
+use Rattle.world_laws.proofs.AlikeWorlds.{of_snapshots}
 use Rattle.environment.specs.Following.{IsBuilt}
 use Rattle.environment.specs.Finding.{IsAt}
 use Rattle.environment.specs.Precheck.{precheck_refusal}

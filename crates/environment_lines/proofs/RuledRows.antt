@@ -12,7 +12,7 @@ use Rattle.snapshot_log.specs.LogState.{LogState}
 use Rattle.snapshot_log.specs.Noting.{pending_keys}
 use Rattle.site_events.specs.Rules.{pending_parents}
 use Rattle.fast_refresh.specs.Showing.{has_key, ShowsOthers}
-use Rattle.snapshot_laws.specs.Waiting.{waits_for, outdated_keys}
+use Rattle.event_laws.specs.WaitingRows.{waits_for, outdated_keys}
 use Rattle.subquery_snapshots.specs.declared.rule.Rule.{Rule}
 use Rattle.subquery_snapshots.specs.declared.rule.Rule.TheVariants as rules
 use Rattle.subquery_snapshots.specs.Rules.{rule_picks, waits, ShowsUpToDate}

@@ -8,8 +8,8 @@ use Rattle.site_state.specs.State.{SiteState}
 use Rattle.site_events.specs.Cluster.{Cluster, site_of}
 use Rattle.site_events.specs.Joins.{may_join, joined}
 use Rattle.site_events.specs.Events.{run}
-use Rattle.join_laws.specs.Joined.{HasJoined}
-use Rattle.join_laws.proofs.Joined.{joins_copy}
+use Rattle.event_laws.specs.Joined.{HasJoined}
+use Rattle.event_laws.proofs.Joined.{joins_copy}
 use Rattle.world_state.specs.World.{WorldState}
 use Rattle.world_state.specs.Refusals.{world_refusal}
 use Rattle.world_state.specs.Steps.{step_by, world_step}

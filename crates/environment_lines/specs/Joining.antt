@@ -4,7 +4,7 @@ use Rattle.rep_values.specs.declared.name.SiteName.{SiteName}
 use Rattle.site_state.specs.State.{SiteState}
 use Rattle.site_events.specs.Cluster.{Cluster, site_of}
 use Rattle.site_events.specs.Joins.{may_join, joined}
-use Rattle.join_laws.specs.Joined.{HasJoined}
+use Rattle.event_laws.specs.Joined.{HasJoined}
 use Rattle.world_state.specs.World.{WorldState}
 
 -- a late master joins as a copy of another one, where it may

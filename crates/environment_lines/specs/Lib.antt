@@ -8,5 +8,5 @@ pub use Rattle.environment.specs.Precheck
 pub use Rattle.environment.specs.Texts
 pub use Rattle.environment.specs.Doing
 pub use Rattle.environment.specs.Worlds
-pub use Rattle.environment.specs.Reached
+pub use Rattle.environment.specs.AlikeWorlds
 pub use Rattle.environment.specs.Convergence

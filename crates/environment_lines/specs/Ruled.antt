@@ -13,7 +13,7 @@ use Rattle.snapshot_log.specs.LogState.{LogState}
 use Rattle.site_state.specs.Fits.{SchemaIsKeyed}
 use Rattle.site_events.specs.Rules.{pending_parents, IsParentWithin}
 use Rattle.fast_refresh.specs.Showing.{ShowsOthers}
-use Rattle.snapshot_laws.specs.Waiting.{outdated_keys}
+use Rattle.event_laws.specs.WaitingRows.{outdated_keys}
 use Rattle.subquery_snapshots.specs.declared.rule.Rule.{Rule}
 use Rattle.subquery_snapshots.specs.declared.rule.Rule.TheVariants as rules
 

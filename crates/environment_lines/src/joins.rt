@@ -18,7 +18,7 @@ use rep_lists::{Copies, Items, NoMemory};
 use rep_schema::RowStore;
 use rep_values::SiteName;
 use report_text::{Lines, join_line};
-use schema_sites::{destinations_of, senders_of};
+use schema_names::{destinations_of, senders_of};
 use script_parse::Command;
 use std::alloc::Global;
 use world_state::Refused;

@@ -25,7 +25,7 @@ use rep_values::{SiteName, TableName};
 use report_text::{Lines, purge_log_line, refresh_complete_line, refresh_fast_line};
 use schema_names::table_place;
 use script_parse::{Command, Refresh};
-use site_notes::Notes;
+use snapshot_log::Notes;
 use site_state::RefreshCount;
 use std::alloc::Global;
 use world_state::Refused;

@@ -13,7 +13,7 @@ use page_tables::PageTables;
 use rep_lists::{Items, NoMemory};
 use rep_schema::RowStore;
 use rep_values::{Key, Row};
-use site_notes::{Notes, Watched};
+use snapshot_log::{Notes, Watched};
 use site_state::TableRows;
 use snapshot_query::Query;
 use std::alloc::Global;

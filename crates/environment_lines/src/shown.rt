@@ -17,7 +17,7 @@ use rep_lists::{Items, NoMemory};
 use rep_schema::RowStore;
 use rep_values::SiteName;
 use report_text::{Lines, add_proc_tables, add_tables};
-use schema_sites::{destinations_of, senders_of};
+use schema_names::{destinations_of, senders_of};
 use script_parse::{Command, Shown};
 use std::alloc::Global;
 use world_state::Refused;

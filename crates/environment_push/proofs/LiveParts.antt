@@ -24,7 +24,7 @@ use Rattle.world_laws.specs.Simulation.{Simulates, Leads, AreEvents}
 use Rattle.world_laws.proofs.Finding.{at_found, at_twice}
 use Rattle.world_laws.proofs.SiteSteps.{SiteRuns}
 use Rattle.world_laws.proofs.Pieces.{none_lead, then_lead, site_leads, pushed_in_leads, return_mark_leads}
-use Rattle.procedure_worlds.proofs.ProceduresStay.{same_procs}
+use Rattle.world_laws.proofs.ProceduresStay.{same_procs}
 use Rattle.environment.specs.Following.{IsBuilt}
 use Rattle.environment.proofs.Apart.{apart_behind}
 use Rattle.environment.proofs.Following.{of_script_leads, of_convergence_leads}

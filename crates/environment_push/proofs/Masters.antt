@@ -10,7 +10,7 @@ use Rattle.event_laws.proofs.MarkLaws.{IsOfSchema, run_schema}
 use Rattle.event_laws.proofs.Confluence.{every_site_can_pass_in_any_order}
 use Rattle.world_state.specs.World.{WorldState}
 use Rattle.world_state.specs.Phases.{is_setup}
-use Rattle.environment.specs.Reached.{IsOfConvergence, Declaring, Going, GoesOnAlike}
+use Rattle.environment.specs.AlikeWorlds.{IsOfConvergence, Declaring, Going, GoesOnAlike}
 use Rattle.environment.specs.Following.{PushesInPart, IsBuilt}
 use Rattle.environment.proofs.Following.{built_in_part}
 use Rattle.environment_push.specs.Applying.{CanApplyThere}

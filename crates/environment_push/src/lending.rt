@@ -17,7 +17,7 @@ use page_tables::PageTables;
 use rep_lists::{Items, NoMemory};
 use rep_schema::RowStore;
 use rep_values::{Refusal, SiteName};
-use schema_sites::senders_of;
+use schema_names::senders_of;
 use std::alloc::Global;
 use world_state::Phase;
 

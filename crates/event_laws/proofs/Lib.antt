@@ -34,3 +34,34 @@ pub mod OpenMasters
 pub mod JoinedSites
 pub mod LinkedSites
 pub mod RefreshedRows
+pub mod Names
+pub mod Streams
+pub mod Openings
+pub mod LateMasters
+pub mod Copies
+pub mod Joined
+mod WorkedJoined
+pub mod Keys
+pub mod RowsFromKeys
+pub mod ChangedRows
+pub mod Moves
+pub mod Parents
+pub mod ParentKeys
+pub mod SnapshotsKeepUp
+pub mod UpToDate
+pub mod Calls
+pub mod SitesKeepUp
+pub mod Begun
+pub mod Refreshing
+pub mod RunsFit
+pub mod SnapshotEvents
+pub mod Joining
+pub mod Starting
+pub mod Events
+pub mod SnapshotLaws
+pub mod LogLaws
+pub mod RisingKeys
+mod WorkedRefreshes
+mod WorkedSnapshotStarts
+mod WorkedSubqueries
+mod WorkedSubqueryStarts

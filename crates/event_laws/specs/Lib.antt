@@ -9,3 +9,12 @@ pub mod Fitting
 pub mod Confluence
 pub mod Waiting
 pub mod Beginning
+pub mod Names
+pub mod Streams
+pub mod Joined
+pub mod WaitingRows
+pub mod Pending
+pub mod SnapshotStarts
+pub mod Refreshed
+pub mod RefreshLaws
+pub mod Logs

@@ -9,3 +9,9 @@ mod ChangesMade
 mod StepTables
 mod AsRefreshed
 mod WorkedRefreshes
+pub mod Taking
+mod AtPlace
+mod ManyChanges
+mod OneMore
+mod Left
+mod Outcomes

@@ -3,3 +3,5 @@ pub mod Views
 pub mod Showing
 pub mod Planned
 pub mod Refreshed
+pub mod Refreshing
+pub mod Done

@@ -1,8 +1,8 @@
 -- The first line of a text.
 use Rattle.std.proofs.Common.{◌≡◌, ℕ, ◌+◌, ◌-◌, ◌<◌, List, [], ◌∷◌, ◌++◌, length, take, drop, get_or, refl, sym, ap, ap₂, ◌∙◌, subst, arith, take-append-drop}
 use Rattle.std.proofs.lemmas.List.{drop_more, drop_all, take_all, length-drop}
-use Rattle.rep_lines.specs.Lines.{newline, last_line, lines_after, IsUnbroken}
-use Rattle.rep_lines.proofs.LineLemmas.{whole_lines-unbroken, pending-unbroken, lines_after-append}
+use Rattle.script_drive.specs.Lines.{newline, last_line, lines_after, IsUnbroken}
+use Rattle.script_drive.proofs.LineLemmas.{whole_lines-unbroken, pending-unbroken, lines_after-append}
 use Rattle.office.specs.Lines.{lines_of}
 
 last_line-some : (text : List ℕ) → 0 < length text → last_line text ≡ text ∷ []

@@ -1,6 +1,6 @@
 -- The lines of a text.
 use Rattle.std.specs.Prelude.{ℕ, List, []}
-use Rattle.rep_lines.specs.Lines.{lines_after}
+use Rattle.script_drive.specs.Lines.{lines_after}
 
 -- the lines of a text; a last one without an end counts where it isn't empty
 abbrev pub lines_of : List ℕ → List (List ℕ)

@@ -16,7 +16,7 @@ use page_tables::PageTables;
 use rep_schema::{RowStore, Schema};
 use rep_values::SiteName;
 use schema_rules::check;
-use schema_sites::is_master_site;
+use schema_names::is_master_site;
 use site_core::Site;
 use std::alloc::Global;
 use std::marker::Model;

@@ -6,7 +6,7 @@ ghost use Rattle.office.specs.Owed.{due_to, all_due};
 use crate::desk::Office;
 use crate::error::OfficeError;
 use rep_values::SiteName;
-use schema_sites::destinations_of;
+use schema_names::destinations_of;
 use std::alloc::Global;
 
 /// The letters to an office that it hasn't acknowledged: those behind one position, up to the last.

@@ -1,6 +1,6 @@
 //! A text, line by line.
 ghost use Rattle.std.specs.Prelude.{◌≡◌, ◌<◌, ◌≤◌, ◌∷◌, length, take, slice_index};
-ghost use Rattle.rep_lines.specs.Lines.{newline, IsUnbroken};
+ghost use Rattle.script_drive.specs.Lines.{newline, IsUnbroken};
 ghost use Rattle.office.specs.Lines.{lines_of};
 
 use memchr::memchr;

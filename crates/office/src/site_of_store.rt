@@ -14,7 +14,7 @@ use rep_laws::sound_schemas_have_keys;
 use rep_lists::{Items, NoMemory};
 use rep_schema::{RowStore, Schema, TableSet};
 use rep_values::SiteName;
-use schema_sites::{destinations_of, first_master, senders_of};
+use schema_names::{destinations_of, first_master, senders_of};
 use site_core::Site;
 use std::alloc::Global;
 

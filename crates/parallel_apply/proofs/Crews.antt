@@ -12,9 +12,9 @@ use Rattle.site_state.specs.Ready.{stale_of, stale_found, is_due, is_ready, firs
 use Rattle.site_state.specs.Passes.{effect_here, applied_unless, site_apply, apply_answer, apply_answer_by, apply_answer_unless}
 use Rattle.event_laws.specs.Confluence.{applied_in_turn, AreReadyInTurn}
 use Rattle.event_laws.proofs.MasterArrivals.{IsReadyAt, ready_at}
-use Rattle.txn_work.specs.declared.outcome.Outcome.{Outcome}
-use Rattle.txn_work.specs.Works.{WorkState}
-use Rattle.txn_work.specs.Laws.{SupportOutlastsIndependentTransactions}
+use Rattle.txn_apply.specs.declared.outcome.Outcome.{Outcome}
+use Rattle.txn_apply.specs.Works.{WorkState}
+use Rattle.txn_apply.specs.Laws.{SupportOutlastsIndependentTransactions}
 use Rattle.site_core.specs.Working.{IsWorkOf, EndsHere, HoldsWhereAlike}
 use Rattle.site_core.proofs.Beginning.{outcomes_hold}
 use Rattle.parallel_apply.specs.Turns.{positions_of, site_after_crew}
@@ -149,7 +149,7 @@ module _ (opened : SiteState) (origin : SiteName) (turns : List (Option ℕ)) (s
 
     ends_of : stale_of origin done.position site ≡ None → (work : WorkState) (outcome : Outcome) → IsWorkOf origin done.position before work → HoldsWhereAlike work outcome.ending → EndsHere origin done.position site outcome.ending
     ends_of fresh work outcome of holds = outcomes_hold origin done.position before site work outcome.ending of holds later_stays.schema (ap (arrived_at origin done.position) later_stays.senders)
-        (subst (λ (y : SiteState). Rattle.txn_work.specs.Works.Supports work (Rattle.site_state.specs.Contents.content_of y)) (sym here_since)
+        (subst (λ (y : SiteState). Rattle.txn_apply.specs.Works.Supports work (Rattle.site_state.specs.Contents.content_of y)) (sym here_since)
         (all_outlasted origin opened is.passes outlasts done.position before stays_before at_claim work (of.schema_is ∙ stays_before.schema) (of.txn_is at_claim.arrival at_claim.there)
         (positions_of earlier.later) before (stays_itself origin before) ready_since (unfinished fresh) of.supports))
 

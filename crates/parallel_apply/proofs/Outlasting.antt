@@ -21,8 +21,8 @@ use Rattle.site_state.proofs.Stepping.{arrived_has}
 use Rattle.event_laws.specs.Confluence.{applied_in_turn, AreReadyInTurn, CanPassInAnyOrder}
 use Rattle.site_state.proofs.Waited.{and_both, found_holds}
 use Rattle.event_laws.proofs.MasterArrivals.{IsReadyAt, ready_at}
-use Rattle.txn_work.specs.Works.{WorkState, Supports}
-use Rattle.txn_work.specs.Laws.{SupportOutlastsIndependentTransactions}
+use Rattle.txn_apply.specs.Works.{WorkState, Supports}
+use Rattle.txn_apply.specs.Laws.{SupportOutlastsIndependentTransactions}
 use Rattle.parallel_apply.proofs.Sharing.{share_token-either_way}
 use Rattle.parallel_apply.proofs.InTurn.{Stays, stays_one, stays_then, stays_in_turn, applied_finished, content_applied}
 

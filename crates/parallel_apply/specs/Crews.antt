@@ -12,8 +12,8 @@ use Rattle.site_state.specs.declared.answers.Applied.{Applied}
 use Rattle.site_state.specs.declared.answers.Applied.TheVariants as applied
 use Rattle.site_state.specs.Ready.{stale_of}
 use Rattle.event_laws.specs.Confluence.{applied_in_turn, AreReadyInTurn, CanPassInAnyOrder}
-use Rattle.txn_work.specs.declared.outcome.Outcome.{Outcome}
-use Rattle.txn_work.specs.Works.{WorkState}
+use Rattle.txn_apply.specs.declared.outcome.Outcome.{Outcome}
+use Rattle.txn_apply.specs.Works.{WorkState}
 use Rattle.site_core.specs.Working.{IsWorkOf, HoldsWhereAlike}
 use Rattle.parallel_apply.specs.Turns.{positions_of, site_after_crew}
 use Rattle.parallel_apply.specs.declared.claim.Claim.{Claim}

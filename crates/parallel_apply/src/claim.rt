@@ -9,7 +9,7 @@ use rep_schema::RowStore;
 use rep_values::SiteName;
 use site_core::Site;
 use std::alloc::Global;
-use txn_work::{Outcome, SharedSchema, Work};
+use txn_apply::{Outcome, SharedSchema, Work};
 
 /// A position that an applier claimed, with its work where it is evaluated outside the lock.
 #[derive(Drop)]

@@ -9,7 +9,7 @@ use Rattle.rep_values.specs.SiteNames.{is_same_site}
 use Rattle.deferred_queue.proofs.Sites.{is_same_site-true, is_same_site-refl}
 use Rattle.site_state.specs.State.{SenderState, sender_of}
 use Rattle.rep_schema.specs.Sites.{is_among}
-use Rattle.journal_steps.proofs.StandingErrors.{StandApart}
+use Rattle.sender_inbox.proofs.StandingErrors.{StandApart}
 use Rattle.proc_calls.specs.Outgoing.{NamesApart}
 
 -- names that aren't the same

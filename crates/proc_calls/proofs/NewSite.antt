@@ -12,8 +12,8 @@ use Rattle.error_queue.specs.ErrorLists.{ErrorList, no_errors}
 use Rattle.site_state.specs.Making.{new_sender}
 use Rattle.site_state.specs.Fits.{SchemaIsKeyed, SendersHave}
 use Rattle.sender_inbox.specs.Incoming.{Incoming}
-use Rattle.journal_steps.specs.Inboxes.{senders_in, Follows}
-use Rattle.journal_steps.proofs.StandingErrors.{lists_by}
+use Rattle.sender_inbox.specs.Inboxes.{senders_in, Follows}
+use Rattle.sender_inbox.proofs.StandingErrors.{lists_by}
 use Rattle.proc_state.specs.declared.procedure.Procedure.{Procedure}
 use Rattle.proc_state.specs.Calls.{AreProcedures}
 use Rattle.proc_state.specs.State.{new_proc, no_mark}

@@ -19,7 +19,7 @@ use Rattle.rep_lists.specs.Counting.{count_where}
 use Rattle.site_state.specs.Passes.{is_done, is_error, added_count}
 use Rattle.site_state.proofs.LowWater.{low_water-below}
 use Rattle.sender_inbox.specs.Incoming.{IsFirstAbove}
-use Rattle.journal_steps.specs.Steps.{done_by, errors_by}
+use Rattle.sender_inbox.specs.Steps.{done_by, errors_by}
 use Rattle.rep_schema.proofs.FoundRows.{take_found}
 use Rattle.proc_state.specs.State.{ProcState, as_site}
 use Rattle.proc_state.specs.Passes.{txn_here, finished_by, applied_unless, proc_apply, apply_answer_by, apply_answer_unless, proc_apply_answer, apply_each, proc_pass, proc_pass_answer}

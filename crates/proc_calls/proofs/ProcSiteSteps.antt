@@ -35,11 +35,11 @@ use Rattle.site_state.specs.Fits.{EntryHas}
 use Rattle.site_state.proofs.Stepping.{arrived_has, error_found}
 use Rattle.site_state.proofs.FittingSites as fitting
 use Rattle.sender_inbox.specs.Incoming.{Incoming, by_position}
-use Rattle.journal_steps.specs.Inboxes.{senders_in, sender_in, inbox_of, Follows}
-use Rattle.journal_steps.specs.Steps.{entry_of, answer_of, error_of, with_error}
-use Rattle.journal_steps.proofs.StandingErrors.{StandApart, HasCome, lists_by, errors-added, errors-removed, error_in-lists, error_at-finished, error_at-unfinished, errors-arrival, list_of-sender}
-use Rattle.journal_steps.proofs.SenderInboxes.{sender_of-inboxes}
-use Rattle.journal_steps.proofs.ChangedInbox.{is_from, inbox_of-place, inbox_of-none, senders_in-same, senders_in-changed, Finishes, follow_same, follow_finished}
+use Rattle.sender_inbox.specs.Inboxes.{senders_in, sender_in, inbox_of, Follows}
+use Rattle.sender_inbox.specs.Steps.{entry_of, answer_of, error_of, with_error}
+use Rattle.sender_inbox.proofs.StandingErrors.{StandApart, HasCome, lists_by, errors-added, errors-removed, error_in-lists, error_at-finished, error_at-unfinished, errors-arrival, list_of-sender}
+use Rattle.sender_inbox.proofs.SenderInboxes.{sender_of-inboxes}
+use Rattle.sender_inbox.proofs.ChangedInbox.{is_from, inbox_of-place, inbox_of-none, senders_in-same, senders_in-changed, Finishes, follow_same, follow_finished}
 use Rattle.proc_state.specs.declared.procedure.Procedure.{Procedure}
 use Rattle.proc_state.specs.declared.call.ProcCall.{ProcCall}
 use Rattle.proc_state.specs.Calls.{tables_by}

@@ -16,8 +16,8 @@ use Rattle.site_state.specs.Journal.{finished, low_water}
 use Rattle.site_state.specs.Ready.{is_due, stale_of}
 use Rattle.site_state.proofs.FittingSites.{arrival_has}
 use Rattle.sender_inbox.specs.Incoming.{Incoming, by_position}
-use Rattle.journal_steps.specs.Inboxes.{senders_in, inbox_of}
-use Rattle.journal_steps.proofs.SenderInboxes.{sender_of-inboxes, finished_found, mark_found, unfinished_none, low_water-none}
+use Rattle.sender_inbox.specs.Inboxes.{senders_in, inbox_of}
+use Rattle.sender_inbox.proofs.SenderInboxes.{sender_of-inboxes, finished_found, mark_found, unfinished_none, low_water-none}
 use Rattle.proc_state.specs.State.{ProcState, as_site}
 use Rattle.proc_state.specs.Fits.{SendersPass}
 use Rattle.proc_calls.specs.Outgoing.{CallsOut}

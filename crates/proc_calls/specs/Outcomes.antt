@@ -2,8 +2,8 @@
 use Rattle.std.specs.Prelude.{List, Result, Ok, Err}
 use Rattle.rep_schema.specs.Tables.{Rows}
 use Rattle.txn_effects.specs.Transactions.{Failure}
-use Rattle.journal_steps.specs.declared.steps.ApplyOutcome.{ApplyOutcome}
-use Rattle.journal_steps.specs.declared.steps.ApplyOutcome.TheVariants.{Done, Failed}
+use Rattle.sender_inbox.specs.declared.steps.ApplyOutcome.{ApplyOutcome}
+use Rattle.sender_inbox.specs.declared.steps.ApplyOutcome.TheVariants.{Done, Failed}
 
 -- by what its calls do: it is done, and nothing goes onward; or its first call that fails
 abbrev pub outcome_by : Result (List Rows) Failure → ApplyOutcome

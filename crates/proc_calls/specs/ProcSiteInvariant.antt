@@ -9,7 +9,7 @@ use Rattle.site_state.specs.declared.entry.Entry.{Entry}
 use Rattle.site_state.specs.State.{SenderState}
 use Rattle.site_state.specs.Fits.{EntryHas, SendersHave, FinishedHaveArrived}
 use Rattle.sender_inbox.specs.Incoming.{Incoming}
-use Rattle.journal_steps.specs.Inboxes.{senders_in, Follows, error_list}
+use Rattle.sender_inbox.specs.Inboxes.{senders_in, Follows, error_list}
 use Rattle.site_state.specs.Waited.{HaveWaited, IsFinishedOnce}
 use Rattle.proc_state.specs.declared.procedure.Procedure.{Procedure}
 use Rattle.proc_state.specs.State.{ProcState, proc_tables, own_txns, other_masters}

@@ -1,7 +1,7 @@
 //! A transaction of calls that another master sent, applied to a store.
 ghost use Rattle.std.specs.Prelude.{◌≡◌, IfOk, OnOk, OnErr};
 ghost use Rattle.site_state.specs.Fits.{SchemaIsKeyed};
-ghost use Rattle.journal_steps.specs.Steps.{entry_of, answer_of, error_of};
+ghost use Rattle.sender_inbox.specs.Steps.{entry_of, answer_of, error_of};
 ghost use Rattle.proc_state.specs.Calls.{AreProcedures, tables_by};
 ghost use Rattle.proc_state.specs.Carriers.{txn_after};
 ghost use Rattle.proc_state.specs.Fits.{IsProcTxn};
@@ -9,7 +9,7 @@ ghost use Rattle.proc_calls.specs.Outcomes.{outcome_by};
 
 use crate::applying::apply_txn;
 use crate::stop::ProcStop;
-use journal_steps::{ApplyOutcome, Step, step_of};
+use sender_inbox::{ApplyOutcome, Step, step_of};
 use proc_state::Procedure;
 use rep_calls::Txn;
 use rep_lists::NoMemory;

@@ -3,7 +3,7 @@ use Rattle.std.proofs.Common.{◌≡◌, ℕ, List, ◌++◌, take, drop, sym, �
 use Rattle.std.specs.Prelude.{Option}
 use Rattle.std.specs.Io.KnownBytes.{Appends}
 use Rattle.rep_io.specs.Transfer.{TakesFront}
-use Rattle.rep_lines.specs.Fed.{Begins}
+use Rattle.script_drive.specs.Fed.{Begins}
 use Rattle.script_drive.specs.declared.status.Status.TheVariants.{WriteFault}
 use Rattle.replication_cli.specs.Outcome.{TellsOf}
 

@@ -1,6 +1,6 @@
 -- How a storm ends, and what its status tells of the bytes that it wrote.
 use Rattle.std.specs.Prelude.{◌≡◌, ◌⊎◌, ℕ, List, ◌++◌, Option, Some}
-use Rattle.rep_lines.specs.Fed.{Begins}
+use Rattle.script_drive.specs.Fed.{Begins}
 use Rattle.script_drive.specs.declared.status.Status.{Status}
 use Rattle.script_drive.specs.declared.status.Status.TheVariants.{Done, Malformed, ReadFault, WriteFault, Memory, Usage}
 

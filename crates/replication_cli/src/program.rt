@@ -1,9 +1,9 @@
 //! What the program does with the words of its command line.
 ghost use Rattle.std.specs.Prelude.{◌≡◌, ◌≢◌, ◌↔◌, ℕ, Bool, None, Some};
 ghost use Rattle.rep_io.specs.Faults.{Rose};
-ghost use Rattle.rep_lines.specs.Told.{Tells};
+ghost use Rattle.script_drive.specs.Told.{Tells};
 ghost use Rattle.world_state.specs.World.{first_world};
-ghost use Rattle.script_drive.specs.Lines.{line_step};
+ghost use Rattle.script_drive.specs.LineBytes.{line_step};
 ghost use Rattle.script_drive.specs.Outcome.{Told};
 ghost use Rattle.script_drive.specs.Prompt.{ReadsPromptly};
 ghost use Rattle.world_run.specs.Completeness.{RunsToItsEnd};

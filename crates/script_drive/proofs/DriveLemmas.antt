@@ -3,13 +3,13 @@ use Rattle.std.proofs.Common.{◌≡◌, ◌≢◌, ◌≤◌, ℕ, List, [], �
 use Rattle.std.specs.declared.option.Option.{Option}
 use Rattle.std.specs.Io.KnownBytes.{Keeps, Consumes, IsAtEnd}
 use Rattle.std.proofs.KnownBytes.{Appends-nil, Consumes-nil, Consumes-trans, Consumes-kept}
-use Rattle.rep_lines.specs.Lines.{newline, lines_after}
-use Rattle.rep_lines.specs.Runs.{Stepped}
-use Rattle.rep_lines.specs.Fed.{RunState, run_beginning, FedInto, Reaches}
-use Rattle.rep_lines.proofs.FedLemmas.{fed_into_more, fed_into_nothing}
-use Rattle.rep_lines.proofs.ToldLemmas.{last_line-some, tells_nothing, tells_read, tells_all}
-use Rattle.rep_lines.proofs.ReachLemmas.{reaches_behind, reaches_more, reaches_fed}
-use Rattle.script_drive.specs.Lines.{line_step, most_piece}
+use Rattle.script_drive.specs.Lines.{newline, lines_after}
+use Rattle.script_drive.specs.Runs.{Stepped}
+use Rattle.script_drive.specs.Fed.{RunState, run_beginning, FedInto, Reaches}
+use Rattle.script_drive.proofs.FedLemmas.{fed_into_more, fed_into_nothing}
+use Rattle.script_drive.proofs.ToldLemmas.{last_line-some, tells_nothing, tells_read, tells_all}
+use Rattle.script_drive.proofs.ReachLemmas.{reaches_behind, reaches_more, reaches_fed}
+use Rattle.script_drive.specs.LineBytes.{line_step, most_piece}
 use Rattle.script_drive.specs.Halts.{FeedsBy, FinishesBy, HaltsBy, status_of}
 use Rattle.script_drive.specs.Outcome.{RanBy}
 use Rattle.script_drive.specs.Prompt.{Asked, AsksNext, ReadsSoFar}
@@ -17,7 +17,7 @@ use Rattle.script_drive.specs.declared.run.Halt.{Halt}
 use Rattle.script_drive.specs.declared.status.Status.TheVariants as status
 use Rattle.script_drive.proofs.HaltLemmas.{halts_more}
 use Rattle.script_drive.proofs.PromptLemmas.{prompt_first, prompt_answered, prompt_failed, prompt_halt}
-use Rattle.script_drive.proofs.ToldLemmas.{told_halt, told_halt_last, reached_within, reached_at_end}
+use Rattle.script_drive.proofs.DriveTold.{told_halt, told_halt_last, reached_within, reached_at_end}
 
 -- a read of nothing leaves what was read
 pub read_nothing : (a b c : Option (List ℕ)) (read : List ℕ) (n : ℕ) (piece : List ℕ) → n ≡ 0 → Consumes a b read → Consumes b c (take n piece) → Consumes a c read

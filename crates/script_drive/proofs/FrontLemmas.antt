@@ -4,14 +4,14 @@ use Rattle.std.specs.declared.option.Option.{Option}
 use Rattle.std.proofs.KnownBytes.{Appends-nil}
 use Rattle.std.proofs.lemmas.List.{take_more}
 use Rattle.std.proofs.lemmas.List.Elements.{All-head, All-tail}
-use Rattle.rep_lines.specs.Lines.{newline, whole_lines, lines_after, IsUnbroken}
-use Rattle.rep_lines.specs.Runs.{Stepped, state_after}
-use Rattle.rep_lines.specs.Fed.{RunState, Fed}
-use Rattle.rep_lines.proofs.LineLemmas.{StartsLine, starts_line, whole_lines-unbroken, pending-unbroken}
-use Rattle.rep_lines.proofs.EndLemmas.{HaltsFirst, halts_first}
-use Rattle.rep_lines.proofs.LimitLemmas.{limited-long, one_line_too_many}
+use Rattle.script_drive.specs.Lines.{newline, whole_lines, lines_after, IsUnbroken}
+use Rattle.script_drive.specs.Runs.{Stepped, state_after}
+use Rattle.script_drive.specs.Fed.{RunState, Fed}
+use Rattle.script_drive.proofs.LineLemmas.{StartsLine, starts_line, whole_lines-unbroken, pending-unbroken}
+use Rattle.script_drive.proofs.EndLemmas.{HaltsFirst, halts_first}
+use Rattle.script_drive.proofs.LimitLemmas.{limited-long, one_line_too_many}
 use Rattle.report_text.specs.Texts.{malformed_text}
-use Rattle.script_drive.specs.Lines.{line_step}
+use Rattle.script_drive.specs.LineBytes.{line_step}
 use Rattle.script_drive.specs.Halts.{FeedsBy, HaltsBy}
 use Rattle.script_drive.specs.declared.run.Halt.{Halt}
 use Rattle.script_drive.proofs.HaltLemmas.{feeds_by_more, halts_by_more, halts_by_longer}

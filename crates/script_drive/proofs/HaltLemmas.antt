@@ -2,16 +2,16 @@
 use Rattle.std.proofs.Common.{◌≡◌, ◌≢◌, ◌≤◌, ◌+◌, ℕ, List, [], ◌∷◌, ◌++◌, length, take, refl, sym, ap, ◌∙◌}
 use Rattle.std.specs.declared.option.Option.{Option}
 use Rattle.std.specs.Io.KnownBytes.{Appends}
-use Rattle.rep_lines.specs.Lines.{newline}
-use Rattle.rep_lines.specs.Runs.{Stepped, goes}
-use Rattle.rep_lines.specs.Fed.{RunState, FedInto}
-use Rattle.rep_lines.proofs.FedLemmas.{fed_into_more, ends_stopped_into_more, ends_short_into_more, ends_stopped_into_longer, ends_short_into_longer}
-use Rattle.rep_lines.proofs.ToldLemmas.{last_line-some}
-use Rattle.rep_lines.proofs.ReachLemmas.{reaches_here, reaches_line, reaches_more, reaches_longer}
-use Rattle.rep_lines.proofs.EndLemmas.{HaltsFirst, ends_stopped_into, ends_short_into, ends_silent, fed_into_line, ends_short_into_line}
-use Rattle.rep_lines.proofs.LimitLemmas.{limited-within}
+use Rattle.script_drive.specs.Lines.{newline}
+use Rattle.script_drive.specs.Runs.{Stepped, goes}
+use Rattle.script_drive.specs.Fed.{RunState, FedInto}
+use Rattle.script_drive.proofs.FedLemmas.{fed_into_more, ends_stopped_into_more, ends_short_into_more, ends_stopped_into_longer, ends_short_into_longer}
+use Rattle.script_drive.proofs.ToldLemmas.{last_line-some}
+use Rattle.script_drive.proofs.ReachLemmas.{reaches_here, reaches_line, reaches_more, reaches_longer}
+use Rattle.script_drive.proofs.EndLemmas.{HaltsFirst, ends_stopped_into, ends_short_into, ends_silent, fed_into_line, ends_short_into_line}
+use Rattle.script_drive.proofs.LimitLemmas.{limited-within}
 use Rattle.report_text.specs.Texts.{malformed_text}
-use Rattle.script_drive.specs.Lines.{line_step, GoesBy}
+use Rattle.script_drive.specs.LineBytes.{line_step, GoesBy}
 use Rattle.script_drive.specs.Halts.{RefusesInto, HaltsInto, HaltsAt, FeedsBy, FinishesBy, HaltsBy}
 use Rattle.script_drive.specs.declared.run.Halt.{Halt}
 use Rattle.script_drive.specs.declared.run.Halt.TheVariants.{Malformed, WriteFault, Memory}

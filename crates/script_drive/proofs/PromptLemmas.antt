@@ -3,8 +3,8 @@ use Rattle.std.proofs.Common.{◌≡◌, ℕ, List, [], ◌∷◌, ◌++◌, fal
 use Rattle.std.proofs.lemmas.List.Elements.{All-nil, All-push}
 use Rattle.std.specs.declared.option.Option.{Option}
 use Rattle.std.specs.Io.KnownBytes.{Consumes, Appends}
-use Rattle.rep_lines.specs.Runs.{Stepped}
-use Rattle.rep_lines.specs.Fed.{RunState, run_beginning, FedInto}
+use Rattle.script_drive.specs.Runs.{Stepped}
+use Rattle.script_drive.specs.Fed.{RunState, run_beginning, FedInto}
 use Rattle.script_drive.specs.Halts.{status_of}
 use Rattle.script_drive.specs.Prompt.{Asked, AsksNext, IsAnswered, IsPrompt, FaultIsLast, TellsReads, ReadsSoFar, ReadsPromptly}
 use Rattle.script_drive.specs.declared.status.Status.TheVariants as status

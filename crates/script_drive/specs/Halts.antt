@@ -4,12 +4,12 @@ use Rattle.std.specs.declared.option.Option.{Option}
 use Rattle.std.specs.Io.KnownBytes.{Appends}
 use Rattle.rep_io.specs.Faults.{Rose}
 use Rattle.rep_io.specs.Transfer.{TakesFront}
-use Rattle.rep_lines.specs.Runs.{Stepped, state_after}
-use Rattle.rep_lines.specs.Lines.{lines_after}
-use Rattle.rep_lines.specs.Fed.{RunState, prints_from, stops_from, FedInto, EndsStoppedInto, EndsShortInto, ReachesFrom}
+use Rattle.script_drive.specs.Runs.{Stepped, state_after}
+use Rattle.script_drive.specs.Lines.{lines_after}
+use Rattle.script_drive.specs.Fed.{RunState, prints_from, stops_from, FedInto, EndsStoppedInto, EndsShortInto, ReachesFrom}
 use Rattle.script_drive.specs.declared.status.Status.{Status}
 use Rattle.script_drive.specs.declared.status.Status.TheVariants as status
-use Rattle.script_drive.specs.Lines.{most_bytes, line_step}
+use Rattle.script_drive.specs.LineBytes.{most_bytes, line_step}
 use Rattle.script_drive.specs.declared.run.Halt.{Halt}
 use Rattle.script_drive.specs.declared.run.Halt.TheVariants.{Malformed, WriteFault, Memory}
 

@@ -1,38 +1,34 @@
--- What the lines of a script do, by what those within the limits do.
-use Rattle.std.specs.Prelude.{◌≡◌, ℕ, List}
-use Rattle.rep_lines.specs.Runs.{Stepped, goes, halts}
-use Rattle.rep_lines.specs.Limits.{limited}
-use Rattle.report_text.specs.Texts.{malformed_text}
-use Rattle.script_lex.specs.declared.stop.LineStop.{LineStop}
-use Rattle.script_lex.specs.declared.stop.LineStop.TheVariants.{Rule, Memory}
+-- Bytes as lines, each of which ends with the byte 10.
+use Rattle.std.specs.Prelude.{◌≢◌, ℕ, List, [], ◌∷◌, ◌++◌, if◌then◌else◌, ◌==◌, All}
+use Rattle.std.specs.List.{flat_map}
 
--- a script has at most so many lines
-abbrev pub most_lines : ℕ
-most_lines = 200000
+-- the byte that ends a line
+abbrev pub newline : ℕ
+newline = 10
 
--- a line has at most so many bytes before its end
-abbrev pub most_bytes : ℕ
-most_bytes = 1024
+-- the lines that these bytes end, where the bytes `front` of the first stand before them
+abbrev pub whole_lines : List ℕ → List ℕ → List (List ℕ)
+whole_lines front [] = []
+whole_lines front (b ∷ bs) = if b == newline then front ∷ whole_lines [] bs else whole_lines (front ++ b ∷ []) bs
 
--- a read asks for at most so many bytes
-abbrev pub most_piece : ℕ
-most_piece = 4096
+-- the bytes of the line that they leave without an end
+abbrev pub pending : List ℕ → List ℕ → List ℕ
+pending front [] = front
+pending front (b ∷ bs) = if b == newline then pending [] bs else pending (front ++ b ∷ []) bs
 
--- a script is within these limits, and a line that breaks a rule is told of
-abbrev pub line_step : {W : Type 0} → (W → ℕ → List ℕ → Stepped W) → W → ℕ → List ℕ → Stepped W
-line_step step = limited most_lines most_bytes malformed_text step
+-- a last line without an end counts where it isn't empty
+abbrev pub last_line : List ℕ → List (List ℕ)
+last_line [] = []
+last_line (b ∷ bs) = (b ∷ bs) ∷ []
 
--- a line that was stopped by a rule is one that ends the run, and changes nothing
-abbrev pub StopsBy : {W : Type 0} → Stepped W → W → ℕ → LineStop → Type 0
-StopsBy stepped old number (Rule rule) = stepped ≡ halts old (malformed_text number rule)
-StopsBy stepped old number Memory = Unit {0}
+-- all lines, where no more bytes come
+abbrev pub lines_after : List ℕ → List ℕ → List (List ℕ)
+lines_after front bytes = whole_lines front bytes ++ last_line (pending front bytes)
 
--- what a line does may depend on choices that are made only as it runs; a state allows those that agree with what was chosen so far
-module _ {W C : Type 0} (step : C → W → ℕ → List ℕ → Stepped W) (allowed : W → C → Type 0) where
-  -- all choices that are allowed behind the line were so before it, and by each of them the line goes on so
-  abbrev pub GoesBy : W → ℕ → List ℕ → W → List ℕ → Type 0
-  GoesBy old number line new prints = (choices : C) → allowed new choices → allowed old choices × (step choices old number line ≡ goes new prints)
+-- lines, each with its end behind it
+abbrev pub joined_lines : List (List ℕ) → List ℕ
+joined_lines lines = flat_map (λ line. line ++ newline ∷ []) lines
 
-  -- by all choices that are allowed before the line it was stopped so
-  abbrev pub StopsAnyway : W → ℕ → List ℕ → LineStop → Type 0
-  StopsAnyway old number line stop = (choices : C) → allowed old choices → StopsBy (step choices old number line) old number stop
+-- no byte of it ends a line
+abbrev pub IsUnbroken : List ℕ → Type 0
+IsUnbroken bytes = All (λ byte. byte ≢ newline) bytes

@@ -1,11 +1,11 @@
 -- What the status of a run tells of the bytes that it read and wrote.
 use Rattle.std.specs.Prelude.{◌≡◌, ℕ, List, [], Some}
 use Rattle.std.specs.declared.option.Option.{Option}
-use Rattle.rep_lines.specs.Lines.{lines_after}
-use Rattle.rep_lines.specs.Runs.{Stepped}
-use Rattle.rep_lines.specs.Fed.{Reaches}
-use Rattle.rep_lines.specs.Told.{Tells, ReportsAll, ReportsStop, ReportsFront, ReportsRead}
-use Rattle.script_drive.specs.Lines.{line_step, most_piece}
+use Rattle.script_drive.specs.Lines.{lines_after}
+use Rattle.script_drive.specs.Runs.{Stepped}
+use Rattle.script_drive.specs.Fed.{Reaches}
+use Rattle.script_drive.specs.Told.{Tells, ReportsAll, ReportsStop, ReportsFront, ReportsRead}
+use Rattle.script_drive.specs.LineBytes.{line_step, most_piece}
 use Rattle.script_drive.specs.Prompt.{Asked, ReadsPromptly}
 use Rattle.script_drive.specs.declared.status.Status.{Status}
 use Rattle.script_drive.specs.declared.status.Status.TheVariants.{Done, Malformed, ReadFault, WriteFault, Memory, Usage}

@@ -1,9 +1,9 @@
 -- The reads of a run: whether what lines print is written before more of a script is asked for, and what comes behind a failure.
 use Rattle.std.specs.Prelude.{◌≡◌, ℕ, List, [], ◌∷◌, ◌++◌, Bool, true, false, Some, All}
 use Rattle.std.specs.declared.option.Option.{Option}
-use Rattle.rep_lines.specs.Lines.{whole_lines}
-use Rattle.rep_lines.specs.Runs.{Stepped, printed}
-use Rattle.rep_lines.specs.Told.{IsRunning}
+use Rattle.script_drive.specs.Lines.{whole_lines}
+use Rattle.script_drive.specs.Runs.{Stepped, printed}
+use Rattle.script_drive.specs.Told.{IsRunning}
 use Rattle.script_drive.specs.declared.status.Status.{Status}
 use Rattle.script_drive.specs.declared.status.Status.TheVariants.{Done, Malformed, ReadFault, WriteFault, Memory, Usage}
 

@@ -1,7 +1,7 @@
 //! A script that is read piece by piece from a source, and its report that goes to a sink.
 ghost use Rattle.std.specs.Prelude.{◌≡◌, ◌≢◌};
 ghost use Rattle.rep_io.specs.Faults.{Rose};
-ghost use Rattle.rep_lines.specs.Fed.{run_beginning};
+ghost use Rattle.script_drive.specs.Fed.{run_beginning};
 ghost use Rattle.script_drive.specs.Outcome.{RanBy};
 
 use crate::at_end::{AtEnd, end};

@@ -1,11 +1,11 @@
 //! A script that is run line by line, as its bytes come.
 ghost use Rattle.std.specs.Prelude.{◌≡◌, ◌≢◌, ◌≤◌, ◌<◌, ◌+◌, ℕ, List, [], ◌∷◌, ◌++◌, length, take, slice_index, IfOk, IfErr, OnOk, OnErr};
 ghost use Rattle.rep_io.specs.Faults.{Rose};
-ghost use Rattle.rep_lines.specs.Lines.{newline, IsUnbroken};
-ghost use Rattle.rep_lines.specs.Runs.{Stepped};
-ghost use Rattle.rep_lines.specs.Fed.{run_beginning};
+ghost use Rattle.script_drive.specs.Lines.{newline, IsUnbroken};
+ghost use Rattle.script_drive.specs.Runs.{Stepped};
+ghost use Rattle.script_drive.specs.Fed.{run_beginning};
 ghost use Rattle.report_text.specs.Texts.{malformed_text};
-ghost use Rattle.script_drive.specs.Lines.{GoesBy, StopsAnyway, most_bytes};
+ghost use Rattle.script_drive.specs.LineBytes.{GoesBy, StopsAnyway, most_bytes};
 ghost use Rattle.script_drive.specs.Halts.{FeedsBy, FinishesBy, HaltsBy, RefusesInto, HasWriteCause, status_of, progress};
 
 use crate::status::Status;
@@ -94,7 +94,7 @@ pub struct Run<X: LineRunner> {
 
 impl<X: LineRunner> Model for Run<X> {
     ghost use Rattle.std.specs.Prelude.{◌≤◌, length, vec_capacity};
-    ghost use Rattle.rep_lines.specs.Fed.{RunState};
+    ghost use Rattle.script_drive.specs.Fed.{RunState};
 
     ghost Value = { RunState X.State };
 

@@ -5,3 +5,6 @@ mod LastPlaces
 pub mod Places
 pub mod RisingPasts
 mod InboxSteps
+pub mod SenderInboxes
+pub mod StandingErrors
+pub mod ChangedInbox

@@ -2,3 +2,5 @@
 pub mod Incoming
 pub mod Reaching
 pub mod InboxState
+pub mod Inboxes
+pub mod Steps

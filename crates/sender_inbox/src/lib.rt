@@ -4,5 +4,11 @@
 mod arrivals;
 mod inbox;
 mod pasts;
+mod inboxes;
+mod journal;
+mod steps;
 
 pub use inbox::Inbox;
+pub use inboxes::{from_senders, inbox_from, origin_at, place_from};
+pub use journal::{add_error, reserve_beside, reserve_position};
+pub use steps::{ApplyOutcome, Step, counted, step_of};

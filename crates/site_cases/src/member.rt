@@ -15,7 +15,7 @@ use rep_schema::{RowStore, Schema, TableSet};
 use rep_values::{Literal, Refusal, SiteName, TableName};
 use row_tables::ListTables;
 use schema_rules::check;
-use schema_sites::{destinations_of, first_master, is_master_site, senders_of};
+use schema_names::{destinations_of, first_master, is_master_site, senders_of};
 use site_core::Site;
 use std::alloc::Global;
 

@@ -7,7 +7,7 @@ use rep_schema::RowStore;
 use rep_values::SiteName;
 use row_tables::ListTables;
 use schema_rules::check;
-use schema_sites::is_master_site;
+use schema_names::is_master_site;
 use site_core::{Site, outcomes_hold_where_rows_are_as_they_were};
 use site_state::{Applied, Entry};
 use std::alloc::Global;

@@ -14,7 +14,7 @@ use Rattle.site_state.specs.State.{SenderState, DestinationState, sender_of, des
 use Rattle.site_state.specs.Deferrals as queue
 use Rattle.site_state.proofs.SchemaSites.{AreApart, are_apart}
 use Rattle.site_state.proofs.DeclaredSites.{origins, sites_in}
-use Rattle.journal_steps.proofs.StandingErrors.{StandApart}
+use Rattle.sender_inbox.proofs.StandingErrors.{StandApart}
 
 -- no two names are the same
 abbrev pub NamesApart : List SiteName → Type 0

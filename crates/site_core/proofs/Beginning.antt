@@ -19,9 +19,9 @@ use Rattle.site_state.specs.Contents.{content_of}
 use Rattle.site_state.proofs.FittingSites as fitting
 use Rattle.sender_inbox.specs.Incoming.{Incoming}
 use Rattle.site_outbox.specs.Outgoing.{Outgoing}
-use Rattle.txn_work.specs.declared.outcome.Ending.{Ending}
-use Rattle.txn_work.specs.Works.{WorkState, CanStandAlone}
-use Rattle.txn_work.specs.Endings.{effect_of}
+use Rattle.txn_apply.specs.declared.outcome.Ending.{Ending}
+use Rattle.txn_apply.specs.Works.{WorkState, CanStandAlone}
+use Rattle.txn_apply.specs.Endings.{effect_of}
 use Rattle.site_core.specs.SiteInvariant.{IsSized, SiteHolds}
 use Rattle.site_core.specs.Working.{touches_unique, has_unique, IsWorkOf, EndsHere, OutcomesHoldWhereRowsAreAsTheyWere}
 

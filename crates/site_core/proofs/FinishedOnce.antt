@@ -21,7 +21,7 @@ use Rattle.rep_lists.specs.Counting.{count_where}
 use Rattle.journal_order.specs.Sorting.{StaysWithMasters}
 use Rattle.site_state.specs.Waited.{IsFinishedOnce}
 use Rattle.site_core.specs.Applying.{onward_of, entry_by, onward_past}
-use Rattle.journal_steps.proofs.ChangedInbox.{Finishes}
+use Rattle.sender_inbox.proofs.ChangedInbox.{Finishes}
 use Rattle.site_core.proofs.Onward.{onward_is}
 
 none_counted : (test : Entry → Bool) (es : List Entry) → list_any test es ≡ false → count_where test es ≡ 0

@@ -18,13 +18,13 @@ use Rattle.site_state.specs.Fits.{SendersHave}
 use Rattle.site_state.specs.Joining.{with_first, site_first}
 use Rattle.site_state.proofs.DeclaredSites.{origins-at_sender}
 use Rattle.sender_inbox.specs.Incoming.{Incoming}
-use Rattle.site_notes.specs.Noted.{NotesState}
+use Rattle.snapshot_log.specs.Noted.{NotesState}
 use Rattle.site_outbox.specs.Outgoing.{Outgoing}
-use Rattle.journal_steps.specs.Inboxes.{senders_in, sender_in}
-use Rattle.journal_steps.proofs.SenderInboxes.{sender_of-inboxes}
+use Rattle.sender_inbox.specs.Inboxes.{senders_in, sender_in}
+use Rattle.sender_inbox.proofs.SenderInboxes.{sender_of-inboxes}
 use Rattle.site_core.specs.SiteInvariant.{state_of, SiteHolds}
-use Rattle.journal_steps.proofs.StandingErrors.{lists_by}
-use Rattle.journal_steps.proofs.ChangedInbox.{is_from, inbox_of-none, senders_in-changed, follow_same}
+use Rattle.sender_inbox.proofs.StandingErrors.{lists_by}
+use Rattle.sender_inbox.proofs.ChangedInbox.{is_from, inbox_of-none, senders_in-changed, follow_same}
 
 -- a site that is no sender has no first number
 pub at_sender-none : (origin : SiteName) (change : SenderState → SenderState) (ss : List SenderState) → sender_of origin ss ≡ None → at_sender origin change ss ≡ ss

@@ -14,7 +14,7 @@ use Rattle.txn_effects.specs.Laws.{IsApplied}
 use Rattle.txn_effects.proofs.TransactionEffects.{IsApplied-txn_effect}
 use Rattle.site_state.specs.Contents.{changes_by}
 use Rattle.site_state.specs.Fits.{SchemaIsKeyed}
-use Rattle.txn_work.proofs.FewChanges.{few_changes}
+use Rattle.txn_apply.proofs.FewChanges.{few_changes}
 
 module _ (schema : Schema) (origin : SiteName) (txn : Txn) (tables : List Rows) (numbers : Numbers) (changes : List Change) (keyed : SchemaIsKeyed schema) (are : AreTables schema tables) (counters : AreCounters schema numbers)
     (fits : TxnFits schema txn) (gives : txn_effect schema origin txn tables numbers ≡ Ok (record { changes = changes; numbers = numbers })) where

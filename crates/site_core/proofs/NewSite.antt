@@ -15,13 +15,13 @@ use Rattle.error_queue.specs.ErrorLists.{ErrorList, no_errors, in_order}
 use Rattle.site_state.specs.Deferrals as queue
 use Rattle.site_state.specs.Making.{new_sender, new_destination}
 use Rattle.site_state.specs.Fits.{SchemaIsKeyed, SendersHave, AreWithin, SnapshotsApart}
-use Rattle.site_notes.specs.Noted.{NotesState}
+use Rattle.snapshot_log.specs.Noted.{NotesState}
 use Rattle.site_state.proofs.DeclaredSites.{origins, sites_in}
 use Rattle.sender_inbox.specs.Incoming.{Incoming}
 use Rattle.site_outbox.specs.Outgoing.{Outgoing, Keeps}
-use Rattle.journal_steps.specs.Inboxes.{senders_in, Follows}
+use Rattle.sender_inbox.specs.Inboxes.{senders_in, Follows}
 use Rattle.site_core.specs.SiteInvariant.{state_of, SiteHolds}
-use Rattle.journal_steps.proofs.StandingErrors.{lists_by}
+use Rattle.sender_inbox.proofs.StandingErrors.{lists_by}
 use Rattle.site_core.proofs.Apart.{NamesApart, destinations_stand_apart}
 
 none_arrived : (P : Txn → Type 0) (names : List SiteName) → SendersHave P (map new_sender names)

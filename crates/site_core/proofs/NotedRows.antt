@@ -11,7 +11,7 @@ use Rattle.snapshot_log.specs.LogState.{LogState}
 use Rattle.site_state.specs.Contents.{changes_by}
 use Rattle.snapshot_log.specs.Noting.{logged_in, touched_in, renewed}
 use Rattle.site_state.specs.Fits.{SnapshotsApart}
-use Rattle.site_notes.specs.Noted.{NotesState}
+use Rattle.snapshot_log.specs.Noted.{NotesState}
 use Rattle.site_core.specs.Noting.{RowsAreNoted}
 
 -- ---- no rows

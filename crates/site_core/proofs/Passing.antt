@@ -24,7 +24,7 @@ use Rattle.site_state.specs.Passes.{effect_here, finished_by, applied_unless, si
 use Rattle.site_state.proofs.LowWater.{low_water-below}
 use Rattle.site_state.proofs.Stepping.{apply_steps}
 use Rattle.sender_inbox.specs.Incoming.{IsFirstAbove}
-use Rattle.journal_steps.specs.Steps.{done_by, errors_by}
+use Rattle.sender_inbox.specs.Steps.{done_by, errors_by}
 use Rattle.rep_schema.proofs.FoundRows.{take_found}
 
 -- ---- one position

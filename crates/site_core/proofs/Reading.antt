@@ -16,10 +16,10 @@ use Rattle.site_state.specs.Pasts.{past_of}
 use Rattle.site_state.specs.Ready.{covered_at, covered, is_due, stale_of}
 use Rattle.sender_inbox.specs.Incoming.{Incoming, by_position}
 use Rattle.site_outbox.specs.Outgoing.{Outgoing}
-use Rattle.journal_steps.specs.Inboxes.{senders_in, inbox_of, Follows}
+use Rattle.sender_inbox.specs.Inboxes.{senders_in, inbox_of, Follows}
 use Rattle.site_core.specs.SiteInvariant.{SiteHolds}
 use Rattle.site_core.specs.Seen.{past_from}
-use Rattle.journal_steps.proofs.SenderInboxes.{sender_of-inboxes, found_inbox, finished_found, mark_found, low_water-found, unfinished_none, low_water-none}
+use Rattle.sender_inbox.proofs.SenderInboxes.{sender_of-inboxes, found_inbox, finished_found, mark_found, low_water-found, unfinished_none, low_water-none}
 use Rattle.site_core.proofs.SeenMasters.{past_from-follows}
 
 module _ (x : SiteState) (rows : List Rows) (numbers : Numbers) (inboxes : List Incoming) (out : Outgoing) (lists : List ErrorList) (room : ℕ) (h : SiteHolds x rows numbers inboxes out lists room) (senders : x.senders ≡ senders_in inboxes) where

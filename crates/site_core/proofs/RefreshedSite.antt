@@ -22,7 +22,7 @@ use Rattle.site_state.specs.Fits.{AreWithin}
 use Rattle.site_state.proofs.Growing.{queue_after-rebased}
 use Rattle.site_state.proofs.FittingSites.{within_renewed}
 use Rattle.sender_inbox.specs.Incoming.{Incoming}
-use Rattle.site_notes.specs.Noted.{NotesState}
+use Rattle.snapshot_log.specs.Noted.{NotesState}
 use Rattle.site_outbox.specs.Outgoing.{Outgoing, Keeps}
 use Rattle.site_core.specs.SiteInvariant.{state_of, IsSized, SiteHolds}
 use Rattle.site_core.proofs.NotedRows.{apart_renewed}

@@ -12,9 +12,9 @@ use Rattle.site_state.specs.declared.entry.Entry.{Entry}
 use Rattle.rep_schema.specs.Sites.{is_master_site}
 use Rattle.site_state.specs.Pasts.{with_seen, past_at}
 use Rattle.sender_inbox.specs.Incoming.{Incoming, seen_in}
-use Rattle.journal_steps.specs.Inboxes.{senders_in, Follows}
+use Rattle.sender_inbox.specs.Inboxes.{senders_in, Follows}
 use Rattle.site_core.specs.Seen.{by_name, seen_from, with_found, past_from}
-use Rattle.journal_steps.proofs.SenderInboxes.{seen_in-follows}
+use Rattle.sender_inbox.proofs.SenderInboxes.{seen_in-follows}
 
 pub past_from-follows : (schema : Schema) (journal : List Entry) (inboxes : List Incoming) → AllByRecursion (Follows journal) inboxes → past_from schema inboxes ≡ past_at schema journal (senders_in inboxes)
 past_from-follows schema journal [] follow = refl

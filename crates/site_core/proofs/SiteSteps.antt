@@ -71,19 +71,19 @@ use Rattle.site_state.proofs.DeclaredSites.{sites_in, sites_in-at_destination, s
 use Rattle.site_state.proofs.FittingSites.{commit_fits, apply_fits, execute_fits, drop_fits, accept_fits}
 use Rattle.site_state.proofs.FittingSites as fitting
 use Rattle.sender_inbox.specs.Incoming.{Incoming, by_position}
-use Rattle.site_notes.specs.Noted.{NotesState}
+use Rattle.snapshot_log.specs.Noted.{NotesState}
 use Rattle.site_outbox.specs.Outgoing.{Outgoing, Keeps}
-use Rattle.journal_steps.specs.Inboxes.{senders_in, sender_in, inbox_of, Follows}
+use Rattle.sender_inbox.specs.Inboxes.{senders_in, sender_in, inbox_of, Follows}
 use Rattle.site_core.specs.SiteInvariant.{state_of, IsSized, SiteHolds}
 use Rattle.site_core.specs.Noting.{RowsAreNoted}
-use Rattle.journal_steps.specs.Steps.{with_error}
+use Rattle.sender_inbox.specs.Steps.{with_error}
 use Rattle.site_core.specs.Applying.{goes_on, onward_of, entry_by, error_by, onward_past, execute_stop_refusal}
-use Rattle.journal_steps.proofs.StandingErrors.{StandApart, HasCome, lists_by, errors-added, errors-removed, error_in-lists, error_at-finished, error_at-unfinished, count-added, count-removed, errors-arrival, list_of-sender}
+use Rattle.sender_inbox.proofs.StandingErrors.{StandApart, HasCome, lists_by, errors-added, errors-removed, error_in-lists, error_at-finished, error_at-unfinished, count-added, count-removed, errors-arrival, list_of-sender}
 use Rattle.site_core.proofs.Apart.{NamesApart, senders_apart, senders_stand_apart, destinations_apart, destinations_stand_apart}
-use Rattle.journal_steps.proofs.SenderInboxes.{sender_of-inboxes, found_inbox}
+use Rattle.sender_inbox.proofs.SenderInboxes.{sender_of-inboxes, found_inbox}
 use Rattle.site_core.proofs.Reading.{stale_none, sender_is, stale_finished, stale_absent, finished_is}
 use Rattle.site_core.proofs.Sending.{last_is, no_packet, packet_is, sent_has}
-use Rattle.journal_steps.proofs.ChangedInbox.{is_from, inbox_of-place, inbox_of-none, senders_in-same, senders_in-changed, Finishes, follow_same, follow_finished}
+use Rattle.sender_inbox.proofs.ChangedInbox.{is_from, inbox_of-place, inbox_of-none, senders_in-same, senders_in-changed, Finishes, follow_same, follow_finished}
 use Rattle.site_core.proofs.FinishedOnce.{once_more, no_onward, entry_stays}
 use Rattle.site_core.proofs.NotedRows.{nothing_logged, nothing_touched, apart_noted}
 use Rattle.site_core.proofs.Onward.{onward_is, went_is, pasts_with, sized_changes}

@@ -17,13 +17,13 @@ use Rattle.site_state.specs.State.{SenderState, SiteState}
 use Rattle.site_state.specs.Journal.{finished, error_at}
 use Rattle.site_state.specs.Fits.{EntryHas}
 use Rattle.sender_inbox.specs.Incoming.{Incoming}
-use Rattle.site_notes.specs.Noted.{NotesState}
+use Rattle.snapshot_log.specs.Noted.{NotesState}
 use Rattle.site_outbox.specs.Outgoing.{Outgoing}
 use Rattle.journal_order.specs.Sorting.{StaysWithMasters, CanBeSorted, IsSorted, IsOneSite}
 use Rattle.journal_order.proofs.SortedJournals.{AllByRecursion-sorted, IsFinishedOnce-sorted}
 use Rattle.journal_order.proofs.SortedSites.{sorting_changes_no_more, SiteFits-sorted}
 use Rattle.journal_order.proofs.Waited.{HaveWaited-sorted}
-use Rattle.journal_steps.specs.Inboxes.{Follows, error_list}
+use Rattle.sender_inbox.specs.Inboxes.{Follows, error_list}
 use Rattle.site_core.specs.SiteInvariant.{state_of, IsSized, SiteHolds}
 use Rattle.site_core.specs.Ordering.{IsSortedSite}
 

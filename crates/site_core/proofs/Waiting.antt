@@ -28,7 +28,7 @@ use Rattle.sender_inbox.specs.Reaching.{reaches, is_within, PastsRise}
 use Rattle.sender_inbox.proofs.Places.{find_at-own}
 use Rattle.sender_inbox.proofs.RisingPasts.{le_through, within_later}
 use Rattle.site_outbox.specs.Outgoing.{Outgoing}
-use Rattle.journal_steps.specs.Inboxes.{senders_in, inbox_of}
+use Rattle.sender_inbox.specs.Inboxes.{senders_in, inbox_of}
 use Rattle.site_core.specs.declared.looking.Placed.{Placed}
 use Rattle.site_core.specs.SiteInvariant.{SiteHolds}
 use Rattle.site_core.specs.Looking.{NoneReady, IsReadyAt, IsNextReady}

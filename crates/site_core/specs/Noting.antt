@@ -3,7 +3,7 @@ use Rattle.std.specs.Prelude.{◌≡◌, ℕ, List, map}
 use Rattle.rep_schema.specs.declared.schema.Schema.{Schema}
 use Rattle.rep_schema.specs.declared.change.Change.{Change}
 use Rattle.snapshot_log.specs.Noting.{logged_in, touched_in}
-use Rattle.site_notes.specs.Noted.{NotesState}
+use Rattle.snapshot_log.specs.Noted.{NotesState}
 
 -- changed rows are noted at a moment: in the logs of their tables, and at the snapshots
 pub record RowsAreNoted (schema : Schema) (moment : ℕ) (changes : List Change) (old new : NotesState) : Type 0 where

@@ -11,10 +11,10 @@ use Rattle.txn_effects.specs.Transactions.{Failure, tables_by, numbers_by}
 use Rattle.site_state.specs.Contents.{txn_of, changes_by}
 use Rattle.site_state.specs.Streams.{with_one}
 use Rattle.site_state.specs.Packets.{past_in}
-use Rattle.site_notes.specs.Noted.{NotesState}
+use Rattle.snapshot_log.specs.Noted.{NotesState}
 use Rattle.site_outbox.specs.Outgoing.{Outgoing, Keeps}
-use Rattle.journal_steps.specs.declared.steps.ApplyOutcome.{ApplyOutcome}
-use Rattle.journal_steps.specs.declared.steps.ApplyOutcome.TheVariants.{Done, Failed}
+use Rattle.sender_inbox.specs.declared.steps.ApplyOutcome.{ApplyOutcome}
+use Rattle.sender_inbox.specs.declared.steps.ApplyOutcome.TheVariants.{Done, Failed}
 use Rattle.site_core.specs.Applying.{goes_on, onward_of}
 use Rattle.site_core.specs.Noting.{RowsAreNoted}
 

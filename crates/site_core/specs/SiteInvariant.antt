@@ -15,10 +15,10 @@ use Rattle.site_state.specs.Streams.{queue_of}
 use Rattle.site_state.specs.Pasts.{pasts_of}
 use Rattle.site_state.specs.DeclaredSites.{IsDeclared}
 use Rattle.site_state.specs.Fits.{EntryHas, SendersHave, FinishedHaveArrived, SnapshotsApart, SiteFits}
-use Rattle.site_notes.specs.Noted.{NotesState}
+use Rattle.snapshot_log.specs.Noted.{NotesState}
 use Rattle.sender_inbox.specs.Incoming.{Incoming}
 use Rattle.site_outbox.specs.Outgoing.{Outgoing, Keeps}
-use Rattle.journal_steps.specs.Inboxes.{senders_in, Follows, error_list}
+use Rattle.sender_inbox.specs.Inboxes.{senders_in, Follows, error_list}
 use Rattle.journal_order.specs.Sorting.{StaysWithMasters}
 use Rattle.site_state.specs.Waited.{HaveWaited, IsFinishedOnce}
 

@@ -9,9 +9,9 @@ use Rattle.site_state.specs.declared.arrival.Arrival.{Arrival}
 use Rattle.site_state.specs.State.{SiteState, arrived_at}
 use Rattle.site_state.specs.Contents.{content_of}
 use Rattle.site_state.specs.Passes.{effect_here}
-use Rattle.txn_work.specs.declared.outcome.Ending.{Ending}
-use Rattle.txn_work.specs.Works.{WorkState, Supports}
-use Rattle.txn_work.specs.Endings.{effect_of, EndsSo}
+use Rattle.txn_apply.specs.declared.outcome.Ending.{Ending}
+use Rattle.txn_apply.specs.Works.{WorkState, Supports}
+use Rattle.txn_apply.specs.Endings.{effect_of, EndsSo}
 
 -- the transaction of an arrival touches a constraint of a table
 abbrev pub touches_unique : Schema → Option Arrival → Bool

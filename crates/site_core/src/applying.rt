@@ -16,23 +16,22 @@ ghost use Rattle.site_state.specs.Packets.{past_in};
 ghost use Rattle.site_state.specs.Passes.{apply_answer_by};
 ghost use Rattle.site_state.specs.Fits.{SchemaIsKeyed};
 ghost use Rattle.site_outbox.specs.Outgoing.{Keeps};
-ghost use Rattle.txn_work.specs.Endings.{effect_of};
+ghost use Rattle.txn_apply.specs.Endings.{effect_of};
 ghost use Rattle.site_core.specs.Applying.{goes_on, onward_of, entry_by, error_by};
 ghost use Rattle.site_core.specs.Noting.{RowsAreNoted};
 ghost use Rattle.site_core.specs.Outcomes.{outcome_by, AreAsBefore, AreChanged};
 
 use conflict_detect::txn_of;
-use journal_steps::{ApplyOutcome, Step, step_of};
+use sender_inbox::{ApplyOutcome, Step, step_of};
 use rep_calls::{PastEntry, Txn};
 use rep_lists::{Items, NoMemory};
 use rep_schema::{Change, Changes, RowStore, Schema, holds_tables};
 use rep_values::SiteName;
-use site_notes::Notes;
+use snapshot_log::Notes;
 use site_outbox::Outbox;
 use site_state::Arrival;
 use std::alloc::Global;
-use txn_apply::{ApplyStop, apply_txn, take_back};
-use txn_work::{Ending, make_changes, make_room};
+use txn_apply::{ApplyStop, Ending, apply_txn, make_changes, make_room, take_back};
 use unique_resolve::Counters;
 
 /// The rows that a transaction changed, and the number under which they were queued onward, 0 where they weren't.

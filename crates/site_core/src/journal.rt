@@ -3,9 +3,9 @@ ghost use Rattle.std.specs.Prelude.{◌≡◌, ◌+◌, ◌≤◌, length, OnOk}
 ghost use Rattle.error_queue.specs.ErrorLists.{in_order};
 
 use error_queue::Errors;
-use journal_steps::reserve_beside;
+use sender_inbox::reserve_beside;
 use rep_lists::{NoMemory, RoomyList};
-use site_notes::Notes;
+use snapshot_log::Notes;
 use site_state::Entry;
 
 /// Takes room in a journal for one entry beside those that drop the errors that stand, and to note so many changed rows.

@@ -9,7 +9,7 @@ use rep_calls::PastEntry;
 use rep_lists::{Items, NoMemory};
 use rep_schema::Schema;
 use rep_values::{SiteName, compare_names};
-use schema_sites::is_master_site;
+use schema_names::is_master_site;
 use sender_inbox::Inbox;
 use std::alloc::Global;
 use std::cmp::Ordering;

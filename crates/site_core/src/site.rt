@@ -26,13 +26,12 @@ mod work;
 
 use deferred_queue::Queue;
 use error_queue::Errors;
-use journal_steps::from_senders;
+use sender_inbox::{Inbox, from_senders};
 use txn_effects::{Here, Stamps};
 use rep_lists::{Items, NoMemory, RoomyList};
 use rep_schema::{RowStore, TableSet};
 use rep_values::SiteName;
-use sender_inbox::Inbox;
-use site_notes::{Notes, tables_of};
+use snapshot_log::{Notes, tables_of};
 use site_outbox::Outbox;
 use site_state::Entry;
 use snapshot_query::Snapshot;

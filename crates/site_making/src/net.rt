@@ -6,7 +6,7 @@ ghost use Rattle.net_plan.specs.Directions.{net_of};
 use net_plan::Net;
 use rep_lists::NoMemory;
 use rep_schema::Schema;
-use schema_sites::linked_pairs;
+use schema_names::linked_pairs;
 use std::alloc::Global;
 
 /// The net with a direction between each two sites of which one sends to the other, both ways.

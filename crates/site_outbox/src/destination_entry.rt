@@ -13,7 +13,7 @@ use deferred_queue::{Destination, Queue};
 use dependency_index::{Index, Tokens};
 use rep_schema::Schema;
 use rep_values::SiteName;
-use schema_sites::is_late_master;
+use schema_names::is_late_master;
 
 /// A destination, and the queue count at which it was opened, none as long as it isn't open.
 #[derive(Clone, Copy)]

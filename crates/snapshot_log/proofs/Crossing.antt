@@ -1,11 +1,14 @@
--- A log may cross threads.
+-- Notes may cross threads.
 use denote.Param.Send.{IsSend, sendable}
 use Rattle.std.proofs.Crossing.{crosses}
 use Rattle.rep_values.specs.contracts.value.Value as value
 use Rattle.rep_values.specs.contracts.key.Key as key
 use Rattle.ordered_keys.proofs.Crossing.{list_send}
-use Rattle.snapshot_log.specs.contracts.entry.LogEntry as entry
-use Rattle.snapshot_log.specs.contracts.log.Log as log
+use Rattle.snapshot_query.specs.contracts.parent.Parent as parent
+use Rattle.snapshot_log.proofs.LogsCross.{log_send}
+use Rattle.snapshot_log.specs.contracts.touched.Touched as touched
+use Rattle.snapshot_log.specs.contracts.watched.Watched as watched
+use Rattle.snapshot_log.specs.contracts.notes.Notes as notes
 
 value_send : IsSend value.the_row
 value_send = search sendable depth 30
@@ -13,8 +16,14 @@ value_send = search sendable depth 30
 key_send : IsSend key.the_row
 key_send = search (sendable, crosses, value_send) depth 30
 
-entry_send : IsSend entry.the_row
-entry_send = search (sendable, key_send) depth 30
+parent_send : IsSend parent.the_row
+parent_send = search (sendable, crosses) depth 30
 
-pub log_send : IsSend log.the_row
-log_send = search (sendable, crosses, list_send, entry_send) depth 30
+touched_send : IsSend touched.the_row
+touched_send = search (sendable, crosses, list_send, key_send) depth 30
+
+watched_send : IsSend watched.the_row
+watched_send = search (sendable, crosses, parent_send, touched_send) depth 30
+
+pub notes_send : IsSend notes.the_row
+notes_send = search (sendable, crosses, log_send, watched_send) depth 30

@@ -2,5 +2,15 @@
 mod WorkedLogs
 pub mod KeysLeft
 mod LastMoments
-pub mod Crossing
+pub mod LogsCross
 pub mod RisingKeys
+mod WorkedNotes
+mod Parts
+mod Room
+mod RisingNotes
+mod Merging
+mod NotedChanges
+mod TableLogs
+mod TablesIn
+pub mod Lending
+pub mod Crossing

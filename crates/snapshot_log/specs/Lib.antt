@@ -3,3 +3,5 @@ pub mod LogState
 pub mod Noting
 pub mod Logs
 pub mod LogLaws
+pub mod RoomyNotes
+pub mod Noted

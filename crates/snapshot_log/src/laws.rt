@@ -1,9 +1,10 @@
-//! What a log holds.
-ghost use Rattle.snapshot_log.specs.LogLaws.{HoldsLastMoments, NotesOneKey, PurgesUpToMarks};
+//! What holds of the snapshots of a site.
+ghost use Rattle.snapshot_log.specs.Noted.{LentReturn, PendingKeysRise, TouchedKeysRise};
 
-/// A log holds each noted key with its last moment, without those that a later purge reached.
-pub fn log_laws()
-    ensures last { HoldsLastMoments }
-    ensures other { NotesOneKey }
-    ensures purged { PurgesUpToMarks }
+/// Once its query is back, a snapshot that was lent is as it was. Where its touched keys rise, so do its pending ones, and
+/// they go on to rise while changed rows are noted.
+pub fn snapshot_laws()
+    ensures lent { LentReturn }
+    ensures pending { PendingKeysRise }
+    ensures touched { TouchedKeysRise }
 {}

@@ -2,9 +2,22 @@
 #![tactic(auto)]
 
 mod entry;
-mod laws;
+mod laws_of_logs;
 mod log;
+mod changed;
+mod laws;
+mod logs;
+mod merge;
+mod notes;
+mod snapshots;
+mod tables;
+mod touched;
+mod watched;
 
 pub use entry::LogEntry;
-pub use laws::log_laws;
+pub use laws_of_logs::log_laws;
 pub use log::Log;
+pub use laws::snapshot_laws;
+pub use notes::Notes;
+pub use tables::tables_of;
+pub use watched::Watched;

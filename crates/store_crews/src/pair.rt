@@ -17,7 +17,7 @@ use rep_lists::{Copies, Items};
 use rep_schema::{RowStore, Schema, TableSet};
 use rep_values::SiteName;
 use schema_rules::check;
-use schema_sites::{destinations_of, is_master_site, senders_of};
+use schema_names::{destinations_of, is_master_site, senders_of};
 use site_core::Site;
 use std::alloc::Global;
 use std::marker::Model;

@@ -4,3 +4,10 @@ mod GroupsInRange
 mod PartSteps
 mod CallOutcomes
 mod Stepping
+mod NamedRows
+mod NamedTokens
+mod PlainTokens
+mod Ends
+pub mod Room
+mod Outlasting
+pub mod FewChanges

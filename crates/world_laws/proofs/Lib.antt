@@ -15,3 +15,30 @@ pub mod RefusedLines
 pub mod Scripts
 pub mod FittingWorlds
 pub mod UnrefusedLines
+mod Each
+mod WrittenRows
+mod FilledTables
+mod Entries
+mod Logging
+mod DeclaredSnapshots
+pub mod SnapshotStarting
+mod SnapshotsHold
+pub mod DeclaredStays
+mod Declaring
+pub mod SnapshotScripts
+mod WorkedSnapshots
+pub mod Growing
+pub mod Sites
+pub mod Nets
+pub mod SiteStreams
+pub mod Made
+pub mod CallSending
+pub mod Declared
+pub mod ProceduresStay
+pub mod QuietPushes
+pub mod ProceduresHold
+mod FilledRows
+mod MadeMasters
+mod SetupEnds
+pub mod AlikeMasters
+pub mod AlikeWorlds

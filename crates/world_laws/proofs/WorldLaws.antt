@@ -12,8 +12,8 @@ use Rattle.event_laws.proofs.MarkLaws.{run_holds, marks_are_low, purged_is_finis
 use Rattle.event_laws.proofs.OrderLaws.{are_finished_once, are_cleared_once, earlier_comes_first}
 use Rattle.event_laws.proofs.Passing.{every_site_can_pass}
 use Rattle.event_laws.proofs.Waiting.{nothing_waits_for_ever}
-use Rattle.join_laws.specs.Streams.{ArrivalsAreOfStreams}
-use Rattle.join_laws.proofs.Streams.{streams_meet, arrivals_are_of_streams}
+use Rattle.event_laws.specs.Streams.{ArrivalsAreOfStreams}
+use Rattle.event_laws.proofs.Streams.{streams_meet, arrivals_are_of_streams}
 use Rattle.script_parse.specs.declared.command.Command.{Command}
 use Rattle.world_state.specs.World.{WorldState}
 use Rattle.world_state.specs.Making.{world_made}

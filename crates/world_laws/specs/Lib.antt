@@ -6,3 +6,14 @@ pub mod Scripts
 pub mod Fitting
 pub mod Reached
 pub mod Places
+pub mod WellDeclared
+pub mod Starts
+pub mod Sites
+pub mod Refreshes
+pub mod SnapshotScripts
+pub mod SnapshotWorlds
+pub mod Streams
+pub mod Built
+pub mod ProcedureWorlds
+pub mod AlikeMasters
+pub mod AlikeWorlds

@@ -12,7 +12,7 @@ use Rattle.site_events.specs.Cluster.{site_of}
 use Rattle.event_laws.specs.Marks.{MarksAreLow, PurgedIsFinished, AreWellNumbered}
 use Rattle.event_laws.specs.Orders.{AreFinishedOnce, AreClearedOnce, EarlierComesFirst}
 use Rattle.event_laws.specs.Waiting.{StreamsMeet, IsDelivered, PassesFinishNothing, NothingWaits}
-use Rattle.join_laws.specs.Streams.{ArrivalsAreOfStreams}
+use Rattle.event_laws.specs.Streams.{ArrivalsAreOfStreams}
 use Rattle.script_parse.specs.declared.command.Command.{Command}
 use Rattle.world_state.specs.World.{WorldState}
 use Rattle.world_state.specs.Making.{world_made}

@@ -2,7 +2,7 @@
 use Rattle.std.proofs.Common.{◌≡◌, ℕ, List, subst}
 use Rattle.std.specs.Prelude.{⊤, Option}
 use Rattle.script_drive.specs.declared.status.Status.{Status}
-use Rattle.script_drive.specs.Lines.{line_step}
+use Rattle.script_drive.specs.LineBytes.{line_step}
 use Rattle.script_drive.specs.Prompt.{Asked}
 use Rattle.script_drive.specs.Outcome.{Ran, RanBy}
 use Rattle.world_state.specs.World.{WorldState, first_world}

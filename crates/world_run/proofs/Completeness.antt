@@ -2,10 +2,10 @@
 use Rattle.std.proofs.Common.{◌≡◌, ◌≢◌, ℕ, List, refl, inl, inr}
 use Rattle.std.specs.Prelude.{Option}
 use Rattle.rep_io.specs.Faults.{Rose}
-use Rattle.rep_lines.specs.Told.{Tells}
+use Rattle.script_drive.specs.Told.{Tells}
 use Rattle.script_drive.specs.declared.status.Status.{Status}
 use Rattle.script_drive.specs.declared.status.Status.TheVariants.{Done, Malformed, ReadFault, WriteFault, Memory, Usage}
-use Rattle.script_drive.specs.Lines.{line_step}
+use Rattle.script_drive.specs.LineBytes.{line_step}
 use Rattle.script_drive.specs.Outcome.{Told}
 use Rattle.world_state.specs.World.{first_world}
 use Rattle.world_run.specs.Scripts.{script_step}

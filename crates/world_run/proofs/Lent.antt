@@ -15,7 +15,7 @@ use Rattle.site_state.specs.Steps.{begun}
 use Rattle.site_events.specs.Cluster.{site_of, at_site}
 use Rattle.site_events.specs.Events.{is_master_in}
 use Rattle.event_laws.proofs.Sites.{found_changed, found_name}
-use Rattle.join_laws.specs.Names.{SitesApart}
+use Rattle.event_laws.specs.Names.{SitesApart}
 use Rattle.world_state.specs.World.{WorldState, is_there}
 use Rattle.world_state.specs.Phases.{is_running, has_block}
 use Rattle.world_state.specs.Pushes.{pushed_in}

@@ -7,8 +7,8 @@ use Rattle.rep_values.specs.declared.name.SiteName.{SiteName}
 use Rattle.rep_values.specs.declared.refusal.Limit.TheVariants as limit
 use Rattle.rep_values.specs.declared.refusal.Refusal.{Refusal}
 use Rattle.rep_values.specs.declared.refusal.Refusal.TheVariants as refusal
-use Rattle.rep_lines.specs.Runs.{Stepped, goes, halts}
-use Rattle.rep_lines.proofs.LimitLemmas.{limited-many, limited-long, limited-within}
+use Rattle.script_drive.specs.Runs.{Stepped, goes, halts}
+use Rattle.script_drive.proofs.LimitLemmas.{limited-many, limited-long, limited-within}
 use Rattle.report_text.specs.Texts.{malformed_text}
 use Rattle.report_text.specs.Refusals.{refused_text}
 use Rattle.script_parse.specs.declared.command.Command.{Command}
@@ -17,7 +17,7 @@ use Rattle.script_parse.specs.declared.live_lines.LiveCommand.{LiveCommand}
 use Rattle.script_parse.specs.declared.live_lines.LiveCommand.TheVariants as live_command
 use Rattle.script_parse.specs.LiveLines.{live_parsed}
 use Rattle.script_parse.proofs.LiveLinesAgain.{keeps_commands}
-use Rattle.script_drive.specs.Lines.{most_lines, most_bytes, line_step}
+use Rattle.script_drive.specs.LineBytes.{most_lines, most_bytes, line_step}
 use Rattle.live_laws.specs.declared.turn.LiveTurn.{LiveTurn}
 use Rattle.live_laws.specs.declared.turn.Session.{Session}
 use Rattle.live_laws.specs.Turns.{blocks_in, blocks_of}

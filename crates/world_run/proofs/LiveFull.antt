@@ -3,17 +3,17 @@ use Rattle.std.proofs.Common.{◌≡◌, ℕ, ◌+◌, List, [], ◌∷◌, leng
 use Rattle.std.specs.Prelude.{Option, Result, Ok, Err, is_err, ⊤}
 use Rattle.rep_values.specs.declared.name.SiteName.{SiteName}
 use Rattle.rep_values.specs.declared.refusal.Refusal.{Refusal}
-use Rattle.rep_lines.specs.Lines.{lines_after}
-use Rattle.rep_lines.specs.Runs.{Stepped, halts, last_state}
-use Rattle.rep_lines.specs.Fed.{Reaches}
-use Rattle.rep_lines.specs.Limits.{limited}
-use Rattle.rep_lines.proofs.ReachLemmas.{holds_behind_reached}
+use Rattle.script_drive.specs.Lines.{lines_after}
+use Rattle.script_drive.specs.Runs.{Stepped, halts, last_state}
+use Rattle.script_drive.specs.Fed.{Reaches}
+use Rattle.script_drive.specs.Limits.{limited}
+use Rattle.script_drive.proofs.ReachLemmas.{holds_behind_reached}
 use Rattle.report_text.specs.Texts.{malformed_text}
 use Rattle.script_parse.specs.declared.command.Command.{Command}
 use Rattle.script_parse.specs.declared.live_lines.LiveCommand.{LiveCommand}
 use Rattle.script_parse.specs.declared.live_lines.LiveCommand.TheVariants as live_command
 use Rattle.script_parse.specs.LiveLines.{live_parsed}
-use Rattle.script_drive.specs.Lines.{line_step, most_lines, most_bytes}
+use Rattle.script_drive.specs.LineBytes.{line_step, most_lines, most_bytes}
 use Rattle.script_drive.specs.Outcome.{RanBy}
 use Rattle.script_drive.specs.Prompt.{Asked}
 use Rattle.script_drive.specs.declared.status.Status.{Status}

@@ -4,11 +4,11 @@ use Rattle.std.specs.Prelude.{All, take, nat_lt, if◌then◌else◌, Result, Ok
 use Rattle.std.proofs.lemmas.List.{length-take-le, take_more}
 use Rattle.std.proofs.lemmas.List.Elements.{All-head, All-tail}
 use Rattle.std.proofs.lemmas.Option.{get_or_from_slice_get, slice_get_within}
-use Rattle.rep_lines.specs.Lines.{lines_after}
-use Rattle.rep_lines.specs.Runs.{Stepped, halts, printed}
-use Rattle.rep_lines.specs.Limits.{limited}
-use Rattle.rep_lines.proofs.RunLemmas.{state_after-append}
-use Rattle.rep_lines.proofs.LimitLemmas.{limited-within}
+use Rattle.script_drive.specs.Lines.{lines_after}
+use Rattle.script_drive.specs.Runs.{Stepped, halts, printed}
+use Rattle.script_drive.specs.Limits.{limited}
+use Rattle.script_drive.proofs.RunLemmas.{state_after-append}
+use Rattle.script_drive.proofs.LimitLemmas.{limited-within}
 use Rattle.report_text.specs.Texts.{malformed_text}
 use Rattle.script_lex.specs.Lines.{lexed}
 use Rattle.script_words.specs.Reading.{◌>>=◌}
@@ -20,21 +20,21 @@ use Rattle.script_parse.specs.Parsed.{parsed}
 use Rattle.script_parse.specs.LiveLines.{as_plain}
 use Rattle.script_parse.specs.LiveLaws.{is_live}
 use Rattle.script_parse.proofs.LiveLinesAgain.{keeps_lines, keeps_commands}
-use Rattle.script_drive.specs.Lines.{most_lines, most_bytes, line_step}
+use Rattle.script_drive.specs.LineBytes.{most_lines, most_bytes, line_step}
 use Rattle.site_events.specs.Cluster.{site_of}
 use Rattle.live_laws.specs.declared.turn.LiveTurn.{LiveTurn}
 use Rattle.world_state.specs.World.{WorldState}
 use Rattle.world_state.specs.Procs.{proc_of}
 use Rattle.world_state.specs.Steps.{world_step}
-use Rattle.procedure_worlds.proofs.QuietPushes.{push_leaves_none_ready}
-use Rattle.procedure_worlds.proofs.ProceduresHold.{procedures_hold_of}
+use Rattle.world_laws.proofs.QuietPushes.{push_leaves_none_ready}
+use Rattle.world_laws.proofs.ProceduresHold.{procedures_hold_of}
 use Rattle.environment_lines.specs.Following.{IsBuilt}
 use Rattle.convergent_worlds.specs.Convergence.{HoldsOfConvergence}
 use Rattle.environment_lines.specs.Worlds.{ShowsItsMaster}
 use Rattle.environment_lines.specs.Joining.{TakesOver}
 use Rattle.environment_lines.proofs.Worlds.{of_script_holds, reported_pushes_leave_nothing_ready}
 use Rattle.environment_lines.proofs.Worlds.{snapshots_hold_of, refreshes_show_of}
-use Rattle.environment_lines.proofs.Scripts.{of_snapshots}
+use Rattle.world_laws.proofs.AlikeWorlds.{of_snapshots}
 use Rattle.environment_lines.proofs.TakenOver.{step_takes_over}
 use Rattle.world_run.specs.Scripts.{stepped_by, script_step, AllLawsHold}
 use Rattle.world_run.specs.declared.live_part.LivePart.{LivePart}

@@ -8,16 +8,16 @@ use Rattle.rep_schema.specs.declared.schema.Schema.{Schema}
 use Rattle.rep_schema.specs.declared.schema.SiteEntry.{SiteEntry}
 use Rattle.rep_schema.specs.Named.{site_named}
 use Rattle.rep_schema.specs.Sites.{sends_to, names_of, senders_to, senders_of, is_master_site, is_among}
-use Rattle.rep_lines.specs.Lines.{lines_after}
-use Rattle.rep_lines.specs.Runs.{Stepped, halts, printed, last_state}
-use Rattle.rep_lines.specs.Limits.{limited}
+use Rattle.script_drive.specs.Lines.{lines_after}
+use Rattle.script_drive.specs.Runs.{Stepped, halts, printed, last_state}
+use Rattle.script_drive.specs.Limits.{limited}
 use Rattle.report_text.specs.Texts.{malformed_text}
 use Rattle.rep_values.specs.SiteNames.{is_same_site}
 use Rattle.deferred_queue.proofs.Sites.{is_same_site-true}
 use Rattle.script_parse.specs.declared.live_lines.LiveCommand.{LiveCommand}
 use Rattle.script_parse.specs.declared.live_lines.LiveCommand.TheVariants as live_command
 use Rattle.script_parse.specs.LiveLines.{live_parsed}
-use Rattle.script_drive.specs.Lines.{most_lines, most_bytes, line_step}
+use Rattle.script_drive.specs.LineBytes.{most_lines, most_bytes, line_step}
 use Rattle.site_state.specs.State.{SiteState}
 use Rattle.site_state.specs.Steps.{begun}
 use Rattle.site_events.specs.Cluster.{Cluster, site_of}
@@ -27,7 +27,7 @@ use Rattle.event_laws.specs.Waiting.{SitesLinkAsDeclared}
 use Rattle.event_laws.proofs.Sites.{found_all}
 use Rattle.event_laws.proofs.MarkLaws.{run_schema}
 use Rattle.event_laws.proofs.OrderLaws.{are_finished_once, are_cleared_once}
-use Rattle.join_laws.proofs.Streams.{arrivals_are_of_streams, links_stay}
+use Rattle.event_laws.proofs.Streams.{arrivals_are_of_streams, links_stay}
 use Rattle.live_laws.specs.declared.turn.LiveTurn.{LiveTurn}
 use Rattle.live_laws.specs.Turns.{IsFullRun}
 use Rattle.live_laws.specs.Printed.{IsPrintable}
@@ -38,7 +38,7 @@ use Rattle.world_state.specs.World.{WorldState}
 use Rattle.world_state.specs.Phases.{is_setup}
 use Rattle.world_state.specs.Pushes.{pushed_in}
 use Rattle.environment_lines.specs.Following.{IsBuilt}
-use Rattle.environment_lines.specs.Reached.{IsOfConvergence, Declaring, Going}
+use Rattle.environment_lines.specs.AlikeWorlds.{IsOfConvergence, Declaring, Going}
 use Rattle.environment_push.specs.Lending.{live_refusal, reaching, brought_from, live_opened}
 use Rattle.environment_push.proofs.LiveParts.{lent_behind, opened_built}
 use Rattle.world_run.specs.Ended.{RanPart}

@@ -6,7 +6,7 @@ use Rattle.rep_values.specs.declared.name.SiteName.{SiteName}
 use Rattle.rep_values.specs.declared.refusal.Limit.TheVariants as limit
 use Rattle.rep_values.specs.declared.refusal.Refusal.{Refusal}
 use Rattle.rep_values.specs.declared.refusal.Refusal.TheVariants as refusal
-use Rattle.rep_lines.specs.Runs.{goes}
+use Rattle.script_drive.specs.Runs.{goes}
 use Rattle.rep_calls.specs.declared.statement.Statement.{Statement}
 use Rattle.script_parse.specs.declared.command.Command.{Command}
 use Rattle.script_parse.specs.declared.command.Command.TheVariants as command
@@ -16,7 +16,7 @@ use Rattle.script_parse.specs.LiveLines.{live_parsed}
 use Rattle.script_lex.specs.declared.stop.LineStop.{LineStop}
 use Rattle.script_lex.specs.declared.stop.LineStop.TheVariants.{Rule, Memory}
 use Rattle.script_lex.specs.Stop.{Fails}
-use Rattle.script_drive.specs.Lines.{GoesBy, StopsBy}
+use Rattle.script_drive.specs.LineBytes.{GoesBy, StopsBy}
 use Rattle.live_laws.specs.declared.turn.LiveTurn.{LiveTurn}
 use Rattle.world_state.specs.World.{WorldState}
 use Rattle.world_run.specs.Scripts.{stepped_by}

@@ -8,9 +8,9 @@ use Rattle.rep_values.specs.declared.refusal.Refusal.{Refusal}
 use Rattle.rep_values.specs.declared.refusal.Refusal.TheVariants as refusal
 use Rattle.rep_values.specs.RefusalSteps.{refused}
 use Rattle.rep_values.proofs.RefusalSteps.{or_then-None, refused_not-None}
-use Rattle.rep_lines.specs.Lines.{lines_after}
-use Rattle.rep_lines.specs.Runs.{halts, state_after, last_state}
-use Rattle.rep_lines.specs.Limits.{limited}
+use Rattle.script_drive.specs.Lines.{lines_after}
+use Rattle.script_drive.specs.Runs.{halts, state_after, last_state}
+use Rattle.script_drive.specs.Limits.{limited}
 use Rattle.report_text.specs.Texts.{malformed_text}
 use Rattle.packet_code.specs.declared.packet.Packet.{Packet}
 use Rattle.net_plan.specs.Directions.{on_way_between}
@@ -22,7 +22,7 @@ use Rattle.script_parse.specs.Named.{NamesColumn}
 use Rattle.script_parse.specs.LiveLines.{live_parsed, LiveNamesColumn}
 use Rattle.script_parse.proofs.NamedLines.{parsed-Ok}
 use Rattle.script_parse.proofs.LiveLinesAgain.{keeps_commands}
-use Rattle.script_drive.specs.Lines.{most_lines, most_bytes, line_step}
+use Rattle.script_drive.specs.LineBytes.{most_lines, most_bytes, line_step}
 use Rattle.site_state.specs.State.{SiteState}
 use Rattle.site_state.specs.Steps.{begun}
 use Rattle.site_state.specs.Packets.{site_accept}

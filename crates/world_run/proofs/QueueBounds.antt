@@ -32,7 +32,7 @@ use Rattle.site_events.specs.Cluster.{site_of}
 use Rattle.event_laws.specs.Marks.{journal_in}
 use Rattle.event_laws.specs.Orders.{AreFinishedOnce, AreClearedOnce}
 use Rattle.event_laws.proofs.Sites.{found_name, found_all}
-use Rattle.join_laws.specs.Streams.{IsSentBy, ArrivalsAreOfStreams}
+use Rattle.event_laws.specs.Streams.{IsSentBy, ArrivalsAreOfStreams}
 use Rattle.live_laws.specs.RisingNumbers.{HasRisingNumbers}
 use Rattle.world_run.proofs.OwnCounts.{is_own, own_counts, own_count-found}
 use Rattle.world_run.proofs.SentOnward.{AllSentOn, SendsOn, is_position-own}

@@ -2,7 +2,7 @@
 use Rattle.std.proofs.Common.{◌≡◌, ℕ, List, Some, None, false, refl, ap, inl, inr}
 use Rattle.std.specs.Prelude.{◌⊎◌, Option, Ok}
 use Rattle.rep_values.specs.declared.refusal.Refusal.{Refusal}
-use Rattle.rep_lines.specs.Runs.{goes}
+use Rattle.script_drive.specs.Runs.{goes}
 use Rattle.report_text.specs.Refusals.{is_memory, refused_text}
 use Rattle.script_lex.specs.declared.stop.LineStop.{LineStop}
 use Rattle.script_lex.specs.declared.stop.LineStop.TheVariants.{Rule, Memory}
@@ -15,7 +15,7 @@ use Rattle.world_state.specs.World.{WorldState}
 use Rattle.world_state.specs.Refusals.{world_refusal}
 use Rattle.world_state.specs.Steps.{world_refused, step_by, told_by}
 use Rattle.environment_lines.specs.Doing.{IsDone, IsOutOfMemory, IsRefused}
-use Rattle.script_drive.specs.Lines.{StopsBy}
+use Rattle.script_drive.specs.LineBytes.{StopsBy}
 use Rattle.world_run.specs.Scripts.{script_step}
 
 -- a line that was done

@@ -5,11 +5,11 @@ use Rattle.std.proofs.lemmas.Bool.{cases_lt}
 use Rattle.std.proofs.lemmas.List.{length-take-le, take_more}
 use Rattle.std.proofs.lemmas.Option.{get_or_from_slice_get, slice_get_within}
 use Rattle.rep_values.specs.declared.refusal.Refusal.{Refusal}
-use Rattle.rep_lines.specs.Lines.{lines_after}
-use Rattle.rep_lines.specs.Runs.{Stepped, halts, state_after}
-use Rattle.rep_lines.specs.Limits.{limited}
-use Rattle.rep_lines.proofs.RunLemmas.{state_after-append}
-use Rattle.rep_lines.proofs.LimitLemmas.{limited-within}
+use Rattle.script_drive.specs.Lines.{lines_after}
+use Rattle.script_drive.specs.Runs.{Stepped, halts, state_after}
+use Rattle.script_drive.specs.Limits.{limited}
+use Rattle.script_drive.proofs.RunLemmas.{state_after-append}
+use Rattle.script_drive.proofs.LimitLemmas.{limited-within}
 use Rattle.report_text.specs.Texts.{malformed_text}
 use Rattle.script_lex.proofs.Steps.{line_long}
 use Rattle.script_parse.specs.declared.command.Command.{Command}
@@ -24,19 +24,19 @@ use Rattle.world_state.specs.World.{WorldState, first_world}
 use Rattle.world_state.specs.Procs.{proc_of}
 use Rattle.world_state.specs.Refusals.{world_refusal}
 use Rattle.world_state.specs.Steps.{world_done, world_refused, world_step, step_by, told_by, told_line}
-use Rattle.procedure_worlds.proofs.QuietPushes.{push_leaves_none_ready}
-use Rattle.procedure_worlds.proofs.ProceduresHold.{procedures_hold_of}
+use Rattle.world_laws.proofs.QuietPushes.{push_leaves_none_ready}
+use Rattle.world_laws.proofs.ProceduresHold.{procedures_hold_of}
 use Rattle.environment_lines.proofs.Worlds.{of_script_holds, reported_pushes_leave_nothing_ready}
 use Rattle.environment_lines.proofs.Worlds.{snapshots_hold_of, refreshes_show_of}
 use Rattle.convergent_worlds.specs.Convergence.{HoldsOfConvergence}
-use Rattle.environment_lines.proofs.Scripts.{of_snapshots}
+use Rattle.world_laws.proofs.AlikeWorlds.{of_snapshots}
 use Rattle.environment_lines.specs.Following.{IsBuilt}
 use Rattle.environment_lines.specs.Texts.{world_text}
 use Rattle.environment_lines.specs.Worlds.{ShowsItsMaster}
 use Rattle.environment_lines.proofs.BuiltWorlds.{lines_keep_built, first_built}
 use Rattle.environment_lines.specs.Joining.{TakesOver}
 use Rattle.environment_lines.proofs.TakenOver.{step_takes_over}
-use Rattle.script_drive.specs.Lines.{most_lines, most_bytes, line_step}
+use Rattle.script_drive.specs.LineBytes.{most_lines, most_bytes, line_step}
 use Rattle.world_run.specs.Scripts.{stepped_by, script_step, world_behind, world_at, IsDoneAt, ReportedWorldsHold, ReportedSnapshotsHold, ReportedWorldsConverge, ReportedProceduresHold, PushesOfScriptsLeaveNothingReady, PushesOfCallsLeaveNothingReady, RefreshesOfScriptsShowTheQuery, JoinsOfScriptsTakeOver, LinesOfScriptsHold}
 
 -- after a line, whatever refusal it meets

@@ -1,10 +1,10 @@
 -- When a script is run to its end.
 use Rattle.std.specs.Prelude.{◌≡◌, ◌⊎◌, ℕ, List, false, Option, Some}
 use Rattle.rep_io.specs.Faults.{Rose}
-use Rattle.rep_lines.specs.Told.{is_ended_early}
+use Rattle.script_drive.specs.Told.{is_ended_early}
 use Rattle.script_drive.specs.declared.status.Status.{Status}
 use Rattle.script_drive.specs.declared.status.Status.TheVariants.{Done, Memory}
-use Rattle.script_drive.specs.Lines.{line_step}
+use Rattle.script_drive.specs.LineBytes.{line_step}
 use Rattle.world_state.specs.World.{first_world}
 use Rattle.world_run.specs.Scripts.{script_step}
 

@@ -1,8 +1,8 @@
 -- What holds of every script with a live part, whatever turns the part has.
 use Rattle.std.specs.Prelude.{◌≡◌, ℕ, ◌+◌, ◌<◌, Bool, true, false, List, [], All, take, slice_get, Option, Some, None, Ok}
 use Rattle.rep_values.specs.declared.name.SiteName.{SiteName}
-use Rattle.rep_lines.specs.Lines.{lines_after}
-use Rattle.rep_lines.specs.Runs.{state_after}
+use Rattle.script_drive.specs.Lines.{lines_after}
+use Rattle.script_drive.specs.Runs.{state_after}
 use Rattle.script_lex.specs.Lines.{lexed}
 use Rattle.script_parse.specs.declared.command.Refresh.{Refresh}
 use Rattle.script_parse.specs.declared.command.Command.{Command}
@@ -10,14 +10,14 @@ use Rattle.script_parse.specs.declared.command.Command.TheVariants as command
 use Rattle.script_parse.specs.declared.proc_line.ProcLine.TheVariants as proc_line
 use Rattle.script_parse.specs.Parsed.{parsed}
 use Rattle.script_parse.specs.LiveLaws.{is_live}
-use Rattle.script_drive.specs.Lines.{most_lines, line_step}
+use Rattle.script_drive.specs.LineBytes.{most_lines, line_step}
 use Rattle.site_state.specs.State.{SiteState}
 use Rattle.site_events.specs.Cluster.{site_of}
 use Rattle.proc_state.specs.State.{ProcState}
 use Rattle.live_laws.specs.declared.turn.LiveTurn.{LiveTurn}
 use Rattle.world_state.specs.Procs.{proc_of}
 use Rattle.world_state.specs.Refusals.{world_refusal}
-use Rattle.procedure_worlds.specs.Worlds.{NoCallsReady}
+use Rattle.world_laws.specs.ProcedureWorlds.{NoCallsReady}
 use Rattle.site_state.specs.Rounds.{NothingReady}
 use Rattle.environment_lines.specs.Worlds.{ShowsItsMaster}
 use Rattle.environment_lines.specs.Joining.{TakesOver}

@@ -1,7 +1,7 @@
 -- A script with a live part as it runs.
 use Rattle.std.specs.Prelude.{◌≡◌, ℕ, Bool, List, [], Option, Some, None, Result}
 use Rattle.rep_values.specs.declared.refusal.Refusal.{Refusal}
-use Rattle.rep_lines.specs.Runs.{goes}
+use Rattle.script_drive.specs.Runs.{goes}
 use Rattle.report_text.specs.Refusals.{refused_text}
 use Rattle.script_parse.specs.declared.live_lines.LiveCommand.{LiveCommand}
 use Rattle.live_laws.specs.declared.turn.LiveTurn.{LiveTurn}

@@ -3,9 +3,9 @@ use Rattle.std.specs.Prelude.{◌≡◌, ◌⊎◌, ℕ, ◌≤◌, Bool, false,
 use Rattle.rep_values.specs.declared.refusal.Refusal.{Refusal}
 use Rattle.rep_values.specs.declared.refusal.Refusal.TheVariants as refusal
 use Rattle.rep_io.specs.Faults.{Rose}
-use Rattle.rep_lines.specs.Lines.{lines_after}
-use Rattle.rep_lines.specs.Runs.{Stepped, goes, halts, last_state}
-use Rattle.rep_lines.specs.Told.{Tells, report, is_ended_early}
+use Rattle.script_drive.specs.Lines.{lines_after}
+use Rattle.script_drive.specs.Runs.{Stepped, goes, halts, last_state}
+use Rattle.script_drive.specs.Told.{Tells, report, is_ended_early}
 use Rattle.report_text.specs.Texts.{malformed_text}
 use Rattle.report_text.specs.Refusals.{refused_text}
 use Rattle.script_parse.specs.declared.command.Command.{Command}
@@ -14,7 +14,7 @@ use Rattle.script_parse.specs.declared.live_lines.LiveCommand.TheVariants as liv
 use Rattle.script_parse.specs.LiveLines.{live_parsed}
 use Rattle.script_drive.specs.declared.status.Status.{Status}
 use Rattle.script_drive.specs.declared.status.Status.TheVariants.{Done, Memory}
-use Rattle.script_drive.specs.Lines.{line_step}
+use Rattle.script_drive.specs.LineBytes.{line_step}
 use Rattle.script_drive.specs.Outcome.{Told}
 use Rattle.script_drive.specs.Prompt.{Asked, ReadsPromptly}
 use Rattle.live_laws.specs.declared.turn.LiveTurn.{LiveTurn}

@@ -12,7 +12,7 @@ use Rattle.world_state.specs.declared.refused.Refused.{Refused}
 use Rattle.proc_state.specs.State.{ProcState}
 use Rattle.world_state.specs.World.{WorldState}
 use Rattle.world_state.specs.Procs.{proc_of}
-use Rattle.procedure_worlds.specs.Worlds.{NoCallsReady}
+use Rattle.world_laws.specs.ProcedureWorlds.{NoCallsReady}
 use Rattle.site_state.specs.Rounds.{NothingReady}
 use Rattle.environment_lines.specs.Worlds.{ShowsItsMaster}
 use Rattle.environment_lines.specs.Joining.{TakesOver}

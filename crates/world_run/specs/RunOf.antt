@@ -2,11 +2,11 @@
 use Rattle.std.specs.Prelude.{◌≡◌, ◌≢◌, ℕ, List}
 use Rattle.std.specs.declared.option.Option.{Option}
 use Rattle.rep_io.specs.Faults.{Rose}
-use Rattle.rep_lines.specs.Told.{Tells}
+use Rattle.script_drive.specs.Told.{Tells}
 use Rattle.world_state.specs.World.{first_world}
 use Rattle.script_drive.specs.declared.status.Status.{Status}
 use Rattle.script_drive.specs.declared.status.Status.TheVariants.{ReadFault, WriteFault, Usage}
-use Rattle.script_drive.specs.Lines.{line_step}
+use Rattle.script_drive.specs.LineBytes.{line_step}
 use Rattle.script_drive.specs.Outcome.{Told}
 use Rattle.script_drive.specs.Prompt.{Asked, ReadsPromptly}
 use Rattle.world_run.specs.Completeness.{RunsToItsEnd}

@@ -1,9 +1,9 @@
 -- What a script prints: each of its lines is read as a command and done to the world, or refused there.
 use Rattle.std.specs.Prelude.{◌≡◌, ℕ, ◌+◌, ◌<◌, List, [], take, slice_get, Option, Some, None, Result, Ok, Err}
 use Rattle.rep_values.specs.declared.name.SiteName.{SiteName}
-use Rattle.rep_lines.specs.Lines.{lines_after}
-use Rattle.rep_lines.specs.Runs.{Stepped, goes, halts, state_after}
-use Rattle.rep_lines.specs.Told.{report}
+use Rattle.script_drive.specs.Lines.{lines_after}
+use Rattle.script_drive.specs.Runs.{Stepped, goes, halts, state_after}
+use Rattle.script_drive.specs.Told.{report}
 use Rattle.report_text.specs.Texts.{malformed_text}
 use Rattle.script_parse.specs.declared.command.Refresh.{Refresh}
 use Rattle.script_parse.specs.declared.command.Command.{Command}
@@ -17,7 +17,7 @@ use Rattle.world_state.specs.World.{WorldState, first_world}
 use Rattle.world_state.specs.Procs.{proc_of}
 use Rattle.world_state.specs.Refusals.{world_refusal}
 use Rattle.world_state.specs.Steps.{world_step}
-use Rattle.procedure_worlds.specs.Worlds.{ProceduresHold, NoCallsReady}
+use Rattle.world_laws.specs.ProcedureWorlds.{ProceduresHold, NoCallsReady}
 use Rattle.environment_lines.specs.Worlds.{WorldHolds}
 use Rattle.site_state.specs.Rounds.{NothingReady}
 use Rattle.environment_lines.specs.Worlds.{SnapshotsHold}
@@ -25,7 +25,7 @@ use Rattle.environment_lines.specs.Worlds.{ShowsItsMaster}
 use Rattle.environment_lines.specs.Convergence.{ConvergenceHolds}
 use Rattle.environment_lines.specs.Joining.{TakesOver}
 use Rattle.environment_lines.specs.Texts.{line_text}
-use Rattle.script_drive.specs.Lines.{most_lines, line_step}
+use Rattle.script_drive.specs.LineBytes.{most_lines, line_step}
 
 abbrev pub stepped_by : WorldState → ℕ → Result Command ℕ → Stepped WorldState
 stepped_by w number (Err rule) = halts w (malformed_text number rule)

@@ -7,7 +7,7 @@ use rep_io::Watch;
 use rep_lists::NoMemory;
 use rep_schema::RowStore;
 use rep_values::SiteName;
-use schema_sites::is_master_site;
+use schema_names::is_master_site;
 use site_core::Site;
 use site_rounds::{Passing, Serial, finished_by_newest};
 use site_state::PassCount;

@@ -13,7 +13,7 @@ mod part_laws;
 mod run;
 mod runner;
 mod streaming;
-mod world;
+mod built_world;
 
 pub use laws::{lent_masters_may_come_back, reported_worlds_hold};
 pub use live_run::{run_live, run_live_through};
@@ -21,4 +21,4 @@ pub use part_laws::{
     live_scripts_keep_lines, live_worlds_hold, printed_turns_are_known, scripts_have_full_turns,
 };
 pub use run::{run_alone, run_alone_through, run_crew, run_crew_through};
-pub use world::World;
+pub use built_world::World;

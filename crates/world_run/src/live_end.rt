@@ -7,7 +7,7 @@ ghost use Rattle.world_run.specs.Streaming.{AnswersStreams};
 
 use crate::live_part::{EndedPart, OpenPart};
 use crate::streaming::Streaming;
-use crate::world::World;
+use crate::built_world::World;
 use live_laws::{LiveTurn, Session};
 use live_report::part_lines;
 use page_tables::PageTables;
@@ -15,7 +15,7 @@ use rep_lists::{Items, NoMemory};
 use rep_schema::RowStore;
 use rep_values::SiteName;
 use report_text::Lines;
-use schema_sites::{is_master_site, senders_of};
+use schema_names::{is_master_site, senders_of};
 use site_core::Site;
 use std::alloc::Global;
 use std::snapshot::Snapshot;

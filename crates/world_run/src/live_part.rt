@@ -3,7 +3,7 @@ ghost use Rattle.std.specs.Prelude.{◌≡◌, [], None, nat_lt, length, OnOk, I
 ghost use Rattle.world_run.specs.LiveParts.{most_sessions, stated_more, stated, block_ended, new_part, sessions_of};
 ghost use Rattle.world_run.specs.LiveAnswers.{AnswersInSession, AnswersTaken, AnswersSession};
 
-use crate::world::World;
+use crate::built_world::World;
 use live_laws::{Block, LiveTurn, Session};
 use rep_calls::Statement;
 use rep_lists::{Copies, Items, NoMemory};

@@ -1,6 +1,6 @@
 //! A script with a live part that is run line by line.
 ghost use Rattle.std.specs.Prelude.{◌≡◌, None, Some, Ok, IfOk, OnOk};
-ghost use Rattle.rep_lines.specs.Runs.{goes};
+ghost use Rattle.script_drive.specs.Runs.{goes};
 ghost use Rattle.script_parse.specs.Named.{NamesColumn};
 ghost use Rattle.script_parse.specs.LiveLines.{LiveNamesColumn};
 ghost use Rattle.world_run.specs.Scripts.{stepped_by};
@@ -12,7 +12,7 @@ use crate::live_end::{Ran, run_part};
 use crate::live_part::{LivePart, OpenPart};
 use crate::runner::told;
 use crate::streaming::Streaming;
-use crate::world::World;
+use crate::built_world::World;
 use live_laws::LiveTurn;
 use rep_lists::{Items, NoMemory};
 use rep_values::{Refusal, SiteName};

@@ -1,9 +1,9 @@
 //! The call that runs a whole script.
 ghost use Rattle.std.specs.Prelude.{◌≡◌, ◌≢◌, ◌≤◌};
 ghost use Rattle.rep_io.specs.Faults.{Rose};
-ghost use Rattle.rep_lines.specs.Told.{Tells};
+ghost use Rattle.script_drive.specs.Told.{Tells};
 ghost use Rattle.world_state.specs.World.{first_world};
-ghost use Rattle.script_drive.specs.Lines.{line_step};
+ghost use Rattle.script_drive.specs.LineBytes.{line_step};
 ghost use Rattle.script_drive.specs.Outcome.{Told};
 ghost use Rattle.script_drive.specs.Prompt.{ReadsPromptly};
 ghost use Rattle.site_rounds.specs.Passing.{PassRequires, PassEnsures};

@@ -4,7 +4,7 @@ ghost use Rattle.report_text.specs.Refusals.{is_memory, refused_text};
 ghost use Rattle.world_state.specs.World.{first_world};
 ghost use Rattle.world_run.specs.Scripts.{script_step};
 
-use crate::world::World;
+use crate::built_world::World;
 use environment_lines::WorldParts;
 use rep_lists::NoMemory;
 use rep_values::Refusal;

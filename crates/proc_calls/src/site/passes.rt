@@ -2,13 +2,13 @@
 ghost use Rattle.std.specs.Prelude.{◌≡◌, ℕ, ◌+◌, ◌<◌, ◌^◌, take, None, IfOk, OnOk, OnErr};
 ghost use Rattle.site_state.specs.State.{arrivals};
 ghost use Rattle.site_state.specs.Ready.{stale_of};
-ghost use Rattle.journal_steps.specs.Steps.{done_by, errors_by};
+ghost use Rattle.sender_inbox.specs.Steps.{done_by, errors_by};
 ghost use Rattle.proc_state.specs.State.{as_site};
 ghost use Rattle.proc_state.specs.Passes.{proc_apply, proc_apply_answer, apply_each, proc_pass, proc_pass_answer};
 
 use super::ProcSite;
 use crate::arrived::apply_arrival;
-use journal_steps::{Step, add_error, counted, place_from, reserve_position};
+use sender_inbox::{Step, add_error, counted, place_from, reserve_position};
 use rep_lists::NoMemory;
 use rep_values::SiteName;
 use site_state::{Applied, PassCount};

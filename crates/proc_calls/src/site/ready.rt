@@ -11,7 +11,7 @@ ghost use Rattle.sender_inbox.specs.Incoming.{by_position, IsFirstAbove};
 ghost use Rattle.proc_state.specs.State.{as_site, proc_queue};
 
 use super::ProcSite;
-use journal_steps::{inbox_from, origin_at};
+use sender_inbox::{inbox_from, origin_at};
 use rep_values::SiteName;
 use site_state::Why;
 

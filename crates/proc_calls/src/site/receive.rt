@@ -7,7 +7,7 @@ ghost use Rattle.proc_state.specs.Packets.{is_foreign, proc_accept, proc_accept_
 
 use super::ProcSite;
 use crate::carrying::is_carried;
-use journal_steps::{inbox_from, place_from};
+use sender_inbox::{inbox_from, place_from};
 use packet_code::Packet;
 use rep_calls::{PastEntry, Txn};
 use rep_lists::NoMemory;

@@ -5,7 +5,7 @@ ghost use Rattle.site_state.specs.Streams.{count_of};
 ghost use Rattle.site_state.specs.Joining.{site_open, site_first};
 
 use super::Site;
-use journal_steps::{inbox_from, place_from};
+use sender_inbox::{inbox_from, place_from};
 use rep_schema::RowStore;
 use rep_values::SiteName;
 

@@ -4,7 +4,7 @@ ghost use Rattle.site_state.specs.Purges.{site_purge_log, purge_log_answer};
 
 use super::Site;
 use rep_schema::RowStore;
-use site_notes::Notes;
+use snapshot_log::Notes;
 
 impl<R: RowStore> Site<R> {
     /// The logs of the site's tables, and its snapshots.

@@ -8,21 +8,21 @@ ghost use Rattle.site_state.specs.Ready.{stale_of, first_ready};
 ghost use Rattle.site_state.specs.Steps.{begun};
 ghost use Rattle.site_state.specs.Passes.{site_apply, apply_answer, apply_each, site_pass, pass_answer, is_done, is_error, added_count};
 ghost use Rattle.sender_inbox.specs.Incoming.{by_position, IsFirstAbove};
-ghost use Rattle.journal_steps.specs.Steps.{done_by, errors_by};
+ghost use Rattle.sender_inbox.specs.Steps.{done_by, errors_by};
 ghost use Rattle.site_core.specs.Applying.{onward_past};
 ghost use Rattle.site_core.specs.Working.{EndsHere};
 
 use super::Site;
 use crate::applying::apply_arrival;
-use journal_steps::{Step, add_error, counted, inbox_from, place_from, reserve_position};
+use sender_inbox::{Step, add_error, counted, inbox_from, place_from, reserve_position};
 use rep_calls::PastEntry;
 use rep_lists::{Items, NoMemory};
 use rep_schema::RowStore;
 use rep_values::SiteName;
-use schema_sites::is_master_site;
+use schema_names::is_master_site;
 use site_state::{Applied, PassCount};
 use std::alloc::Global;
-use txn_work::Ending;
+use txn_apply::Ending;
 
 impl<R: RowStore> Site<R> {
     /// What the site had seen, where it sends on what came from an origin; else None.

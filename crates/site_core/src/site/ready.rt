@@ -10,7 +10,7 @@ ghost use Rattle.site_core.specs.Looking.{NoneReady, Tells, IsNextReady};
 use super::Site;
 use crate::looking::{Look, Placed};
 use crate::seen::causal_past;
-use journal_steps::{inbox_from, origin_at};
+use sender_inbox::{inbox_from, origin_at};
 use rep_calls::PastEntry;
 use rep_lists::{Items, NoMemory};
 use rep_schema::RowStore;

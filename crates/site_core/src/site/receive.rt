@@ -11,13 +11,13 @@ ghost use Rattle.site_core.specs.SiteInvariant.{IsSized};
 
 use super::Site;
 use conflict_detect::fits;
-use journal_steps::{inbox_from, place_from};
+use sender_inbox::{inbox_from, place_from};
 use packet_code::Packet;
 use rep_calls::{PastEntry, Txn};
 use rep_lists::{Items, NoMemory};
 use rep_schema::RowStore;
 use rep_values::SiteName;
-use schema_sites::is_master_site;
+use schema_names::is_master_site;
 use site_state::{Accepted, Arrival};
 
 impl<R: RowStore> Site<R> {

@@ -3,15 +3,14 @@ ghost use Rattle.std.specs.Prelude.{◌≡◌, ◌+◌, ◌≤◌, false, IfOk, 
 ghost use Rattle.rep_schema.specs.Tables.{AreTables};
 ghost use Rattle.site_state.specs.Contents.{tables_of};
 ghost use Rattle.site_state.specs.Refreshes.{rows_shown, site_refresh, refresh_fast_answer, refresh_complete_answer};
-ghost use Rattle.site_refresh.specs.Refreshing.{OthersAreShown, AreGivenFor, pending_count};
+ghost use Rattle.fast_refresh.specs.Refreshing.{OthersAreShown, AreGivenFor, pending_count};
 
 use super::Site;
-use fast_refresh::MasterView;
-use journal_steps::reserve_beside;
+use fast_refresh::{MasterView, refresh_all, refresh_all_fast};
+use sender_inbox::reserve_beside;
 use rep_lists::NoMemory;
 use rep_schema::{RowStore, holds_tables};
-use site_notes::Notes;
-use site_refresh::{refresh_all, refresh_all_fast};
+use snapshot_log::Notes;
 use site_state::{Entry, RefreshCount, TableRows};
 use std::alloc::Global;
 use std::snapshot::Snapshot;

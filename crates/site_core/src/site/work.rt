@@ -8,13 +8,13 @@ ghost use Rattle.site_core.specs.Working.{has_unique, IsWorkOf, EndsHere};
 
 use super::Site;
 use dependency_index::has_unique_token;
-use journal_steps::inbox_from;
+use sender_inbox::inbox_from;
 use rep_lists::NoMemory;
 use rep_schema::RowStore;
 use rep_values::SiteName;
 use site_state::{Applied, Arrival};
 use std::alloc::Global;
-use txn_work::{Outcome, SharedSchema, Work};
+use txn_apply::{Outcome, SharedSchema, Work};
 
 impl<R: RowStore> Site<R> {
     /// Whether a position of a sender arrived. It takes no memory.

@@ -1,5 +1,5 @@
 -- The law of Setup's end.
-use Rattle.convergent_worlds.proofs.Beginning.{made_worlds_begin_alike}
+use Rattle.world_laws.proofs.AlikeMasters.{made_worlds_begin_alike}
 use Rattle.convergent_worlds.proofs.laws.made_worlds_begin_alike.Goals as goal
 
 pub returns : goal.returns

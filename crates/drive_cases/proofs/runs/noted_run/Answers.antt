@@ -1,5 +1,5 @@
 use Rattle.std.proofs.Common.{All, Some, ap}
-use Rattle.script_drive.specs.Lines.{line_step}
+use Rattle.script_drive.specs.LineBytes.{line_step}
 use Rattle.script_drive.specs.Prompt.{IsPrompt, FaultIsLast}
 use Rattle.drive_cases.specs.Repeats.{repeat_step}
 use Rattle.drive_cases.proofs.NoteLemmas.{notes_are_told}

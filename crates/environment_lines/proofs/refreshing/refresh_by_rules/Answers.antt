@@ -1,7 +1,7 @@
 -- What the logs make of each snapshot's rows is what it picks.
 use Rattle.std.proofs.Common.{sym, subst, ◌∙◌}
 use Rattle.site_state.specs.Contents.{tables_of}
-use Rattle.site_refresh.specs.Refreshing.{AreGivenFor}
+use Rattle.fast_refresh.specs.Refreshing.{AreGivenFor}
 use Rattle.environment_lines.proofs.GivenRows.{shown_are_given}
 use Rattle.environment_lines.proofs.refreshing.refresh_by_rules.Goals as goal
 

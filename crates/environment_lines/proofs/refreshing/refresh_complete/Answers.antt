@@ -1,7 +1,7 @@
 -- What the snapshots pick is given for each of them.
 use Rattle.std.proofs.Common.{sym, subst, ◌∙◌}
 use Rattle.site_state.specs.Contents.{tables_of}
-use Rattle.site_refresh.specs.Refreshing.{AreGivenFor}
+use Rattle.fast_refresh.specs.Refreshing.{AreGivenFor}
 use Rattle.environment_lines.proofs.GivenRows.{shown_are_given}
 use Rattle.environment_lines.proofs.refreshing.refresh_complete.Goals as goal
 

@@ -6,7 +6,7 @@ use Rattle.world_state.specs.World.{WorldState}
 use Rattle.world_state.specs.Making.{snapshots_at}
 use Rattle.world_state.specs.Procs.{proc_schema}
 use Rattle.world_state.proofs.LowestRules.{broken_by-None}
-use Rattle.procedure_worlds.proofs.Declared.{proc_keyed, procedures_beside}
+use Rattle.world_laws.proofs.Declared.{proc_keyed, procedures_beside}
 use Rattle.environment.specs.Worlds.{AreParentsWithin}
 use Rattle.environment_lines.proofs.DeclaredApart.{declared_apart, declared_so_far}
 use Rattle.environment_lines.proofs.setup.end_setup.Goals as goal

@@ -1,8 +1,8 @@
 -- There was no memory for the words: nothing was read or written.
 use Rattle.std.proofs.Common.{◌≡◌, Bool, Some, sym, subst, ◌∙◌}
 use Rattle.std.proofs.KnownBytes.{Appends-nil, Consumes-nil}
-use Rattle.rep_lines.proofs.ToldLemmas.{tells_nothing}
-use Rattle.script_drive.specs.Lines.{line_step, most_piece}
+use Rattle.script_drive.proofs.ToldLemmas.{tells_nothing}
+use Rattle.script_drive.specs.LineBytes.{line_step, most_piece}
 use Rattle.script_drive.proofs.PromptLemmas.{prompt_first}
 use Rattle.world_state.specs.World.{first_world}
 use Rattle.world_run.specs.Scripts.{script_step}

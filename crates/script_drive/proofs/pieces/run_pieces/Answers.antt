@@ -1,7 +1,7 @@
 use Rattle.std.proofs.Common.{arith, ◌≡◌, ◌≤◌, ◌+◌, ◌++◌, ℕ, List, [], length, take, sym, ap, ◌∙◌, subst, refl, length-append, is_err, true, false}
 use Rattle.std.proofs.lemmas.List.{length-take-le}
 use Rattle.std.proofs.KnownBytes.{Consumes-nil, Consumes-trans}
-use Rattle.rep_lines.specs.Fed.{run_beginning}
+use Rattle.script_drive.specs.Fed.{run_beginning}
 use Rattle.script_drive.specs.Halts.{progress}
 use Rattle.script_drive.specs.Outcome.{RanBy}
 use Rattle.script_drive.specs.Prompt.{Asked}

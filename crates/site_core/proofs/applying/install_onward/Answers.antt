@@ -1,5 +1,5 @@
 use Rattle.conflict_detect.proofs.LedCalls.{ChangeFits-led}
-use Rattle.txn_work.proofs.Room.{each_in_schema}
+use Rattle.txn_apply.proofs.Room.{each_in_schema}
 use Rattle.site_core.proofs.applying.install_onward.Goals as goal
 
 pub make_room-requires-after_bounds : goal.make_room-requires-after_bounds

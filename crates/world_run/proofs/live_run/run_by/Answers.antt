@@ -1,8 +1,8 @@
 -- The run begins at the first world, and picks turns that are full.
 use Rattle.std.proofs.Common.{subst}
 use Rattle.std.proofs.KnownBytes.{Appends-nil, Consumes-nil}
-use Rattle.rep_lines.proofs.ToldLemmas.{tells_nothing}
-use Rattle.script_drive.specs.Lines.{line_step, most_piece}
+use Rattle.script_drive.proofs.ToldLemmas.{tells_nothing}
+use Rattle.script_drive.specs.LineBytes.{line_step, most_piece}
 use Rattle.script_drive.specs.Outcome.{RanBy}
 use Rattle.script_drive.proofs.PromptLemmas.{prompt_first}
 use Rattle.world_run.specs.LiveScripts.{LiveState, live_start, live_step, allowed, known}

@@ -1,7 +1,7 @@
 -- The run begins at the first world, and its lines have no choice.
 use Rattle.std.proofs.KnownBytes.{Appends-nil, Consumes-nil}
-use Rattle.rep_lines.proofs.ToldLemmas.{tells_nothing}
-use Rattle.script_drive.specs.Lines.{line_step, most_piece}
+use Rattle.script_drive.proofs.ToldLemmas.{tells_nothing}
+use Rattle.script_drive.specs.LineBytes.{line_step, most_piece}
 use Rattle.script_drive.proofs.PromptLemmas.{prompt_first}
 use Rattle.world_state.specs.World.{first_world}
 use Rattle.world_run.specs.Scripts.{script_step}

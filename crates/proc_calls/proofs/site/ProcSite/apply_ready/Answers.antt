@@ -2,8 +2,8 @@ use Rattle.std.proofs.Common.{◌≡◌, ◌∙◌, ◌==◌, ℕ, ap, refl, rev
 use Rattle.std.specs.Prelude.{◌||◌}
 use Rattle.std.proofs.lemmas.Result.{err_from_is_err_and}
 use Rattle.origin_marks.specs.Edges.{is_between}
-use Rattle.journal_steps.specs.Inboxes.{sender_in}
-use Rattle.journal_steps.proofs.ChangedInbox.{senders_in-same}
+use Rattle.sender_inbox.specs.Inboxes.{sender_in}
+use Rattle.sender_inbox.proofs.ChangedInbox.{senders_in-same}
 use Rattle.site_state.proofs.Growing.{one_entry_more}
 use Rattle.proc_state.specs.Passes.{proc_apply, proc_apply_answer}
 use Rattle.proc_calls.specs.ProcSiteInvariant.{state_of}

@@ -1,4 +1,4 @@
-use Rattle.journal_steps.proofs.StandingErrors.{in_order-lists}
+use Rattle.sender_inbox.proofs.StandingErrors.{in_order-lists}
 use Rattle.proc_calls.proofs.site.ProcSite.errors.Goals as goal
 
 pub returns : goal.returns

@@ -3,7 +3,7 @@ use Rattle.std.proofs.lemmas.Simd.{map-map}
 use Rattle.std.specs.Prelude.{slice_get}
 use Rattle.rep_values.specs.declared.name.SiteName.{SiteName}
 use Rattle.site_state.specs.State.{SenderState}
-use Rattle.journal_steps.specs.Inboxes.{sender_in}
+use Rattle.sender_inbox.specs.Inboxes.{sender_in}
 use Rattle.proc_calls.proofs.site.ProcSite.sender.Goals as goal
 
 pub returns : goal.returns

@@ -1,11 +1,11 @@
 use Rattle.std.proofs.Common.{arith, ◌≡◌, ◌+◌, ◌∷◌, [], ℕ, List, take, sym, ap, ◌∙◌, subst}
 use Rattle.std.specs.Io.KnownBytes.{Appends}
 use Rattle.std.proofs.KnownBytes.{Appends-nil}
-use Rattle.rep_lines.specs.Lines.{newline}
-use Rattle.rep_lines.specs.Fed.{RunState}
-use Rattle.rep_lines.proofs.LimitLemmas.{line_halts}
+use Rattle.script_drive.specs.Lines.{newline}
+use Rattle.script_drive.specs.Fed.{RunState}
+use Rattle.script_drive.proofs.LimitLemmas.{line_halts}
 use Rattle.report_text.specs.Texts.{malformed_text}
-use Rattle.script_drive.specs.Lines.{StopsAnyway}
+use Rattle.script_drive.specs.LineBytes.{StopsAnyway}
 use Rattle.script_drive.specs.Halts.{FeedsBy, HaltsBy}
 use Rattle.script_drive.proofs.HaltLemmas.{refused_by, silent_by, line_goes_by, line_breaks_by}
 use Rattle.script_drive.proofs.run.Run.end_line.Goals as goal

@@ -1,7 +1,7 @@
 use Rattle.std.proofs.Common.{arith, ◌≡◌, ◌≤◌, ◌<◌, ◌+◌, ℕ, List, length, take, drop, sym, subst, take-append-drop}
 use Rattle.std.proofs.lemmas.List.{length-take-le}
 use Rattle.std.proofs.lemmas.Result.{err_from_is_err_and}
-use Rattle.rep_lines.specs.Fed.{RunState}
+use Rattle.script_drive.specs.Fed.{RunState}
 use Rattle.report_text.specs.Texts.{malformed_text}
 use Rattle.script_drive.specs.Halts.{HaltsBy}
 use Rattle.script_drive.proofs.HaltLemmas.{refused_by, halts_by_longer}

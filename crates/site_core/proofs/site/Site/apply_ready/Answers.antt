@@ -3,9 +3,9 @@ use Rattle.std.specs.Prelude.{◌||◌}
 use Rattle.std.proofs.lemmas.Result.{err_from_is_err_and}
 use Rattle.origin_marks.specs.Edges.{is_between}
 use Rattle.site_state.specs.Passes.{site_apply, apply_answer}
-use Rattle.journal_steps.specs.Inboxes.{sender_in}
+use Rattle.sender_inbox.specs.Inboxes.{sender_in}
 use Rattle.site_core.specs.SiteInvariant.{state_of}
-use Rattle.journal_steps.proofs.ChangedInbox.{senders_in-same}
+use Rattle.sender_inbox.proofs.ChangedInbox.{senders_in-same}
 use Rattle.site_state.proofs.Growing.{one_entry_more}
 use Rattle.site_core.proofs.Beginning.{ends_on_rows}
 use Rattle.site_core.proofs.SiteSteps.{count_is, room_state_is, room_holds_is, ready_known, ready_unfinished, ready_arrived, ready_there, ready_fits, ready_sized, error_origin, error_absent, ready_follow, apply_state_is, apply_answer_is, apply_holds_is, droppable_with}

@@ -1,4 +1,4 @@
-use Rattle.journal_steps.proofs.StandingErrors.{in_order-lists}
+use Rattle.sender_inbox.proofs.StandingErrors.{in_order-lists}
 use Rattle.site_core.proofs.site.Site.errors.Goals as goal
 
 pub returns : goal.returns

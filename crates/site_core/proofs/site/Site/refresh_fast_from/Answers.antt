@@ -1,7 +1,7 @@
 use Rattle.std.proofs.Common.{◌≡◌, ◌∙◌, ap, arith, refl, reverse, subst, sym}
 use Rattle.site_state.specs.Contents.{tables_of}
 use Rattle.site_state.specs.Refreshes.{rows_shown, site_refresh, refresh_fast_answer}
-use Rattle.site_refresh.specs.Refreshing.{OthersAreShown}
+use Rattle.fast_refresh.specs.Refreshing.{OthersAreShown}
 use Rattle.site_core.specs.SiteInvariant.{state_of}
 use Rattle.site_state.proofs.Growing.{one_entry_more}
 use Rattle.site_core.proofs.SiteSteps.{kept_holds_is}

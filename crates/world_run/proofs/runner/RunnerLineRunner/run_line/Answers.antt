@@ -1,7 +1,7 @@
 -- A line is run as its command's step has it.
 use Rattle.std.proofs.Common.{◌≡◌, ℕ, List, sym, subst}
 use Rattle.std.proofs.lemmas.Result.{err_from_is_err_and}
-use Rattle.rep_lines.specs.Runs.{goes}
+use Rattle.script_drive.specs.Runs.{goes}
 use Rattle.script_lex.specs.Lines.{HasTokens}
 use Rattle.script_parse.proofs.NamedLines.{parsed-Ok}
 use Rattle.world_run.specs.Scripts.{script_step}

@@ -1,6 +1,0 @@
--- The law of pairs.
-use Rattle.agreement_laws.proofs.PairsMadeOnce.{pairs_are_made_once}
-use Rattle.agreement_laws.proofs.laws.pairs_are_made_once.Goals as goal
-
-pub returns : goal.returns
-returns c = pairs_are_made_once c.stamps_of_a_block_rise.ensures

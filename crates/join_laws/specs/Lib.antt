@@ -1,4 +1,0 @@
--- The definitions of this crate.
-pub mod Names
-pub mod Streams
-pub mod Joined

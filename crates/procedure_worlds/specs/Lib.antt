@@ -1,4 +1,0 @@
--- The definitions of this crate.
-pub mod Streams
-pub mod Built
-pub mod Worlds

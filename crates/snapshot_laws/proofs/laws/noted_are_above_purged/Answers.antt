@@ -1,6 +1,0 @@
--- The law, from what holds after every list of events.
-use Rattle.snapshot_laws.proofs.LogLaws.{noted_are_above_purged}
-use Rattle.snapshot_laws.proofs.laws.noted_are_above_purged.Goals as goal
-
-pub returns : goal.returns
-returns c = noted_are_above_purged

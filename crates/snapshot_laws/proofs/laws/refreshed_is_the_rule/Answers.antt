@@ -1,6 +1,0 @@
--- The law, from what holds after every list of events.
-use Rattle.snapshot_laws.proofs.SnapshotLaws.{refreshed_is_the_rule}
-use Rattle.snapshot_laws.proofs.laws.refreshed_is_the_rule.Goals as goal
-
-pub returns : goal.returns
-returns c = refreshed_is_the_rule

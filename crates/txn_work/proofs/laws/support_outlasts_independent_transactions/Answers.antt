@@ -1,5 +1,0 @@
-use Rattle.txn_work.proofs.Outlasting.{support_outlasts}
-use Rattle.txn_work.proofs.laws.support_outlasts_independent_transactions.Goals as goal
-
-pub returns : goal.returns
-returns c = support_outlasts

@@ -1,6 +1,0 @@
--- The definitions of this crate.
-pub mod Naming
-pub mod Works
-pub mod Endings
-pub mod Making
-pub mod Laws
