@@ -5,7 +5,7 @@ ghost use Rattle.conflict_detect.specs.Fits.{TxnFits};
 ghost use Rattle.unique_resolve.specs.Numbers.{AreCounters};
 ghost use Rattle.txn_effects.specs.Calls.{HasKeys, KeysStandAlone};
 
-use case_lines::{CaseStop, Words, read_call};
+use case_reader::{CaseStop, Words, read_call};
 use conflict_detect::fits;
 use page_tables::PageTables;
 use rep_calls::{Call, Txn};

@@ -1,7 +1,7 @@
 //! What is asked of a table of rows, and how it is told what came of it.
 
 use anyhow::{Context, Result};
-use case_lines::CaseStop;
+use case_reader::CaseStop;
 use std::alloc::Global;
 
 /// The numbers of rows and of transactions.

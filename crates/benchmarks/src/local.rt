@@ -4,7 +4,7 @@ use crate::asked::{read_numbers, told_run};
 use crate::local_runs::{Bench, filled, updated};
 use crate::stock::stock;
 use anyhow::{Context, Result};
-use case_lines::CaseStop;
+use case_reader::CaseStop;
 use page_tables::PageTables;
 use rep_laws::sound_schemas_have_keys;
 use schema_rules::check;

@@ -3,7 +3,7 @@ ghost use Rattle.std.specs.Prelude.{◌≡◌};
 ghost use Rattle.rep_schema.specs.Shape.{HasShape};
 ghost use Rattle.txn_effects.specs.Calls.{HasKeys, KeysStandAlone};
 
-use case_lines::{CaseStop, Words, read_statement};
+use case_reader::{CaseStop, Words, read_statement};
 use local_txn::run_local;
 use txn_effects::{Here, Stamps};
 use page_tables::PageTables;

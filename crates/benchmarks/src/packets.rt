@@ -4,7 +4,7 @@ use crate::asked::text;
 use crate::round_trips::round_trips;
 use crate::sample::{insert_packet, update_packet};
 use anyhow::{Context, Result};
-use case_lines::CaseStop;
+use case_reader::CaseStop;
 use packet_code::{Packet, Sealed, is_packet};
 use std::alloc::Global;
 

@@ -1,6 +1,6 @@
 //! The packets of the benchmark. `NoCase` stands where a value has no form, which none lacks.
 
-use case_lines::CaseStop;
+use case_reader::CaseStop;
 use packet_code::Packet;
 use rep_calls::{Call, Part, Txn};
 use rep_lists::{Items, NoMemory};

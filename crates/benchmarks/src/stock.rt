@@ -2,7 +2,7 @@
 ghost use Rattle.std.specs.Prelude.{IfOk, IfSome};
 ghost use Rattle.rep_schema.specs.Shape.{HasShape};
 
-use case_lines::{CaseStop, Words, declare};
+use case_reader::{CaseStop, Words, declare};
 use rep_schema::Schema;
 use rep_values::{ApplyError, Refusal};
 use script_lex::lex;

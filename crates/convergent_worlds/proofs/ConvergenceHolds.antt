@@ -15,10 +15,10 @@ use Rattle.convergence_laws.specs.Laws.{AreJoined, AreJoinedSince, GroupsAreJoin
 use Rattle.convergence_laws.specs.Agreement.{LatestTellApart}
 use Rattle.convergence_laws.specs.QuietAgreement.{drops_of_master, NothingWasDropped, MastersAgree, QuietMastersAgree}
 use Rattle.convergence_laws.specs.Latest.{LatestValuesTellApart}
-use Rattle.excuse_laws.specs.Excuses.{ErrorsAreSo, RefusalsAreSo, IsExcusedOn}
-use Rattle.excuse_laws.specs.Laws.{ErrorsAreExcused}
-use Rattle.excuse_laws.specs.LostInserts.{NoRowIsOfALostInsert}
-use Rattle.excuse_laws.specs.LostInsertLaws.{MissingRowsAreOfInsertsInError}
+use Rattle.error_cause_laws.specs.Excuses.{ErrorsAreSo, RefusalsAreSo, IsExcusedOn}
+use Rattle.error_cause_laws.specs.Laws.{ErrorsAreExcused}
+use Rattle.error_cause_laws.specs.LostInserts.{NoRowIsOfALostInsert}
+use Rattle.error_cause_laws.specs.LostInsertLaws.{MissingRowsAreOfInsertsInError}
 use Rattle.world_state.specs.World.{WorldState}
 use Rattle.world_laws.specs.SnapshotWorlds.{DeclaresSoFar, Goes}
 use Rattle.world_laws.proofs.SnapshotScripts.{snapshots_hold_of}

@@ -6,7 +6,7 @@ use Rattle.site_events.specs.Cluster.{Cluster, site_of}
 use Rattle.site_events.specs.Events.{Event, run}
 use Rattle.site_events.specs.Quiet.{are_quiet}
 use Rattle.convergence_laws.specs.QuietAgreement.{NothingWasDroppedSince, MastersAgree, QuietMastersAgreeAgain}
-use Rattle.excuse_laws.specs.LostInsertLaws.{MissingRowsAreOfLostInserts}
+use Rattle.error_cause_laws.specs.LostInsertLaws.{MissingRowsAreOfLostInserts}
 use Rattle.world_state.specs.World.{WorldState}
 use Rattle.world_state.specs.Phases.{is_setup}
 use Rattle.world_state.specs.Steps.{world_steps}

@@ -4,8 +4,8 @@ use Rattle.std.specs.List.{AllByRecursion}
 use Rattle.convergence_laws.specs.Laws.{GroupsAreJoined, GroupsAreJoinedSince}
 use Rattle.convergence_laws.specs.QuietAgreement.{QuietMastersAgree, QuietMastersAgreeAgain}
 use Rattle.convergence_laws.specs.Latest.{LatestValuesTellApart}
-use Rattle.excuse_laws.specs.Laws.{ErrorsAreExcused}
-use Rattle.excuse_laws.specs.LostInsertLaws.{MissingRowsAreOfInsertsInError, MissingRowsAreOfLostInserts}
+use Rattle.error_cause_laws.specs.Laws.{ErrorsAreExcused}
+use Rattle.error_cause_laws.specs.LostInsertLaws.{MissingRowsAreOfInsertsInError, MissingRowsAreOfLostInserts}
 use Rattle.script_parse.specs.declared.command.Command.{Command}
 use Rattle.script_parse.specs.Named.{NamesColumn}
 use Rattle.world_state.specs.World.{WorldState, first_world}

@@ -10,7 +10,7 @@ use Rattle.site_events.specs.Quiet.{are_quiet}
 use Rattle.convergence_laws.specs.Laws.{AreJoined, AreJoinedSince}
 use Rattle.convergence_laws.specs.Agreement.{LatestTellApart}
 use Rattle.convergence_laws.specs.QuietAgreement.{NothingWasDropped, MastersAgree}
-use Rattle.excuse_laws.specs.Excuses.{ErrorsAreSo, RefusalsAreSo, IsExcusedOn}
+use Rattle.error_cause_laws.specs.Excuses.{ErrorsAreSo, RefusalsAreSo, IsExcusedOn}
 use Rattle.world_state.specs.World.{WorldState}
 use Rattle.world_state.specs.Phases.{is_setup}
 use Rattle.convergent_worlds.specs.Histories.{MastersAgreeAgain, MissesLostRows, HasHistory}

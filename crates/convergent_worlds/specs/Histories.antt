@@ -8,8 +8,8 @@ use Rattle.site_events.specs.Cluster.{Cluster, site_of}
 use Rattle.site_events.specs.Events.{Event, run}
 use Rattle.site_events.specs.Quiet.{are_quiet}
 use Rattle.convergence_laws.specs.QuietAgreement.{NothingWasDroppedSince, MastersAgree}
-use Rattle.excuse_laws.specs.Excuses.{ErrorsAreSo, RefusalsAreSo}
-use Rattle.excuse_laws.specs.LostInserts.{dropped_before, NoRowIsOfALostInsert}
+use Rattle.error_cause_laws.specs.Excuses.{ErrorsAreSo, RefusalsAreSo}
+use Rattle.error_cause_laws.specs.LostInserts.{dropped_before, NoRowIsOfALostInsert}
 use Rattle.script_parse.specs.declared.command.Command.{Command}
 use Rattle.world_state.specs.World.{WorldState}
 use Rattle.world_state.specs.Phases.{is_setup}

@@ -11,8 +11,8 @@ use Rattle.rep_schema.specs.Groups.{are_same}
 use Rattle.rep_schema.specs.Changes.{after_change_in, after_change, row_like, IsChange, LeadsTo}
 use Rattle.rep_schema.proofs.FoundRows.{find_row-put_other, find_row-take_other, key_of-found}
 use Rattle.rep_schema.proofs.TakingBack.{AreTables-made}
-use Rattle.snapshot_log.specs.Noting.{key_between, key_changed, keys_changed}
-use Rattle.fast_refresh.specs.Showing.{has_key}
+use Rattle.change_logs.specs.Noting.{key_between, key_changed, keys_changed}
+use Rattle.refreshes.specs.Showing.{has_key}
 use Rattle.event_laws.proofs.Keys.{neither, same_own}
 
 -- one of several tables, where one was set

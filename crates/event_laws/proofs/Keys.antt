@@ -12,9 +12,9 @@ use Rattle.rep_schema.specs.declared.change.Change.{Change}
 use Rattle.rep_schema.specs.Tables.{Cells}
 use Rattle.rep_schema.specs.Groups.{are_same}
 use Rattle.rep_schema.proofs.ValuesAt.{are_same-Decides}
-use Rattle.snapshot_log.specs.LogState.{LoggedKey, LogState, log_purged, purged_where}
-use Rattle.snapshot_log.specs.Noting.{keys_changed, beside_key, logged_each, logged_in, with_keys, log_of, keys_in, purged_in, purged_of, logged_above}
-use Rattle.fast_refresh.specs.Showing.{has_key}
+use Rattle.change_logs.specs.LogState.{LoggedKey, LogState, log_purged, purged_where}
+use Rattle.change_logs.specs.Noting.{keys_changed, beside_key, logged_each, logged_in, with_keys, log_of, keys_in, purged_in, purged_of, logged_above}
+use Rattle.refreshes.specs.Showing.{has_key}
 
 -- ---- a key among keys
 

@@ -11,9 +11,9 @@ use Rattle.rep_values.specs.SiteNames.{is_same_site}
 use Rattle.deferred_queue.proofs.Sites.{is_same_site-true}
 use Rattle.txn_effects.specs.declared.local.Here.{Here}
 use Rattle.site_state.specs.State.{SiteState}
-use Rattle.snapshot_log.specs.LogState.{LoggedKey, LogState, log_purged, purged_where}
+use Rattle.change_logs.specs.LogState.{LoggedKey, LogState, log_purged, purged_where}
 use Rattle.rep_schema.specs.Sites.{is_among}
-use Rattle.snapshot_log.specs.Noting.{keys_changed, beside_key, logged_each, logged_in}
+use Rattle.change_logs.specs.Noting.{keys_changed, beside_key, logged_each, logged_in}
 use Rattle.site_state.specs.Steps.{begun}
 use Rattle.site_state.specs.Purges.{site_purge_log}
 use Rattle.site_state.specs.Making.{master_here}

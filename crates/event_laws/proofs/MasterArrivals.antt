@@ -18,7 +18,7 @@ use Rattle.error_queue.specs.declared.entry.ErrorEntry.{ErrorEntry}
 use Rattle.site_state.specs.declared.answers.Why.TheVariants as why
 use Rattle.site_state.specs.declared.arrival.Arrival.{Arrival}
 use Rattle.site_state.specs.State.{SiteState, arrived_at}
-use Rattle.snapshot_log.specs.LogState.{LogState}
+use Rattle.change_logs.specs.LogState.{LogState}
 use Rattle.rep_schema.specs.Sites.{is_master_site}
 use Rattle.site_state.specs.Journal.{is_position, finishes, finished, error_at}
 use Rattle.site_state.specs.Contents.{content_of, changes_by}
@@ -26,7 +26,7 @@ use Rattle.site_state.specs.Streams.{went_onward, queue_of, count_of}
 use Rattle.site_state.specs.Pasts.{pasts_of}
 use Rattle.site_state.specs.Ready.{is_due, stale_found, is_ready}
 use Rattle.site_state.specs.Notes.{noted}
-use Rattle.snapshot_log.specs.Noting.{logged_in, touched_in}
+use Rattle.change_logs.specs.Noting.{logged_in, touched_in}
 use Rattle.site_state.specs.Steps.{is_empty, is_open, journalled, onward_number}
 use Rattle.site_state.specs.Passes.{effect_here, finished_by, site_apply}
 use Rattle.site_state.proofs.Stepping.{is_position-true}

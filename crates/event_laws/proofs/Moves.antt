@@ -8,7 +8,7 @@ use Rattle.rep_schema.specs.Changes.{LeadsTo}
 use Rattle.snapshot_query.specs.declared.snapshot.Snapshot.{Snapshot}
 use Rattle.site_state.specs.State.{SiteState}
 use Rattle.site_state.specs.Contents.{tables_of}
-use Rattle.snapshot_log.specs.Noting.{logged_in, touched_in}
+use Rattle.change_logs.specs.Noting.{logged_in, touched_in}
 use Rattle.site_state.specs.Fits.{SnapshotsApart}
 
 -- ---- lists

@@ -12,8 +12,8 @@ use Rattle.rep_schema.specs.declared.schema.Schema.{Schema}
 use Rattle.rep_schema.specs.declared.change.Change.{Change}
 use Rattle.rep_schema.specs.Tables.{Cells}
 use Rattle.snapshot_query.specs.declared.snapshot.Snapshot.{Snapshot}
-use Rattle.snapshot_log.specs.LogState.{LoggedKey, LogState}
-use Rattle.snapshot_log.specs.Noting.{keys_changed, logged_each, logged_in, with_keys, touched_in}
+use Rattle.change_logs.specs.LogState.{LoggedKey, LogState}
+use Rattle.change_logs.specs.Noting.{keys_changed, logged_each, logged_in, with_keys, touched_in}
 
 -- ---- two puts
 

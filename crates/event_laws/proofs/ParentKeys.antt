@@ -12,8 +12,8 @@ use Rattle.rep_schema.specs.declared.change.Change.{Change}
 use Rattle.rep_schema.specs.Tables.{Cells}
 use Rattle.rep_schema.proofs.FilteredRows.{all_filter}
 use Rattle.snapshot_query.specs.declared.parent.Parent.{Parent}
-use Rattle.snapshot_log.specs.LogState.{LoggedKey, LogState, log_purged, purged_where}
-use Rattle.snapshot_log.specs.Noting.{keys_changed, beside_key, logged_each, logged_in, log_of, keys_in}
+use Rattle.change_logs.specs.LogState.{LoggedKey, LogState, log_purged, purged_where}
+use Rattle.change_logs.specs.Noting.{keys_changed, beside_key, logged_each, logged_in, log_of, keys_in}
 use Rattle.site_events.specs.Rules.{parents_above}
 use Rattle.event_laws.specs.WaitingRows.{logged_cmp, DoParentsRise}
 use Rattle.event_laws.proofs.Keys.{table-purged_where}

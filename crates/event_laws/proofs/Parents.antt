@@ -9,8 +9,8 @@ use Rattle.rep_schema.specs.Shown.{shown_by}
 use Rattle.snapshot_query.specs.declared.query.Query.{Query}
 use Rattle.snapshot_query.specs.declared.parent.Parent.{Parent}
 use Rattle.snapshot_query.specs.Parents.{parent_key, found_matches, picks_by}
-use Rattle.snapshot_log.specs.LogState.{LogState, log_purged, purged_where}
-use Rattle.snapshot_log.specs.Noting.{logged_in, log_of, purged_in, purged_of}
+use Rattle.change_logs.specs.LogState.{LogState, log_purged, purged_where}
+use Rattle.change_logs.specs.Noting.{logged_in, log_of, purged_in, purged_of}
 use Rattle.site_events.specs.Rules.{parents_above, IsParentLogged}
 use Rattle.event_laws.specs.WaitingRows.{is_waiting, IsParentOld}
 use Rattle.event_laws.proofs.Keys.{is_some-logged, purged_of-logged, told-logged, table-purged_where, is_some-purged, told-purged}

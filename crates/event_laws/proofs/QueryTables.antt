@@ -9,8 +9,8 @@ use Rattle.snapshot_query.specs.declared.parent.Parent.{Parent}
 use Rattle.snapshot_query.specs.declared.snapshot.Snapshot.{Snapshot}
 use Rattle.snapshot_query.specs.Parents.{picks, picks_by, rule_rows}
 use Rattle.site_state.specs.declared.rows.TableRows.{TableRows}
-use Rattle.snapshot_log.specs.LogState.{LogState}
-use Rattle.snapshot_log.specs.Noting.{pending_keys, is_too_young}
+use Rattle.change_logs.specs.LogState.{LogState}
+use Rattle.change_logs.specs.Noting.{pending_keys, is_too_young}
 use Rattle.site_state.specs.Refreshes.{rows_shown, with_tables}
 use Rattle.site_state.specs.Fits.{AreWithin}
 use Rattle.site_events.specs.Rules.{rows_ruled, parents_above, is_purged_above, is_young, looked_up, HaveNoParents, QueriesAreRules}

@@ -13,7 +13,7 @@ use Rattle.site_state.specs.State.{SiteState}
 use Rattle.rep_schema.specs.Sites.{is_among}
 use Rattle.site_state.specs.Contents.{tables_of}
 use Rattle.site_state.specs.Refreshes.{with_tables, site_refresh}
-use Rattle.snapshot_log.specs.Noting.{renewed}
+use Rattle.change_logs.specs.Noting.{renewed}
 use Rattle.site_events.specs.Cluster.{site_of}
 use Rattle.site_events.specs.Rules.{rows_ruled}
 use Rattle.site_events.specs.Events.{master_of, found_site, refreshed, without_found, begun_after}

@@ -11,11 +11,11 @@ use Rattle.deferred_queue.proofs.Sites.{is_same_site-true}
 use Rattle.snapshot_query.specs.declared.snapshot.Snapshot.{Snapshot}
 use Rattle.site_state.specs.State.{SiteState}
 use Rattle.rep_schema.specs.Sites.{is_among}
-use Rattle.snapshot_log.specs.Noting.{keys_changed, touched_in, log_of, keys_in, logged_above, renewed}
+use Rattle.change_logs.specs.Noting.{keys_changed, touched_in, log_of, keys_in, logged_above, renewed}
 use Rattle.site_state.specs.Steps.{begun}
 use Rattle.site_state.specs.Purges.{site_purge_log}
 use Rattle.site_state.specs.Joining.{site_open}
-use Rattle.snapshot_log.proofs.RisingKeys.{rising-with_keys}
+use Rattle.change_logs.proofs.RisingKeys.{rising-with_keys}
 use Rattle.site_events.specs.Cluster.{Cluster, site_of, at_site}
 use Rattle.site_events.specs.Joins.{copied, with_joined}
 use Rattle.site_events.specs.Events.{refreshed, run}

@@ -11,7 +11,7 @@ use Rattle.rep_schema.specs.Shown.{shown_by}
 use Rattle.rep_schema.specs.Groups.{are_same}
 use Rattle.rep_schema.proofs.FoundRows.{find_row-put_own, find_row-put_other, find_row-take_own, find_row-take_other, rows_from_finds, key_of-found}
 use Rattle.rep_schema.proofs.FilteredRows.{rising_filter, find_row-filter}
-use Rattle.fast_refresh.specs.Showing.{has_key, ShowsOthers}
+use Rattle.refreshes.specs.Showing.{has_key, ShowsOthers}
 use Rattle.event_laws.specs.Pending.{with_row, rows_from_keys}
 use Rattle.event_laws.proofs.Keys.{both_fail, same_key, same_own}
 

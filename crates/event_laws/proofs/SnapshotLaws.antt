@@ -12,9 +12,9 @@ use Rattle.snapshot_query.specs.declared.parent.Parent.{Parent}
 use Rattle.snapshot_query.specs.declared.snapshot.Snapshot.{Snapshot}
 use Rattle.snapshot_query.specs.Parents.{picks, rule_rows}
 use Rattle.site_state.specs.State.{SiteState}
-use Rattle.snapshot_log.specs.LogState.{LogState}
+use Rattle.change_logs.specs.LogState.{LogState}
 use Rattle.site_state.specs.Contents.{tables_of}
-use Rattle.snapshot_log.specs.Noting.{purged_of, is_too_young, renewed}
+use Rattle.change_logs.specs.Noting.{purged_of, is_too_young, renewed}
 use Rattle.site_state.specs.Refreshes.{site_refresh}
 use Rattle.site_events.specs.Cluster.{Cluster, site_of, at_site}
 use Rattle.site_events.specs.Rules.{rows_ruled, is_purged_above, has_young_parents, is_young}

@@ -12,11 +12,11 @@ use Rattle.snapshot_query.specs.Parents.{picks}
 use Rattle.site_state.specs.State.{SiteState}
 use Rattle.rep_schema.specs.Sites.{is_among}
 use Rattle.site_state.specs.Contents.{tables_of}
-use Rattle.snapshot_log.specs.Noting.{keys_changed, touched_in, log_of, purged_of}
+use Rattle.change_logs.specs.Noting.{keys_changed, touched_in, log_of, purged_of}
 use Rattle.site_state.specs.Steps.{begun}
 use Rattle.site_state.specs.Purges.{site_purge_log}
 use Rattle.site_events.specs.Rules.{pending_parents, IsParentWithin, IsParentLogged}
-use Rattle.fast_refresh.specs.Showing.{has_key}
+use Rattle.refreshes.specs.Showing.{has_key}
 use Rattle.event_laws.specs.WaitingRows.{is_waiting, DoParentsRise, IsParentOld}
 use Rattle.event_laws.proofs.Keys.{has_key-with_keys, told, is_some-logged, purged_of-logged, told-logged, is_some-purged, told-purged}
 use Rattle.event_laws.proofs.ChangedRows.{find_row-led}

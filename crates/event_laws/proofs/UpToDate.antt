@@ -12,10 +12,10 @@ use Rattle.rep_schema.specs.Tables.{Cells, Rows, columns_of, key_of, row_beside,
 use Rattle.rep_schema.specs.Groups.{are_same}
 use Rattle.snapshot_query.specs.declared.parent.Parent.{Parent}
 use Rattle.snapshot_query.specs.declared.snapshot.Snapshot.{Snapshot}
-use Rattle.snapshot_log.specs.LogState.{LogState}
-use Rattle.snapshot_log.specs.Noting.{pending_keys}
+use Rattle.change_logs.specs.LogState.{LogState}
+use Rattle.change_logs.specs.Noting.{pending_keys}
 use Rattle.site_events.specs.Rules.{pending_parents}
-use Rattle.fast_refresh.specs.Showing.{has_key}
+use Rattle.refreshes.specs.Showing.{has_key}
 use Rattle.event_laws.specs.WaitingRows.{waits_for, is_waiting, waiting_keys, outdated_keys}
 use Rattle.event_laws.proofs.Keys.{neither, same_own}
 

@@ -12,7 +12,7 @@ use Rattle.snapshot_query.specs.declared.query.Op.TheVariants.{Eq}
 use Rattle.site_state.specs.declared.rows.TableRows.{TableRows}
 use Rattle.site_state.specs.State.{SiteState}
 use Rattle.site_state.specs.Contents.{tables_of}
-use Rattle.snapshot_log.specs.Noting.{pending_keys}
+use Rattle.change_logs.specs.Noting.{pending_keys}
 use Rattle.site_state.specs.Making.{new_site}
 use Rattle.site_state.proofs.WorkedSites.{a, s, master, snapshot_of, number_column, key_column, table_t, n, at_first}
 use Rattle.site_events.specs.Cluster.{Cluster, site_of}

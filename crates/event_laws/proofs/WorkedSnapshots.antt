@@ -17,7 +17,7 @@ use Rattle.site_state.specs.declared.entry.Entry.TheVariants as entry
 use Rattle.site_state.specs.declared.answers.RefreshCount.{RefreshCount}
 use Rattle.site_state.specs.State.{SiteState}
 use Rattle.site_state.specs.Contents.{tables_of}
-use Rattle.snapshot_log.specs.Noting.{pending_keys}
+use Rattle.change_logs.specs.Noting.{pending_keys}
 use Rattle.site_state.specs.Packets.{site_packet}
 use Rattle.site_state.specs.Purges.{purge_log_answer}
 use Rattle.site_state.specs.Making.{new_site}

@@ -9,13 +9,13 @@ use Rattle.rep_schema.specs.Tables.{columns_of, rows_of}
 use Rattle.snapshot_query.specs.declared.snapshot.Snapshot.{Snapshot}
 use Rattle.snapshot_query.specs.Parents.{picks}
 use Rattle.site_state.specs.State.{SiteState}
-use Rattle.snapshot_log.specs.LogState.{LogState}
+use Rattle.change_logs.specs.LogState.{LogState}
 use Rattle.site_state.specs.Contents.{tables_of}
-use Rattle.snapshot_log.specs.Noting.{pending_keys}
+use Rattle.change_logs.specs.Noting.{pending_keys}
 use Rattle.site_events.specs.Cluster.{Cluster, site_of}
 use Rattle.site_events.specs.Rules.{rows_ruled, pending_parents, is_young, IsParentWithin}
 use Rattle.site_events.specs.Events.{Event, Refresh, run}
-use Rattle.fast_refresh.specs.Showing.{ShowsOthers}
+use Rattle.refreshes.specs.Showing.{ShowsOthers}
 use Rattle.event_laws.specs.WaitingRows.{outdated_keys}
 use Rattle.event_laws.specs.Pending.{pending_rows}
 use Rattle.event_laws.specs.SnapshotStarts.{master_at, IsSnapshotStart}

@@ -8,8 +8,8 @@ use Rattle.rep_schema.specs.Tables.{rows_of}
 use Rattle.snapshot_query.specs.declared.snapshot.Snapshot.{Snapshot}
 use Rattle.snapshot_query.specs.Parents.{rule_rows}
 use Rattle.site_state.specs.State.{SiteState}
-use Rattle.snapshot_log.specs.LogState.{LogState}
-use Rattle.snapshot_log.specs.Noting.{log_of}
+use Rattle.change_logs.specs.LogState.{LogState}
+use Rattle.change_logs.specs.Noting.{log_of}
 use Rattle.site_state.specs.Fits.{SnapshotsApart}
 use Rattle.site_events.specs.Cluster.{Cluster}
 use Rattle.site_events.specs.Rules.{IsParentWithin, IsParentLogged}

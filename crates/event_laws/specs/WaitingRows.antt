@@ -9,10 +9,10 @@ use Rattle.rep_schema.specs.Tables.{Cells, Rows, columns_of, key_of, rows_of}
 use Rattle.snapshot_query.specs.declared.parent.Parent.{Parent}
 use Rattle.snapshot_query.specs.declared.snapshot.Snapshot.{Snapshot}
 use Rattle.snapshot_query.specs.Parents.{parent_key}
-use Rattle.snapshot_log.specs.LogState.{LoggedKey, LogState}
-use Rattle.snapshot_log.specs.Noting.{log_of, keys_in, purged_of, pending_keys}
+use Rattle.change_logs.specs.LogState.{LoggedKey, LogState}
+use Rattle.change_logs.specs.Noting.{log_of, keys_in, purged_of, pending_keys}
 use Rattle.site_events.specs.Rules.{pending_parents}
-use Rattle.fast_refresh.specs.Showing.{has_key}
+use Rattle.refreshes.specs.Showing.{has_key}
 
 -- ---- rows that wait
 

@@ -35,10 +35,10 @@ use Rattle.dependency_index.specs.contracts.token.Token as token
 use Rattle.site_outbox.specs.contracts.outbox.Outbox as outbox
 use Rattle.error_queue.specs.contracts.entry.ErrorEntry as error_entry
 use Rattle.error_queue.specs.contracts.errors.Errors as errors
-use Rattle.snapshot_log.proofs.Crossing.{notes_send}
+use Rattle.change_logs.proofs.Crossing.{notes_send}
 use Rattle.unique_resolve.specs.contracts.counters.Counters as counters
 use Rattle.rep_schema.specs.declared.store.RowStore.{Ghosts}
-use Rattle.site_core.specs.contracts.site.Site as site
+use Rattle.site_engine.specs.contracts.site.Site as site
 use Rattle.site_gate.specs.contracts.gate.SiteGate as gate
 use Rattle.site_gate.specs.contracts.pass.Pass as pass
 use Rattle.site_gate.proofs.Crossing.{field_pass_send, pass_send, gate_sync}

@@ -10,7 +10,7 @@ use live_laws::{LiveTurn, Session};
 use rep_lists::{Items, NoMemory};
 use rep_schema::RowStore;
 use rep_values::SiteName;
-use site_core::Site;
+use site_engine::Site;
 use std::alloc::Global;
 use std::marker::Model;
 use std::snapshot::Snapshot;

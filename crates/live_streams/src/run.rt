@@ -14,7 +14,7 @@ use rep_io::Watch;
 use rep_lists::{Items, NoMemory};
 use rep_schema::RowStore;
 use rep_values::SiteName;
-use site_core::Site;
+use site_engine::Site;
 use site_gate::{Pass, SiteGate};
 use std::alloc::Global;
 use std::sync::Wait;

@@ -7,7 +7,7 @@ use live_laws::Session;
 use rep_lists::{Items, NoMemory};
 use rep_schema::RowStore;
 use rep_values::SiteName;
-use site_core::Site;
+use site_engine::Site;
 use site_gate::Turns;
 use std::alloc::Global;
 

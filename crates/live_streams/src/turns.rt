@@ -14,7 +14,7 @@ use txn_effects::LocalStop;
 use rep_lists::NoMemory;
 use rep_schema::RowStore;
 use rep_values::{Refusal, SiteName};
-use site_core::Site;
+use site_engine::Site;
 use site_state::Entry;
 use std::alloc::Global;
 

@@ -13,7 +13,7 @@ use Rattle.site_state.specs.State.{SenderState, SiteState, at_sender}
 use Rattle.site_state.specs.Contents.{tables_of}
 use Rattle.site_state.specs.Making.{new_site}
 use Rattle.site_state.specs.Joining.{with_first, sender_from, site_first, site_copy}
-use Rattle.site_core.proofs.Apart.{NamesApart, senders_apart}
+use Rattle.site_engine.proofs.Apart.{NamesApart, senders_apart}
 use Rattle.master_join.specs.Firsts.{with_firsts}
 
 -- two sites are the same or not, whichever is asked first

@@ -10,7 +10,7 @@ use rep_calls::PastEntry;
 use rep_lists::{Items, NoMemory};
 use rep_schema::{RowStore, TableSet};
 use rep_values::SiteName;
-use site_core::Site;
+use site_engine::Site;
 use std::alloc::Global;
 
 /// A site that begins with the rows that another one has now. Its store is of the other's schema and empty, and takes them;

@@ -4,7 +4,7 @@ ghost use Rattle.master_join.specs.Firsts.{with_firsts};
 
 use rep_calls::PastEntry;
 use rep_schema::RowStore;
-use site_core::Site;
+use site_engine::Site;
 
 /// Sets the first numbers of senders, the last one given first, so that of two for one sender the first one stays.
 pub(crate) fn set_firsts<R: RowStore>(site: &mut Site<R>, firsts: &[PastEntry])

@@ -5,7 +5,7 @@ ghost use Rattle.site_state.specs.Joining.{unfinished_of, master_errors, unfinis
 use rep_calls::PastEntry;
 use rep_schema::RowStore;
 use schema_names::is_master_site;
-use site_core::Site;
+use site_engine::Site;
 
 /// How many of the positions 1 to a last one of an origin aren't finished at a site. It takes no memory.
 pub fn unfinished_of<R: RowStore>(site: &Site<R>, last: &PastEntry) -> u64

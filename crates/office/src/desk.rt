@@ -17,7 +17,7 @@ use rep_schema::{RowStore, Schema};
 use rep_values::SiteName;
 use schema_rules::check;
 use schema_names::is_master_site;
-use site_core::Site;
+use site_engine::Site;
 use std::alloc::Global;
 use std::marker::Model;
 

@@ -15,7 +15,7 @@ use rep_lists::{Items, NoMemory};
 use rep_schema::{RowStore, Schema, TableSet};
 use rep_values::SiteName;
 use schema_names::{destinations_of, first_master, senders_of};
-use site_core::Site;
+use site_engine::Site;
 use std::alloc::Global;
 
 /// The store with the columns filled in that a site fills.

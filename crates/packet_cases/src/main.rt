@@ -24,7 +24,7 @@ mod unpacked;
 mod written;
 
 use anyhow::Result;
-use case_lines::{CaseStop, Words, read_call};
+use case_reader::{CaseStop, Words, read_call};
 use near::near;
 use packed::{carried, marked};
 use rep_calls::Call;

@@ -3,7 +3,7 @@
 use crate::pieces::bytes_of_pieces;
 use crate::shown::push_kept;
 use crate::unpacked::is_kept;
-use case_lines::CaseStop;
+use case_reader::CaseStop;
 use packet_code::{Packet, decode};
 use rep_lists::NoMemory;
 use std::alloc::Global;

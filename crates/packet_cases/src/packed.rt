@@ -3,7 +3,7 @@ ghost use Rattle.packet_code.specs.Limits.{IsPacket};
 
 use crate::shown::{no_packet, push_kept};
 use crate::unpacked::is_kept;
-use case_lines::{CaseStop, Words, read_past};
+use case_reader::{CaseStop, Words, read_past};
 use packet_code::{Packet, Route, Sealed, encode, is_packet};
 use rep_calls::{Call, PastEntry, Txn};
 use rep_lists::{Items, NoMemory};

@@ -1,6 +1,6 @@
 //! Bytes as pieces of hexadecimal digits.
 
-use case_lines::CaseStop;
+use case_reader::CaseStop;
 use std::alloc::Global;
 
 /// The digits of one piece, and how often they stand there.

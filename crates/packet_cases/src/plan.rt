@@ -2,7 +2,7 @@
 ghost use Rattle.net_plan.specs.Directions.{HasDirection};
 
 use crate::shown::push_count;
-use case_lines::CaseStop;
+use case_reader::CaseStop;
 use net_plan::{Fate, Net};
 use packet_code::{Packet, Sealed};
 use rep_lists::NoMemory;

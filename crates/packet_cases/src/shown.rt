@@ -1,6 +1,6 @@
 //! Packets as words.
 
-use case_lines::{CaseStop, push_name, push_past, push_values};
+use case_reader::{CaseStop, push_name, push_past, push_values};
 use packet_code::Packet;
 use rep_calls::{Call, Part, Txn};
 use rep_lists::NoMemory;

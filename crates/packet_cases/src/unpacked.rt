@@ -4,7 +4,7 @@ ghost use Rattle.packet_code.specs.Limits.{IsPacket};
 use crate::pieces::bytes_of_pieces;
 use crate::shown::{no_packet, push_kept, shown};
 use crate::written::written;
-use case_lines::CaseStop;
+use case_reader::CaseStop;
 use packet_code::{Packet, Sealed, decode, encode, is_packet};
 use rep_lists::{Copies, NoMemory};
 use std::alloc::Global;

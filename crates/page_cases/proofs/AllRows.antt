@@ -7,7 +7,7 @@ use Rattle.rep_schema.specs.Shown.{shown_by}
 use Rattle.rep_schema.proofs.FilteredRows.{find_row-filter}
 use Rattle.snapshot_query.specs.declared.query.Query.{Query}
 use Rattle.snapshot_query.specs.Queries.{matches, query_rows}
-use Rattle.fast_refresh.specs.Showing.{ShowsOthers}
+use Rattle.refreshes.specs.Showing.{ShowsOthers}
 
 -- each row passes
 pub any_matches : (query : Query) (row : Cells) → query.tests ≡ [] → matches query row ≡ true

@@ -2,7 +2,7 @@
 ghost use Rattle.rep_schema.specs.Shape.{HasShape};
 
 use crate::calls::text;
-use case_lines::{CaseStop, Words, read_call};
+use case_reader::{CaseStop, Words, read_call};
 use conflict_detect::fits;
 use rep_calls::Txn;
 use rep_laws::sound_schemas_have_keys;

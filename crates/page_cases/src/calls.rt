@@ -2,7 +2,7 @@
 ghost use Rattle.std.specs.Prelude.{◌≡◌, ◌<◌, length, IfOk, OnOk};
 ghost use Rattle.rep_schema.specs.Tables.{columns_of, rows_of, IsKeyed, RowFits, IsUniqueRow};
 
-use case_lines::{CaseStop, Words, push_row};
+use case_reader::{CaseStop, Words, push_row};
 use rep_schema::{
     RowStore, columns_of, constraint_count, constraints_of, is_keyed, is_unique, put_if_changed,
     row_fits,

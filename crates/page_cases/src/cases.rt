@@ -10,7 +10,7 @@ use crate::refreshed::{refreshed_and_back, refreshed_by_key};
 use crate::renewed::renewed;
 use crate::series::{put_series, take_series};
 use crate::undone::undone;
-use case_lines::{CaseStop, Words, read_declaration};
+use case_reader::{CaseStop, Words, read_declaration};
 use page_tables::PageTables;
 use rep_declare::add_declaration;
 use rep_lists::Copies;

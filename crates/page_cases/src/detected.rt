@@ -3,7 +3,7 @@ ghost use Rattle.std.specs.Prelude.{◌<◌, length, option_copied, IfSome};
 ghost use Rattle.rep_schema.specs.Shape.{HasShape};
 
 use crate::calls::text;
-use case_lines::{CaseStop, Words, push_number, read_call};
+use case_reader::{CaseStop, Words, push_number, read_call};
 use conflict_detect::{Found, GroupSet, call_fits, detect, table_of};
 use rep_calls::Call;
 use rep_schema::{Schema, columns_of, row_fits};

@@ -4,7 +4,7 @@ ghost use Rattle.rep_schema.specs.Tables.{columns_of, IsKeyed};
 
 use crate::calls::count_text;
 use crate::refreshed::{from_0, keyed_table_in};
-use case_lines::{CaseStop, Words, push_row};
+use case_reader::{CaseStop, Words, push_row};
 use rep_lists::Items;
 use rep_schema::RowStore;
 use rep_values::Row;

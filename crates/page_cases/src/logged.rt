@@ -1,9 +1,9 @@
 //! The last moments of keys in a log.
 
 use crate::calls::text;
-use case_lines::{CaseStop, Words};
+use case_reader::{CaseStop, Words};
 use script_lex::Symbol;
-use snapshot_log::Log;
+use change_logs::Log;
 use std::alloc::Global;
 
 /// A log of the keys that the line ends with, each behind a colon. They are noted at the moments from 1 on.

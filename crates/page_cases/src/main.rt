@@ -36,7 +36,7 @@ mod settled;
 mod undone;
 
 use anyhow::Result;
-use case_lines::CaseStop;
+use case_reader::CaseStop;
 use cases::Cases;
 
 fn echo(rt: &HostRuntime, line: &str) -> Result<()> {

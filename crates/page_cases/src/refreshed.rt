@@ -3,8 +3,8 @@ ghost use Rattle.std.specs.Prelude.{◌≡◌, ◌<◌, length, IfOk, OnOk};
 ghost use Rattle.rep_schema.specs.Tables.{columns_of, IsKeyed};
 
 use crate::calls::{PutEnding, put_row, table_in, text};
-use case_lines::{CaseStop, Words};
-use fast_refresh::{
+use case_reader::{CaseStop, Words};
+use refreshes::{
     CountedView, MasterView, refresh_complete, refresh_fast, rows_shown, shows_others,
 };
 use rep_lists::{Copies, Items};

@@ -2,7 +2,7 @@
 ghost use Rattle.std.specs.Prelude.{◌≡◌, ◌<◌, ◌≤◌, length, IfOk, IsOk};
 
 use crate::calls::{PutEnding, put_row, table_in, take_key};
-use case_lines::{CaseStop, Words};
+use case_reader::{CaseStop, Words};
 use rep_schema::{RowStore, columns_of};
 use rep_values::{Key, Row, Value};
 use std::alloc::Global;

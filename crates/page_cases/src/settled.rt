@@ -3,12 +3,12 @@ ghost use Rattle.std.specs.Prelude.{◌≡◌, ◌<◌, ◌++◌, [], length, ma
 ghost use Rattle.rep_schema.specs.Tables.{columns_of, key_of, rows_of, IsKeyed, IsTable};
 ghost use Rattle.rep_schema.specs.Groups.{are_same};
 ghost use Rattle.snapshot_query.specs.Parents.{parent_key, has_parent};
-ghost use Rattle.fast_refresh.specs.Showing.{has_key, ShowsOthers};
+ghost use Rattle.refreshes.specs.Showing.{has_key, ShowsOthers};
 ghost use Rattle.subquery_snapshots.specs.Rules.{rows_of_parents};
 
 use crate::refreshed::snapshot_of;
-use case_lines::CaseStop;
-use fast_refresh::{refresh_complete, shows_others};
+use case_reader::CaseStop;
+use refreshes::{refresh_complete, shows_others};
 use rep_lists::{Copies, Items, NoMemory};
 use rep_schema::{RowStore, Schema, holds_tables, key_in, values_at};
 use rep_values::{Key, Row, Value, same_values};

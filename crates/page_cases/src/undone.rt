@@ -3,7 +3,7 @@ ghost use Rattle.std.specs.Prelude.{◌≡◌, ◌+◌, ◌<◌, ◌≤◌, [], 
 ghost use Rattle.rep_schema.specs.Changes.{IsChange, LeadsTo, after_change};
 
 use crate::calls::{last_key, test_put, text};
-use case_lines::{CaseStop, Words};
+use case_reader::{CaseStop, Words};
 use rep_lists::{Copies, Items};
 use rep_schema::{Change, Changes, RowStore, columns_of, is_keyed, undo};
 use rep_values::{Key, Row};

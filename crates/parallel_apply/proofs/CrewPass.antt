@@ -14,8 +14,8 @@ use Rattle.site_state.specs.Steps.{begun}
 use Rattle.site_state.specs.Passes.{effect_here, finished_by, applied_unless, site_apply, apply_each, site_pass}
 use Rattle.event_laws.specs.Confluence.{applied_in_turn, AreReadyInTurn, CanPassInAnyOrder}
 use Rattle.event_laws.proofs.PassLaws.{passes_leave_nothing_ready}
-use Rattle.journal_order.specs.Sorting.{CanBeSorted}
-use Rattle.site_core.specs.Ordering.{IsSortedSite}
+use Rattle.journal_sort.specs.Sorting.{CanBeSorted}
+use Rattle.site_engine.specs.Ordering.{IsSortedSite}
 use Rattle.parallel_apply.specs.Crews.{IsPartlyApplied}
 use Rattle.parallel_apply.proofs.InTurn.{applied-append, ready-append, ready_among, each_applied, stays_in_turn}
 use Rattle.parallel_apply.proofs.SortedPass.{can_be_sorted, sorted_is_passed}
@@ -89,4 +89,4 @@ module _ (origin : SiteName) where
     passed_then from sorted same done =
         sym done.kept ∙ ap (λ (v : SiteState). record v { journal = sorted.journal }) all.2
         ∙ sorted_is_passed origin x is all.0 all.1 none sorted.journal
-        (subst (λ (v : SiteState). Rattle.journal_order.specs.Sorting.IsSorted (length x.journal) v.journal sorted.journal) all.2 (rw (← same) done.journal))
+        (subst (λ (v : SiteState). Rattle.journal_sort.specs.Sorting.IsSorted (length x.journal) v.journal sorted.journal) all.2 (rw (← same) done.journal))

@@ -15,8 +15,8 @@ use Rattle.event_laws.proofs.MasterArrivals.{IsReadyAt, ready_at}
 use Rattle.txn_apply.specs.declared.outcome.Outcome.{Outcome}
 use Rattle.txn_apply.specs.Works.{WorkState}
 use Rattle.txn_apply.specs.Laws.{SupportOutlastsIndependentTransactions}
-use Rattle.site_core.specs.Working.{IsWorkOf, EndsHere, HoldsWhereAlike}
-use Rattle.site_core.proofs.Beginning.{outcomes_hold}
+use Rattle.site_engine.specs.Working.{IsWorkOf, EndsHere, HoldsWhereAlike}
+use Rattle.site_engine.proofs.Beginning.{outcomes_hold}
 use Rattle.parallel_apply.specs.Turns.{positions_of, site_after_crew}
 use Rattle.parallel_apply.specs.Crews.{is_stale, CrewState, IsCrew, IsClaimAt, IsOutcomeOf, IsOfEarlierClaim, IsPartlyApplied}
 use Rattle.parallel_apply.specs.declared.claim.Claim.{Claim}

@@ -30,13 +30,13 @@ use Rattle.dependency_index.specs.contracts.token.Token as token
 use Rattle.site_outbox.specs.contracts.outbox.Outbox as outbox
 use Rattle.error_queue.specs.contracts.entry.ErrorEntry as error_entry
 use Rattle.error_queue.specs.contracts.errors.Errors as errors
-use Rattle.snapshot_log.proofs.Crossing.{notes_send}
+use Rattle.change_logs.proofs.Crossing.{notes_send}
 use Rattle.unique_resolve.specs.contracts.counters.Counters as counters
 use Rattle.txn_effects.specs.contracts.local.Here as here
 use Rattle.txn_effects.specs.contracts.local.Stamps as stamps
 use Rattle.rep_schema.specs.declared.store.RowStore.{Ghosts}
 use Rattle.row_tables.proofs.Crossing.{field_shared_schema_send}
-use Rattle.site_core.specs.contracts.site.Site as site
+use Rattle.site_engine.specs.contracts.site.Site as site
 use Rattle.std.specs.contracts.option.Option as option
 use denote.Struct.Field.{u64-field}
 use Rattle.site_gate.specs.contracts.gate.SiteGate as gate

@@ -20,8 +20,8 @@ use Rattle.site_state.specs.Passes.{effect_here, site_apply}
 use Rattle.site_state.proofs.Stepping.{arrived_has}
 use Rattle.event_laws.specs.Confluence.{applied_in_turn, AreReadyInTurn, CanPassInAnyOrder}
 use Rattle.event_laws.proofs.MasterArrivals.{entry_by, IsReadyAt, ready_at, finished_by-master}
-use Rattle.journal_order.specs.Sorting.{finish_position, IsFinishOf, StandsFirst, AreInOrder}
-use Rattle.journal_order.proofs.Selecting.{AllByRecursion-weaker}
+use Rattle.journal_sort.specs.Sorting.{finish_position, IsFinishOf, StandsFirst, AreInOrder}
+use Rattle.journal_sort.proofs.Selecting.{AllByRecursion-weaker}
 use Rattle.parallel_apply.proofs.InTurn.{Stays, stays_one, stays_then, applied_becomes, applied_finished}
 use Rattle.parallel_apply.proofs.Outlasting.{three_ways, off_and_on, there_at_start, from_one, depends_finished}
 

@@ -21,9 +21,9 @@ use Rattle.site_state.specs.Passes.{site_apply, site_pass}
 use Rattle.event_laws.specs.Confluence.{applied_in_turn, AreReadyInTurn, AreAllThatIsReady, CanPassInAnyOrder, SameButForOrder}
 use Rattle.event_laws.proofs.PassLaws.{passes_leave_nothing_ready}
 use Rattle.event_laws.proofs.Confluence.{one_site_comes_of_any_order}
-use Rattle.journal_order.specs.Sorting.{finish_position, by_finish_position, entries_from, entries_before, CanBeSorted, IsSorted}
-use Rattle.journal_order.proofs.Selecting.{Has, has_itself}
-use Rattle.journal_order.proofs.SortedJournals.{AllByRecursion-IsPermutation, journal_parts, sorted_parts}
+use Rattle.journal_sort.specs.Sorting.{finish_position, by_finish_position, entries_from, entries_before, CanBeSorted, IsSorted}
+use Rattle.journal_sort.proofs.Selecting.{Has, has_itself}
+use Rattle.journal_sort.proofs.SortedJournals.{AllByRecursion-IsPermutation, journal_parts, sorted_parts}
 use Rattle.parallel_apply.proofs.InTurn.{ready_among, each_applied, stays_itself, stays_in_turn}
 use Rattle.parallel_apply.proofs.MadeEntries.{AreMade, are_made}
 
@@ -153,8 +153,8 @@ module _ (origin : SiteName) (x : SiteState) (is : CanPassInAnyOrder origin x) (
       record {
         within = omega (arith, long);
         master = ap (λ s. is_master_site s origin) schema ∙ is.master;
-        entries = subst (AllByRecursion (Rattle.journal_order.specs.Sorting.IsFinishOf origin)) (sym new_entries) made.finishes;
-        order = rw schema (subst (Rattle.journal_order.specs.Sorting.AreInOrder x.schema) (sym new_entries) made.order);
+        entries = subst (AllByRecursion (Rattle.journal_sort.specs.Sorting.IsFinishOf origin)) (sym new_entries) made.finishes;
+        order = rw schema (subst (Rattle.journal_sort.specs.Sorting.AreInOrder x.schema) (sym new_entries) made.order);
       }
 
   module _ (none : (p : ℕ) → is_ready origin p crew ≡ false) where

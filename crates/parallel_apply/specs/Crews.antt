@@ -14,7 +14,7 @@ use Rattle.site_state.specs.Ready.{stale_of}
 use Rattle.event_laws.specs.Confluence.{applied_in_turn, AreReadyInTurn, CanPassInAnyOrder}
 use Rattle.txn_apply.specs.declared.outcome.Outcome.{Outcome}
 use Rattle.txn_apply.specs.Works.{WorkState}
-use Rattle.site_core.specs.Working.{IsWorkOf, HoldsWhereAlike}
+use Rattle.site_engine.specs.Working.{IsWorkOf, HoldsWhereAlike}
 use Rattle.parallel_apply.specs.Turns.{positions_of, site_after_crew}
 use Rattle.parallel_apply.specs.declared.claim.Claim.{Claim}
 use Rattle.parallel_apply.specs.declared.claim.Evaluated.{Evaluated}

@@ -15,7 +15,7 @@ use rep_io::Watch;
 use rep_lists::NoMemory;
 use rep_schema::RowStore;
 use rep_values::SiteName;
-use site_core::Site;
+use site_engine::Site;
 use std::alloc::Global;
 use std::snapshot::Snapshot;
 use std::sync::Wait;

@@ -7,7 +7,7 @@ ghost use Rattle.parallel_apply.specs.Crews.{IsClaimAt, IsOutcomeOf};
 use rep_lists::NoMemory;
 use rep_schema::RowStore;
 use rep_values::SiteName;
-use site_core::Site;
+use site_engine::Site;
 use std::alloc::Global;
 use txn_apply::{Outcome, SharedSchema, Work};
 

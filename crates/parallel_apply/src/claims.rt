@@ -4,7 +4,7 @@ ghost use Rattle.site_state.specs.Ready.{stale_of};
 
 use rep_schema::RowStore;
 use rep_values::SiteName;
-use site_core::Site;
+use site_engine::Site;
 
 /// The most appliers of a crew.
 pub const MOST_APPLIERS: u32 = 8;

@@ -2,7 +2,7 @@
 ghost use Rattle.std.specs.Prelude.{◌≡◌, ℕ, ◌+◌, ◌^◌, ◌<◌, [], ◌∷◌, ◌++◌, None, Option, not, length, IfSome, IfOk, IfErr, OnOk, OnErr};
 ghost use Rattle.site_state.specs.Ready.{stale_of, is_ready};
 ghost use Rattle.site_state.specs.Passes.{site_apply};
-ghost use Rattle.site_core.specs.Working.{EndsHere};
+ghost use Rattle.site_engine.specs.Working.{EndsHere};
 ghost use Rattle.event_laws.specs.Confluence.{CanPassInAnyOrder};
 ghost use Rattle.parallel_apply.specs.Turns.{site_after_crew};
 ghost use Rattle.parallel_apply.specs.Crews.{is_stale, IsCrew, IsClaimAt, IsOfEarlierClaim};
@@ -13,7 +13,7 @@ use crate::turns::TurnLog;
 use rep_lists::{Copies, NoMemory};
 use rep_schema::RowStore;
 use rep_values::SiteName;
-use site_core::Site;
+use site_engine::Site;
 use site_gate::Turns;
 use site_state::Applied;
 use std::alloc::Global;

@@ -20,7 +20,7 @@ use rep_io::Watch;
 use rep_lists::NoMemory;
 use rep_schema::RowStore;
 use rep_values::SiteName;
-use site_core::Site;
+use site_engine::Site;
 use site_gate::{Pass, SiteGate, Turn, Turns};
 use std::alloc::Global;
 use std::snapshot::Snapshot;

@@ -5,7 +5,7 @@ use crate::declared::{Declared, read_place};
 use crate::events::{called, send, show};
 use crate::packets::{carried, delivered, last_number, marked, read_way, relayed, shown_packet};
 use crate::told::{Told, told};
-use case_lines::{CaseStop, Words, read_call};
+use case_reader::{CaseStop, Words, read_call};
 use packet_code::{Packet, Sealed};
 use proc_calls::ProcSite;
 use proc_state::ProcCall;

@@ -8,7 +8,7 @@ ghost use Rattle.proc_state.specs.Calls.{AreProcedures};
 
 use crate::fitting::are_procedures;
 use crate::told::Told;
-use case_lines::{CaseStop, Words, declare};
+use case_reader::{CaseStop, Words, declare};
 use local_txn::sound_schemas_fill_freely;
 use proc_calls::ProcSite;
 use proc_state::{Action, Procedure};

@@ -4,7 +4,7 @@ ghost use Rattle.std.specs.Prelude.{◌≤◌, length, IsTrue};
 use crate::fitting::can_be_called;
 use crate::packets::last_number;
 use crate::told::{Told, refused, text_of, told};
-use case_lines::{CaseStop, Words};
+use case_reader::{CaseStop, Words};
 use page_tables::PageTables;
 use proc_calls::{ProcSite, ProcStop};
 use proc_state::ProcCall;

@@ -23,7 +23,7 @@ mod packets;
 mod told;
 
 use anyhow::Result;
-use case_lines::CaseStop;
+use case_reader::CaseStop;
 use cases::Cases;
 use told::Told;
 

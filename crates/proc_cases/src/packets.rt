@@ -1,7 +1,7 @@
 //! Packets that sites send and take in, and others.
 
 use crate::told::{Told, told};
-use case_lines::{CaseStop, Words, push_values, read_past};
+use case_reader::{CaseStop, Words, push_values, read_past};
 use packet_code::{Packet, Route, Sealed, is_packet};
 use proc_calls::ProcSite;
 use rep_calls::{Call, PastEntry, Txn};

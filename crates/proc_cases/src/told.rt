@@ -1,6 +1,6 @@
 //! What lines tell.
 
-use case_lines::CaseStop;
+use case_reader::CaseStop;
 use rep_lists::NoMemory;
 use rep_values::Refusal;
 use report_text::{Lines, MOST_LINE, refused_line};

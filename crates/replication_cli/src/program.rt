@@ -12,10 +12,10 @@ ghost use Rattle.world_run.specs.LiveScripts.{ReportsFully, RunsFully, LiveRunsT
 ghost use Rattle.world_run.specs.LiveLaws.{EachLiveLineHolds};
 ghost use Rattle.replication_cli.specs.Outcome.{TellsOf, StormEnds};
 ghost use Rattle.replication_cli.specs.Summary.{storm_summary};
-ghost use Rattle.program_words.specs.Words.{asked_by};
+ghost use Rattle.command_line.specs.Words.{asked_by};
 
 use crate::whole::storm;
-use program_words::{Asked, asked_by};
+use command_line::{Asked, asked_by};
 use rep_io::{Sink, Source, Watch};
 use script_drive::{AtEnd, Reader, Status, Straight};
 use std::alloc::Global;

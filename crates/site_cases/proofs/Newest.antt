@@ -8,7 +8,7 @@ use Rattle.rep_values.specs.declared.name.SiteName.{SiteName}
 use Rattle.rep_schema.specs.declared.schema.Schema.{Schema}
 use Rattle.site_state.specs.declared.entry.Entry.{Entry}
 use Rattle.rep_schema.specs.Sites.{is_master_site}
-use Rattle.journal_order.specs.Sorting.{IsFinishOf, CanBeSorted, AreInOrder, entries_from}
+use Rattle.journal_sort.specs.Sorting.{IsFinishOf, CanBeSorted, AreInOrder, entries_from}
 
 pub newest_can_be_sorted : (schema : Schema) (origin : SiteName) (newest : ℕ) (journal : List Entry) (e : Entry) → newest + 1 ≡ length journal
     → slice_get (reverse journal) newest ≡ Some e → IsFinishOf origin e → is_master_site schema origin ≡ true → CanBeSorted schema origin newest journal

@@ -7,7 +7,7 @@ use crate::member::Member;
 use crate::packets::{carried, delivered, kept, last_number, mark_of, route};
 use crate::shown::shown;
 use crate::told::{Told, told};
-use case_lines::{CaseStop, Words, read_call, read_past, read_statement};
+use case_reader::{CaseStop, Words, read_call, read_past, read_statement};
 use packet_code::Sealed;
 use rep_calls::{Call, Statement};
 use rep_values::SiteName;

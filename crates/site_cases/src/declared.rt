@@ -3,7 +3,7 @@ ghost use Rattle.rep_schema.specs.Shape.{HasShape};
 
 use crate::member::{BaseRow, Member};
 use crate::told::{Told, refused};
-use case_lines::{CaseStop, Words, declare};
+use case_reader::{CaseStop, Words, declare};
 use rep_lists::NoMemory;
 use rep_schema::Schema;
 use rep_values::{ApplyError, Refusal, SiteName};

@@ -3,13 +3,13 @@
 use crate::packets::last_number;
 use crate::told::{Told, push_error, push_seen, refused, told};
 use crate::works::{WorkAnswer, apply_by_work, settle_newest};
-use case_lines::{CaseStop, Words, push_name, read_past};
+use case_reader::{CaseStop, Words, push_name, read_past};
 use master_join::unfinished;
 use rep_calls::Statement;
 use rep_lists::NoMemory;
 use rep_values::{ApplyError, SiteName};
 use row_tables::ListTables;
-use site_core::Site;
+use site_engine::Site;
 use site_state::{Applied, Why};
 use std::alloc::Global;
 

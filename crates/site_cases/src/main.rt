@@ -29,7 +29,7 @@ mod told;
 mod works;
 
 use anyhow::Result;
-use case_lines::CaseStop;
+use case_reader::CaseStop;
 use cases::Cases;
 use told::Told;
 

@@ -4,7 +4,7 @@ ghost use Rattle.rep_schema.specs.Shape.{HasShape};
 ghost use Rattle.rep_schema.specs.Sites.{senders_of, destinations_of, is_master_site};
 ghost use Rattle.site_state.specs.Fits.{SchemaIsKeyed};
 
-use case_lines::CaseStop;
+use case_reader::CaseStop;
 use local_txn::{fill_base_rows, put_base_row, sound_schemas_fill_freely};
 use txn_effects::Here;
 use master_join::copy_site;
@@ -16,7 +16,7 @@ use rep_values::{Literal, Refusal, SiteName, TableName};
 use row_tables::ListTables;
 use schema_rules::check;
 use schema_names::{destinations_of, first_master, is_master_site, senders_of};
-use site_core::Site;
+use site_engine::Site;
 use std::alloc::Global;
 
 /// A row that each site has when it is opened.

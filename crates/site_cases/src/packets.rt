@@ -2,13 +2,13 @@
 ghost use Rattle.packet_code.specs.Limits.{IsPacket};
 
 use crate::told::{Told, push_seen, told};
-use case_lines::{CaseStop, Words, read_past};
+use case_reader::{CaseStop, Words, read_past};
 use packet_code::{Packet, Sealed, is_packet};
 use rep_calls::{Call, PastEntry, Txn};
 use rep_lists::{Items, NoMemory};
 use rep_values::SiteName;
 use row_tables::ListTables;
-use site_core::Site;
+use site_engine::Site;
 use site_state::Accepted;
 use std::alloc::Global;
 

@@ -3,12 +3,12 @@ ghost use Rattle.std.specs.Prelude.{◌≤◌, length, IsTrue};
 
 use crate::member::Member;
 use crate::told::{Told, text_of};
-use case_lines::{CaseStop, push_name};
+use case_reader::{CaseStop, push_name};
 use rep_lists::NoMemory;
 use rep_schema::{RowStore, Schema};
 use report_text::{Lines, add_tables};
 use row_tables::ListTables;
-use site_core::Site;
+use site_engine::Site;
 use site_report::{add_errors, add_journal, add_marks, add_queue};
 use std::alloc::Global;
 

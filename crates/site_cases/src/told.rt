@@ -1,6 +1,6 @@
 //! Errors, refusals and what was seen in words, as reports have them.
 
-use case_lines::{CaseStop, push_name};
+use case_reader::{CaseStop, push_name};
 use rep_calls::PastEntry;
 use rep_lists::NoMemory;
 use rep_values::{ApplyError, Name, Refusal};

@@ -1,14 +1,14 @@
 //! Positions that are evaluated away from the site, and the order of its journal.
 ghost use Rattle.std.specs.Prelude.{IfSome};
-ghost use Rattle.journal_order.specs.Sorting.{IsFinishOf};
+ghost use Rattle.journal_sort.specs.Sorting.{IsFinishOf};
 
-use case_lines::CaseStop;
+use case_reader::CaseStop;
 use rep_schema::RowStore;
 use rep_values::SiteName;
 use row_tables::ListTables;
 use schema_rules::check;
 use schema_names::is_master_site;
-use site_core::{Site, outcomes_hold_where_rows_are_as_they_were};
+use site_engine::{Site, outcomes_hold_where_rows_are_as_they_were};
 use site_state::{Applied, Entry};
 use std::alloc::Global;
 

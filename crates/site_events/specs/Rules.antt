@@ -9,8 +9,8 @@ use Rattle.snapshot_query.specs.Parents.{rule_rows}
 use Rattle.site_state.specs.declared.answers.RefreshCount.{RefreshCount}
 use Rattle.site_state.specs.declared.rows.TableRows.{TableRows}
 use Rattle.site_state.specs.State.{SiteState}
-use Rattle.snapshot_log.specs.LogState.{LogState}
-use Rattle.snapshot_log.specs.Noting.{log_of, keys_in, purged_of, logged_above, pending_keys, is_too_young}
+use Rattle.change_logs.specs.LogState.{LogState}
+use Rattle.change_logs.specs.Noting.{log_of, keys_in, purged_of, logged_above, pending_keys, is_too_young}
 use Rattle.site_state.specs.Refreshes.{rows_shown, row_count}
 
 -- the rows that a snapshot picks of a master's tables

@@ -9,5 +9,5 @@ mod table_sets;
 
 pub use net::make_net;
 pub use procs::make_proc_sites;
-pub use site_core::Site;
+pub use site_engine::Site;
 pub use sites::{make_sites, master_here};

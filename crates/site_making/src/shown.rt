@@ -8,7 +8,7 @@ ghost use Rattle.site_state.specs.Refreshes.{with_tables};
 ghost use Rattle.site_events.specs.Rules.{rows_ruled, IsParentWithin};
 ghost use Rattle.world_state.specs.Making.{snapshots_at};
 
-use fast_refresh::{refresh_complete, rows_shown};
+use refreshes::{refresh_complete, rows_shown};
 use page_tables::PageTables;
 use rep_lists::{Copies, Items, NoMemory};
 use rep_values::{Row, SiteName};

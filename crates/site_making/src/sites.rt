@@ -20,7 +20,7 @@ use rep_lists::{Copies, Items, NoMemory};
 use rep_schema::{RowStore, Schema, SiteEntry, TableSet};
 use rep_values::SiteName;
 use schema_names::{destinations_of, first_master, is_late_master, senders_of};
-use site_core::Site;
+use site_engine::Site;
 use snapshot_query::Snapshot;
 use std::alloc::Global;
 use world_state::DeclaredSnapshot;

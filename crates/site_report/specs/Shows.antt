@@ -11,7 +11,7 @@ use Rattle.report_text.specs.Calls.{table_name, calls_text}
 use Rattle.site_state.specs.declared.entry.Entry.{Entry}
 use Rattle.site_state.specs.declared.entry.Entry.TheVariants.{Local, Done, Error, Executed, Dropped, Refreshed}
 use Rattle.site_state.specs.State.{SiteState, arrivals}
-use Rattle.snapshot_log.specs.LogState.{LoggedKey, LogState}
+use Rattle.change_logs.specs.LogState.{LoggedKey, LogState}
 use Rattle.site_state.specs.Journal.{low_water}
 use Rattle.site_state.specs.Errors.{errors_of}
 use Rattle.site_state.specs.Deferrals.{deferred_of, deferred_marks}

@@ -8,7 +8,7 @@ use error_queue::{ErrorEntry, Errors};
 use rep_schema::{RowStore, Schema};
 use rep_values::{NoMemory, SiteName};
 use report_text::{Lines, MOST_LINE, Word, add_calls, error_line};
-use site_core::Site;
+use site_engine::Site;
 
 /// An error that stands, and its calls.
 fn add_error(lines: &mut Lines, schema: &Schema, error: &ErrorEntry) -> Result<(), NoMemory>

@@ -6,7 +6,7 @@ ghost use Rattle.site_report.specs.Shows.{onward_words, entry_text, journal_text
 use rep_schema::RowStore;
 use rep_values::{NoMemory, SiteName};
 use report_text::{Lines, MOST_LINE, Word, error_line};
-use site_core::Site;
+use site_engine::Site;
 use site_state::Entry;
 
 /// A line of what was applied: its first word, an origin, a position, and the number under which it went onward, if it did.

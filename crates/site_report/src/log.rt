@@ -2,14 +2,14 @@
 ghost use Rattle.std.specs.Prelude.{◌≡◌, ◌<◌, ◌≤◌, ◌+◌, ◌∷◌, ◌++◌, length, drop, OnOk, OnErr};
 ghost use Rattle.report_text.specs.Sheet.{StandBefore, word_text, most_of};
 ghost use Rattle.report_text.specs.Calls.{table_name};
-ghost use Rattle.snapshot_log.specs.RoomyNotes.{log_in};
+ghost use Rattle.change_logs.specs.RoomyNotes.{log_in};
 ghost use Rattle.site_report.specs.Shows.{table_log_text, log_text};
 
 use rep_schema::{RowStore, Schema};
 use rep_values::{NoMemory, SiteName};
 use report_text::{Lines, MOST_LINE, Word, add_logged_key};
-use site_core::Site;
-use snapshot_log::{Log, LogEntry, Notes};
+use site_engine::Site;
+use change_logs::{Log, LogEntry, Notes};
 
 /// The name of a table; no bytes where the schema has none at the place.
 fn name_of(schema: &Schema, table: u32) -> Word<'_>

@@ -6,7 +6,7 @@ ghost use Rattle.site_report.specs.Shows.{sender_text, destination_text, marks_t
 use rep_schema::RowStore;
 use rep_values::{NoMemory, SiteName};
 use report_text::{Lines, MOST_LINE, Word};
-use site_core::Site;
+use site_engine::Site;
 
 fn add_senders<R: RowStore>(
     lines: &mut Lines,

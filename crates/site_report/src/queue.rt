@@ -8,7 +8,7 @@ use rep_calls::PastEntry;
 use rep_schema::RowStore;
 use rep_values::{NoMemory, SiteName};
 use report_text::{Lines, MOST_LINE, Word, add_calls};
-use site_core::Site;
+use site_engine::Site;
 
 /// Where a number stands in the stream to a destination, if it goes there.
 fn add_place<R: RowStore>(

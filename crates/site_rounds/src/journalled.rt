@@ -8,7 +8,7 @@ ghost use Rattle.proc_state.specs.State.{as_site};
 use error_queue::Errors;
 use page_tables::PageTables;
 use proc_calls::ProcSite;
-use site_core::Site;
+use site_engine::Site;
 use site_state::Entry;
 
 /// A site with a journal, and with the errors that stand by it.

@@ -4,7 +4,7 @@ ghost use Rattle.site_rounds.specs.Passing.{PassRequires, PassEnsures, MakesPass
 use page_tables::PageTables;
 use rep_lists::NoMemory;
 use rep_values::SiteName;
-use site_core::Site;
+use site_engine::Site;
 use site_state::PassCount;
 use std::alloc::Global;
 

@@ -13,7 +13,7 @@ use page_tables::PageTables;
 use rep_lists::NoMemory;
 use rep_schema::RowStore;
 use rep_values::SiteName;
-use site_core::Site;
+use site_engine::Site;
 use site_state::PassCount;
 use std::alloc::Global;
 

@@ -31,7 +31,7 @@ use Rattle.site_state.specs.State.{SenderState, SiteState, sender_of, at_sender,
 use Rattle.site_state.specs.Journal.{is_position, error_at}
 use Rattle.site_state.specs.Contents.{content_of, tables_of, txn_of}
 use Rattle.site_state.specs.Streams.{with_one, went_onward, queue_of}
-use Rattle.snapshot_log.specs.Noting.{touched_in, renewed}
+use Rattle.change_logs.specs.Noting.{touched_in, renewed}
 use Rattle.site_state.specs.Ready.{stale_of}
 use Rattle.site_state.specs.Steps.{is_empty}
 use Rattle.site_state.specs.Commits.{block_at, committed_by, committed, site_commit}

@@ -9,7 +9,7 @@ use Rattle.rep_schema.specs.Sites.{senders_of, destinations_of, is_late_master}
 use Rattle.txn_effects.specs.declared.local.Here.{Here}
 use Rattle.snapshot_query.specs.declared.snapshot.Snapshot.{Snapshot}
 use Rattle.site_state.specs.State.{SenderState, DestinationState, SiteState}
-use Rattle.snapshot_log.specs.LogState.{new_log, tables_in}
+use Rattle.change_logs.specs.LogState.{new_log, tables_in}
 
 abbrev pub new_sender : SiteName → SenderState
 new_sender origin = record { origin = origin; first = 0; arrived = [] }

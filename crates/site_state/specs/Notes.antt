@@ -2,7 +2,7 @@
 use Rattle.std.specs.Prelude.{◌==◌, List, ◌∷◌, map}
 use Rattle.rep_schema.specs.declared.change.Change.{Change}
 use Rattle.site_state.specs.State.{SiteState}
-use Rattle.snapshot_log.specs.Noting.{logged_in, touched_in}
+use Rattle.change_logs.specs.Noting.{logged_in, touched_in}
 
 -- changed rows are noted at the site's moment
 abbrev pub noted : List Change → SiteState → SiteState

@@ -1,9 +1,9 @@
 -- What a site lets go of: queued transactions that each of their destinations has acknowledged, and logged keys.
 use Rattle.std.specs.Prelude.{ℕ, ◌+◌, ◌-◌, ◌==◌, nat_le, max, min, List, [], ◌∷◌, map, Option, Some, None}
 use Rattle.site_state.specs.State.{DestinationState, SiteState}
-use Rattle.snapshot_log.specs.LogState.{LoggedKey, purged_where}
+use Rattle.change_logs.specs.LogState.{LoggedKey, purged_where}
 use Rattle.site_state.specs.Streams.{count_of}
-use Rattle.snapshot_log.specs.Noting.{log_of, keys_in}
+use Rattle.change_logs.specs.Noting.{log_of, keys_in}
 use Rattle.rep_lists.specs.Counting.{count_where}
 
 -- up to which number of so many a destination has acknowledged all that it has: it has what was queued since it was

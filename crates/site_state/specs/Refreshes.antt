@@ -7,9 +7,9 @@ use Rattle.site_state.specs.declared.entry.Entry.TheVariants.{Refreshed}
 use Rattle.site_state.specs.declared.answers.RefreshCount.{RefreshCount}
 use Rattle.site_state.specs.declared.rows.TableRows.{TableRows}
 use Rattle.site_state.specs.State.{SiteState}
-use Rattle.snapshot_log.specs.LogState.{LogState}
+use Rattle.change_logs.specs.LogState.{LogState}
 use Rattle.site_state.specs.Contents.{tables_of}
-use Rattle.snapshot_log.specs.Noting.{pending_keys, renewed}
+use Rattle.change_logs.specs.Noting.{pending_keys, renewed}
 use Rattle.site_state.specs.Steps.{journalled}
 
 -- what snapshots show of a master's tables: of each its query

@@ -12,7 +12,7 @@ use Rattle.txn_effects.specs.declared.local.Stamps.{Stamps}
 use Rattle.snapshot_query.specs.declared.snapshot.Snapshot.{Snapshot}
 use Rattle.site_state.specs.declared.arrival.Arrival.{Arrival}
 use Rattle.site_state.specs.declared.entry.Entry.{Entry}
-use Rattle.snapshot_log.specs.LogState.{LogState}
+use Rattle.change_logs.specs.LogState.{LogState}
 
 -- a sender: its queue count when this site joined, 0 where the site was there from the start; and what arrived from it, in
 -- rising order of position

@@ -3,7 +3,7 @@
 use crate::queues::{read_sites, read_table};
 use crate::scan::compared;
 use crate::told::text;
-use case_lines::{CaseStop, Words};
+use case_reader::{CaseStop, Words};
 use dependency_index::{Index, Token, Tokens};
 use rep_lists::{Items, NoMemory};
 use rep_values::SiteName;

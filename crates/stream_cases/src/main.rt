@@ -26,7 +26,7 @@ mod tokens;
 mod told;
 
 use anyhow::Result;
-use case_lines::{CaseStop, Words};
+use case_reader::{CaseStop, Words};
 use script_lex::lex;
 use state::State;
 use std::alloc::Global;

@@ -1,7 +1,7 @@
 //! Cases of the finished positions of one sender.
 
 use crate::told::yes_or_no;
-use case_lines::{CaseStop, Words};
+use case_reader::{CaseStop, Words};
 use origin_marks::Finished;
 use rep_lists::NoMemory;
 use script_lex::Token;

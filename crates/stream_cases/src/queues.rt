@@ -2,7 +2,7 @@
 
 use crate::marks::read_position;
 use crate::told::text;
-use case_lines::{CaseStop, Words, push_past, read_past};
+use case_reader::{CaseStop, Words, push_past, read_past};
 use deferred_queue::{Destination, Place, Queue, Queued, Sent, are_apart};
 use packet_code::Body;
 use rep_calls::{Call, PastEntry, Txn};

@@ -6,7 +6,7 @@ ghost use Rattle.rep_schema.specs.Shape.{HasShape};
 ghost use Rattle.conflict_detect.specs.KeysNamed.{HasKeys};
 
 use crate::told::text;
-use case_lines::{CaseStop, Words, declare, push_number, push_values, read_call};
+use case_reader::{CaseStop, Words, declare, push_number, push_values, read_call};
 use conflict_detect::fits;
 use dependency_index::{Token, Tokens, has_unique_token, tokens_of};
 use rep_calls::{Call, Txn};

@@ -1,6 +1,6 @@
 //! Outcomes as words.
 
-use case_lines::CaseStop;
+use case_reader::CaseStop;
 use std::alloc::Global;
 
 /// These words as an outcome.

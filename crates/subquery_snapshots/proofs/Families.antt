@@ -11,7 +11,7 @@ use Rattle.rep_schema.proofs.ValuesAt.{are_same-Decides}
 use Rattle.snapshot_query.specs.declared.query.Query.{Query}
 use Rattle.snapshot_query.specs.declared.parent.Parent.{Parent}
 use Rattle.snapshot_query.specs.Parents.{parent_key}
-use Rattle.fast_refresh.specs.Showing.{has_key}
+use Rattle.refreshes.specs.Showing.{has_key}
 use Rattle.subquery_snapshots.specs.declared.rule.Rule.{Rule}
 use Rattle.subquery_snapshots.specs.declared.rule.Rule.TheVariants as rules
 use Rattle.subquery_snapshots.specs.Rules.{rows_of_parents, waiting_rows}

@@ -18,7 +18,7 @@ use Rattle.rep_schema.specs.Groups.{are_same}
 use Rattle.rep_schema.proofs.SameValues.{key_of-at}
 use Rattle.rep_schema.proofs.ValuesAt.{are_same-Decides}
 use Rattle.rep_schema.proofs.FoundRows.{key_of-found}
-use Rattle.fast_refresh.specs.Showing.{has_key}
+use Rattle.refreshes.specs.Showing.{has_key}
 use Rattle.subquery_snapshots.specs.declared.rule.Rule.{Rule}
 use Rattle.subquery_snapshots.specs.Rules.{rule_picks, waits, waiting_keys, ShowsUpToDate}
 use Rattle.subquery_snapshots.specs.Laws.{AreUpToDate}

@@ -6,7 +6,7 @@ use Rattle.rep_schema.specs.declared.schema.Schema.{Schema}
 use Rattle.rep_schema.specs.Shape.{AreDistinct}
 use Rattle.rep_schema.specs.Shown.{shown_by}
 use Rattle.rep_schema.specs.Tables.{Cells, Rows, columns_of, key_of, find_row, rows_of}
-use Rattle.fast_refresh.specs.Showing.{has_key}
+use Rattle.refreshes.specs.Showing.{has_key}
 use Rattle.subquery_snapshots.specs.declared.rule.Rule.{Rule}
 use Rattle.subquery_snapshots.specs.Rules.{rule_picks, waits, ShowsUpToDate}
 

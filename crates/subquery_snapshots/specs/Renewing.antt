@@ -5,7 +5,7 @@ use Rattle.rep_schema.specs.declared.schema.Schema.{Schema}
 use Rattle.rep_schema.specs.declared.schema.Column.{Column}
 use Rattle.rep_schema.specs.Tables.{Cells, Rows, columns_of, row_cmp, find_row, rows_of}
 use Rattle.rep_schema.specs.Shown.{shown_by}
-use Rattle.fast_refresh.specs.Showing.{has_key}
+use Rattle.refreshes.specs.Showing.{has_key}
 
 -- rows in rising order have what is wanted under these keys, and under all others what they had
 pub record Renews (columns : List Column) (wanted : Cells → Option Cells) (keys : List Cells) (old new : Rows) : Type 0 where

@@ -6,7 +6,7 @@ use Rattle.rep_schema.specs.Tables.{Cells, Rows, columns_of, key_of, rows_of, Is
 use Rattle.snapshot_query.specs.declared.parent.Parent.{Parent}
 use Rattle.snapshot_query.specs.Queries.{matches}
 use Rattle.snapshot_query.specs.Parents.{parent_key, has_parent}
-use Rattle.fast_refresh.specs.Showing.{has_key, ShowsOthers}
+use Rattle.refreshes.specs.Showing.{has_key, ShowsOthers}
 use Rattle.subquery_snapshots.specs.declared.rule.Rule.{Rule}
 use Rattle.subquery_snapshots.specs.declared.rule.Rule.TheVariants as rules
 

@@ -11,7 +11,7 @@ ghost use Rattle.subquery_snapshots.specs.Renewing.{RenewsBy};
 use crate::looking::{matches_at, next_child, shown_at};
 use crate::rows::{copy_rows, set_row};
 use crate::{ChildView, Rule};
-use fast_refresh::MasterView;
+use refreshes::MasterView;
 use rep_lists::{Items, NoMemory};
 use rep_schema::{Schema, columns_of, key_in};
 use rep_values::{Key, Row};

@@ -7,7 +7,7 @@ ghost use Rattle.subquery_snapshots.specs.Rules.{rule_picks, IsKeyedTable, IsRul
 ghost use Rattle.subquery_snapshots.specs.Children.{child_above};
 
 use crate::{ChildView, Rule};
-use fast_refresh::MasterView;
+use refreshes::MasterView;
 use rep_lists::{Copies, NoMemory};
 use rep_schema::values_at;
 use rep_values::{Key, Row};

@@ -3,11 +3,11 @@ ghost use Rattle.std.specs.Prelude.{◌≡◌, ◌<◌, ⊤, length, option_copi
 ghost use Rattle.std.specs.Borrow.{sem, follows_so};
 ghost use mathlib.Core.Option.{none};
 ghost use Rattle.rep_schema.specs.Tables.{columns_of, rows_of};
-ghost use Rattle.fast_refresh.specs.Views.{LooksUp};
+ghost use Rattle.refreshes.specs.Views.{LooksUp};
 ghost use Rattle.subquery_snapshots.specs.Children.{child_above};
 
 use crate::search::child_above;
-use fast_refresh::MasterView;
+use refreshes::MasterView;
 use rep_schema::RowStore;
 use rep_values::{Key, Row};
 

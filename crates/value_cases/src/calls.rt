@@ -1,6 +1,6 @@
 //! Calls and transactions: what is left of them in a copy, and for a second holder.
 
-use case_lines::{CaseStop, Words, push_number, push_row, push_values, read_call};
+use case_reader::{CaseStop, Words, push_number, push_row, push_values, read_call};
 use rep_calls::{Call, Part, Txn};
 use rep_lists::{Copies, Items, NoMemory};
 use rep_values::{Key, Row};

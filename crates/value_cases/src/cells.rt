@@ -1,6 +1,6 @@
 //! The cells of a table of cases.
 
-use case_lines::{CaseStop, Words, push_number};
+use case_reader::{CaseStop, Words, push_number};
 use case_table::CaseTable;
 use std::alloc::Global;
 

@@ -2,7 +2,7 @@
 
 ghost use Rattle.std.specs.Prelude.{◌<◌, IfOk};
 
-use case_lines::{CaseStop, Words, push_number, push_value, push_values};
+use case_reader::{CaseStop, Words, push_number, push_value, push_values};
 use rep_lists::{Copies, Items, RoomyList, Shared};
 use rep_values::Value;
 use std::alloc::Global;

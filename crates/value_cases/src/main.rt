@@ -11,7 +11,7 @@ mod values;
 
 use anyhow::Result;
 use calls::{call_case, txn_case};
-use case_lines::{CaseStop, Words};
+use case_reader::{CaseStop, Words};
 use cells::cell_case;
 use lists::{items_case, roomy_case, shared_case};
 use order::{key_order_case, name_order_case, value_order_case};

@@ -1,6 +1,6 @@
 //! The orders of values, keys and names, and when two are the same.
 
-use case_lines::{CaseStop, Words};
+use case_reader::{CaseStop, Words};
 use rep_values::{
     Key, Name, SiteName, TableName, Value, compare_keys, compare_names, compare_values, same_value,
     same_values,

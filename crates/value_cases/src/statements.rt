@@ -1,6 +1,6 @@
 //! Statements: what is left of them in a copy.
 
-use case_lines::{CaseStop, Words, push_name, push_number, push_value, read_statement};
+use case_reader::{CaseStop, Words, push_name, push_number, push_value, read_statement};
 use rep_calls::{How, Set, Statement};
 use rep_lists::{Copies, NoMemory};
 use rep_values::{Literal, TableName};

@@ -1,6 +1,6 @@
 //! Texts, names, keys, rows, literals and refusals.
 
-use case_lines::{CaseStop, Words, push_name, push_number, push_row, push_value, push_values};
+use case_reader::{CaseStop, Words, push_name, push_number, push_row, push_value, push_values};
 use rep_lists::{Copies, NoMemory};
 use rep_values::{
     ApplyError, Key, Limit, Literal, Name, Refusal, Row, SiteName, Text, Value, is_digit, is_letter,

@@ -13,8 +13,8 @@ use Rattle.rep_schema.specs.Named.{is_site}
 use Rattle.rep_schema.specs.Sites.{has_table}
 use Rattle.deferred_queue.proofs.Sites.{is_same_site-refl}
 use Rattle.snapshot_query.specs.declared.parent.Parent.{Parent}
-use Rattle.snapshot_log.specs.LogState.{LogState, new_log, tables_in}
-use Rattle.snapshot_log.specs.Noting.{log_of, keys_in}
+use Rattle.change_logs.specs.LogState.{LogState, new_log, tables_in}
+use Rattle.change_logs.specs.Noting.{log_of, keys_in}
 use Rattle.site_events.specs.Rules.{IsParentWithin, IsParentLogged}
 use Rattle.site_events.specs.Events.{master_of}
 use Rattle.event_laws.specs.WaitingRows.{logged_cmp, DoParentsRise}

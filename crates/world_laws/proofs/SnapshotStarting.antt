@@ -12,8 +12,8 @@ use Rattle.rep_schema.specs.Named.{site_named}
 use Rattle.snapshot_query.specs.declared.snapshot.Snapshot.{Snapshot}
 use Rattle.snapshot_query.specs.Parents.{rule_rows}
 use Rattle.site_state.specs.State.{SiteState}
-use Rattle.snapshot_log.specs.Noting.{log_of}
-use Rattle.snapshot_log.specs.LogState.{new_log, tables_in}
+use Rattle.change_logs.specs.Noting.{log_of}
+use Rattle.change_logs.specs.LogState.{new_log, tables_in}
 use Rattle.rep_schema.specs.Sites.{is_late_master}
 use Rattle.site_state.specs.Fits.{SnapshotsApart}
 use Rattle.site_events.specs.Rules.{IsParentWithin}

@@ -16,10 +16,10 @@ use Rattle.snapshot_query.specs.declared.snapshot.Snapshot.{Snapshot}
 use Rattle.snapshot_query.specs.Parents.{picks}
 use Rattle.site_state.specs.declared.rows.TableRows.{TableRows}
 use Rattle.site_state.specs.State.{SiteState}
-use Rattle.snapshot_log.specs.LogState.{LogState}
+use Rattle.change_logs.specs.LogState.{LogState}
 use Rattle.rep_schema.specs.Sites.{is_master_site}
 use Rattle.site_state.specs.Contents.{tables_of}
-use Rattle.snapshot_log.specs.Noting.{purged_of, is_too_young, renewed}
+use Rattle.change_logs.specs.Noting.{purged_of, is_too_young, renewed}
 use Rattle.site_state.specs.Fits.{AreWithin}
 use Rattle.site_events.specs.Cluster.{Cluster, site_of, at_site}
 use Rattle.site_events.specs.Rules.{table_ruled, rows_ruled, is_purged_above, has_young_parents, is_young}

@@ -9,8 +9,8 @@ use Rattle.rep_schema.specs.Groups.{group_columns_of}
 use Rattle.rep_declare.specs.Refusals.{columns_step}
 use Rattle.schema_rules.specs.Rules.{broken_rule}
 use Rattle.site_state.specs.State.{SiteState}
-use Rattle.snapshot_log.specs.LogState.{LogState}
-use Rattle.snapshot_log.specs.Noting.{pending_keys}
+use Rattle.change_logs.specs.LogState.{LogState}
+use Rattle.change_logs.specs.Noting.{pending_keys}
 use Rattle.site_state.proofs.WorkedSites.{a, s, n, row, set_to}
 use Rattle.site_events.specs.Cluster.{site_of}
 use Rattle.script_parse.specs.declared.command.Command.{Command}

@@ -12,7 +12,7 @@ use Rattle.site_state.specs.Fits.{SchemaIsKeyed, SnapshotsApart, AreWithin}
 use Rattle.site_events.specs.Cluster.{site_of}
 use Rattle.site_events.specs.Rules.{rows_ruled}
 use Rattle.site_events.specs.Events.{master_of, found_site}
-use Rattle.fast_refresh.specs.Showing.{ShowsOthers}
+use Rattle.refreshes.specs.Showing.{ShowsOthers}
 use Rattle.event_laws.specs.WaitingRows.{outdated_keys}
 use Rattle.event_laws.specs.RefreshLaws.{KeysRise, ParentsRise}
 use Rattle.event_laws.specs.Logs.{AreNotedSince}

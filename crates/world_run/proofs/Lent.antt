@@ -20,11 +20,11 @@ use Rattle.world_state.specs.World.{WorldState, is_there}
 use Rattle.world_state.specs.Phases.{is_running, has_block}
 use Rattle.world_state.specs.Pushes.{pushed_in}
 use Rattle.world_laws.specs.Places.{site_place}
-use Rattle.environment_lines.specs.Following.{IsBuilt}
-use Rattle.environment_push.specs.Lending.{live_phase_step, live_refusal, reaching, brought_from, live_opened, live_closed, given_back, PushEachInPart}
-use Rattle.environment_push.proofs.Delivering.{pushed_there}
-use Rattle.environment_push.proofs.PartlyPushed.{pushed_in_part, built_each}
-use Rattle.environment_push.proofs.LiveParts.{running_behind, lent_behind, lendings_keep_worlds_built, live_parts_keep_worlds_built}
+use Rattle.world_commands.specs.Following.{IsBuilt}
+use Rattle.world_push.specs.Lending.{live_phase_step, live_refusal, reaching, brought_from, live_opened, live_closed, given_back, PushEachInPart}
+use Rattle.world_push.proofs.Delivering.{pushed_there}
+use Rattle.world_push.proofs.PartlyPushed.{pushed_in_part, built_each}
+use Rattle.world_push.proofs.LiveParts.{running_behind, lent_behind, lendings_keep_worlds_built, live_parts_keep_worlds_built}
 use Rattle.world_run.specs.Lent.{LentSite, LentWorld, with_lent, name_lent, seen_with, StandsAt, IsLentFrom, site_here, MayComeBack, LentMastersMayComeBack}
 
 -- ---- none is lent out
@@ -40,11 +40,11 @@ module _ (lent : Option LentSite) (w : WorldState) (v : LentWorld) (seen : seen_
   with_none : (y : WorldState) → with_lent lent y ≡ y
   with_none y = ap (λ (o : Option LentSite). with_lent o y) none
 
-  -- the world that is seen is the environment's
+  -- the world that is seen is the world's
   pub seen_is : w ≡ v.world
   seen_is = sym (with_none w) ∙ ap (λ (u : LentWorld). u.world) seen
 
-  -- so what holds of environments is so of what is seen
+  -- so what holds of worlds is so of what is seen
   pub as_seen : (P : WorldState → WorldState → Type 0) (y : WorldState) → P w y → P v.world (with_lent lent y)
   as_seen P y holds = subst (λ (z : WorldState). P v.world z) (sym (with_none y)) (subst (λ (u : WorldState). P u y) seen_is holds)
 
@@ -56,7 +56,7 @@ module _ (lent : Option LentSite) (w : WorldState) (v : LentWorld) (seen : seen_
   pub came_built : (name : SiteName) (y : WorldState) → IsBuilt (with_lent lent w) → live_refusal name v.world ≡ None → PushEachInPart (reaching name w) name w y → IsBuilt y
   came_built name y built passes parts = built_each (reaching name w) name w y parts (lent_behind name w (ap (live_refusal name) seen_is ∙ passes)) (built_within built)
 
-  -- what is kept of it, whatever becomes of the environment
+  -- what is kept of it, whatever becomes of the world
   pub kept_free : (y : WorldState) → IsBuilt y → IsBuilt (with_lent lent y) × IsLentFrom lent y
   kept_free y built = (subst IsBuilt (sym (with_none y)) built, subst (λ (o : Option LentSite). IsLentFrom o y) (sym none) tt)
 
@@ -100,7 +100,7 @@ at_site-inserted name (z ∷ zs) (suc place) x y named alone = go (is_same_site 
     go true alone later = absurd (cc alone)
     go false alone later = ap (λ (xs : List SiteState). z ∷ xs) (later alone)
 
--- the sites that are here are those of the environment
+-- the sites that are here are those of the world
 pub site_of-here : (name : SiteName) (lent : Option LentSite) (w : WorldState) → IsLentFrom lent w → site_of name w.sites ≡ site_here name (seen_with lent w)
 site_of-here name None w from = refl
 site_of-here name (Some l) w from = go (is_same_site l.name name) refl

@@ -9,7 +9,7 @@ use Rattle.live_laws.specs.declared.turn.Session.{Session}
 use Rattle.live_laws.specs.Turns.{site_after}
 use Rattle.world_state.specs.World.{WorldState, with_site}
 use Rattle.world_laws.proofs.Finding.{at_found}
-use Rattle.environment_push.specs.Lending.{live_opened, live_closed, given_back}
+use Rattle.world_push.specs.Lending.{live_opened, live_closed, given_back}
 use Rattle.world_run.specs.Lent.{LentWorld}
 use Rattle.world_run.specs.Ended.{RanPart}
 use Rattle.world_run.specs.LiveParts.{origins_of, world_behind_part}

@@ -37,10 +37,10 @@ use Rattle.live_report.specs.PartLaws.{PrintedPartsAreKnown}
 use Rattle.world_state.specs.World.{WorldState}
 use Rattle.world_state.specs.Phases.{is_setup}
 use Rattle.world_state.specs.Pushes.{pushed_in}
-use Rattle.environment_lines.specs.Following.{IsBuilt}
-use Rattle.environment_lines.specs.AlikeWorlds.{IsOfConvergence, Declaring, Going}
-use Rattle.environment_push.specs.Lending.{live_refusal, reaching, brought_from, live_opened}
-use Rattle.environment_push.proofs.LiveParts.{lent_behind, opened_built}
+use Rattle.world_commands.specs.Following.{IsBuilt}
+use Rattle.world_commands.specs.AlikeWorlds.{IsOfConvergence, Declaring, Going}
+use Rattle.world_push.specs.Lending.{live_refusal, reaching, brought_from, live_opened}
+use Rattle.world_push.proofs.LiveParts.{lent_behind, opened_built}
 use Rattle.world_run.specs.Ended.{RanPart}
 use Rattle.world_run.specs.declared.live_part.OpenPart.{OpenPart}
 use Rattle.world_run.specs.declared.live_part.LivePart.{LivePart}

@@ -14,17 +14,17 @@ use Rattle.world_state.specs.Procs.{proc_of}
 use Rattle.world_state.specs.Refusals.{world_refusal}
 use Rattle.world_state.specs.Steps.{world_done, world_refused, step_by, world_step}
 use Rattle.world_laws.proofs.QuietPushes.{push_leaves_none_ready}
-use Rattle.environment_lines.proofs.Worlds.{reported_pushes_leave_nothing_ready}
-use Rattle.environment_lines.specs.Following.{IsBuilt}
-use Rattle.environment_lines.specs.Precheck.{precheck_refusal}
-use Rattle.environment_lines.specs.Doing.{IsRefused, Does, AnswersPrecheck}
-use Rattle.environment_lines.proofs.BuiltWorlds.{lines_keep_built}
-use Rattle.environment_lines.proofs.Prechecks.{precheck_refused}
-use Rattle.environment_lines.specs.Worlds.{ShowsItsMaster}
-use Rattle.environment_lines.proofs.Worlds.{refreshes_show_of}
+use Rattle.world_commands.proofs.Worlds.{reported_pushes_leave_nothing_ready}
+use Rattle.world_commands.specs.Following.{IsBuilt}
+use Rattle.world_commands.specs.Precheck.{precheck_refusal}
+use Rattle.world_commands.specs.Doing.{IsRefused, Does, AnswersPrecheck}
+use Rattle.world_commands.proofs.BuiltWorlds.{lines_keep_built}
+use Rattle.world_commands.proofs.Prechecks.{precheck_refused}
+use Rattle.world_commands.specs.Worlds.{ShowsItsMaster}
+use Rattle.world_commands.proofs.Worlds.{refreshes_show_of}
 use Rattle.world_laws.proofs.AlikeWorlds.{of_snapshots}
-use Rattle.environment_lines.specs.Joining.{TakesOver}
-use Rattle.environment_lines.proofs.TakenOver.{takes_over}
+use Rattle.world_commands.specs.Joining.{TakesOver}
+use Rattle.world_commands.proofs.TakenOver.{takes_over}
 use Rattle.world_run.specs.Reporting.{PushLeavesNothingReady, PushLeavesNoCallsReady, RefreshShowsTheQuery, JoinTakesOver}
 
 -- no refusal is known

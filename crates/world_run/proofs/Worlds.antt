@@ -26,16 +26,16 @@ use Rattle.world_state.specs.Refusals.{world_refusal}
 use Rattle.world_state.specs.Steps.{world_done, world_refused, world_step, step_by, told_by, told_line}
 use Rattle.world_laws.proofs.QuietPushes.{push_leaves_none_ready}
 use Rattle.world_laws.proofs.ProceduresHold.{procedures_hold_of}
-use Rattle.environment_lines.proofs.Worlds.{of_script_holds, reported_pushes_leave_nothing_ready}
-use Rattle.environment_lines.proofs.Worlds.{snapshots_hold_of, refreshes_show_of}
+use Rattle.world_commands.proofs.Worlds.{of_script_holds, reported_pushes_leave_nothing_ready}
+use Rattle.world_commands.proofs.Worlds.{snapshots_hold_of, refreshes_show_of}
 use Rattle.convergent_worlds.specs.Convergence.{HoldsOfConvergence}
 use Rattle.world_laws.proofs.AlikeWorlds.{of_snapshots}
-use Rattle.environment_lines.specs.Following.{IsBuilt}
-use Rattle.environment_lines.specs.Texts.{world_text}
-use Rattle.environment_lines.specs.Worlds.{ShowsItsMaster}
-use Rattle.environment_lines.proofs.BuiltWorlds.{lines_keep_built, first_built}
-use Rattle.environment_lines.specs.Joining.{TakesOver}
-use Rattle.environment_lines.proofs.TakenOver.{step_takes_over}
+use Rattle.world_commands.specs.Following.{IsBuilt}
+use Rattle.world_commands.specs.Texts.{world_text}
+use Rattle.world_commands.specs.Worlds.{ShowsItsMaster}
+use Rattle.world_commands.proofs.BuiltWorlds.{lines_keep_built, first_built}
+use Rattle.world_commands.specs.Joining.{TakesOver}
+use Rattle.world_commands.proofs.TakenOver.{step_takes_over}
 use Rattle.script_drive.specs.LineBytes.{most_lines, most_bytes, line_step}
 use Rattle.world_run.specs.Scripts.{stepped_by, script_step, world_behind, world_at, IsDoneAt, ReportedWorldsHold, ReportedSnapshotsHold, ReportedWorldsConverge, ReportedProceduresHold, PushesOfScriptsLeaveNothingReady, PushesOfCallsLeaveNothingReady, RefreshesOfScriptsShowTheQuery, JoinsOfScriptsTakeOver, LinesOfScriptsHold}
 

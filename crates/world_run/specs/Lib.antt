@@ -4,8 +4,8 @@ pub mod Reporting
 pub mod Scripts
 pub mod Completeness
 pub mod RunOf
-pub use Rattle.environment_lines.specs.Texts
-pub use Rattle.environment_lines.specs.Doing
+pub use Rattle.world_commands.specs.Texts
+pub use Rattle.world_commands.specs.Doing
 pub mod Ended
 pub mod LiveParts
 pub mod LiveScripts

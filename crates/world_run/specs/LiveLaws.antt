@@ -19,8 +19,8 @@ use Rattle.world_state.specs.Procs.{proc_of}
 use Rattle.world_state.specs.Refusals.{world_refusal}
 use Rattle.world_laws.specs.ProcedureWorlds.{NoCallsReady}
 use Rattle.site_state.specs.Rounds.{NothingReady}
-use Rattle.environment_lines.specs.Worlds.{ShowsItsMaster}
-use Rattle.environment_lines.specs.Joining.{TakesOver}
+use Rattle.world_commands.specs.Worlds.{ShowsItsMaster}
+use Rattle.world_commands.specs.Joining.{TakesOver}
 use Rattle.world_run.specs.declared.live_part.LivePart.{LivePart}
 use Rattle.world_run.specs.declared.live_part.LivePart.TheVariants as part
 use Rattle.world_run.specs.Scripts.{script_step, script_report, AllLawsHold}

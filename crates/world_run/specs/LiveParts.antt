@@ -16,7 +16,7 @@ use Rattle.live_laws.specs.declared.turn.Block.{Block}
 use Rattle.live_laws.specs.declared.turn.Session.{Session}
 use Rattle.live_laws.specs.Turns.{site_after, IsFullRun}
 use Rattle.world_state.specs.World.{WorldState, with_site}
-use Rattle.environment_push.specs.Lending.{live_refusal, live_opened, live_closed}
+use Rattle.world_push.specs.Lending.{live_refusal, live_opened, live_closed}
 use Rattle.world_run.specs.declared.live_part.OpenSession.{OpenSession}
 use Rattle.world_run.specs.declared.live_part.OpenPart.{OpenPart}
 use Rattle.world_run.specs.declared.live_part.LivePart.{LivePart}

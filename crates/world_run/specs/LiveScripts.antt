@@ -20,7 +20,7 @@ use Rattle.script_drive.specs.Prompt.{Asked, ReadsPromptly}
 use Rattle.live_laws.specs.declared.turn.LiveTurn.{LiveTurn}
 use Rattle.live_report.specs.PartTexts.{part_text}
 use Rattle.world_state.specs.World.{WorldState, first_world}
-use Rattle.environment_push.specs.Lending.{live_refusal}
+use Rattle.world_push.specs.Lending.{live_refusal}
 use Rattle.world_run.specs.Scripts.{stepped_by}
 use Rattle.world_run.specs.declared.live_part.LivePart.{LivePart}
 use Rattle.world_run.specs.declared.live_part.LivePart.TheVariants as part

@@ -14,8 +14,8 @@ use Rattle.world_state.specs.World.{WorldState}
 use Rattle.world_state.specs.Procs.{proc_of}
 use Rattle.world_laws.specs.ProcedureWorlds.{NoCallsReady}
 use Rattle.site_state.specs.Rounds.{NothingReady}
-use Rattle.environment_lines.specs.Worlds.{ShowsItsMaster}
-use Rattle.environment_lines.specs.Joining.{TakesOver}
+use Rattle.world_commands.specs.Worlds.{ShowsItsMaster}
+use Rattle.world_commands.specs.Joining.{TakesOver}
 
 -- once a push is reported no position of any sender is ready at the receiver
 abbrev pub PushLeavesNothingReady : Command → WorldState → Result Sheet Refused → Type 0

@@ -3,24 +3,24 @@ ghost use Rattle.std.specs.Prelude.{◌≡◌, Some, None, option_copied, IfOk, 
 ghost use Rattle.script_parse.specs.Named.{NamesColumn};
 ghost use Rattle.rep_values.specs.declared.name.SiteName.{SiteName as SiteNameValue};
 ghost use Rattle.site_events.specs.Cluster.{site_of};
-ghost use Rattle.environment_lines.specs.Following.{IsBuilt};
+ghost use Rattle.world_commands.specs.Following.{IsBuilt};
 ghost use Rattle.world_state.specs.World.{first_world};
 ghost use Rattle.world_state.specs.Procs.{proc_of};
 ghost use Rattle.world_laws.specs.ProcedureWorlds.{ProceduresHold};
-ghost use Rattle.environment_lines.specs.Worlds.{WorldHolds};
-ghost use Rattle.environment_lines.specs.Doing.{Does, AnswersPrecheck};
-ghost use Rattle.environment_lines.specs.Worlds.{SnapshotsHold};
-ghost use Rattle.environment_lines.specs.Convergence.{ConvergenceHolds};
+ghost use Rattle.world_commands.specs.Worlds.{WorldHolds};
+ghost use Rattle.world_commands.specs.Doing.{Does, AnswersPrecheck};
+ghost use Rattle.world_commands.specs.Worlds.{SnapshotsHold};
+ghost use Rattle.world_commands.specs.Convergence.{ConvergenceHolds};
 ghost use Rattle.site_rounds.specs.Passing.{PassRequires, PassEnsures};
-ghost use Rattle.environment_push.specs.Lending.{live_refusal, reaching, live_opened, live_closed, given_back, PushEachInPart};
+ghost use Rattle.world_push.specs.Lending.{live_refusal, reaching, live_opened, live_closed, given_back, PushEachInPart};
 ghost use Rattle.world_run.specs.Lent.{site_here, MayComeBack, MayComeBackFromTurns};
 ghost use Rattle.world_run.specs.Reporting.{PushLeavesNothingReady, PushLeavesNoCallsReady, RefreshShowsTheQuery, JoinTakesOver};
 
 use crate::crew::crew_pass;
 use crate::lines::run_or_refuse;
-use environment_calls::proc_place_of;
-use environment_lines::{WorldParts, Site, convergence_holds, place_of};
-use environment_push::{live_close, live_open, live_refusal};
+use world_calls::proc_place_of;
+use world_commands::{WorldParts, Site, convergence_holds, place_of};
+use world_push::{live_close, live_open, live_refusal};
 use page_tables::PageTables;
 use parallel_apply::Workers;
 use proc_calls::ProcSite;
@@ -42,7 +42,7 @@ use world_state::Refused;
 /// events at its sites lead to it. A master of it may be lent out for a live part, and nothing else is done until it comes back.
 #[derive(Drop)]
 pub struct World {
-    environment: WorldParts,
+    parts: WorldParts,
     lent: Option<Lent>,
 }
 
@@ -63,14 +63,14 @@ impl Model for Lent {
 }
 
 impl Model for World {
-    ghost use Rattle.environment_lines.specs.Following.{IsBuilt};
+    ghost use Rattle.world_commands.specs.Following.{IsBuilt};
     ghost use Rattle.world_run.specs.Lent.{LentWorld, with_lent, seen_with, IsLentFrom};
 
     ghost Value = { LentWorld };
 
-    ghost view = { λ w. seen_with w.lent w.environment };
+    ghost view = { λ w. seen_with w.lent w.parts };
 
-    ghost invariant = { λ w. IsBuilt (with_lent w.lent w.environment) × IsLentFrom w.lent w.environment };
+    ghost invariant = { λ w. IsBuilt (with_lent w.lent w.parts) × IsLentFrom w.lent w.parts };
 }
 
 impl World {
@@ -80,7 +80,7 @@ impl World {
         ensures free { IfOk result (λ world. world.lent ≡ None) }
     {
         Ok(World {
-            environment: WorldParts::make(alloc)?,
+            parts: WorldParts::make(alloc)?,
             lent: None,
         })
     }
@@ -174,7 +174,7 @@ impl World {
         ensures procedures { ProceduresHold self.new.world }
     {
         convergence_holds();
-        run_or_refuse(&mut self.environment, alloc, passing, line, command)
+        run_or_refuse(&mut self.parts, alloc, passing, line, command)
     }
 
     /// Why a master may not be lent out for a live part, if something hinders it: `WrongPhase` where the phase isn't Running or a block
@@ -184,7 +184,7 @@ impl World {
         ensures ok { OnOk result (live_refusal name.now self.now.world ≡ None) }
         ensures err { IfErr result (λ refusal. live_refusal name.now self.now.world ≡ Some refusal) }
     {
-        match live_refusal(&self.environment, name) {
+        match live_refusal(&self.parts, name) {
             None => Ok(()),
             Some(refusal) => Err(refusal),
         }
@@ -209,11 +209,11 @@ impl World {
         ensures free { OnErr result (self.new.lent ≡ None) }
         ensures part { OnErr result (PushEachInPart (reaching name.now self.old.world) name.now self.old.world self.new.world) }
     {
-        live_open(&mut self.environment, alloc, name)?;
-        let Some(place) = place_of(&self.environment.sites, name) else {
+        live_open(&mut self.parts, alloc, name)?;
+        let Some(place) = place_of(&self.parts.sites, name) else {
             unreachable!()
         };
-        let site = self.environment.sites.remove(place);
+        let site = self.parts.sites.remove(place);
         self.lent = Some(Lent {
             name: *name,
             place,
@@ -233,26 +233,26 @@ impl World {
         let Some(lent) = mem::replace(&mut self.lent, None) else {
             unreachable!()
         };
-        if self.environment.sites.insert(lent.place, site).is_err() {
+        if self.parts.sites.insert(lent.place, site).is_err() {
             self.lent = Some(lent);
             return Err(NoMemory);
         }
-        live_close(&mut self.environment, alloc, &lent.name)
+        live_close(&mut self.parts, alloc, &lent.name)
     }
 
     /// The site of a name, None exactly where it isn't there or is lent out.
     pub fn site(&self, name: &SiteName) -> Option<&Site<PageTables>>
         ensures { option_copied result ≡ site_here name.now self.now }
     {
-        let place = place_of(&self.environment.sites, name)?;
-        self.environment.sites.get(place)
+        let place = place_of(&self.parts.sites, name)?;
+        self.parts.sites.get(place)
     }
 
     /// The site of a name that holds tables of procedures, None exactly where it holds none.
     pub fn proc_site(&self, name: &SiteName) -> Option<&ProcSite>
         ensures { option_copied result ≡ proc_of name.now self.now.world.procs.sites }
     {
-        let place = proc_place_of(&self.environment.procs.sites, name)?;
-        self.environment.procs.sites.get(place)
+        let place = proc_place_of(&self.parts.procs.sites, name)?;
+        self.parts.procs.sites.get(place)
     }
 }

@@ -8,7 +8,7 @@ use rep_lists::NoMemory;
 use rep_schema::RowStore;
 use rep_values::SiteName;
 use schema_names::is_master_site;
-use site_core::Site;
+use site_engine::Site;
 use site_rounds::{Passing, Serial, finished_by_newest};
 use site_state::PassCount;
 use std::alloc::Global;

@@ -1,4 +1,4 @@
-//! The world of a script: a replication environment, and each line of the script as one step of it; and a whole script, read from a
+//! The world of a script: each line of the script as one step of it; and a whole script, read from a
 //! source, whose lines are run one by one on a world, and whose report goes to a sink.
 #![tactic(auto)]
 

@@ -1,6 +1,6 @@
 //! The end of a live part.
 ghost use Rattle.std.specs.Prelude.{◌≡◌, ◌≤◌, None, length, IfOk};
-ghost use Rattle.environment_push.specs.Lending.{live_refusal};
+ghost use Rattle.world_push.specs.Lending.{live_refusal};
 ghost use Rattle.world_run.specs.LiveParts.{most_sessions, sessions_of, origins_of};
 ghost use Rattle.world_run.specs.LiveAnswers.{RunsSessions, IsRan};
 ghost use Rattle.world_run.specs.Streaming.{AnswersStreams};
@@ -16,7 +16,7 @@ use rep_schema::RowStore;
 use rep_values::SiteName;
 use report_text::Lines;
 use schema_names::{is_master_site, senders_of};
-use site_core::Site;
+use site_engine::Site;
 use std::alloc::Global;
 use std::snapshot::Snapshot;
 

@@ -15,7 +15,7 @@ use rep_io::{Sink, Source, Watch};
 use rep_lists::{Items, NoMemory};
 use rep_values::SiteName;
 use script_drive::{AtEnd, Reader, Status, Straight, drive};
-use site_core::Site;
+use site_engine::Site;
 use std::alloc::Global;
 use std::sync::Wait;
 use std::thread::Threads;

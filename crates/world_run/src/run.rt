@@ -20,7 +20,7 @@ use rep_io::{Sink, Source, Watch};
 use rep_lists::NoMemory;
 use rep_values::SiteName;
 use script_drive::{AtEnd, Reader, Status, Straight, drive};
-use site_core::Site;
+use site_engine::Site;
 use site_rounds::{By, Passing, Serial};
 use site_state::PassCount;
 use std::alloc::Global;

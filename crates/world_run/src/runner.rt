@@ -5,7 +5,7 @@ ghost use Rattle.world_state.specs.World.{first_world};
 ghost use Rattle.world_run.specs.Scripts.{script_step};
 
 use crate::built_world::World;
-use environment_lines::WorldParts;
+use world_commands::WorldParts;
 use rep_lists::NoMemory;
 use rep_values::Refusal;
 use report_text::{Lines, MOST_LINE, refused_line};

@@ -9,7 +9,7 @@ use page_tables::PageTables;
 use rep_io::Watch;
 use rep_lists::{Items, NoMemory};
 use rep_values::SiteName;
-use site_core::Site;
+use site_engine::Site;
 use std::alloc::Global;
 use std::sync::Wait;
 use std::thread::Threads;

@@ -11,7 +11,7 @@ use Rattle.rep_declare.specs.Refusals.{columns_step}
 use Rattle.schema_rules.specs.Rules.{broken_rule}
 use Rattle.net_plan.specs.Directions.{is_up}
 use Rattle.site_state.specs.State.{SiteState, opened_of}
-use Rattle.snapshot_log.specs.LogState.{LogState}
+use Rattle.change_logs.specs.LogState.{LogState}
 use Rattle.site_state.proofs.WorkedSites.{a, b, d, s, row}
 use Rattle.script_parse.specs.declared.command.Command.{Command}
 use Rattle.script_parse.specs.declared.command.Command.TheVariants as command

@@ -8,7 +8,7 @@ use Rattle.script_parse.specs.declared.command.Refresh.{Refresh}
 use Rattle.script_parse.specs.declared.command.Refresh.TheVariants as refresh
 use Rattle.site_state.specs.declared.answers.RefreshCount.{RefreshCount}
 use Rattle.site_state.specs.State.{SiteState}
-use Rattle.snapshot_log.specs.LogState.{LogState}
+use Rattle.change_logs.specs.LogState.{LogState}
 use Rattle.site_state.specs.Contents.{tables_of}
 use Rattle.site_state.specs.Commits.{commit_answer}
 use Rattle.site_state.specs.Purges.{purge_answer, purge_log_answer}

@@ -19,9 +19,9 @@ use Rattle.snapshot_query.specs.declared.parent.Parent.{Parent}
 use Rattle.snapshot_query.specs.declared.snapshot.Snapshot.{Snapshot}
 use Rattle.net_plan.specs.Directions.{is_up}
 use Rattle.site_state.specs.State.{DestinationState, SiteState}
-use Rattle.snapshot_log.specs.LogState.{LogState}
+use Rattle.change_logs.specs.LogState.{LogState}
 use Rattle.site_state.specs.Streams.{stream_to}
-use Rattle.snapshot_log.specs.Noting.{log_of, purged_of, is_too_young}
+use Rattle.change_logs.specs.Noting.{log_of, purged_of, is_too_young}
 use Rattle.site_state.specs.Errors.{execute_refusal, drop_refusal}
 use Rattle.rep_schema.specs.Sites.{is_late_master}
 use Rattle.site_events.specs.Cluster.{site_of}

@@ -7,7 +7,7 @@ use Rattle.script_drive.proofs.PromptLemmas.{prompt_first}
 use Rattle.world_state.specs.World.{first_world}
 use Rattle.world_run.specs.Scripts.{script_step}
 use Rattle.world_run.specs.LiveScripts.{live_start, live_step, RunsFully}
-use Rattle.program_words.specs.declared.words.Asked.TheVariants as asked
+use Rattle.command_line.specs.declared.words.Asked.TheVariants as asked
 use Rattle.replication_cli.proofs.AskedLive.{live_same}
 use Rattle.replication_cli.proofs.program.run_program_through.Goals as goal
 

@@ -1,6 +1,6 @@
 -- The log at a place is the first from there on.
 use Rattle.rep_lists.proofs.Places.{drop_from_found}
-use Rattle.snapshot_log.specs.RoomyNotes.{log_in}
+use Rattle.change_logs.specs.RoomyNotes.{log_in}
 use Rattle.site_report.proofs.log.log_at.Goals as goal
 
 pub returns : goal.returns

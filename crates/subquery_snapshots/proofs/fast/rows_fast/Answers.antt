@@ -2,7 +2,7 @@
 use Rattle.std.proofs.Common.{◌++◌, ◌∙◌, arith}
 use Rattle.rep_schema.specs.Tables.{columns_of, rows_of}
 use Rattle.rep_schema.proofs.FilteredRows.{IsTable-filter}
-use Rattle.fast_refresh.specs.Showing.{ShowsOthers}
+use Rattle.refreshes.specs.Showing.{ShowsOthers}
 use Rattle.subquery_snapshots.specs.Rules.{rule_picks, waiting_keys}
 use Rattle.subquery_snapshots.proofs.Renewing.{renewed_all}
 use Rattle.subquery_snapshots.proofs.fast.rows_fast.Goals as goal

@@ -1,4 +1,4 @@
--- The sites that are here are those of the environment.
+-- The sites that are here are those of the world.
 use Rattle.std.proofs.Common.{◌≡◌, ℕ, ◌<◌, List, length, Some, None, refl, sym, ap, ◌∙◌, option_copied}
 use Rattle.std.specs.Prelude.{slice_get, Option}
 use Rattle.std.specs.Borrow.{Bor}
@@ -19,13 +19,13 @@ read_there xs i x (Some y) within there item = sym (slice_get_read xs (length xs
 pub returns-in_err-place : goal.returns-in_err-place
 returns-in_err-place c =
     let name = c.args.name.now in
-    rw c.from_residual.ensures (sym c.in_err-place.ensures ∙ ap (site_of name) c.deref.ensures.value ∙ ap (λ (i : Inside). site_of name i.environment.sites) c.self-inside.view_is
-    ∙ site_of-here name c.self.inside.lent c.self.inside.environment c.self.invariant.1 ∙ ap (site_here name) c.self.view_is)
+    rw c.from_residual.ensures (sym c.in_err-place.ensures ∙ ap (site_of name) c.deref.ensures.value ∙ ap (λ (i : Inside). site_of name i.parts.sites) c.self-inside.view_is
+    ∙ site_of-here name c.self.inside.lent c.self.inside.parts c.self.invariant.1 ∙ ap (site_here name) c.self.view_is)
 
 pub returns : goal.returns
 returns c =
     let name = c.args.name.now in
     let at = rw c.deref.ensures.value at c.in_ok-place.ensures in
     read_there _ c.in_ok-place.place at.site c.get.result at.within at.there (rw c.deref-2.ensures.value at c.get.ensures.lookup)
-    ∙ sym at.found ∙ ap (λ (i : Inside). site_of name i.environment.sites) c.self-inside.view_is
-    ∙ site_of-here name c.self.inside.lent c.self.inside.environment c.self.invariant.1 ∙ ap (site_here name) c.self.view_is
+    ∙ sym at.found ∙ ap (λ (i : Inside). site_of name i.parts.sites) c.self-inside.view_is
+    ∙ site_of-here name c.self.inside.lent c.self.inside.parts c.self.invariant.1 ∙ ap (site_here name) c.self.view_is

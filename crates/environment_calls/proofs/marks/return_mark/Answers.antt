@@ -1,6 +1,0 @@
-use Rattle.std.proofs.Common.{refl}
-use Rattle.environment.proofs.CallsFollowing.{calls_part_none}
-use Rattle.environment_calls.proofs.marks.return_mark.Goals as goal
-
-pub returns-then-not-is_up-clause-part : goal.returns-then-not-is_up-clause-part
-returns-then-not-is_up-clause-part c = calls_part_none _ _ _ _ refl

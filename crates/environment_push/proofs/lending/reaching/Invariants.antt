@@ -1,8 +1,0 @@
--- Gathering those that reach a master.
-use Rattle.std.proofs.Common.{◌≡◌, ◌++◌, drop, filter}
-use Rattle.environment_push.specs.Lending.{reaches}
-use Rattle.environment_push.proofs.lending.reaching.Given as goal
-
--- those so far, and those among the senders to come
-abbrev pub invariant-loop-from : goal.invariant-loop-from
-invariant-loop-from l = filter (reaches l.name l.environment) l.from-items ≡ l.names ++ filter (reaches l.name l.environment) (drop l.from-index l.from-items)

@@ -1,6 +1,0 @@
--- The law of sorted journals.
-use Rattle.journal_order.proofs.SortedSites.{sorting_changes_no_more}
-use Rattle.journal_order.proofs.laws.sorting_changes_no_more.Goals as goal
-
-pub returns : goal.returns
-returns c = sorting_changes_no_more

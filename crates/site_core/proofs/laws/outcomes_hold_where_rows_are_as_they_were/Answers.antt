@@ -1,5 +1,0 @@
-use Rattle.site_core.proofs.Beginning.{outcomes_hold}
-use Rattle.site_core.proofs.laws.outcomes_hold_where_rows_are_as_they_were.Goals as goal
-
-pub returns : goal.returns
-returns c = outcomes_hold

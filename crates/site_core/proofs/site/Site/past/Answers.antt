@@ -1,8 +1,0 @@
-use Rattle.std.proofs.Common.{refl}
-use Rattle.site_core.proofs.Reading.{past_is}
-use Rattle.site_core.proofs.site.Site.past.Goals as goal
-
-pub returns : goal.returns
-returns g c =
-    let seen = rw (c.deref.ensures.value, c.schema.ensures.value) at c.causal_past.ensures in
-    rw (← c.self.view_is, ← past_is _ _ _ _ _ _ _ c.self.invariant refl) seen

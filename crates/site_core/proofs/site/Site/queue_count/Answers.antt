@@ -1,6 +1,0 @@
-use Rattle.std.proofs.Common.{◌∙◌}
-use Rattle.site_core.proofs.SiteSteps.{count_is}
-use Rattle.site_core.proofs.site.Site.queue_count.Goals as goal
-
-pub returns : goal.returns
-returns g c = rw (← c.self.view_is) (c.count.ensures ∙ count_is _ _ _ _ _ _ c.self.inside.notes _ _ _ _ _ _ c.self.invariant)

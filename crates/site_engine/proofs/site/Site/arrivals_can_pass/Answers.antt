@@ -1,0 +1,13 @@
+use Rattle.std.proofs.Common.{refl, sym}
+use Rattle.site_engine.proofs.Reading.{can_pass_found, can_pass_none}
+use Rattle.site_engine.proofs.site.Site.arrivals_can_pass.Goals as goal
+
+pub returns-in-Some : goal.returns-in-Some
+returns-in-Some g c =
+    let found = sym (rw c.deref.ensures.value at c.in-Some.ensures) in
+    rw (← c.self.view_is) (can_pass_found _ _ _ _ _ _ _ c.self.invariant refl c.args.origin.now c.in-Some.inbox.now found c.laws.ensures.passes)
+
+pub returns-in_default : goal.returns-in_default
+returns-in_default g c =
+    let none = sym (rw c.deref.ensures.value at c.in_default.ensures) in
+    rw (← c.self.view_is) (can_pass_none _ _ _ _ _ _ _ c.self.invariant refl c.args.origin.now none)

@@ -1,7 +1,0 @@
--- The snapshots so far.
-use Rattle.std.proofs.Common.{◌≡◌}
-use Rattle.snapshot_log.specs.RoomyNotes.{snapshots_in}
-use Rattle.snapshot_log.proofs.snapshots.watch_each.Given as goal
-
-abbrev pub invariant-loop-snapshot : goal.invariant-loop-snapshot
-invariant-loop-snapshot l = snapshots_in l.watched.items ≡ l.yielded

@@ -1,0 +1,6 @@
+use Rattle.std.proofs.Common.{refl}
+use Rattle.world.proofs.CallsFollowing.{calls_part_none}
+use Rattle.world_calls.proofs.marks.return_mark.Goals as goal
+
+pub returns-then-not-is_up-clause-part : goal.returns-then-not-is_up-clause-part
+returns-then-not-is_up-clause-part c = calls_part_none _ _ _ _ refl

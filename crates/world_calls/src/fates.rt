@@ -1,0 +1,49 @@
+//! The fates of packets that carry calls.
+ghost use Rattle.std.specs.Prelude.{◌≡◌, None, OnOk, OnErr};
+ghost use Rattle.net_plan.specs.Directions.{HasDirection, at_direction, with_fates};
+ghost use Rattle.world.specs.Following.{IsBuilt};
+ghost use Rattle.world.specs.Precheck.{precheck_refusal};
+ghost use Rattle.world.specs.Doing.{Does};
+
+use world::{WorldParts, Procs, no_memory};
+use net_plan::Fate;
+use rep_lists::{Items, NoMemory};
+use rep_values::SiteName;
+use report_text::Lines;
+use script_parse::{Command, ProcLine};
+use std::alloc::Global;
+use world_state::Refused;
+
+/// These fates come behind those that are left between two sites.
+fn put_fates(
+    procs: &mut Procs,
+    from: &SiteName,
+    to: &SiteName,
+    fates: &[Fate],
+) -> Result<(), NoMemory>
+    requires { HasDirection procs.old.net from.now to.now }
+    ensures ok { OnOk result (procs.new ≡ record procs.old { net = at_direction from.now to.now (with_fates fates.now) procs.old.net }) }
+    ensures err { OnErr result (procs.new ≡ procs.old) }
+{
+    procs.net.add_fates(from, to, fates)?;
+    Ok(())
+}
+
+/// `fate-calls`
+pub(crate) fn add_call_fates(
+    parts: &mut WorldParts,
+    alloc: Global,
+    line: u32,
+    from: &SiteName,
+    to: &SiteName,
+    fates: &Items<Fate>,
+) -> Result<Lines, Refused>
+    requires built { IsBuilt parts.old }
+    requires passes { precheck_refusal (Command.Procedures (ProcLine.Fates from.now to.now fates.now)) parts.old ≡ None }
+    ensures { Does line (Command.Procedures (ProcLine.Fates from.now to.now fates.now)) parts.old parts.new result }
+{
+    let Ok(()) = put_fates(&mut parts.procs, from, to, fates.as_slice()) else {
+        return Err(no_memory(line));
+    };
+    Ok(Lines::make(alloc))
+}

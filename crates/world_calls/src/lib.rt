@@ -1,0 +1,20 @@
+//! What lines about procedures do to a world: tables and procedures are declared, calls are gathered and
+//! sent, pushed to another master and applied there, and errors of calls are executed again.
+#![tactic(auto)]
+
+mod marks;
+mod blocks;
+mod declaring;
+mod deliver;
+mod errors;
+mod fates;
+mod lines;
+mod literals;
+mod outbound;
+mod pushing;
+mod sending;
+mod applying;
+mod words;
+
+pub use world::proc_place_of;
+pub use lines::run_proc_line;
