@@ -3,7 +3,8 @@ ghost use Rattle.std.specs.Prelude.{◌≡◌, ◌≤◌, length, IsTrue};
 ghost use Rattle.rep_schema.specs.Shape.{HasShape};
 ghost use Rattle.conflict_detect.specs.Fits.{TxnFits};
 ghost use Rattle.unique_resolve.specs.Numbers.{AreCounters};
-ghost use Rattle.txn_effects.specs.Calls.{HasKeys, KeysStandAlone};
+ghost use Rattle.txn_effects.specs.Calls.{KeysStandAlone};
+ghost use Rattle.conflict_detect.specs.KeysNamed.{HasKeys};
 
 use case_reader::{CaseStop, Words, read_call};
 use conflict_detect::fits;

@@ -1,7 +1,8 @@
 //! Local transactions on the table.
 ghost use Rattle.std.specs.Prelude.{◌≡◌};
 ghost use Rattle.rep_schema.specs.Shape.{HasShape};
-ghost use Rattle.txn_effects.specs.Calls.{HasKeys, KeysStandAlone};
+ghost use Rattle.txn_effects.specs.Calls.{KeysStandAlone};
+ghost use Rattle.conflict_detect.specs.KeysNamed.{HasKeys};
 
 use case_reader::{CaseStop, Words, read_statement};
 use local_txn::run_local;

@@ -8,7 +8,7 @@ use crate::numerals::number_in;
 use crate::words::{Asked, MOST_APPLIERS, MOST_COUNT};
 use clap::error::ErrorKind;
 use clap::{Arg, ArgAction, ArgMatches, Command, Error};
-use rep_values::NoMemory;
+use rep_lists::NoMemory;
 use std::alloc::{AllocError, Global};
 
 /// A form, a seed and a count in their places, the option and the flag.

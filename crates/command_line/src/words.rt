@@ -4,7 +4,7 @@ ghost use Rattle.command_line.specs.Words.{asked_by, IsInRange};
 
 use crate::command::read;
 use crate::forms::is_form;
-use rep_values::NoMemory;
+use rep_lists::NoMemory;
 use std::alloc::Global;
 
 /// What the program is asked to do, and how many appliers do a run or a storm, from 1 to 8.

@@ -11,7 +11,7 @@ use Rattle.world_state.specs.World.{WorldState}
 use Rattle.world_state.specs.Phases.{is_setup}
 use Rattle.world_state.specs.Steps.{world_steps}
 use Rattle.world_laws.specs.Simulation.{Leads}
-use Rattle.world_laws.proofs.SiteSteps.{run-append}
+use Rattle.event_laws.proofs.Runs.{run-append}
 use Rattle.world_laws.proofs.WorldLaws.{lines_lead}
 use Rattle.world_laws.specs.AlikeMasters.{SitesBegin}
 use Rattle.convergent_worlds.specs.Histories.{MastersAgreeAgain, MastersAgreeSince, EachMissingRowWasLost, HasHistory}

@@ -2,6 +2,5 @@
 mod ConvergenceHolds
 mod Histories
 pub mod Scripts
-pub mod Worlds
 mod WorkedConvergence
 mod WorkedEdges

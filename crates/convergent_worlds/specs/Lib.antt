@@ -1,4 +1,3 @@
 -- The definitions of this crate.
 pub mod Histories
 pub mod Convergence
-pub mod Worlds

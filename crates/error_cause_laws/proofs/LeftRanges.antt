@@ -15,7 +15,8 @@ use Rattle.rep_calls.specs.declared.call.Part.{Part}
 use Rattle.rep_calls.specs.declared.call.Txn.{Txn}
 use Rattle.conflict_detect.specs.Fits.{table_of}
 use Rattle.resolve_methods.specs.SequenceLaws.{one_group_number, move_of}
-use Rattle.txn_effects.specs.Calls.{key_named, row_named}
+use Rattle.txn_effects.specs.Calls.{row_named}
+use Rattle.conflict_detect.specs.KeysNamed.{key_named}
 use Rattle.txn_effects.specs.Transactions.{Failure}
 use Rattle.txn_effects.specs.Contents.{effect_on}
 use Rattle.txn_effects.specs.Convergent.{is_convergent}

@@ -18,7 +18,8 @@ use Rattle.unique_resolve.specs.declared.settled.Settled.TheVariants as settled
 use Rattle.unique_resolve.specs.Numbers.{Numbers}
 use Rattle.unique_resolve.specs.Settling.{settlement_of}
 use Rattle.txn_effects.specs.Parts.{result_then}
-use Rattle.txn_effects.specs.Calls.{Effect, RowEffect, checked_effect, effect_by, key_named, row_named, row_effect, call_effect}
+use Rattle.txn_effects.specs.Calls.{Effect, RowEffect, checked_effect, effect_by, row_named, row_effect, call_effect}
+use Rattle.conflict_detect.specs.KeysNamed.{key_named}
 use Rattle.txn_effects.specs.Transactions.{Failure}
 use Rattle.txn_effects.specs.Contents.{effect_on}
 use Rattle.txn_effects.specs.Convergent.{is_convergent}

@@ -8,7 +8,7 @@ use Rattle.rep_values.specs.declared.refusal.ApplyError.{ApplyError}
 use Rattle.rep_schema.specs.declared.schema.Schema.{Schema}
 use Rattle.rep_calls.specs.declared.call.Txn.{Txn}
 use Rattle.conflict_detect.specs.Fits.{table_of}
-use Rattle.txn_effects.specs.Calls.{key_named}
+use Rattle.conflict_detect.specs.KeysNamed.{key_named}
 use Rattle.txn_effects.specs.Contents.{effect_on}
 use Rattle.local_txn.specs.Laws.{StampsOfABlockRise}
 use Rattle.txn_effects.specs.declared.local.Here.{Here}

@@ -9,8 +9,9 @@ use Rattle.rep_schema.specs.Tables.{Cells, Rows, columns_of, find_row, rows_of, 
 use Rattle.rep_schema.specs.Putting.{after_changes}
 use Rattle.rep_calls.specs.declared.call.Call.{Call}
 use Rattle.rep_calls.specs.declared.call.Txn.{Txn}
-use Rattle.conflict_detect.specs.Fits.{table_of}
-use Rattle.txn_effects.specs.Calls.{key_named, row_named}
+use Rattle.conflict_detect.specs.Fits.{table_of, TxnFits}
+use Rattle.txn_effects.specs.Calls.{row_named}
+use Rattle.conflict_detect.specs.KeysNamed.{key_named}
 use Rattle.txn_effects.specs.Transactions.{Failure}
 use Rattle.txn_effects.specs.Contents.{Content, IsContent, effect_on}
 use Rattle.txn_effects.specs.Convergent.{is_convergent}
@@ -20,7 +21,6 @@ use Rattle.site_state.specs.declared.entry.Entry.TheVariants.{Local, Done, Error
 use Rattle.site_state.specs.Contents.{journal_content}
 use Rattle.site_state.proofs.FittingSites.{error_has}
 use Rattle.event_laws.proofs.FittingSites.{every_site_fits}
-use Rattle.conflict_detect.specs.Fits.{TxnFits}
 use Rattle.rep_laws.specs.GroupForms.{TxnKeepsForms}
 use Rattle.convergence_laws.specs.Faults.{Tells}
 use Rattle.convergence_laws.specs.Joins.{parts_in, inserts_in, applied_parts, applied_inserts}

@@ -20,7 +20,8 @@ use Rattle.rep_calls.specs.declared.call.Txn.{Txn}
 use Rattle.rep_calls.specs.declared.call.Call.TheVariants.{Insert, Update, Delete}
 use Rattle.conflict_detect.specs.Fits.{CallFits, table_of}
 use Rattle.unique_resolve.specs.Numbers.{Numbers, AreCounters}
-use Rattle.txn_effects.specs.Calls.{Effect, RowEffect, key_named, row_named, row_effect, call_effect}
+use Rattle.txn_effects.specs.Calls.{Effect, RowEffect, row_named, row_effect, call_effect}
+use Rattle.conflict_detect.specs.KeysNamed.{key_named}
 use Rattle.txn_effects.specs.Transactions.{failing_at, effect_behind, calls_effect}
 use Rattle.txn_effects.specs.Contents.{Content, IsContent, effect_on}
 use Rattle.txn_effects.proofs.Results.{result_then-Ok}

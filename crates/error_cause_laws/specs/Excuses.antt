@@ -13,7 +13,7 @@ use Rattle.rep_calls.specs.declared.call.Part.{Part}
 use Rattle.rep_calls.specs.declared.call.Txn.{Txn}
 use Rattle.conflict_detect.specs.Fits.{table_of}
 use Rattle.resolve_methods.specs.SequenceLaws.{group_number, move_of, sum_of_moves}
-use Rattle.txn_effects.specs.Calls.{key_named}
+use Rattle.conflict_detect.specs.KeysNamed.{key_named}
 use Rattle.txn_effects.specs.Transactions.{Failure}
 use Rattle.txn_effects.specs.Convergent.{is_convergent}
 use Rattle.error_queue.specs.declared.entry.ErrorEntry.{ErrorEntry}

@@ -8,7 +8,7 @@ use Rattle.rep_schema.specs.Tables.{Cells}
 use Rattle.rep_calls.specs.declared.call.Call.{Call}
 use Rattle.rep_calls.specs.declared.call.Txn.{Txn}
 use Rattle.conflict_detect.specs.Fits.{table_of}
-use Rattle.txn_effects.specs.Calls.{key_named}
+use Rattle.conflict_detect.specs.KeysNamed.{key_named}
 use Rattle.txn_effects.specs.Convergent.{is_convergent}
 use Rattle.rep_values.specs.SiteNames.{is_same_site}
 use Rattle.site_state.specs.declared.entry.Entry.{Entry}

@@ -10,7 +10,8 @@ use Rattle.rep_schema.specs.Putting.{after_changes}
 use Rattle.rep_schema.proofs.Leading.{room_for-append}
 use Rattle.rep_schema.proofs.Making.{after_changes-append, room_for-length}
 use Rattle.rep_calls.specs.declared.statement.Statement.{Statement}
-use Rattle.txn_effects.specs.Calls.{HasKeys, KeysStandAlone}
+use Rattle.txn_effects.specs.Calls.{KeysStandAlone}
+use Rattle.conflict_detect.specs.KeysNamed.{HasKeys}
 use Rattle.txn_effects.specs.Laws.{IsApplied}
 use Rattle.txn_effects.proofs.TransactionEffects.{IsApplied-then}
 use Rattle.txn_effects.specs.declared.local.Here.{Here}

@@ -18,7 +18,7 @@ use Rattle.rep_calls.specs.declared.statement.Set.{Set}
 use Rattle.txn_effects.specs.Sets.{is_about, value_by, sets_filled, row_with, sets_by_column}
 use Rattle.txn_effects.specs.ByColumn.{fills_some}
 use Rattle.txn_effects.specs.Filled.{Filling, filling_value, value_filled, filled_from, is_modified}
-use Rattle.txn_effects.proofs.OwnParts.{found_at}
+use Rattle.rep_lists.proofs.Places.{found_at}
 use Rattle.local_txn.proofs.NamedSets.{fills_some-sets}
 use Rattle.local_txn.proofs.ApartGroups.{group_columns_of-apart}
 use Rattle.txn_effects.proofs.KindRows.{length-filled_from}

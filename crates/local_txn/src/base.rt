@@ -5,7 +5,7 @@ ghost use Rattle.rep_values.specs.RefusalSteps.{first_refusal};
 ghost use Rattle.rep_schema.specs.Shape.{HasShape};
 ghost use Rattle.rep_schema.specs.Tables.{Cells, columns_of, rows_of, IsKeyed};
 ghost use Rattle.rep_schema.specs.Fitting.{is_keyed};
-ghost use Rattle.txn_effects.specs.Calls.{HasKeys};
+ghost use Rattle.conflict_detect.specs.KeysNamed.{HasKeys};
 ghost use Rattle.txn_effects.specs.Literals.{literals_fit};
 ghost use Rattle.txn_effects.specs.Filled.{written_columns, filled_row};
 ghost use Rattle.local_txn.specs.BaseRows.{base_steps, base_refusal, tables_with_row, filled_tables, FillsFreely};

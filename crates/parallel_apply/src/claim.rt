@@ -9,7 +9,8 @@ use rep_schema::RowStore;
 use rep_values::SiteName;
 use site_engine::Site;
 use std::alloc::Global;
-use txn_apply::{Outcome, SharedSchema, Work};
+use txn_apply::{Outcome, Work};
+use row_tables::SharedSchema;
 
 /// A position that an applier claimed, with its work where it is evaluated outside the lock.
 #[derive(Drop)]

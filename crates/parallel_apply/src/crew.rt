@@ -19,7 +19,8 @@ use site_state::Applied;
 use std::alloc::Global;
 use std::marker::Model;
 use std::snapshot::Snapshot;
-use txn_apply::{SharedSchema, support_outlasts_independent_transactions};
+use txn_apply::support_outlasts_independent_transactions;
+use row_tables::SharedSchema;
 
 /// A site on which the appliers of a crew make a pass for a sender, turn by turn: what they work on, the turns that they made,
 /// and how the site was before the first of these, which only contracts look at. The site's schema stands beside it once more, for

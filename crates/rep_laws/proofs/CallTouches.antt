@@ -11,7 +11,8 @@ use Rattle.rep_calls.specs.declared.call.Call.{Call}
 use Rattle.conflict_detect.specs.Fits.{table_of, CallFits}
 use Rattle.txn_effects.specs.Parts.{result_then}
 use Rattle.rep_schema.specs.Putting.{changes_between, after_changes}
-use Rattle.txn_effects.specs.Calls.{KeysStandAlone, key_named, row_named, RowEffect, row_effect, Effect, call_effect}
+use Rattle.txn_effects.specs.Calls.{KeysStandAlone, row_named, RowEffect, row_effect, Effect, call_effect}
+use Rattle.conflict_detect.specs.KeysNamed.{key_named}
 use Rattle.dependency_index.specs.declared.token.Token.{Token}
 use Rattle.dependency_index.specs.declared.token.Token.TheVariants as token
 use Rattle.dependency_index.specs.Tokens.{touches_constraints, has_token}

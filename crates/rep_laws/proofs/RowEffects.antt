@@ -21,7 +21,8 @@ use Rattle.unique_resolve.specs.Numbers.{Numbers, AreCounters}
 use Rattle.unique_resolve.specs.Settling.{Settlement, settlement_of}
 use Rattle.unique_resolve.proofs.Settlements.{key_of-settled}
 use Rattle.txn_effects.specs.Parts.{settled_parts}
-use Rattle.txn_effects.specs.Calls.{KeysStandAlone, key_named, row_named, RowEffect, effect_by, settled_effect, row_effect}
+use Rattle.txn_effects.specs.Calls.{KeysStandAlone, row_named, RowEffect, effect_by, settled_effect, row_effect}
+use Rattle.conflict_detect.specs.KeysNamed.{key_named}
 use Rattle.txn_effects.proofs.Results.{result_then-Ok}
 use Rattle.txn_effects.proofs.CallEffects.{checked_effect-Ok}
 use Rattle.txn_effects.proofs.PartEffects.{RowFits-settled_parts, key_of-settled_parts}

@@ -17,7 +17,8 @@ use Rattle.schema_rules.specs.KeyRules.{is_well_keyed, is_off_the_key}
 use Rattle.schema_rules.specs.Rules.{broken_rule}
 use Rattle.schema_rules.specs.Soundness.{KeepsAllRules}
 use Rattle.schema_rules.proofs.SoundRules.{KeepsAllRules-unbroken}
-use Rattle.txn_effects.specs.Calls.{HasKeys, IsOffTheKey, KeysStandAlone}
+use Rattle.txn_effects.specs.Calls.{IsOffTheKey, KeysStandAlone}
+use Rattle.conflict_detect.specs.KeysNamed.{HasKeys}
 
 pub both_hold : (a b : Bool) → (a && b) ≡ true → (a ≡ true) × (b ≡ true)
 both_hold true b holds = (refl, holds)

@@ -11,7 +11,8 @@ use Rattle.rep_calls.specs.declared.call.Call.{Call}
 use Rattle.rep_calls.specs.declared.call.Txn.{Txn}
 use Rattle.conflict_detect.specs.Fits.{CallFits}
 use Rattle.txn_effects.specs.Parts.{result_then}
-use Rattle.txn_effects.specs.Calls.{HasKeys, KeysStandAlone, Effect, call_effect}
+use Rattle.txn_effects.specs.Calls.{KeysStandAlone, Effect, call_effect}
+use Rattle.conflict_detect.specs.KeysNamed.{HasKeys}
 use Rattle.rep_schema.specs.Putting.{after_changes}
 use Rattle.txn_effects.specs.Transactions.{Failure, failing_at, effect_behind, calls_effect, tables_by, numbers_by}
 use Rattle.rep_schema.proofs.Making.{after_changes-append}

@@ -3,8 +3,8 @@ ghost use Rattle.std.specs.Prelude.{◌≡◌, ℕ, ◌-◌, ◌<◌, ◌≤◌,
 ghost use Rattle.rep_values.specs.Number.{IsKeyLen};
 ghost use Rattle.rep_values.specs.declared.value.Value.TheVariants.{Num};
 
-use crate::{NoMemory, Value};
-use rep_lists::Copies;
+use crate::Value;
+use rep_lists::{Copies, NoMemory};
 use std::alloc::Global;
 use std::marker::Model;
 

@@ -20,7 +20,6 @@ pub use order::{
     same_values,
 };
 pub use refusal::{ApplyError, Limit, Refusal};
-pub use rep_lists::NoMemory;
 pub use row::Row;
 pub use text::Text;
 pub use value::Value;

@@ -2,8 +2,8 @@
 ghost use Rattle.std.specs.Prelude.{◌≡◌};
 ghost use Rattle.rep_values.specs.Literal.{value_of_literal};
 
-use crate::{NoMemory, Text, Value};
-use rep_lists::Copies;
+use crate::{Text, Value};
+use rep_lists::{Copies, NoMemory};
 use std::alloc::Global;
 
 /// A number of at most 16 digits, not yet tested for its range, or a text.

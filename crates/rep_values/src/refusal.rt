@@ -3,7 +3,8 @@ ghost use Rattle.std.specs.Prelude.{◌≡◌};
 ghost use Rattle.rep_values.specs.Refusal.{refusal_number};
 ghost use Rattle.rep_values.specs.declared.refusal.Refusal.TheVariants.{Memory};
 
-use crate::{Name, NoMemory, SiteName};
+use crate::{Name, SiteName};
+use rep_lists::NoMemory;
 use std::fmt;
 use thiserror::Error;
 

@@ -2,8 +2,8 @@
 ghost use Rattle.std.specs.Prelude.{◌≡◌, ◌<◌, ◌↔◌, length, slice_set, IsSome, IfSome, IfOk};
 ghost use Rattle.rep_values.specs.Number.{IsRowLen};
 
-use crate::{NoMemory, Value};
-use rep_lists::{Copies, Items};
+use crate::Value;
+use rep_lists::{Copies, Items, NoMemory};
 use std::alloc::Global;
 use std::marker::Model;
 

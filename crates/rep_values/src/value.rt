@@ -2,8 +2,8 @@
 ghost use Rattle.rep_values.specs.Equality.{value_eq, value_eq_equiv};
 ghost use Rattle.std.specs.Cmp.{partial_equiv_from_equiv};
 
-use crate::{NoMemory, Text};
-use rep_lists::Copies;
+use crate::Text;
+use rep_lists::{Copies, NoMemory};
 use std::alloc::Global;
 
 /// A number or a text. A stored number lies within ±10^15. Every number comes before every text.

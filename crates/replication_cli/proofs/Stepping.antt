@@ -8,8 +8,8 @@ use Rattle.world_state.specs.declared.refused.Refused.{Refused}
 use Rattle.world_state.specs.World.{WorldState}
 use Rattle.world_state.specs.Refusals.{world_refusal}
 use Rattle.world_state.specs.Steps.{world_step, step_by, told_by}
-use Rattle.world_run.specs.Texts.{line_text, told_text}
-use Rattle.world_run.specs.Doing.{IsDone, IsOutOfMemory, IsRefused}
+use Rattle.world.specs.Texts.{line_text, told_text}
+use Rattle.world.specs.Doing.{IsDone, IsOutOfMemory, IsRefused}
 use Rattle.replication_cli.specs.declared.tally.Tally.{Tally}
 use Rattle.replication_cli.specs.Tallies.{with_refusal, with_text}
 use Rattle.replication_cli.specs.Runs.{Running, with_command}

@@ -3,7 +3,7 @@ use Rattle.std.specs.Prelude.{ℕ, suc, ◌*◌, ◌^◌, ◌≤◌, List, [], f
 use Rattle.script_parse.specs.declared.command.Command.{Command}
 use Rattle.world_state.specs.World.{WorldState, first_world}
 use Rattle.world_state.specs.Steps.{world_step}
-use Rattle.world_run.specs.Texts.{line_text}
+use Rattle.world.specs.Texts.{line_text}
 use Rattle.replication_cli.specs.declared.tally.Tally.{Tally}
 use Rattle.replication_cli.specs.Tallies.{tally_of, with_text}
 

@@ -3,7 +3,7 @@ use Rattle.std.specs.Prelude.{ℕ, suc, List, [], ◌∷◌}
 use Rattle.script_parse.specs.declared.command.Command.{Command}
 use Rattle.world_state.specs.World.{WorldState}
 use Rattle.world_state.specs.Steps.{world_step}
-use Rattle.world_run.specs.Texts.{line_text}
+use Rattle.world.specs.Texts.{line_text}
 
 -- what commands print one after another, the first of which has a number
 abbrev pub texts : ℕ → List Command → WorldState → List (List ℕ)

@@ -3,7 +3,7 @@ ghost use Rattle.std.specs.Prelude.{◌≡◌, ◌+◌, ◌*◌, ◌^◌, ◌<�
 ghost use Rattle.storm_script.specs.Laws.{IsLine, most_rounds};
 ghost use Rattle.storm_script.specs.Rounds.{storm_rounds};
 ghost use Rattle.storm_script.specs.Storm.{storm_commands};
-ghost use Rattle.world_run.specs.Doing.{Does};
+ghost use Rattle.world.specs.Doing.{Does};
 ghost use Rattle.replication_cli.specs.Runs.{storm_beginning, with_command, with_commands};
 
 use crate::tally::Tally;

@@ -11,7 +11,8 @@ use crate::shown::put_values;
 use crate::{Lines, Word};
 use rep_calls::{Call, Part, Txn};
 use rep_schema::{Schema, shadow_name};
-use rep_values::{Name, NoMemory, Value};
+use rep_values::{Name, Value};
+use rep_lists::NoMemory;
 use schema_names::group_name;
 
 /// The most bytes of a value behind a space.

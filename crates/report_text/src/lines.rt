@@ -5,7 +5,7 @@ ghost use Rattle.report_text.specs.Sheet.{Appends, word_text, most_of, most_spac
 
 use crate::Word;
 use itoa::Buffer;
-use rep_values::NoMemory;
+use rep_lists::NoMemory;
 use std::alloc::Global;
 use std::marker::Model;
 

@@ -3,9 +3,9 @@ ghost use Rattle.std.specs.Prelude.{◌≡◌, ◌≢◌, ◌+◌, ◌≤◌, �
 ghost use Rattle.rep_lists.specs.Rising.{IsRising, IsThere, IsGap};
 ghost use Rattle.rep_schema.specs.Tables.{row_beside, row_cmp, key_of, find_row, put_row, take_row, picked, IsHeldElsewhere};
 
-use rep_lists::RoomyList;
+use rep_lists::{NoMemory, RoomyList};
 use rep_schema::{Column, compare_row, compare_rows, have_one_key, same_picked};
-use rep_values::{NoMemory, Row, Value};
+use rep_values::{Row, Value};
 use std::alloc::Global;
 use std::cmp::Ordering;
 use std::marker::Model;

@@ -4,4 +4,3 @@ mod TablesMarked
 mod EarlySites
 mod EarlyMasters
 pub mod SenderDirections
-pub use Rattle.site_engine.proofs.Sending

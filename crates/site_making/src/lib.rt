@@ -9,5 +9,4 @@ mod table_sets;
 
 pub use net::make_net;
 pub use procs::make_proc_sites;
-pub use site_engine::Site;
 pub use sites::{make_sites, master_here};

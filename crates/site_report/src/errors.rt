@@ -6,7 +6,8 @@ ghost use Rattle.site_report.specs.Shows.{standing_text, errors_text};
 
 use error_queue::{ErrorEntry, Errors};
 use rep_schema::{RowStore, Schema};
-use rep_values::{NoMemory, SiteName};
+use rep_values::SiteName;
+use rep_lists::NoMemory;
 use report_text::{Lines, MOST_LINE, Word, add_calls, error_line};
 use site_engine::Site;
 

@@ -6,7 +6,8 @@ ghost use Rattle.change_logs.specs.RoomyNotes.{log_in};
 ghost use Rattle.site_report.specs.Shows.{table_log_text, log_text};
 
 use rep_schema::{RowStore, Schema};
-use rep_values::{NoMemory, SiteName};
+use rep_values::SiteName;
+use rep_lists::NoMemory;
 use report_text::{Lines, MOST_LINE, Word, add_logged_key};
 use site_engine::Site;
 use change_logs::{Log, LogEntry, Notes};

@@ -6,7 +6,8 @@ use Rattle.rep_schema.specs.declared.schema.Schema.{Schema}
 use Rattle.rep_schema.specs.Shape.{HasShape}
 use Rattle.rep_calls.specs.declared.call.Txn.{Txn}
 use Rattle.conflict_detect.specs.Fits.{TxnFits}
-use Rattle.txn_effects.specs.Calls.{HasKeys, KeysStandAlone}
+use Rattle.txn_effects.specs.Calls.{KeysStandAlone}
+use Rattle.conflict_detect.specs.KeysNamed.{HasKeys}
 use Rattle.txn_effects.specs.Contents.{IsContent}
 use Rattle.snapshot_query.specs.declared.snapshot.Snapshot.{Snapshot}
 use Rattle.site_state.specs.declared.entry.Entry.{Entry}

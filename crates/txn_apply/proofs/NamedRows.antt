@@ -15,7 +15,7 @@ use Rattle.rep_schema.proofs.TableSteps.{any_from_none}
 use Rattle.rep_schema.proofs.FoundRows.{found_row, key_of-found, find_row-put_own, find_row-put_other}
 use Rattle.rep_calls.specs.declared.call.Call.{Call}
 use Rattle.conflict_detect.specs.Fits.{table_of}
-use Rattle.txn_effects.specs.Calls.{key_named}
+use Rattle.conflict_detect.specs.KeysNamed.{key_named}
 use Rattle.rep_laws.proofs.TokenTests.{place_cases}
 use Rattle.txn_apply.specs.Naming.{AreSomeOf, HaveAlike, TakesNamed}
 

@@ -13,7 +13,8 @@ use Rattle.rep_schema.proofs.Leading.{room_for-append}
 use Rattle.rep_calls.specs.declared.call.Call.{Call}
 use Rattle.conflict_detect.specs.Fits.{table_of, CallFits}
 use Rattle.unique_resolve.specs.Numbers.{Numbers, has_sequences, kept_numbers, put_back}
-use Rattle.txn_effects.specs.Calls.{HasKeys, KeysStandAlone, Effect, call_effect}
+use Rattle.txn_effects.specs.Calls.{KeysStandAlone, Effect, call_effect}
+use Rattle.conflict_detect.specs.KeysNamed.{HasKeys}
 use Rattle.rep_schema.specs.Putting.{after_changes}
 use Rattle.txn_effects.specs.Laws.{IsApplied}
 use Rattle.rep_schema.proofs.Making.{after_changes-append, room_for-length}

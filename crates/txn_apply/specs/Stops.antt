@@ -8,7 +8,8 @@ use Rattle.rep_calls.specs.declared.call.Call.{Call}
 use Rattle.conflict_detect.specs.Fits.{CallFits}
 use Rattle.unique_resolve.specs.Numbers.{Numbers, AreCounters}
 use Rattle.rep_schema.specs.declared.change.Change.{Change}
-use Rattle.txn_effects.specs.Calls.{HasKeys, KeysStandAlone, Effect}
+use Rattle.txn_effects.specs.Calls.{KeysStandAlone, Effect}
+use Rattle.conflict_detect.specs.KeysNamed.{HasKeys}
 use Rattle.txn_effects.specs.Transactions.{Failure}
 use Rattle.txn_apply.specs.declared.stop.ApplyStop.{ApplyStop}
 use Rattle.txn_apply.specs.declared.stop.ApplyStop.TheVariants.{Failed, Memory}

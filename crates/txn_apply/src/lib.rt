@@ -16,5 +16,4 @@ pub use stop::ApplyStop;
 pub use laws::support_outlasts_independent_transactions;
 pub use making::{make_changes, make_room, redo};
 pub use outcome::{Ending, Outcome};
-pub use row_tables::SharedSchema;
 pub use work::Work;

@@ -22,7 +22,8 @@ use Rattle.unique_resolve.specs.Numbers.{Numbers, AreCounters}
 use Rattle.unique_resolve.specs.Settling.{settlement_of}
 use Rattle.unique_resolve.proofs.Settlements.{AreCounters-settled, RowFits-settled, key_of-settled, IsUniqueRow-settled}
 use Rattle.txn_effects.specs.Parts.{settled_parts}
-use Rattle.txn_effects.specs.Calls.{HasKeys, KeysStandAlone, row_named, RowEffect, checked_effect, effect_by, settled_effect, row_effect}
+use Rattle.txn_effects.specs.Calls.{KeysStandAlone, row_named, RowEffect, checked_effect, effect_by, settled_effect, row_effect}
+use Rattle.conflict_detect.specs.KeysNamed.{HasKeys}
 use Rattle.txn_effects.specs.Laws.{IsChecked}
 use Rattle.txn_effects.proofs.Results.{result_then-Ok}
 use Rattle.txn_effects.proofs.PartEffects.{RowFits-settled_parts, key_of-settled_parts}

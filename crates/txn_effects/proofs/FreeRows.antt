@@ -9,7 +9,7 @@ use Rattle.rep_values.proofs.RefusalSteps.{none_refuses}
 use Rattle.unique_resolve.specs.Settling.{is_held}
 use Rattle.unique_resolve.proofs.HeldValues.{held_test}
 use Rattle.txn_effects.specs.Statements.{taken_step, unique_steps}
-use Rattle.txn_effects.proofs.OwnParts.{found_at}
+use Rattle.rep_lists.proofs.Places.{found_at}
 
 module _ (schema : Schema) (tables : List Rows) (table : ℕ) (row : Cells) (is_table : IsTable schema table (rows_of tables table)) (fits : RowFits (columns_of schema table) row)
     (passes : first_refusal (unique_steps schema tables table row) ≡ None) where

@@ -13,7 +13,8 @@ use Rattle.rep_calls.specs.declared.statement.Statement.{Statement}
 use Rattle.rep_calls.specs.declared.statement.Statement.TheVariants.{Insert, Update, Delete}
 use Rattle.unique_resolve.specs.Numbers.{first_numbers}
 use Rattle.unique_resolve.proofs.Settlements.{AreCounters-first}
-use Rattle.txn_effects.specs.Calls.{Effect, HasKeys, KeysStandAlone}
+use Rattle.txn_effects.specs.Calls.{Effect, KeysStandAlone}
+use Rattle.conflict_detect.specs.KeysNamed.{HasKeys}
 use Rattle.txn_effects.specs.Laws.{IsApplied, IsChecked}
 use Rattle.txn_effects.proofs.TransactionEffects.{IsApplied-changes_between}
 use Rattle.txn_effects.specs.declared.local.Here.{Here}

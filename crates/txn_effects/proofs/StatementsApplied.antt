@@ -8,7 +8,8 @@ use Rattle.rep_schema.specs.Shape.{HasShape}
 use Rattle.rep_schema.specs.Tables.{AreTables}
 use Rattle.rep_schema.specs.Named.{is_table, table_place}
 use Rattle.rep_calls.specs.declared.statement.Statement.{Statement}
-use Rattle.txn_effects.specs.Calls.{HasKeys, KeysStandAlone}
+use Rattle.txn_effects.specs.Calls.{KeysStandAlone}
+use Rattle.conflict_detect.specs.KeysNamed.{HasKeys}
 use Rattle.txn_effects.specs.Laws.{IsApplied}
 use Rattle.txn_effects.specs.declared.local.Here.{Here}
 use Rattle.txn_effects.specs.Held.{statement_table, held_table}

@@ -18,7 +18,8 @@ use Rattle.rep_calls.specs.declared.call.Txn.{Txn}
 use Rattle.conflict_detect.specs.Fits.{table_of, CallFits}
 use Rattle.unique_resolve.specs.Numbers.{Numbers, AreCounters}
 use Rattle.rep_schema.specs.Putting.{is_unchanged, changes_between, after_changes}
-use Rattle.txn_effects.specs.Calls.{HasKeys, KeysStandAlone, row_named, RowEffect, row_effect, Effect, call_effect}
+use Rattle.txn_effects.specs.Calls.{KeysStandAlone, row_named, RowEffect, row_effect, Effect, call_effect}
+use Rattle.conflict_detect.specs.KeysNamed.{HasKeys}
 use Rattle.txn_effects.specs.Transactions.{Failure, failing_at, effect_behind, calls_effect, txn_effect}
 use Rattle.txn_effects.specs.Laws.{CanApply, IsChecked, IsApplied}
 use Rattle.txn_effects.proofs.Results.{result_then-Ok}

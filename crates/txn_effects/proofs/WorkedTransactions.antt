@@ -20,7 +20,8 @@ use Rattle.rep_schema.specs.Groups.{group_columns_of}
 use Rattle.rep_calls.specs.declared.call.Call.{Call}
 use Rattle.rep_calls.specs.declared.call.Call.TheVariants.{Insert, Update, Delete}
 use Rattle.unique_resolve.specs.Numbers.{Numbers}
-use Rattle.txn_effects.specs.Calls.{HasKeys, KeysStandAlone, Effect, call_effect}
+use Rattle.txn_effects.specs.Calls.{KeysStandAlone, Effect, call_effect}
+use Rattle.conflict_detect.specs.KeysNamed.{HasKeys}
 use Rattle.txn_effects.specs.Transactions.{Failure, txn_effect, tables_by}
 
 -- the columns ID (the key) and Q, in the group g, which has no methods

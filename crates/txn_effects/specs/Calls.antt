@@ -15,7 +15,7 @@ use Rattle.rep_calls.specs.declared.call.Call.{Call}
 use Rattle.rep_calls.specs.declared.call.Call.TheVariants.{Insert, Update, Delete}
 use Rattle.rep_schema.specs.Putting.{changes_between}
 use Rattle.conflict_detect.specs.Fits.{table_of}
-pub use Rattle.conflict_detect.specs.KeysNamed.{HasKeys, key_named}
+use Rattle.conflict_detect.specs.KeysNamed.{key_named}
 use Rattle.unique_resolve.specs.declared.settled.Settled.{Settled}
 use Rattle.unique_resolve.specs.declared.settled.Settled.TheVariants.{Fits, Dropped, Conflict}
 use Rattle.unique_resolve.specs.Numbers.{Numbers}

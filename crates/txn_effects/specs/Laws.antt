@@ -12,7 +12,8 @@ use Rattle.rep_schema.specs.Checks.{failed_check}
 use Rattle.rep_calls.specs.declared.call.Txn.{Txn}
 use Rattle.conflict_detect.specs.Fits.{TxnFits}
 use Rattle.unique_resolve.specs.Numbers.{Numbers, AreCounters}
-use Rattle.txn_effects.specs.Calls.{HasKeys, KeysStandAlone, Effect}
+use Rattle.txn_effects.specs.Calls.{KeysStandAlone, Effect}
+use Rattle.conflict_detect.specs.KeysNamed.{HasKeys}
 use Rattle.rep_schema.specs.Putting.{after_changes}
 use Rattle.txn_effects.specs.Transactions.{txn_effect}
 

@@ -7,9 +7,9 @@ ghost use Rattle.unique_resolve.specs.Settling.{settled_each, with_numbers};
 ghost use Rattle.unique_resolve.specs.Trying.{IsAsked, HasBefore, settled_as};
 
 use crate::trying::{Ruling, settle_each};
-use rep_lists::Copies;
+use rep_lists::{Copies, NoMemory};
 use rep_schema::{Constraint, RowStore, Schema, TableEntry, UniqueMethod};
-use rep_values::{NoMemory, Row, SiteName};
+use rep_values::{Row, SiteName};
 use std::alloc::Global;
 use std::marker::Model;
 

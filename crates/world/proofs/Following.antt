@@ -21,7 +21,7 @@ use Rattle.world_state.specs.Pushes.{sent_on, taken_one, world_deliver_one}
 use Rattle.world_laws.specs.Simulation.{Simulates, Leads, AreEvents}
 use Rattle.world_laws.specs.Reached.{IsOfScript, InSetup, Behind}
 use Rattle.world_laws.proofs.Finding.{of_other}
-use Rattle.world_laws.proofs.SiteSteps.{run-append}
+use Rattle.event_laws.proofs.Runs.{run-append}
 use Rattle.world_laws.proofs.Pieces.{none_lead, then_lead, site_leads, release_leads, send_leads, send_mark_leads}
 use Rattle.world_laws.proofs.Calling.{deliver_one_leads, lose_leads}
 use Rattle.site_rounds.specs.Parts.{parts_done}

@@ -27,7 +27,7 @@ use Rattle.world_state.specs.World.{WorldState, is_there}
 use Rattle.world_state.specs.Phases.{is_setup, is_suspended, has_block, behind_setup_step, phase_step}
 use Rattle.world_state.specs.Refusals.{quiet_step, further_steps, world_refusal}
 use Rattle.world_laws.proofs.UnrefusedLines.{IsNamedIn, are_quiet-None, joined-made}
-use Rattle.convergent_worlds.specs.Worlds.{GoesOn}
+use Rattle.world_laws.specs.SnapshotWorlds.{GoesOn}
 use Rattle.world.specs.Following.{IsBuilt}
 use Rattle.world.specs.Precheck.{precheck_steps}
 use Rattle.world.proofs.Masters.{behind_goes, sites_of_schema, site_of_schema}

@@ -17,6 +17,4 @@ mod Quiet
 pub mod TwoMasters
 pub mod Joining
 pub mod BuiltWorlds
-pub use Rattle.convergent_worlds.proofs.Scripts
-pub use Rattle.convergent_worlds.proofs.Worlds
 pub mod Prechecks

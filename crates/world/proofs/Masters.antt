@@ -24,7 +24,7 @@ use Rattle.event_laws.proofs.Happening.{run_keeps}
 use Rattle.event_laws.proofs.DeclaredSites.{IsSiteOf, becomes_sites_of, start_sites_of}
 use Rattle.world_state.specs.World.{WorldState}
 use Rattle.world_state.specs.Phases.{is_setup}
-use Rattle.convergent_worlds.specs.Worlds.{GoesOn}
+use Rattle.world_laws.specs.SnapshotWorlds.{GoesOn}
 use Rattle.world_laws.specs.AlikeWorlds.{IsOfConvergence, Declaring, Going}
 use Rattle.world.specs.Finding.{IsAt}
 use Rattle.world.specs.Following.{IsBuilt}

@@ -12,7 +12,7 @@ use Rattle.site_events.specs.Cluster.{Cluster, site_of, at_site}
 use Rattle.site_events.specs.Events.{is_master_in, applied_where, happens}
 use Rattle.site_events.specs.Events as event
 use Rattle.event_laws.specs.Confluence.{applied_in_turn}
-use Rattle.world_laws.proofs.Finding.{at_twice}
+use Rattle.event_laws.proofs.Sites.{at_twice}
 use Rattle.world_laws.proofs.SiteSteps.{Runs, runs_behind, SiteRuns, then_runs, same_does, does_runs}
 use Rattle.site_rounds.specs.Parts.{part_of, parts_done}
 

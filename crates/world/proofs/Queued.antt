@@ -11,7 +11,7 @@ use Rattle.deferred_queue.proofs.Sites.{is_same_site-refl}
 use Rattle.site_state.specs.State.{DestinationState, SiteState}
 use Rattle.site_state.specs.Streams.{stream_to}
 use Rattle.site_state.specs.Deferrals.{deferred_of, deferred_marks, StandApart}
-use Rattle.site_making.proofs.Sending.{last_is}
+use Rattle.site_engine.proofs.Sending.{last_is}
 use Rattle.site_events.specs.Events.{has_acked_all, is_all_acked}
 use Rattle.world_state.specs.Refusals.{waiting_for, waiting_count}
 

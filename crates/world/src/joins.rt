@@ -17,7 +17,7 @@ use rep_schema::{RowStore, SiteEntry};
 use rep_values::{Refusal, SiteName};
 use schema_names::is_late_master;
 use script_parse::Command;
-use site_making::Site;
+use site_engine::Site;
 
 // Whether a site is a master, and another one than that of a name.
 fn is_other_master(name: &SiteName, other: &Site<PageTables>) -> bool

@@ -15,13 +15,10 @@ mod room;
 mod snapshots;
 mod testing;
 
-pub use convergent_worlds::convergence_holds;
 pub use parts::{WorldParts, place_of};
 pub use laws::lines_keep_worlds_of_scripts;
 pub use procs::{Procs, find_procedure, proc_place_of, procedure_place};
 pub use refreshes::young_step;
 pub use room::{drop_last, no_memory, room_for_line};
-pub use site_making::{Site, make_net, make_proc_sites, make_sites, master_here};
-pub use site_report::{add_errors, add_journal, add_log, add_marks, add_queue};
 pub use snapshots::master_of;
 pub use testing::{column_number, tests_in, tests_of};

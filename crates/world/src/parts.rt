@@ -11,7 +11,7 @@ use page_tables::PageTables;
 use rep_lists::{Items, NoMemory};
 use rep_schema::Schema;
 use rep_values::SiteName;
-use site_making::Site;
+use site_engine::Site;
 use std::alloc::Global;
 use std::marker::Model;
 use world_state::{Block, DeclaredSnapshot, Phase};

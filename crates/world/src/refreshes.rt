@@ -19,7 +19,7 @@ use rep_schema::RowStore;
 use rep_values::{Refusal, SiteName, TableName};
 use schema_names::table_place;
 use script_parse::{Command, Refresh};
-use site_making::Site;
+use site_engine::Site;
 use change_logs::{Notes, Watched};
 
 fn purged_of(logs: &Notes, table: u32) -> u64

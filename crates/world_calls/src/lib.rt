@@ -16,5 +16,4 @@ mod sending;
 mod applying;
 mod words;
 
-pub use world::proc_place_of;
 pub use lines::run_proc_line;

@@ -13,8 +13,9 @@ use Rattle.world_state.specs.World.{WorldState}
 use Rattle.world_state.specs.Phases.{is_setup}
 use Rattle.world_state.specs.Declaring.{is_snapshot_of, has_snapshot}
 use Rattle.world_state.specs.Making.{snapshots_at}
-use Rattle.world.specs.Worlds.{AreDeclaredOnce, DeclaresSoFar}
-use Rattle.world.specs.AlikeWorlds.{IsOfConvergence, Declaring, Going}
+use Rattle.world_laws.specs.WellDeclared.{AreDeclaredOnce}
+use Rattle.world_laws.specs.SnapshotWorlds.{DeclaresSoFar}
+use Rattle.world_laws.specs.AlikeWorlds.{IsOfConvergence, Declaring, Going}
 
 -- a declared snapshot as its site has it
 abbrev as_made : DeclaredSnapshot → Snapshot

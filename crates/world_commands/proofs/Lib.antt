@@ -15,7 +15,3 @@ mod QueueCounts
 mod OpenedSites
 mod JoinSteps
 pub mod TakenOver
-pub use Rattle.world.proofs.BuiltWorlds
-pub use Rattle.world.proofs.Prechecks
-pub use Rattle.world.proofs.Scripts
-pub use Rattle.world.proofs.Worlds

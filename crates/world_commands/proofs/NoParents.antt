@@ -19,7 +19,7 @@ use Rattle.refreshes.specs.Refreshing.{OthersAreShown}
 use Rattle.site_events.specs.Rules.{rows_ruled, parents_above, looked_up, refresh_ruled_answer, HaveNoParents, QueriesAreRules}
 use Rattle.refreshes.specs.Showing.{ShowsOthers}
 use Rattle.event_laws.specs.WaitingRows.{waits_for, waiting_keys}
-use Rattle.world.specs.Worlds.{IsShown}
+use Rattle.world_laws.specs.Sites.{IsShown}
 
 -- no row waits
 none_waits : (parents : List Cells) (rows : Rows) → filter (waits_for None parents) rows ≡ []

@@ -23,8 +23,8 @@ use Rattle.world_state.specs.Steps.{world_refresh}
 use Rattle.world_laws.proofs.Calling.{slice_set-place}
 use Rattle.world_laws.proofs.UnrefusedLines.{refreshed-made}
 use Rattle.world_laws.specs.Places.{site_place}
-use Rattle.world.specs.Worlds.{CanRefreshFrom, SnapshotsHold}
-use Rattle.world.proofs.Worlds.{snapshots_hold_of}
+use Rattle.world_laws.specs.Sites.{CanRefreshFrom, SnapshotsHold}
+use Rattle.world_laws.proofs.SnapshotScripts.{snapshots_hold_of}
 use Rattle.world_laws.proofs.AlikeWorlds.{of_snapshots}
 use Rattle.world.specs.Following.{IsBuilt}
 use Rattle.world.specs.Finding.{IsAt}

@@ -5,7 +5,7 @@ use Rattle.site_state.specs.State.{SiteState}
 use Rattle.script_parse.specs.declared.command.Refresh.{Refresh}
 use Rattle.world_state.specs.Refusals.{log_step}
 use Rattle.world_state.specs.Answers.{refresh_told}
-use Rattle.world.specs.Worlds.{CanRefreshFrom}
+use Rattle.world_laws.specs.Sites.{CanRefreshFrom}
 use Rattle.world_commands.specs.Refreshing.{CanRefreshAt, refreshed_by, refreshed_at, refresh_told_at}
 
 module _ (how : Refresh) (sites : List SiteState) (place master : ℕ) (can : CanRefreshAt how sites place master) where

@@ -13,7 +13,7 @@ use Rattle.event_laws.proofs.Joined.{joins_copy}
 use Rattle.world_state.specs.World.{WorldState}
 use Rattle.world_state.specs.Refusals.{world_refusal}
 use Rattle.world_state.specs.Steps.{step_by, world_step}
-use Rattle.world.specs.Worlds.{GoesOn}
+use Rattle.world_laws.specs.SnapshotWorlds.{GoesOn}
 use Rattle.world.specs.Following.{IsBuilt}
 use Rattle.world.proofs.Masters.{behind_goes}
 use Rattle.world.proofs.Joining.{CanJoin, can_join}

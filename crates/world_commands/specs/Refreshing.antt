@@ -7,7 +7,7 @@ use Rattle.site_events.specs.Rules.{rows_ruled}
 use Rattle.script_parse.specs.declared.command.Refresh.{Refresh}
 use Rattle.world_state.specs.Refusals.{log_step}
 use Rattle.world_state.specs.Answers.{RefreshTold, refresh_between}
-use Rattle.world.specs.Worlds.{CanRefreshFrom}
+use Rattle.world_laws.specs.Sites.{CanRefreshFrom}
 use Rattle.world_commands.specs.declared.refreshing.Told.{Told}
 
 -- what a refresh tells

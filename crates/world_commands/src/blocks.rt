@@ -10,7 +10,8 @@ ghost use Rattle.world.specs.Precheck.{precheck_refusal};
 ghost use Rattle.world.specs.Texts.{committed_text};
 ghost use Rattle.world.specs.Doing.{Does};
 
-use world::{WorldParts, Site, drop_last, no_memory, place_of, room_for_line};
+use world::{WorldParts, drop_last, no_memory, place_of, room_for_line};
+use site_engine::Site;
 use txn_effects::LocalStop;
 use page_tables::PageTables;
 use rep_calls::Statement;

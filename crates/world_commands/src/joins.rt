@@ -10,7 +10,9 @@ ghost use Rattle.world.specs.Precheck.{precheck_refusal};
 ghost use Rattle.world.specs.Doing.{Does};
 ghost use Rattle.world_commands.specs.Joining.{world_join};
 
-use world::{WorldParts, Site, master_here, no_memory, place_of, room_for_line};
+use world::{WorldParts, no_memory, place_of, room_for_line};
+use site_engine::Site;
+use site_making::master_here;
 use master_join::copy_site;
 use page_tables::PageTables;
 use rep_calls::PastEntry;

@@ -12,7 +12,6 @@ mod sites;
 mod snapshots;
 
 pub use blocks::{abandon, commit, open_block, add_statement};
-pub use world::{WorldParts, Site, convergence_holds, place_of};
 pub use joins::join;
 pub use links::{add_fates, clear_fates, set_link};
 pub use refreshing::{purge_log, refresh};

@@ -7,7 +7,7 @@ ghost use Rattle.site_events.specs.Rules.{rows_ruled, refresh_ruled_answer, Have
 ghost use Rattle.world_state.specs.Refusals.{young_step, log_step};
 ghost use Rattle.world_state.specs.Answers.{goes_by_logs, refresh_told, refresh_answer};
 ghost use Rattle.world_state.specs.Steps.{world_refresh};
-ghost use Rattle.world.specs.Worlds.{CanRefreshFrom};
+ghost use Rattle.world_laws.specs.Sites.{CanRefreshFrom};
 ghost use Rattle.world.specs.Following.{IsBuilt};
 ghost use Rattle.world.specs.Precheck.{precheck_refusal};
 ghost use Rattle.world.specs.Texts.{refreshed_text};
@@ -15,7 +15,8 @@ ghost use Rattle.world.specs.Doing.{Does};
 ghost use Rattle.world_commands.specs.Refreshing.{CanRefreshAt, refreshed_by, refreshed_at, refresh_told_at, told_of};
 
 use crate::ruled::{have_parents, rows_of_each, rows_of_each_by_logs};
-use world::{WorldParts, Site, master_of, no_memory, place_of, room_for_line, young_step};
+use world::{WorldParts, master_of, no_memory, place_of, room_for_line, young_step};
+use site_engine::Site;
 use event_laws::queries_are_rules;
 use refreshes::CountedView;
 use page_tables::PageTables;

@@ -11,7 +11,8 @@ ghost use Rattle.world.specs.Following.{IsBuilt};
 ghost use Rattle.world.specs.Precheck.{precheck_refusal};
 ghost use Rattle.world.specs.Doing.{Does};
 
-use world::{WorldParts, Procs, make_net, make_proc_sites, make_sites, no_memory};
+use world::{WorldParts, Procs, no_memory};
+use site_making::{make_net, make_proc_sites, make_sites};
 use local_txn::put_base_row;
 use rep_declare::Declare;
 use rep_lists::{Items, NoMemory};

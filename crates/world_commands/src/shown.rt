@@ -7,10 +7,9 @@ ghost use Rattle.world.specs.Precheck.{precheck_refusal};
 ghost use Rattle.world.specs.Texts.{senders_there, destinations_there, shown_text, shown_found, shown_calls, show_text};
 ghost use Rattle.world.specs.Doing.{Does};
 
-use world::{
-    WorldParts, Site, add_errors, add_journal, add_log, add_marks, add_queue, no_memory, place_of,
-    proc_place_of,
-};
+use world::{WorldParts, no_memory, place_of, proc_place_of};
+use site_engine::Site;
+use site_report::{add_errors, add_journal, add_log, add_marks, add_queue};
 use page_tables::PageTables;
 use proc_calls::ProcSite;
 use rep_lists::{Items, NoMemory};

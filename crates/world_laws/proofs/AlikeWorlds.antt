@@ -8,7 +8,7 @@ use Rattle.world_state.specs.World.{WorldState, first_world}
 use Rattle.world_state.specs.Making.{world_made}
 use Rattle.world_state.specs.Steps.{world_step}
 use Rattle.world_laws.specs.Simulation.{Simulates, Leads}
-use Rattle.world_laws.proofs.SiteSteps.{run-append}
+use Rattle.event_laws.proofs.Runs.{run-append}
 use Rattle.world_laws.proofs.Pieces.{none_lead, steps_are_events}
 use Rattle.world_laws.proofs.Starting.{made_simulates, made_linked}
 use Rattle.world_laws.proofs.FittingWorlds.{made_fit_start}

@@ -7,7 +7,6 @@ use Rattle.txn_effects.specs.declared.local.Here.{Here}
 use Rattle.site_state.specs.State.{SiteState}
 use Rattle.site_events.specs.Cluster.{site_of, at_site}
 use Rattle.event_laws.proofs.Sites.{KeepsHere, at_split}
-pub use Rattle.event_laws.proofs.Sites.{at_twice}
 
 same_name : (f : SiteState → SiteState) → KeepsHere f → (x : SiteState) (name : SiteName) → is_same_site (f x).here.site name ≡ is_same_site x.here.site name
 same_name f keeps x name = ap (λ (h : Here). is_same_site h.site name) (keeps x)

@@ -33,7 +33,8 @@ use Rattle.world_state.specs.Refusals.{world_refusal}
 use Rattle.world_state.specs.Steps.{resumed, world_refresh, log_purged_at, is_up_word, world_done, left_by, world_refused}
 use Rattle.world_laws.specs.Simulation.{CarriesSent, Simulates, Leads, AreEvents, StepsAreEvents, StepsAreEventsHoweverRefused}
 use Rattle.world_laws.proofs.Links.{net_more, at_carries, way_sent, released_carries, emptied_carries, sent_carries}
-use Rattle.world_laws.proofs.SiteSteps.{run-append, Runs, taken_runs, SiteRuns, does_runs, until_quiet_does}
+use Rattle.world_laws.proofs.SiteSteps.{Runs, taken_runs, SiteRuns, does_runs, until_quiet_does}
+use Rattle.event_laws.proofs.Runs.{run-append}
 
 -- ---- nothing, and one thing and then another
 

@@ -16,7 +16,7 @@ use Rattle.world_state.specs.Steps.{world_step}
 use Rattle.world_laws.specs.Simulation.{Simulates, AreEvents}
 use Rattle.world_laws.specs.Worlds.{EachIsSent, AreFrom1, EachWaitsForNothing, WorldHolds}
 use Rattle.world_laws.specs.Reached.{Reaches, IsReached}
-use Rattle.world_laws.proofs.SiteSteps.{run-append}
+use Rattle.event_laws.proofs.Runs.{run-append}
 use Rattle.world_laws.proofs.Pieces.{none_lead, steps_are_events}
 use Rattle.world_laws.proofs.Starting.{core_of, made_start, made_simulates, made_linked}
 use Rattle.world_laws.proofs.WorldLaws.{world_holds}

@@ -33,7 +33,7 @@ use Rattle.world_laws.specs.Simulation.{Simulates}
 use Rattle.world_laws.specs.Worlds.{WorldHolds}
 use Rattle.world_laws.specs.Scripts.{script_world, ScriptsHold, NothingWaitsInScripts, ReportedPushesLeaveNothingReady}
 use Rattle.world_laws.specs.Reached.{Reaches, IsInSetup, IsOfScript, InSetup, Behind}
-use Rattle.world_laws.proofs.SiteSteps.{run-append}
+use Rattle.event_laws.proofs.Runs.{run-append}
 use Rattle.world_laws.proofs.Pieces.{none_lead, steps_are_events}
 use Rattle.world_laws.proofs.Pushes.{pushes_leave_nothing_ready}
 use Rattle.world_laws.proofs.Starting.{core_of, made_start, made_simulates, made_linked}

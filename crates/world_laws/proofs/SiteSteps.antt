@@ -16,7 +16,7 @@ use Rattle.site_events.specs.Cluster.{Cluster, site_of, at_site}
 use Rattle.site_events.specs.Events.{Event, delivered, is_master_in, applied_where, happens, run}
 use Rattle.site_events.specs.Events as event
 use Rattle.event_laws.proofs.Sites.{KeepsHere, at_same, at_twice}
-pub use Rattle.event_laws.proofs.Runs.{run-append}
+use Rattle.event_laws.proofs.Runs.{run-append}
 use Rattle.site_state.specs.Rounds.{has_ready, passed_where_ready, round, rounds, sender_names, arrived_count, site_rounds, site_until_quiet}
 use Rattle.world_state.specs.Pushes.{taken_each}
 use Rattle.world_laws.specs.Simulation.{WasSent}

@@ -41,7 +41,7 @@ use Rattle.world_state.specs.Steps.{resumed, world_done, world_refused, step_by,
 use Rattle.world_laws.specs.Simulation.{Simulates, Leads}
 use Rattle.world_laws.specs.Scripts.{script_world}
 use Rattle.world_laws.specs.Reached.{IsInSetup, IsOfScript, InSetup, Behind}
-use Rattle.world_laws.proofs.SiteSteps.{run-append}
+use Rattle.event_laws.proofs.Runs.{run-append}
 use Rattle.world_laws.proofs.Pieces.{none_lead, steps_are_events}
 use Rattle.world_laws.proofs.Starting.{made_simulates, made_linked}
 use Rattle.world_laws.proofs.Scripts.{HasShape-no_schema, step_of_script}

@@ -21,7 +21,8 @@ use Rattle.world_state.specs.World.{WorldState, with_site}
 use Rattle.world_state.specs.Phases.{is_setup, is_running, has_block}
 use Rattle.world_state.specs.Pushes.{pushed_in, world_return_mark}
 use Rattle.world_laws.specs.Simulation.{Simulates, Leads, AreEvents}
-use Rattle.world_laws.proofs.Finding.{at_found, at_twice}
+use Rattle.world_laws.proofs.Finding.{at_found}
+use Rattle.event_laws.proofs.Sites.{at_twice}
 use Rattle.world_laws.proofs.SiteSteps.{SiteRuns}
 use Rattle.world_laws.proofs.Pieces.{none_lead, then_lead, site_leads, pushed_in_leads, return_mark_leads}
 use Rattle.world_laws.proofs.ProceduresStay.{same_procs}

@@ -10,7 +10,7 @@ use Rattle.event_laws.proofs.MarkLaws.{IsOfSchema, run_schema}
 use Rattle.event_laws.proofs.Confluence.{every_site_can_pass_in_any_order}
 use Rattle.world_state.specs.World.{WorldState}
 use Rattle.world_state.specs.Phases.{is_setup}
-use Rattle.world.specs.AlikeWorlds.{IsOfConvergence, Declaring, Going, GoesOnAlike}
+use Rattle.world_laws.specs.AlikeWorlds.{IsOfConvergence, Declaring, Going, GoesOnAlike}
 use Rattle.world.specs.Following.{PushesInPart, IsBuilt}
 use Rattle.world.proofs.Following.{built_in_part}
 use Rattle.world_push.specs.Applying.{CanApplyThere}

@@ -10,7 +10,8 @@ ghost use Rattle.world.specs.Following.{PushesInPart};
 ghost use Rattle.site_rounds.specs.Parts.{MastersCanPass};
 ghost use Rattle.world_push.specs.Applying.{told_text, IsApplying, CanApplyThere};
 
-use world::{WorldParts, Site, place_of};
+use world::{WorldParts, place_of};
+use site_engine::Site;
 use page_tables::PageTables;
 use rep_lists::NoMemory;
 use rep_values::SiteName;

@@ -7,7 +7,8 @@ ghost use Rattle.world_state.specs.Pushes.{world_deliver_one, world_deliver};
 ghost use Rattle.world_push.specs.Repeats.{is_repeat};
 ghost use Rattle.world_push.specs.Travelling.{Travels};
 
-use world::{WorldParts, Site, place_of};
+use world::{WorldParts, place_of};
+use site_engine::Site;
 use packet_code::Sealed;
 use page_tables::PageTables;
 use rep_lists::NoMemory;

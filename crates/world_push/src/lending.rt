@@ -12,7 +12,8 @@ ghost use Rattle.world_push.specs.Lending.{live_phase_step, live_refusal, reache
 
 use crate::marks::return_mark;
 use crate::pushing::send_and_deliver;
-use world::{WorldParts, Site, place_of};
+use world::{WorldParts, place_of};
+use site_engine::Site;
 use page_tables::PageTables;
 use rep_lists::{Items, NoMemory};
 use rep_schema::RowStore;

@@ -8,7 +8,8 @@ ghost use Rattle.world.specs.Following.{PushesInPart};
 
 use crate::deliver::deliver_all;
 use crate::send::{release, send_some};
-use world::{WorldParts, Site, place_of};
+use world::{WorldParts, place_of};
+use site_engine::Site;
 use packet_code::Sealed;
 use page_tables::PageTables;
 use rep_lists::NoMemory;

@@ -7,7 +7,8 @@ ghost use Rattle.site_events.specs.Events.{packet_from};
 ghost use Rattle.world_state.specs.Pushes.{at_most, sent_on, world_release, world_send, positions_in, positions_above, world_send_above};
 ghost use Rattle.world.specs.Following.{PushesInPart};
 
-use world::{WorldParts, Site, place_of};
+use world::{WorldParts, place_of};
+use site_engine::Site;
 use packet_code::Sealed;
 use page_tables::PageTables;
 use rep_lists::NoMemory;

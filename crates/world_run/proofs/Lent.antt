@@ -20,7 +20,7 @@ use Rattle.world_state.specs.World.{WorldState, is_there}
 use Rattle.world_state.specs.Phases.{is_running, has_block}
 use Rattle.world_state.specs.Pushes.{pushed_in}
 use Rattle.world_laws.specs.Places.{site_place}
-use Rattle.world_commands.specs.Following.{IsBuilt}
+use Rattle.world.specs.Following.{IsBuilt}
 use Rattle.world_push.specs.Lending.{live_phase_step, live_refusal, reaching, brought_from, live_opened, live_closed, given_back, PushEachInPart}
 use Rattle.world_push.proofs.Delivering.{pushed_there}
 use Rattle.world_push.proofs.PartlyPushed.{pushed_in_part, built_each}

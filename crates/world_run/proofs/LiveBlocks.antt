@@ -23,7 +23,7 @@ use Rattle.live_laws.specs.declared.turn.Session.{Session}
 use Rattle.live_laws.specs.Turns.{blocks_in, blocks_of}
 use Rattle.world_state.specs.World.{WorldState}
 use Rattle.world_state.specs.Steps.{world_step}
-use Rattle.world_commands.specs.Texts.{line_text}
+use Rattle.world.specs.Texts.{line_text}
 use Rattle.world_push.specs.Lending.{live_refusal}
 use Rattle.world_run.specs.declared.live_part.OpenSession.{OpenSession}
 use Rattle.world_run.specs.declared.live_part.OpenPart.{OpenPart}

@@ -28,12 +28,12 @@ use Rattle.world_state.specs.Procs.{proc_of}
 use Rattle.world_state.specs.Steps.{world_step}
 use Rattle.world_laws.proofs.QuietPushes.{push_leaves_none_ready}
 use Rattle.world_laws.proofs.ProceduresHold.{procedures_hold_of}
-use Rattle.world_commands.specs.Following.{IsBuilt}
+use Rattle.world.specs.Following.{IsBuilt}
 use Rattle.convergent_worlds.specs.Convergence.{HoldsOfConvergence}
-use Rattle.world_commands.specs.Worlds.{ShowsItsMaster}
+use Rattle.world_laws.specs.Refreshes.{ShowsItsMaster}
 use Rattle.world_commands.specs.Joining.{TakesOver}
-use Rattle.world_commands.proofs.Worlds.{of_script_holds, reported_pushes_leave_nothing_ready}
-use Rattle.world_commands.proofs.Worlds.{snapshots_hold_of, refreshes_show_of}
+use Rattle.world_laws.proofs.Scripts.{of_script_holds, reported_pushes_leave_nothing_ready}
+use Rattle.world_laws.proofs.SnapshotScripts.{snapshots_hold_of, refreshes_show_of}
 use Rattle.world_laws.proofs.AlikeWorlds.{of_snapshots}
 use Rattle.world_commands.proofs.TakenOver.{step_takes_over}
 use Rattle.world_run.specs.Scripts.{stepped_by, script_step, AllLawsHold}

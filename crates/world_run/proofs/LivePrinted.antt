@@ -37,8 +37,8 @@ use Rattle.live_report.specs.PartLaws.{PrintedPartsAreKnown}
 use Rattle.world_state.specs.World.{WorldState}
 use Rattle.world_state.specs.Phases.{is_setup}
 use Rattle.world_state.specs.Pushes.{pushed_in}
-use Rattle.world_commands.specs.Following.{IsBuilt}
-use Rattle.world_commands.specs.AlikeWorlds.{IsOfConvergence, Declaring, Going}
+use Rattle.world.specs.Following.{IsBuilt}
+use Rattle.world_laws.specs.AlikeWorlds.{IsOfConvergence, Declaring, Going}
 use Rattle.world_push.specs.Lending.{live_refusal, reaching, brought_from, live_opened}
 use Rattle.world_push.proofs.LiveParts.{lent_behind, opened_built}
 use Rattle.world_run.specs.Ended.{RanPart}

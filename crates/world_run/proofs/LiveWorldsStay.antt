@@ -37,8 +37,8 @@ use Rattle.world_state.specs.Phases.{is_setup}
 use Rattle.world_state.specs.Pushes.{world_send, world_send_each, positions_above, world_release, world_send_above, taken_each, pushed_in}
 use Rattle.world_laws.specs.Reached.{IsOfScript, InSetup, Behind}
 use Rattle.world_laws.proofs.Finding.{at_found, of_at}
-use Rattle.world_commands.specs.Following.{IsBuilt}
-use Rattle.world_commands.proofs.BuiltWorlds.{first_built}
+use Rattle.world.specs.Following.{IsBuilt}
+use Rattle.world.proofs.BuiltWorlds.{first_built}
 use Rattle.world_push.specs.Lending.{live_phase_step, live_refusal, reaching, brought_from, live_opened}
 use Rattle.world_push.proofs.LiveParts.{lendings_are_events, lent_behind, part_built, closed_built}
 use Rattle.world_run.specs.declared.live_part.OpenSession.{OpenSession}

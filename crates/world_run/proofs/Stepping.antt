@@ -14,14 +14,14 @@ use Rattle.world_state.specs.Procs.{proc_of}
 use Rattle.world_state.specs.Refusals.{world_refusal}
 use Rattle.world_state.specs.Steps.{world_done, world_refused, step_by, world_step}
 use Rattle.world_laws.proofs.QuietPushes.{push_leaves_none_ready}
-use Rattle.world_commands.proofs.Worlds.{reported_pushes_leave_nothing_ready}
-use Rattle.world_commands.specs.Following.{IsBuilt}
-use Rattle.world_commands.specs.Precheck.{precheck_refusal}
-use Rattle.world_commands.specs.Doing.{IsRefused, Does, AnswersPrecheck}
-use Rattle.world_commands.proofs.BuiltWorlds.{lines_keep_built}
-use Rattle.world_commands.proofs.Prechecks.{precheck_refused}
-use Rattle.world_commands.specs.Worlds.{ShowsItsMaster}
-use Rattle.world_commands.proofs.Worlds.{refreshes_show_of}
+use Rattle.world_laws.proofs.Scripts.{reported_pushes_leave_nothing_ready}
+use Rattle.world.specs.Following.{IsBuilt}
+use Rattle.world.specs.Precheck.{precheck_refusal}
+use Rattle.world.specs.Doing.{IsRefused, Does, AnswersPrecheck}
+use Rattle.world.proofs.BuiltWorlds.{lines_keep_built}
+use Rattle.world.proofs.Prechecks.{precheck_refused}
+use Rattle.world_laws.specs.Refreshes.{ShowsItsMaster}
+use Rattle.world_laws.proofs.SnapshotScripts.{refreshes_show_of}
 use Rattle.world_laws.proofs.AlikeWorlds.{of_snapshots}
 use Rattle.world_commands.specs.Joining.{TakesOver}
 use Rattle.world_commands.proofs.TakenOver.{takes_over}

@@ -10,11 +10,11 @@ use Rattle.script_lex.specs.Stop.{Fails}
 use Rattle.script_parse.specs.declared.command.Command.{Command}
 use Rattle.script_parse.specs.Parsed.{parsed}
 use Rattle.world_state.specs.declared.refused.Refused.{Refused}
-use Rattle.world_commands.specs.Texts.{told_text}
+use Rattle.world.specs.Texts.{told_text}
 use Rattle.world_state.specs.World.{WorldState}
 use Rattle.world_state.specs.Refusals.{world_refusal}
 use Rattle.world_state.specs.Steps.{world_refused, step_by, told_by}
-use Rattle.world_commands.specs.Doing.{IsDone, IsOutOfMemory, IsRefused}
+use Rattle.world.specs.Doing.{IsDone, IsOutOfMemory, IsRefused}
 use Rattle.script_drive.specs.LineBytes.{StopsBy}
 use Rattle.world_run.specs.Scripts.{script_step}
 

@@ -10,7 +10,7 @@ use Rattle.live_laws.specs.declared.turn.Session.{Session}
 use Rattle.live_laws.specs.Turns.{site_after}
 use Rattle.world_state.specs.World.{WorldState}
 use Rattle.world_state.specs.Phases.{is_running}
-use Rattle.world_commands.specs.Following.{IsBuilt}
+use Rattle.world.specs.Following.{IsBuilt}
 use Rattle.world_push.specs.Lending.{live_refusal, live_opened, given_back}
 
 -- a master that is lent out: its name, its place among the sites, and how it was then

@@ -4,8 +4,6 @@ pub mod Reporting
 pub mod Scripts
 pub mod Completeness
 pub mod RunOf
-pub use Rattle.world_commands.specs.Texts
-pub use Rattle.world_commands.specs.Doing
 pub mod Ended
 pub mod LiveParts
 pub mod LiveScripts

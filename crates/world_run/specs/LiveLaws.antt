@@ -19,7 +19,7 @@ use Rattle.world_state.specs.Procs.{proc_of}
 use Rattle.world_state.specs.Refusals.{world_refusal}
 use Rattle.world_laws.specs.ProcedureWorlds.{NoCallsReady}
 use Rattle.site_state.specs.Rounds.{NothingReady}
-use Rattle.world_commands.specs.Worlds.{ShowsItsMaster}
+use Rattle.world_laws.specs.Refreshes.{ShowsItsMaster}
 use Rattle.world_commands.specs.Joining.{TakesOver}
 use Rattle.world_run.specs.declared.live_part.LivePart.{LivePart}
 use Rattle.world_run.specs.declared.live_part.LivePart.TheVariants as part

@@ -14,7 +14,7 @@ use Rattle.world_state.specs.World.{WorldState}
 use Rattle.world_state.specs.Procs.{proc_of}
 use Rattle.world_laws.specs.ProcedureWorlds.{NoCallsReady}
 use Rattle.site_state.specs.Rounds.{NothingReady}
-use Rattle.world_commands.specs.Worlds.{ShowsItsMaster}
+use Rattle.world_laws.specs.Refreshes.{ShowsItsMaster}
 use Rattle.world_commands.specs.Joining.{TakesOver}
 
 -- once a push is reported no position of any sender is ready at the receiver

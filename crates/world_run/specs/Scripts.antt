@@ -18,13 +18,13 @@ use Rattle.world_state.specs.Procs.{proc_of}
 use Rattle.world_state.specs.Refusals.{world_refusal}
 use Rattle.world_state.specs.Steps.{world_step}
 use Rattle.world_laws.specs.ProcedureWorlds.{ProceduresHold, NoCallsReady}
-use Rattle.world_commands.specs.Worlds.{WorldHolds}
+use Rattle.world_laws.specs.Worlds.{WorldHolds}
 use Rattle.site_state.specs.Rounds.{NothingReady}
-use Rattle.world_commands.specs.Worlds.{SnapshotsHold}
-use Rattle.world_commands.specs.Worlds.{ShowsItsMaster}
-use Rattle.world_commands.specs.Convergence.{ConvergenceHolds}
+use Rattle.world_laws.specs.Sites.{SnapshotsHold}
+use Rattle.world_laws.specs.Refreshes.{ShowsItsMaster}
+use Rattle.convergent_worlds.specs.Convergence.{ConvergenceHolds}
 use Rattle.world_commands.specs.Joining.{TakesOver}
-use Rattle.world_commands.specs.Texts.{line_text}
+use Rattle.world.specs.Texts.{line_text}
 use Rattle.script_drive.specs.LineBytes.{most_lines, line_step}
 
 abbrev pub stepped_by : WorldState → ℕ → Result Command ℕ → Stepped WorldState

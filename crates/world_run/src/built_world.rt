@@ -3,14 +3,14 @@ ghost use Rattle.std.specs.Prelude.{◌≡◌, Some, None, option_copied, IfOk, 
 ghost use Rattle.script_parse.specs.Named.{NamesColumn};
 ghost use Rattle.rep_values.specs.declared.name.SiteName.{SiteName as SiteNameValue};
 ghost use Rattle.site_events.specs.Cluster.{site_of};
-ghost use Rattle.world_commands.specs.Following.{IsBuilt};
+ghost use Rattle.world.specs.Following.{IsBuilt};
 ghost use Rattle.world_state.specs.World.{first_world};
 ghost use Rattle.world_state.specs.Procs.{proc_of};
 ghost use Rattle.world_laws.specs.ProcedureWorlds.{ProceduresHold};
-ghost use Rattle.world_commands.specs.Worlds.{WorldHolds};
-ghost use Rattle.world_commands.specs.Doing.{Does, AnswersPrecheck};
-ghost use Rattle.world_commands.specs.Worlds.{SnapshotsHold};
-ghost use Rattle.world_commands.specs.Convergence.{ConvergenceHolds};
+ghost use Rattle.world_laws.specs.Worlds.{WorldHolds};
+ghost use Rattle.world.specs.Doing.{Does, AnswersPrecheck};
+ghost use Rattle.world_laws.specs.Sites.{SnapshotsHold};
+ghost use Rattle.convergent_worlds.specs.Convergence.{ConvergenceHolds};
 ghost use Rattle.site_rounds.specs.Passing.{PassRequires, PassEnsures};
 ghost use Rattle.world_push.specs.Lending.{live_refusal, reaching, live_opened, live_closed, given_back, PushEachInPart};
 ghost use Rattle.world_run.specs.Lent.{site_here, MayComeBack, MayComeBackFromTurns};
@@ -18,8 +18,9 @@ ghost use Rattle.world_run.specs.Reporting.{PushLeavesNothingReady, PushLeavesNo
 
 use crate::crew::crew_pass;
 use crate::lines::run_or_refuse;
-use world_calls::proc_place_of;
-use world_commands::{WorldParts, Site, convergence_holds, place_of};
+use world::{WorldParts, place_of, proc_place_of};
+use site_engine::Site;
+use convergent_worlds::convergence_holds;
 use world_push::{live_close, live_open, live_refusal};
 use page_tables::PageTables;
 use parallel_apply::Workers;
@@ -63,7 +64,7 @@ impl Model for Lent {
 }
 
 impl Model for World {
-    ghost use Rattle.world_commands.specs.Following.{IsBuilt};
+    ghost use Rattle.world.specs.Following.{IsBuilt};
     ghost use Rattle.world_run.specs.Lent.{LentWorld, with_lent, seen_with, IsLentFrom};
 
     ghost Value = { LentWorld };

@@ -2,7 +2,7 @@
 ghost use Rattle.world_run.specs.Lent.{LentMastersMayComeBack};
 ghost use Rattle.world_run.specs.Scripts.{JoinsOfScriptsTakeOver, LinesOfScriptsHold, PushesOfCallsLeaveNothingReady, PushesOfScriptsLeaveNothingReady, RefreshesOfScriptsShowTheQuery, ReportedProceduresHold, ReportedSnapshotsHold, ReportedWorldsConverge, ReportedWorldsHold};
 
-use world_commands::convergence_holds;
+use convergent_worlds::convergence_holds;
 
 /// The laws over events hold of the world behind whatever lines of whatever script: of each world that a report tells of; and so
 /// do those of snapshots, of convergence and of procedures. Once a push is reported, be it one of calls, no position of any sender

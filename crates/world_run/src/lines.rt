@@ -1,16 +1,13 @@
 //! Each line of a script by its command.
 ghost use Rattle.std.specs.Prelude.{◌≡◌, None};
 ghost use Rattle.script_parse.specs.Named.{NamesColumn};
-ghost use Rattle.world_commands.specs.Following.{IsBuilt};
-ghost use Rattle.world_commands.specs.Precheck.{precheck_refusal};
-ghost use Rattle.world_commands.specs.Doing.{Does, AnswersPrecheck};
+ghost use Rattle.world.specs.Following.{IsBuilt};
+ghost use Rattle.world.specs.Precheck.{precheck_refusal};
+ghost use Rattle.world.specs.Doing.{Does, AnswersPrecheck};
 
 use world_calls::run_proc_line;
-use world_commands::{
-    WorldParts, abandon, add_fates, add_row, add_snapshot, clear_fates, commit, declare,
-    drop_error, execute, join, open_block, purge, purge_log, refresh, resume, set_clock, set_link,
-    show, add_statement, suspend,
-};
+use world_commands::{abandon, add_fates, add_row, add_snapshot, clear_fates, commit, declare, drop_error, execute, join, open_block, purge, purge_log, refresh, resume, set_clock, set_link, show, add_statement, suspend};
+use world::WorldParts;
 use world_push::push;
 use report_text::Lines;
 use script_parse::Command;

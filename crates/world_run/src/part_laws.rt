@@ -2,7 +2,7 @@
 ghost use Rattle.world_run.specs.LiveScripts.{PrintedTurnsAreKnown, ScriptsHaveFullTurns};
 ghost use Rattle.world_run.specs.LiveLaws.{LinesOutsideAreAsBefore, LiveLinesHold, LiveWorldsHold, ScriptsWithoutPartsPrintTheSame};
 
-use world_commands::convergence_holds;
+use convergent_worlds::convergence_holds;
 use live_report::printed_parts_are_known;
 
 /// The laws over events, of snapshots, of convergence and of procedures hold of the world behind whatever lines of a script with a

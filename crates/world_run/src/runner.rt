@@ -5,7 +5,7 @@ ghost use Rattle.world_state.specs.World.{first_world};
 ghost use Rattle.world_run.specs.Scripts.{script_step};
 
 use crate::built_world::World;
-use world_commands::WorldParts;
+use world::WorldParts;
 use rep_lists::NoMemory;
 use rep_values::Refusal;
 use report_text::{Lines, MOST_LINE, refused_line};

@@ -14,7 +14,8 @@ use rep_schema::RowStore;
 use rep_values::SiteName;
 use site_state::{Applied, Arrival};
 use std::alloc::Global;
-use txn_apply::{Outcome, SharedSchema, Work};
+use txn_apply::{Outcome, Work};
+use row_tables::SharedSchema;
 
 impl<R: RowStore> Site<R> {
     /// Whether a position of a sender arrived. It takes no memory.

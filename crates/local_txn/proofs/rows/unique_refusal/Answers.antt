@@ -1,7 +1,7 @@
 use Rattle.std.proofs.Common.{◌≡◌, ◌<◌, length, Some, None, sym, ◌∙◌}
 use Rattle.rep_schema.specs.Tables.{constraints_of}
 use Rattle.txn_effects.specs.Statements.{taken_step}
-use Rattle.txn_effects.proofs.OwnParts.{found_at}
+use Rattle.rep_lists.proofs.Places.{found_at}
 use Rattle.local_txn.proofs.ConstraintSteps.{first_refusal-here, first_refusal-more}
 use Rattle.local_txn.proofs.rows.unique_refusal.Goals as goal
 

@@ -7,7 +7,7 @@ use Rattle.world_state.specs.Making.{snapshots_at}
 use Rattle.world_state.specs.Procs.{proc_schema}
 use Rattle.world_state.proofs.LowestRules.{broken_by-None}
 use Rattle.world_laws.proofs.Declared.{proc_keyed, procedures_beside}
-use Rattle.world.specs.Worlds.{AreParentsWithin}
+use Rattle.world_laws.specs.WellDeclared.{AreParentsWithin}
 use Rattle.world_commands.proofs.DeclaredApart.{declared_apart, declared_so_far}
 use Rattle.world_commands.proofs.setup.end_setup.Goals as goal
 

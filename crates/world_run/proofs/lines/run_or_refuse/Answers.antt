@@ -1,9 +1,9 @@
 -- A line that is refused before it is tried.
 use Rattle.std.proofs.Common.{◌≡◌, Some, sym, inr, subst}
 use Rattle.world_state.specs.World.{WorldState}
-use Rattle.world_commands.specs.Precheck.{precheck_refusal}
-use Rattle.world_commands.specs.Doing.{IsRefused}
-use Rattle.world_commands.proofs.Prechecks.{precheck_refused}
+use Rattle.world.specs.Precheck.{precheck_refusal}
+use Rattle.world.specs.Doing.{IsRefused}
+use Rattle.world.proofs.Prechecks.{precheck_refused}
 use Rattle.world_run.proofs.lines.run_or_refuse.Goals as goal
 
 pub returns-in-Some-clause-does : goal.returns-in-Some-clause-does

@@ -1,7 +1,7 @@
 -- The master is there once all came in, and is taken out.
 use Rattle.std.proofs.Common.{refl, sym, ap, ◌∙◌, subst}
 use Rattle.site_events.specs.Cluster.{site_of}
-use Rattle.world_commands.specs.Following.{IsBuilt}
+use Rattle.world.specs.Following.{IsBuilt}
 use Rattle.world_push.specs.Lending.{live_opened}
 use Rattle.world_run.specs.declared.built_world.World.TheInside.{Inside}
 use Rattle.world_run.specs.Lent.{LentWorld}

@@ -1,9 +1,10 @@
 -- What came of a line, and what holds of the world that it leaves.
 use Rattle.world_state.specs.World.{WorldState}
 use Rattle.world_laws.proofs.ProceduresHold.{procedures_hold_of}
-use Rattle.world_commands.specs.Doing.{Does, AnswersPrecheck}
-use Rattle.world_commands.proofs.BuiltWorlds.{lines_keep_built}
-use Rattle.world_commands.proofs.Worlds.{of_script_holds, snapshots_hold_of}
+use Rattle.world.specs.Doing.{Does, AnswersPrecheck}
+use Rattle.world.proofs.BuiltWorlds.{lines_keep_built}
+use Rattle.world_laws.proofs.Scripts.{of_script_holds}
+use Rattle.world_laws.proofs.SnapshotScripts.{snapshots_hold_of}
 use Rattle.world_laws.proofs.AlikeWorlds.{of_snapshots}
 use Rattle.world_run.specs.Reporting.{PushLeavesNothingReady, PushLeavesNoCallsReady, RefreshShowsTheQuery, JoinTakesOver}
 use Rattle.world_run.proofs.Stepping.{ready-done, called-done, refreshed-done, joined-done}
