@@ -11,54 +11,23 @@ use Rattle.schema_rules.specs.declared.forms.Form.TheVariants as form
 use Rattle.schema_rules.specs.MethodRules.{is_one_number, site_column}
 
 abbrev pub is_additive : Method → Bool
-is_additive (method.Latest column) = false
-is_additive (method.Earliest column) = false
-is_additive method.Overwrite = false
-is_additive method.Discard = false
 is_additive method.Additive = true
-is_additive method.Average = false
-is_additive (method.Maximum column) = false
-is_additive (method.Minimum column) = false
-is_additive (method.Priority column group) = false
-is_additive (method.SitePriority column) = false
+is_additive _ = false
 
 abbrev pub is_discard : Method → Bool
-is_discard (method.Latest column) = false
-is_discard (method.Earliest column) = false
-is_discard method.Overwrite = false
 is_discard method.Discard = true
-is_discard method.Additive = false
-is_discard method.Average = false
-is_discard (method.Maximum column) = false
-is_discard (method.Minimum column) = false
-is_discard (method.Priority column group) = false
-is_discard (method.SitePriority column) = false
+is_discard _ = false
 
 -- the column of latest
 abbrev pub latest_column : Method → Option ℕ
 latest_column (method.Latest column) = Some column
-latest_column (method.Earliest column) = None
-latest_column method.Overwrite = None
-latest_column method.Discard = None
-latest_column method.Additive = None
-latest_column method.Average = None
-latest_column (method.Maximum column) = None
-latest_column (method.Minimum column) = None
-latest_column (method.Priority column group) = None
-latest_column (method.SitePriority column) = None
+latest_column _ = None
 
 -- the form that maximum and minimum bring
 abbrev pub extreme_of : Method → Option Form
-extreme_of (method.Latest column) = None
-extreme_of (method.Earliest column) = None
-extreme_of method.Overwrite = None
-extreme_of method.Discard = None
-extreme_of method.Additive = None
-extreme_of method.Average = None
 extreme_of (method.Maximum column) = Some (form.Greatest column)
 extreme_of (method.Minimum column) = Some (form.Least column)
-extreme_of (method.Priority column group) = None
-extreme_of (method.SitePriority column) = None
+extreme_of _ = None
 
 -- a column where it is of a kind and one of these places
 abbrev pub own_column : (Kind → Bool) → List Column → List ℕ → Option ℕ → Option ℕ

@@ -24,16 +24,9 @@ names_own_columns group = list_all (λ m. is_none_or (has_place group.columns) (
 
 -- additive or average
 abbrev pub is_arithmetic : Method → Bool
-is_arithmetic (method.Latest column) = false
-is_arithmetic (method.Earliest column) = false
-is_arithmetic method.Overwrite = false
-is_arithmetic method.Discard = false
 is_arithmetic method.Additive = true
 is_arithmetic method.Average = true
-is_arithmetic (method.Maximum column) = false
-is_arithmetic (method.Minimum column) = false
-is_arithmetic (method.Priority column group) = false
-is_arithmetic (method.SitePriority column) = false
+is_arithmetic _ = false
 
 -- exactly one column, a NUMBER
 abbrev pub is_one_number : List Column → List ℕ → Bool
@@ -47,53 +40,23 @@ adds_one_number columns group = not (list_any is_arithmetic group.methods) || is
 abbrev pub time_column : Method → Option ℕ
 time_column (method.Latest column) = Some column
 time_column (method.Earliest column) = Some column
-time_column method.Overwrite = None
-time_column method.Discard = None
-time_column method.Additive = None
-time_column method.Average = None
-time_column (method.Maximum column) = None
-time_column (method.Minimum column) = None
-time_column (method.Priority column group) = None
-time_column (method.SitePriority column) = None
+time_column _ = None
 
 -- the column of maximum and minimum
 abbrev pub extreme_column : Method → Option ℕ
-extreme_column (method.Latest column) = None
-extreme_column (method.Earliest column) = None
-extreme_column method.Overwrite = None
-extreme_column method.Discard = None
-extreme_column method.Additive = None
-extreme_column method.Average = None
 extreme_column (method.Maximum column) = Some column
 extreme_column (method.Minimum column) = Some column
-extreme_column (method.Priority column group) = None
-extreme_column (method.SitePriority column) = None
+extreme_column _ = None
 
 -- the column of priority
 abbrev pub ranked_column : Method → Option ℕ
-ranked_column (method.Latest column) = None
-ranked_column (method.Earliest column) = None
-ranked_column method.Overwrite = None
-ranked_column method.Discard = None
-ranked_column method.Additive = None
-ranked_column method.Average = None
-ranked_column (method.Maximum column) = None
-ranked_column (method.Minimum column) = None
 ranked_column (method.Priority column group) = Some column
-ranked_column (method.SitePriority column) = None
+ranked_column _ = None
 
 -- the column of site-priority
 abbrev pub site_column : Method → Option ℕ
-site_column (method.Latest column) = None
-site_column (method.Earliest column) = None
-site_column method.Overwrite = None
-site_column method.Discard = None
-site_column method.Additive = None
-site_column method.Average = None
-site_column (method.Maximum column) = None
-site_column (method.Minimum column) = None
-site_column (method.Priority column group) = None
 site_column (method.SitePriority column) = Some column
+site_column _ = None
 
 -- the column of latest and earliest is a DATE or a STAMP
 abbrev pub compares_times : List Column → Method → Bool

@@ -20,40 +20,14 @@ use Rattle.world.specs.Texts.{world_text}
 
 -- a line pushes calls
 abbrev pub is_push_of_calls : ProcLine → Bool
-is_push_of_calls (proc_line.Table table columns) = false
-is_push_of_calls (proc_line.Procedure procedure table does) = false
-is_push_of_calls (proc_line.Calls site) = false
-is_push_of_calls (proc_line.Call call) = false
-is_push_of_calls (proc_line.Send to) = false
 is_push_of_calls (proc_line.Push from to) = true
-is_push_of_calls (proc_line.Fates from to fates) = false
-is_push_of_calls (proc_line.Execute site origin position) = false
+is_push_of_calls _ = false
 
 -- a line pushes
 abbrev pub is_push : Command → Bool
-is_push command.Nothing = false
-is_push (command.Declare declaration) = false
-is_push (command.Snapshot site table parent tests) = false
-is_push (command.Row table values) = false
-is_push command.Resume = false
-is_push (command.Statement statement) = false
-is_push (command.Txn site) = false
-is_push command.Commit = false
-is_push command.Abandon = false
 is_push (command.Push from to count) = true
-is_push (command.Fates from to fates) = false
-is_push (command.ClearFates from to) = false
-is_push (command.Link from to word) = false
-is_push (command.Clock site time) = false
-is_push (command.Purge site) = false
-is_push (command.Execute site origin position) = false
-is_push (command.DropError site origin position) = false
-is_push (command.Refresh site how) = false
-is_push (command.PurgeLog master table) = false
-is_push command.Suspend = false
-is_push (command.Join site source) = false
-is_push (command.Show what site) = false
 is_push (command.Procedures line) = is_push_of_calls line
+is_push _ = false
 
 -- a push of calls was done in part, and beside what there is of procedures all is as it was
 pub record PushesCallsInPart (from to : SiteName) (old new : WorldState) : Type 0 where

@@ -20,14 +20,9 @@ use Rattle.world_state.specs.Refusals.{has_sender, further_steps}
 
 -- one that has to be tried before all of its refusals are known
 abbrev pub refuses_late_call : ProcLine → Bool
-refuses_late_call (proc_line.Table table columns) = false
-refuses_late_call (proc_line.Procedure procedure table does) = false
-refuses_late_call (proc_line.Calls site) = false
-refuses_late_call (proc_line.Call call) = false
 refuses_late_call (proc_line.Send to) = true
-refuses_late_call (proc_line.Push from to) = false
-refuses_late_call (proc_line.Fates from to fates) = false
 refuses_late_call (proc_line.Execute site origin position) = true
+refuses_late_call _ = false
 
 -- its steps behind the phase that are known before: of a send those of its names
 abbrev pub precheck_proc_steps : ProcLine → WorldState → List (Option Refusal)
@@ -44,29 +39,12 @@ precheck_proc_steps (proc_line.Execute site origin position) w = known (proc_of 
 
 -- a line that has to be tried before all of its refusals are known
 abbrev pub refuses_late : Command → Bool
-refuses_late command.Nothing = false
-refuses_late (command.Declare declaration) = false
-refuses_late (command.Snapshot site table parent tests) = false
 refuses_late (command.Row table values) = true
-refuses_late command.Resume = false
-refuses_late (command.Statement statement) = false
-refuses_late (command.Txn site) = false
 refuses_late command.Commit = true
-refuses_late command.Abandon = false
-refuses_late (command.Push from to count) = false
-refuses_late (command.Fates from to fates) = false
-refuses_late (command.ClearFates from to) = false
-refuses_late (command.Link from to word) = false
-refuses_late (command.Clock site time) = false
-refuses_late (command.Purge site) = false
 refuses_late (command.Execute site origin position) = true
 refuses_late (command.DropError site origin position) = true
-refuses_late (command.Refresh site how) = false
-refuses_late (command.PurgeLog master table) = false
-refuses_late command.Suspend = false
-refuses_late (command.Join site source) = false
-refuses_late (command.Show what site) = false
 refuses_late (command.Procedures line) = refuses_late_call line
+refuses_late _ = false
 
 -- the steps behind the phase that are known before
 abbrev pub precheck_steps : Command → WorldState → List (Option Refusal)

@@ -44,29 +44,8 @@ world_commit w = committed_block w.block w
 
 -- a line commits the open block
 abbrev pub is_commit : Command → Bool
-is_commit command.Nothing = false
-is_commit (command.Declare declaration) = false
-is_commit (command.Snapshot site table parent tests) = false
-is_commit (command.Row table values) = false
-is_commit command.Resume = false
-is_commit (command.Statement statement) = false
-is_commit (command.Txn site) = false
 is_commit command.Commit = true
-is_commit command.Abandon = false
-is_commit (command.Push from to count) = false
-is_commit (command.Fates from to fates) = false
-is_commit (command.ClearFates from to) = false
-is_commit (command.Link from to link) = false
-is_commit (command.Clock site time) = false
-is_commit (command.Purge site) = false
-is_commit (command.Execute site origin position) = false
-is_commit (command.DropError site origin position) = false
-is_commit (command.Refresh site how) = false
-is_commit (command.PurgeLog master table) = false
-is_commit command.Suspend = false
-is_commit (command.Join site source) = false
-is_commit (command.Show what site) = false
-is_commit (command.Procedures line) = false
+is_commit _ = false
 
 -- ---- what a commit is refused for
 
