@@ -6,13 +6,13 @@ ghost use Rattle.conflict_detect.specs.KeysNamed.{HasKeys};
 
 use case_reader::{CaseStop, Words, read_statement};
 use local_txn::run_local;
-use txn_effects::{Here, Stamps};
 use page_tables::PageTables;
 use rep_calls::Statement;
 use rep_schema::TableSet;
 use rep_values::{Name, SiteName};
 use script_lex::lex;
 use std::alloc::Global;
+use txn_effects::{Here, Stamps};
 
 /// Where the transactions run.
 #[derive(Clone, Copy)]

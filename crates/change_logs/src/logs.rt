@@ -7,10 +7,10 @@ ghost use Rattle.change_logs.specs.Noting.{log_of, keys_in, logged_in};
 ghost use Rattle.change_logs.specs.RoomyNotes.{log_in, logs_in, log_spares};
 ghost use Rattle.rep_lists.specs.Counting.{least};
 
+use crate::Log;
 use crate::changed::note_in;
 use rep_lists::NoMemory;
 use rep_schema::{Change, Schema};
-use crate::Log;
 use std::alloc::Global;
 
 /// A log of each of these tables, without a key.

@@ -7,11 +7,11 @@ ghost use Rattle.change_logs.specs.Noting.{log_of, pending_keys, renewed};
 ghost use Rattle.change_logs.specs.RoomyNotes.{log_in};
 ghost use Rattle.change_logs.specs.Noted.{key_touched, as_lent, without_query, with_query};
 
+use crate::Log;
 use crate::merge::with_keys;
 use crate::touched::Touched;
 use rep_lists::{Items, NoMemory};
 use rep_values::Key;
-use crate::Log;
 use snapshot_query::{Parent, Query, Snapshot};
 use std::alloc::Global;
 use std::marker::Model;

@@ -3,8 +3,13 @@ ghost use Rattle.world_laws.specs.SnapshotScripts.{InScripts, InWorlds};
 ghost use Rattle.convergent_worlds.specs.Convergence.{ConvergenceHolds, EachErrorIsExcused, EachGroupIsJoined, EachGroupIsJoinedSince, EachHasGreatest, MastersAgreeWhenQuiet, HoldsOfConvergence};
 ghost use Rattle.world_laws.specs.AlikeWorlds.{MadeWorldsBeginAlike};
 
-use convergence_laws::{groups_are_joined, groups_are_joined_since, latest_values_tell_apart, quiet_masters_agree, quiet_masters_agree_again};
-use error_cause_laws::{errors_are_excused, missing_rows_are_of_inserts_in_error, missing_rows_are_of_lost_inserts};
+use convergence_laws::{
+    groups_are_joined, groups_are_joined_since, latest_values_tell_apart, quiet_masters_agree,
+    quiet_masters_agree_again,
+};
+use error_cause_laws::{
+    errors_are_excused, missing_rows_are_of_inserts_in_error, missing_rows_are_of_lost_inserts,
+};
 
 /// In the world that Setup's end makes all masters have the same rows, filled in by the first of them.
 pub fn made_worlds_begin_alike()

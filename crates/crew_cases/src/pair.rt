@@ -10,18 +10,18 @@ use crate::blocks::Block;
 use crate::laws::two_sites_run;
 use crate::noting::{NotingTables, Puts};
 use case_reader::CaseStop;
-use txn_effects::Here;
 use rep_calls::Statement;
 use rep_laws::sound_schemas_have_keys;
 use rep_lists::{Copies, Items};
 use rep_schema::{RowStore, Schema, TableSet};
 use rep_values::SiteName;
-use schema_rules::check;
 use schema_names::{destinations_of, is_master_site, senders_of};
+use schema_rules::check;
 use site_engine::Site;
 use std::alloc::Global;
 use std::marker::Model;
 use std::sync::Arc;
+use txn_effects::Here;
 
 /// The two sites.
 #[derive(Drop)]

@@ -2,12 +2,12 @@
 //! have acknowledged them.
 #![tactic(auto)]
 
-mod queued_txn;
 mod destination;
 mod entries;
 mod laws;
 mod loaded;
 mod queue;
+mod queued_txn;
 mod span;
 mod stream;
 mod streams;

@@ -7,9 +7,9 @@ ghost use Rattle.packet_code.specs.Bodies.{IsBody};
 ghost use Rattle.deferred_queue.specs.QueueState.{Falls, entry_of, kept_of, is_unpassed};
 ghost use Rattle.deferred_queue.specs.Spans.{Covers};
 
-use crate::queued_txn::QueuedTxn;
 use crate::entries::{Entry, place_with};
 use crate::loaded::Loaded;
+use crate::queued_txn::QueuedTxn;
 use crate::span::{Span, goes, passed_since};
 use crate::stream::Stream;
 use crate::streams::{
@@ -119,7 +119,13 @@ impl Queue {
 
     /// Queues a transaction, with what the site had seen before it, for its destinations, and answers its number: the
     /// count of transactions, purged ones included. It takes no memory.
-    pub fn push_back(&mut self, txn: Txn, past: Items<PastEntry>, body: Body, to: &[Destination]) -> u64
+    pub fn push_back(
+        &mut self,
+        txn: Txn,
+        past: Items<PastEntry>,
+        body: Body,
+        to: &[Destination],
+    ) -> u64
         requires body { IsBody past txn body }
         requires room { 1 ≤ self.old.spare }
         requires destinations { AllByRecursion (CanBeSent self.old) to.now }

@@ -51,11 +51,7 @@ fn put_back(journal: &mut RoomyList<Entry>, entries: Vec<Entry>)
 }
 
 /// Puts the entries from a place on into rising order of position. The oldest entry stands first in the list.
-pub fn sort_from(
-    alloc: Global,
-    journal: &mut RoomyList<Entry>,
-    place: u64,
-) -> Result<(), NoMemory>
+pub fn sort_from(alloc: Global, journal: &mut RoomyList<Entry>, place: u64) -> Result<(), NoMemory>
     requires place { place ≤ length journal.old.items }
     requires positions { PositionsDiffer (drop place journal.old.items) }
     ensures ok { OnOk result (IsSorted place (reverse journal.old.items) (reverse journal.new.items)) }

@@ -6,8 +6,8 @@ ghost use Rattle.live_report.specs.PartTexts.{turn_text, part_data, order_line};
 
 use crate::turns::{MOST_TURN, put_turn};
 use live_laws::LiveTurn;
-use rep_values::SiteName;
 use rep_lists::NoMemory;
+use rep_values::SiteName;
 use report_text::Lines;
 use serde_json::{Value, json};
 use std::alloc::Global;

@@ -5,8 +5,8 @@ ghost use Rattle.live_report.specs.PartTexts.{part_text};
 use crate::order::add_order;
 use crate::turns::add_turns;
 use live_laws::LiveTurn;
-use rep_values::SiteName;
 use rep_lists::NoMemory;
+use rep_values::SiteName;
 use report_text::{Lines, MOST_LINE, Word};
 use std::alloc::Global;
 

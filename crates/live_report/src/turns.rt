@@ -6,8 +6,8 @@ ghost use Rattle.live_laws.specs.declared.turn.Reply.TheVariants.{Refused};
 ghost use Rattle.live_report.specs.PartTexts.{most_turn, reply_words, turn_line};
 
 use live_laws::{LiveTurn, Reply};
-use rep_values::{ApplyError, Refusal, SiteName};
 use rep_lists::NoMemory;
+use rep_values::{ApplyError, Refusal, SiteName};
 use report_text::{Lines, MOST_LINE, Word, error_line, refused_line};
 
 /// The most bytes of a turn's line: `turn session K block J`, and a refused line behind it.

@@ -44,7 +44,10 @@ fn round<R: RowStore>(crew: &mut LiveCrew<R>, alloc: Global) -> Result<bool, NoM
 }
 
 /// Rounds, until one finds nothing ready.
-pub(crate) fn apply_until_quiet<R: RowStore>(crew: &mut LiveCrew<R>, alloc: Global) -> Result<(), NoMemory>
+pub(crate) fn apply_until_quiet<R: RowStore>(
+    crew: &mut LiveCrew<R>,
+    alloc: Global,
+) -> Result<(), NoMemory>
     ensures part { IsSamePart crew.old crew.new }
     ensures quiet { OnOk result (NothingReadyOf crew.new.origins crew.new.site) }
 {

@@ -10,13 +10,13 @@ ghost use Rattle.live_streams.specs.Newest.{turn_of};
 ghost use Rattle.live_streams.specs.Quiet.{OriginIsQuiet};
 
 use live_laws::{Block, LiveTurn, Reply};
-use txn_effects::LocalStop;
 use rep_lists::NoMemory;
 use rep_schema::RowStore;
 use rep_values::{Refusal, SiteName};
 use site_engine::Site;
 use site_state::Entry;
 use std::alloc::Global;
+use txn_effects::LocalStop;
 
 /// The turn of which an entry tells, where it finishes a position that arrived.
 fn turn_of(entry: &Entry) -> Option<LiveTurn>

@@ -12,11 +12,11 @@ ghost use Rattle.txn_effects.specs.Convergent.{is_convergent, side_of, is_other,
 ghost use Rattle.txn_effects.specs.ByColumn.{row_by};
 
 use crate::sets::{SetsByColumn, order_after};
-use txn_effects::Side;
 use rep_schema::{Column, Group, Schema, columns_of, groups_of, value_at};
 use rep_values::{Refusal, SiteName, Value};
 use schema_rules::{Form, form_of};
 use std::cmp::Ordering;
+use txn_effects::Side;
 
 /// Whether a table is convergent.
 fn is_convergent(schema: &Schema, table: u32) -> bool

@@ -11,11 +11,11 @@ ghost use Rattle.txn_effects.specs.Filled.{filling_value, filled_from, filled_ro
 ghost use Rattle.txn_effects.specs.Stamps.{capped, first_outside};
 ghost use Rattle.txn_effects.specs.Chosen.{chosen_at, is_modified_in};
 
-use txn_effects::{RowMade, Stamps, stamp_above};
 use rep_schema::{
     Column, SHADOW, Schema, columns_of, group_columns, groups_of, named_columns, same_values_at,
 };
 use rep_values::{Row, SiteName, Value};
+use txn_effects::{RowMade, Stamps, stamp_above};
 
 /// Whether a site fills one of the columns.
 pub(crate) fn has_filled(columns: &[Column]) -> bool

@@ -3,11 +3,11 @@ ghost use Rattle.std.specs.Prelude.{◌≡◌, ◌<◌, length, IfSome};
 ghost use Rattle.rep_schema.specs.Shape.{HasShape};
 ghost use Rattle.txn_effects.specs.Held.{statement_table, held_of, held_table};
 
-use txn_effects::Here;
 use rep_calls::Statement;
 use rep_schema::Schema;
 use rep_values::TableName;
 use schema_names::table_place;
+use txn_effects::Here;
 
 fn table_name(statement: &Statement) -> TableName
     ensures { result ≡ statement_table statement.now }

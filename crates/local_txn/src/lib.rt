@@ -4,10 +4,10 @@
 mod base;
 mod convergent;
 mod filled;
-mod progress;
 mod held;
 mod laws;
 mod literals;
+mod progress;
 mod rows;
 mod run;
 mod sets;

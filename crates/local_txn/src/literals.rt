@@ -6,11 +6,11 @@ ghost use Rattle.rep_values.specs.Name.{same_bytes};
 ghost use Rattle.txn_effects.specs.Filled.{blank_value, written_columns, row_written};
 ghost use Rattle.txn_effects.specs.Literals.{names_site, literal_fits, literal_there, literals_fit, is_given, key_literals_fit, values_of};
 
-use txn_effects::Given;
 use rep_lists::{Items, NoMemory};
 use rep_schema::{Column, Schema, SiteEntry, is_of_kind};
 use rep_values::{Key, Literal, Row, Text, Value};
 use std::alloc::Global;
+use txn_effects::Given;
 
 fn has_site(sites: &[SiteEntry], name: &Text) -> bool
     ensures { result ≡ list_any (λ site. same_bytes site.name.0 name.now) sites.now }

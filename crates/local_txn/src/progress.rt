@@ -3,8 +3,8 @@ ghost use Rattle.std.specs.Prelude.{◌≡◌, ◌<◌, length};
 ghost use Rattle.local_txn.specs.Running.{progress_after};
 
 use crate::convergent::side_of;
-use txn_effects::{Here, Side, Stamps};
 use rep_schema::Schema;
+use txn_effects::{Here, Side, Stamps};
 
 /// The site that a block runs at, the site's stamps so far, and which tables the block's statements are on so far.
 #[derive(Clone, Copy)]

@@ -17,17 +17,17 @@ ghost use Rattle.txn_effects.specs.Statements.{statement_refusal};
 ghost use Rattle.txn_effects.specs.Locals.{statements_effect, local_effect, BlockEffect};
 ghost use Rattle.local_txn.specs.Running.{StatementGoesOn, block_state_of, StatementStopsAs, EndsAs};
 
-use crate::progress::BlockProgress;
 use crate::held::held_table;
+use crate::progress::BlockProgress;
 use crate::statement::run_in;
 use crate::stop::{Stop, stop_at};
-use txn_effects::{Here, Local, LocalStop, Stamps};
 use conflict_detect::txn_of;
 use rep_calls::Statement;
 use rep_lists::Items;
 use rep_schema::{Change, Changes, RowStore, holds_tables, push_change, undo};
 use rep_values::{Limit, Refusal};
 use std::alloc::Global;
+use txn_effects::{Here, Local, LocalStop, Stamps};
 
 /// Runs one statement, after it took room for so many further rows of its table.
 fn run_in_room<R: RowStore>(

@@ -12,9 +12,8 @@ ghost use Rattle.txn_effects.specs.NewRows.{CanRun, FitsButForRange};
 
 use crate::convergent::{bar_refusal, own_key_refusal, rule_refusal};
 use crate::filled::{inserted, updated};
-use txn_effects::RowMade;
-use crate::progress::BlockProgress;
 use crate::literals::{key_literals_fit, key_of_literals, row_written, written_fit};
+use crate::progress::BlockProgress;
 use crate::rows::{has_row, key_in, row_of_literals, row_refusal};
 use crate::sets::{SetsByColumn, fills_some, set_row, takes_each};
 use crate::stop::Stop;
@@ -23,6 +22,7 @@ use rep_lists::Copies;
 use rep_schema::{Change, RowStore, Schema, columns_of, put_with_change};
 use rep_values::{Literal, Refusal, Row, same_values};
 use std::alloc::Global;
+use txn_effects::RowMade;
 
 /// Why a new row can't be put, if it can't.
 fn new_row_refusal<R: RowStore>(

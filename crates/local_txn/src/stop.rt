@@ -2,9 +2,9 @@
 ghost use Rattle.std.specs.Prelude.{◌≡◌};
 ghost use Rattle.local_txn.specs.Running.{stop_refusal, local_stop_of};
 
-use txn_effects::LocalStop;
 use rep_lists::NoMemory;
 use rep_values::Refusal;
+use txn_effects::LocalStop;
 
 /// Why one statement doesn't run.
 #[derive(Clone, Copy)]

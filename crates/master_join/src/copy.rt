@@ -5,13 +5,13 @@ ghost use Rattle.site_state.specs.Joining.{site_copy};
 
 use crate::firsts::set_firsts;
 use crate::rows::copy_tables;
-use txn_effects::Here;
 use rep_calls::PastEntry;
 use rep_lists::{Items, NoMemory};
 use rep_schema::{RowStore, TableSet};
 use rep_values::SiteName;
 use site_engine::Site;
 use std::alloc::Global;
+use txn_effects::Here;
 
 /// A site that begins with the rows that another one has now. Its store is of the other's schema and empty, and takes them;
 /// senders and destinations are those that the schema gives it, in declared order. From the queue of each sender so much is in

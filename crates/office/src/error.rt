@@ -3,11 +3,11 @@ ghost use Rattle.std.specs.Prelude.{◌≡◌};
 ghost use Rattle.office.specs.declared.error.OfficeError.TheVariants.{Memory};
 ghost use Rattle.office.specs.Refused.{refused_at, statement_refused, uncleared};
 
-use txn_effects::LocalStop;
 use rep_lists::NoMemory;
 use rep_values::{Refusal, SiteName};
 use std::alloc::{AllocError, AllocFailed};
 use thiserror::Error;
+use txn_effects::LocalStop;
 
 /// Why a call of an office is refused. But for `work`, the office is then as it was.
 #[derive(Clone, Copy, Debug, PartialEq, Eq, Error)]

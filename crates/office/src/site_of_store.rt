@@ -8,7 +8,6 @@ ghost use Rattle.site_state.specs.Fits.{SchemaIsKeyed};
 ghost use Rattle.office.specs.Founding.{filled_rows};
 
 use local_txn::{fill_base_rows, sound_schemas_fill_freely};
-use txn_effects::Here;
 use page_tables::PageTables;
 use rep_laws::sound_schemas_have_keys;
 use rep_lists::{Items, NoMemory};
@@ -17,6 +16,7 @@ use rep_values::SiteName;
 use schema_names::{destinations_of, first_master, senders_of};
 use site_engine::Site;
 use std::alloc::Global;
+use txn_effects::Here;
 
 /// The store with the columns filled in that a site fills.
 pub(crate) fn filled(mut store: PageTables) -> Result<PageTables, NoMemory>

@@ -217,8 +217,6 @@ pub fn is_packet(packet: &Packet) -> bool
                 && is_past(from, past.as_slice())
                 && is_plain_txn(txn)
         }
-        Packet::Mark { from, to, mark } => {
-            is_named(from) && is_named(to) && *mark <= u64::MAX
-        }
+        Packet::Mark { from, to, mark } => { is_named(from) && is_named(to) && *mark <= u64::MAX }
     }
 }

@@ -36,7 +36,11 @@ impl Piece for PastEntry {
 
 /// A count, and so many masters.
 #[tactic(auto, unfolding(crate::specs::Forms::past))]
-pub fn past(alloc: Global, bytes: &mut Reader<'_>, from: &SiteName) -> Result<Items<PastEntry>, Stop>
+pub fn past(
+    alloc: Global,
+    bytes: &mut Reader<'_>,
+    from: &SiteName,
+) -> Result<Items<PastEntry>, Stop>
     ensures { Reads (past from.now) result bytes.old bytes.new }
 {
     let count = bytes.byte()?;

@@ -2,8 +2,8 @@
 
 use crate::calls::text;
 use case_reader::{CaseStop, Words};
-use script_lex::Symbol;
 use change_logs::Log;
+use script_lex::Symbol;
 use std::alloc::Global;
 
 /// A log of the keys that the line ends with, each behind a colon. They are noted at the moments from 1 on.

@@ -93,7 +93,11 @@ impl IndexedRows {
     }
 
     /// No rows, and one index more, by these columns.
-    pub(crate) fn with_index(&self, alloc: Global, columns: Items<u32>) -> Result<IndexedRows, NoMemory>
+    pub(crate) fn with_index(
+        &self,
+        alloc: Global,
+        columns: Items<u32>,
+    ) -> Result<IndexedRows, NoMemory>
         ensures rows { IfOk result (λ kept. rows_kept kept.slots kept.order ≡ []) }
         ensures columns { IfOk result (λ kept. map (λ index. index.columns) kept.indexes.items ≡ map (λ index. index.columns) self.now.indexes.items ++ columns ∷ []) }
         ensures stored { IfOk result (λ kept. IsStored kept.slots kept.order kept.indexes.items) }

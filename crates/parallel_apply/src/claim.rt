@@ -7,10 +7,10 @@ ghost use Rattle.parallel_apply.specs.Crews.{IsClaimAt, IsOutcomeOf};
 use rep_lists::NoMemory;
 use rep_schema::RowStore;
 use rep_values::SiteName;
+use row_tables::SharedSchema;
 use site_engine::Site;
 use std::alloc::Global;
 use txn_apply::{Outcome, Work};
-use row_tables::SharedSchema;
 
 /// A position that an applier claimed, with its work where it is evaluated outside the lock.
 #[derive(Drop)]

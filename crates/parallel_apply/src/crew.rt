@@ -13,6 +13,7 @@ use crate::turns::TurnLog;
 use rep_lists::{Copies, NoMemory};
 use rep_schema::RowStore;
 use rep_values::SiteName;
+use row_tables::SharedSchema;
 use site_engine::Site;
 use site_gate::Turns;
 use site_state::Applied;
@@ -20,7 +21,6 @@ use std::alloc::Global;
 use std::marker::Model;
 use std::snapshot::Snapshot;
 use txn_apply::support_outlasts_independent_transactions;
-use row_tables::SharedSchema;
 
 /// A site on which the appliers of a crew make a pass for a sender, turn by turn: what they work on, the turns that they made,
 /// and how the site was before the first of these, which only contracts look at. The site's schema stands beside it once more, for

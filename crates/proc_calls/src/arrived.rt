@@ -9,12 +9,12 @@ ghost use Rattle.proc_calls.specs.Outcomes.{outcome_by};
 
 use crate::applying::apply_txn;
 use crate::stop::ProcStop;
-use sender_inbox::{ApplyOutcome, Step, step_of};
 use proc_state::Procedure;
 use rep_calls::Txn;
 use rep_lists::NoMemory;
 use rep_schema::RowStore;
 use rep_values::SiteName;
+use sender_inbox::{ApplyOutcome, Step, step_of};
 use site_state::Arrival;
 use std::alloc::Global;
 

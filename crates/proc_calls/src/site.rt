@@ -22,12 +22,12 @@ mod send;
 
 use crate::outbox::CallOutbox;
 use error_queue::Errors;
-use sender_inbox::{Inbox, from_senders};
 use page_tables::PageTables;
 use proc_state::Procedure;
 use rep_lists::{Items, NoMemory, RoomyList};
 use rep_schema::{RowStore, Schema};
 use rep_values::SiteName;
+use sender_inbox::{Inbox, from_senders};
 use site_state::Entry;
 use std::alloc::Global;
 use std::marker::Model;

@@ -10,9 +10,9 @@ ghost use Rattle.refreshes.specs.Done.{all_changes};
 
 use crate::done::undo_all;
 use crate::{MasterView, by_keys, to_rows};
+use change_logs::Notes;
 use rep_lists::NoMemory;
 use rep_schema::{Changes, RowStore, holds_tables};
-use change_logs::Notes;
 use site_state::{RefreshCount, TableRows};
 use std::alloc::Global;
 

@@ -13,10 +13,10 @@ ghost use Rattle.refreshes.specs.Done.{HaveDone};
 
 use crate::counts::count_more;
 use crate::{MasterView, refresh_fast};
+use change_logs::Notes;
 use rep_lists::{Items, NoMemory};
 use rep_schema::{Changes, RowStore, holds_tables};
 use rep_values::Key;
-use change_logs::Notes;
 use site_state::RefreshCount;
 use std::alloc::Global;
 

@@ -10,9 +10,9 @@ ghost use Rattle.refreshes.specs.Done.{HaveDone};
 
 use crate::counts::count_more;
 use crate::refresh_complete;
+use change_logs::Notes;
 use rep_lists::NoMemory;
 use rep_schema::{Changes, RowStore};
-use change_logs::Notes;
 use site_state::{RefreshCount, TableRows};
 use std::alloc::Global;
 

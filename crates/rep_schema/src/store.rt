@@ -4,8 +4,8 @@ ghost use Rattle.rep_schema.specs.declared.schema.Schema.{Schema as SchemaValue}
 ghost use Rattle.rep_schema.specs.Tables.{Rows, columns_of, constraints_of, constraint_columns_of, key_of, find_row, put_row, take_row, rows_of, IsKeyed, RowFits, IsUniqueRow, IsHeldElsewhere, AreTables};
 
 use crate::Schema;
-use rep_values::{Key, Row};
 use rep_lists::NoMemory;
+use rep_values::{Key, Row};
 
 /// The rows of each table of a schema, in rising order of key, and room for more of them. `reserve` alone takes
 /// memory. No call changes the schema, and none changes another table than its own.

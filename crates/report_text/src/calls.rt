@@ -10,9 +10,9 @@ use crate::lines::MOST_LINE;
 use crate::shown::put_values;
 use crate::{Lines, Word};
 use rep_calls::{Call, Part, Txn};
+use rep_lists::NoMemory;
 use rep_schema::{Schema, shadow_name};
 use rep_values::{Name, Value};
-use rep_lists::NoMemory;
 use schema_names::group_name;
 
 /// The most bytes of a value behind a space.

@@ -9,9 +9,9 @@ ghost use Rattle.report_text.specs.Texts.{value_text, row_text, logged_key_text,
 
 use crate::lines::MOST_LINE;
 use crate::{Lines, Word};
+use rep_lists::NoMemory;
 use rep_schema::{RowStore, TableSet};
 use rep_values::{Key, Row, SiteName, TableName, Value};
-use rep_lists::NoMemory;
 
 /// The most bytes of a row's line: its word, 32 values of at most 67 bytes with their spaces, and its end.
 const MOST_ROW: u64 = 2_148;

@@ -4,9 +4,9 @@ ghost use Rattle.rep_schema.specs.Tables.{columns_of, constraints_of, constraint
 
 use crate::SharedSchema;
 use crate::sorted_rows::SortedRows;
+use rep_lists::NoMemory;
 use rep_schema::{RowStore, Schema};
 use rep_values::{Key, Row};
-use rep_lists::NoMemory;
 use std::alloc::Global;
 use std::marker::Model;
 

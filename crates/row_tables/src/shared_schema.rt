@@ -2,8 +2,8 @@
 ghost use Rattle.std.specs.Prelude.{◌≡◌, ◌<◌, length, IfOk};
 ghost use Rattle.rep_schema.specs.Tables.{columns_of, constraints_of, constraint_columns_of};
 
-use rep_schema::{Column, Schema, columns_of, constraint_columns};
 use rep_lists::NoMemory;
+use rep_schema::{Column, Schema, columns_of, constraint_columns};
 use std::alloc::Global;
 use std::marker::Model;
 use std::sync::Arc;

@@ -2,10 +2,10 @@
 ghost use Rattle.std.specs.Prelude.{◌≡◌, List, [], map, filter, option_copied, IfOk};
 ghost use Rattle.rep_schema.specs.Sites.{sends_to, names_of, senders_of, destinations_of, is_among};
 
+use crate::find_site;
 use rep_lists::{Items, NoMemory};
 use rep_schema::{Schema, SiteEntry};
 use rep_values::SiteName;
-use crate::find_site;
 use std::alloc::Global;
 
 /// A master sends to the other masters, a snapshot site to its master.

@@ -13,7 +13,7 @@ use crate::{Command, Link, ParentWords, Refresh, Shown};
 use rep_calls::Statement;
 use rep_values::{Name, SiteName};
 use script_lex::{BrokenRule, LineStop};
-use script_words::{Part, Reader, ValuePart, separated, one_or_more};
+use script_words::{Part, Reader, ValuePart, one_or_more, separated};
 use std::alloc::Global;
 
 /// `snapshot NAME NAME [where TEST [and TEST]..]`

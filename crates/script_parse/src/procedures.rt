@@ -8,7 +8,7 @@ use crate::heads::ProcHead;
 use crate::parts::{FatePart, SitePart, site, table};
 use crate::{CallWords, ProcLine};
 use script_lex::{BrokenRule, LineStop};
-use script_words::{Reader, ValuePart, several, one_or_more};
+use script_words::{Reader, ValuePart, one_or_more, several};
 use std::alloc::Global;
 
 /// `proctable NAME COLUMN+`

@@ -8,4 +8,4 @@ mod words;
 
 pub use chosen::choice_of;
 pub use reader::Reader;
-pub use repeated::{NamePart, Part, ValuePart, separated, several, one_or_more};
+pub use repeated::{NamePart, Part, ValuePart, one_or_more, separated, several};

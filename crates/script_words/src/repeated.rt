@@ -88,7 +88,10 @@ pub fn several<P: Part>(alloc: Global, tokens: &mut Reader<'_>) -> Result<Items<
 }
 
 /// One or more.
-pub fn one_or_more<P: Part>(alloc: Global, tokens: &mut Reader<'_>) -> Result<Items<P::Item>, LineStop>
+pub fn one_or_more<P: Part>(
+    alloc: Global,
+    tokens: &mut Reader<'_>,
+) -> Result<Items<P::Item>, LineStop>
     ensures read { Reads (one_or_more P.starts P.reading) result tokens.old tokens.new }
     ensures some { IfOk result (λ found. 1 ≤ length found) }
 {

@@ -7,10 +7,10 @@ ghost use Rattle.error_queue.specs.ErrorLists.{no_errors};
 ghost use Rattle.site_state.specs.Making.{new_sender};
 ghost use Rattle.sender_inbox.specs.Inboxes.{senders_in, inbox_of};
 
+use crate::Inbox;
 use error_queue::Errors;
 use rep_lists::NoMemory;
 use rep_values::SiteName;
-use crate::Inbox;
 use std::alloc::Global;
 
 /// An inbox for each of these senders, in which nothing arrived.

@@ -3,9 +3,9 @@ ghost use Rattle.std.specs.Prelude.{◌≡◌, ◌+◌, ◌≤◌, length, None,
 ghost use Rattle.error_queue.specs.ErrorLists.{IsOrigin, error_in, in_order};
 ghost use Rattle.sender_inbox.specs.Steps.{with_error};
 
+use crate::Inbox;
 use error_queue::{ErrorEntry, Errors};
 use rep_lists::{NoMemory, RoomyList};
-use crate::Inbox;
 use site_state::Entry;
 
 /// Takes room in a journal for so many entries beside those that drop the errors that stand.

@@ -3,9 +3,9 @@
 
 mod arrivals;
 mod inbox;
-mod pasts;
 mod inboxes;
 mod journal;
+mod pasts;
 mod steps;
 
 pub use inbox::Inbox;

@@ -78,14 +78,22 @@ fn failed_step(
 
 /// What a position of an origin adds whose transaction comes out so. Of the transaction one copy is for the journal, and one
 /// for the error queue.
-pub fn step_of(origin: &SiteName, position: u64, settled: &ApplyOutcome, txn: Txn, kept: Txn) -> Step
+pub fn step_of(
+    origin: &SiteName,
+    position: u64,
+    settled: &ApplyOutcome,
+    txn: Txn,
+    kept: Txn,
+) -> Step
     ensures entry { result.entry ≡ entry_of origin.now position txn settled.now }
     ensures answer { result.answer ≡ answer_of settled.now }
     ensures error { result.error ≡ error_of origin.now position kept settled.now }
 {
     match settled {
         ApplyOutcome::Done { onward } => done_step(origin, position, *onward, txn),
-        ApplyOutcome::Failed { call, error } => failed_step(origin, position, *call, error, txn, kept),
+        ApplyOutcome::Failed { call, error } => failed_step(
+            origin, position, *call, error, txn, kept,
+        ),
     }
 }
 

@@ -6,7 +6,6 @@ ghost use Rattle.site_state.specs.Fits.{SchemaIsKeyed};
 
 use case_reader::CaseStop;
 use local_txn::{fill_base_rows, put_base_row, sound_schemas_fill_freely};
-use txn_effects::Here;
 use master_join::copy_site;
 use rep_calls::PastEntry;
 use rep_laws::sound_schemas_have_keys;
@@ -14,10 +13,11 @@ use rep_lists::{Copies, Items, NoMemory};
 use rep_schema::{RowStore, Schema, TableSet};
 use rep_values::{Literal, Refusal, SiteName, TableName};
 use row_tables::ListTables;
-use schema_rules::check;
 use schema_names::{destinations_of, first_master, is_master_site, senders_of};
+use schema_rules::check;
 use site_engine::Site;
 use std::alloc::Global;
+use txn_effects::Here;
 
 /// A row that each site has when it is opened.
 #[derive(Drop)]

@@ -21,13 +21,13 @@ ghost use Rattle.site_engine.specs.Applying.{goes_on, onward_of, entry_by, error
 ghost use Rattle.site_engine.specs.Noting.{RowsAreNoted};
 ghost use Rattle.site_engine.specs.Outcomes.{outcome_by, AreAsBefore, AreChanged};
 
+use change_logs::Notes;
 use conflict_detect::txn_of;
-use sender_inbox::{ApplyOutcome, Step, step_of};
 use rep_calls::{PastEntry, Txn};
 use rep_lists::{Items, NoMemory};
 use rep_schema::{Change, Changes, RowStore, Schema, holds_tables};
 use rep_values::SiteName;
-use change_logs::Notes;
+use sender_inbox::{ApplyOutcome, Step, step_of};
 use site_outbox::Outbox;
 use site_state::Arrival;
 use std::alloc::Global;

@@ -15,13 +15,13 @@ ghost use Rattle.site_outbox.specs.Outgoing.{Keeps};
 ghost use Rattle.site_engine.specs.Committing.{IsQueued};
 
 use local_txn::run_local;
-use txn_effects::{Here, Local, LocalStop, Stamps};
 use rep_calls::{PastEntry, Statement, Txn};
 use rep_lists::{Items, NoMemory};
 use rep_schema::{Changes, RowStore, Schema, undo};
 use rep_values::Refusal;
 use site_outbox::Outbox;
 use std::alloc::Global;
+use txn_effects::{Here, Local, LocalStop, Stamps};
 
 /// A transaction, and the number under which it is queued.
 #[derive(Drop)]

@@ -2,10 +2,10 @@
 ghost use Rattle.std.specs.Prelude.{◌≡◌, ◌+◌, ◌≤◌, length, OnOk};
 ghost use Rattle.error_queue.specs.ErrorLists.{in_order};
 
-use error_queue::Errors;
-use sender_inbox::reserve_beside;
-use rep_lists::{NoMemory, RoomyList};
 use change_logs::Notes;
+use error_queue::Errors;
+use rep_lists::{NoMemory, RoomyList};
+use sender_inbox::reserve_beside;
 use site_state::Entry;
 
 /// Takes room in a journal for one entry beside those that drop the errors that stand, and to note so many changed rows.

@@ -24,20 +24,20 @@ mod refresh;
 mod send;
 mod work;
 
+use change_logs::{Notes, tables_of};
 use deferred_queue::Queue;
 use error_queue::Errors;
-use sender_inbox::{Inbox, from_senders};
-use txn_effects::{Here, Stamps};
 use rep_lists::{Items, NoMemory, RoomyList};
 use rep_schema::{RowStore, TableSet};
 use rep_values::SiteName;
-use change_logs::{Notes, tables_of};
+use sender_inbox::{Inbox, from_senders};
 use site_outbox::Outbox;
 use site_state::Entry;
 use snapshot_query::Snapshot;
 use std::alloc::Global;
 use std::marker::Model;
 use std::snapshot;
+use txn_effects::{Here, Stamps};
 use unique_resolve::Counters;
 
 /// A site: a store of rows with its counters, the rows that it began with, the journal of what led from them to these, what

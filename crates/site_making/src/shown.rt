@@ -8,8 +8,8 @@ ghost use Rattle.site_state.specs.Refreshes.{with_tables};
 ghost use Rattle.site_events.specs.Rules.{rows_ruled, IsParentWithin};
 ghost use Rattle.world_state.specs.Making.{snapshots_at};
 
-use refreshes::{refresh_complete, rows_shown};
 use page_tables::PageTables;
+use refreshes::{refresh_complete, rows_shown};
 use rep_lists::{Copies, Items, NoMemory};
 use rep_values::{Row, SiteName};
 use snapshot_query::Snapshot;

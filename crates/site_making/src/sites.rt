@@ -13,7 +13,6 @@ ghost use Rattle.site_making.specs.Entries.{IsEntryOf};
 use crate::shown::show_each;
 use crate::table_sets::{logged_at, snapshot_here};
 use local_txn::{fill_base_rows, sound_schemas_fill_freely};
-use txn_effects::Here;
 use page_tables::PageTables;
 use rep_laws::sound_schemas_have_keys;
 use rep_lists::{Copies, Items, NoMemory};
@@ -23,6 +22,7 @@ use schema_names::{destinations_of, first_master, is_late_master, senders_of};
 use site_engine::Site;
 use snapshot_query::Snapshot;
 use std::alloc::Global;
+use txn_effects::Here;
 use world_state::DeclaredSnapshot;
 
 /// A master site, which holds every table.

@@ -5,12 +5,12 @@ ghost use Rattle.rep_schema.specs.Sites.{has_table};
 ghost use Rattle.world_state.specs.Declaring.{is_snapshot_of, has_snapshot};
 ghost use Rattle.world_state.specs.Making.{is_of_parents, goes_by_log, needs_log, is_snapshot_site_of, is_logged, logged_at, snapshot_here};
 
-use txn_effects::Here;
 use rep_lists::NoMemory;
 use rep_schema::{Schema, SiteEntry, TableSet};
 use rep_values::SiteName;
 use snapshot_query::Parent;
 use std::alloc::Global;
+use txn_effects::Here;
 use world_state::DeclaredSnapshot;
 
 /// Whether a declared snapshot is one of a table at a site.

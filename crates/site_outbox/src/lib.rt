@@ -1,8 +1,8 @@
 //! What a site sends: its queue, the streams to its destinations, and how far these are open and acknowledged.
 #![tactic(auto)]
 
-mod outbox;
-mod destination_entry;
 mod destination_entries;
+mod destination_entry;
+mod outbox;
 
 pub use outbox::Outbox;

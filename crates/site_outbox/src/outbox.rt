@@ -20,8 +20,10 @@ ghost use Rattle.site_state.specs.Making.{new_destination};
 ghost use Rattle.site_outbox.specs.Outgoing.{Keeps};
 ghost use Rattle.site_outbox.specs.DestinationEntries.{destination_mark};
 
+use crate::destination_entries::{
+    acknowledged_by_all, has_open, is_among, new_each, note_each, open_each,
+};
 use crate::destination_entry::DestinationEntry;
-use crate::destination_entries::{acknowledged_by_all, has_open, is_among, new_each, note_each, open_each};
 use deferred_queue::{Queue, Sent};
 use dependency_index::{Index, tokens_of};
 use packet_code::Body;

@@ -5,9 +5,9 @@ ghost use Rattle.report_text.specs.Sheet.{StandBefore};
 ghost use Rattle.site_report.specs.Shows.{standing_text, errors_text};
 
 use error_queue::{ErrorEntry, Errors};
+use rep_lists::NoMemory;
 use rep_schema::{RowStore, Schema};
 use rep_values::SiteName;
-use rep_lists::NoMemory;
 use report_text::{Lines, MOST_LINE, Word, add_calls, error_line};
 use site_engine::Site;
 

@@ -3,9 +3,9 @@ ghost use Rattle.std.specs.Prelude.{◌≡◌, ◌<◌, ◌≤◌, ◌+◌, ◌�
 ghost use Rattle.report_text.specs.Sheet.{Appends, StandBefore, most_line, line};
 ghost use Rattle.site_report.specs.Shows.{onward_words, entry_text, journal_text};
 
+use rep_lists::NoMemory;
 use rep_schema::RowStore;
 use rep_values::SiteName;
-use rep_lists::NoMemory;
 use report_text::{Lines, MOST_LINE, Word, error_line};
 use site_engine::Site;
 use site_state::Entry;

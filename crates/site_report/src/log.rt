@@ -5,12 +5,12 @@ ghost use Rattle.report_text.specs.Calls.{table_name};
 ghost use Rattle.change_logs.specs.RoomyNotes.{log_in};
 ghost use Rattle.site_report.specs.Shows.{table_log_text, log_text};
 
+use change_logs::{Log, LogEntry, Notes};
+use rep_lists::NoMemory;
 use rep_schema::{RowStore, Schema};
 use rep_values::SiteName;
-use rep_lists::NoMemory;
 use report_text::{Lines, MOST_LINE, Word, add_logged_key};
 use site_engine::Site;
-use change_logs::{Log, LogEntry, Notes};
 
 /// The name of a table; no bytes where the schema has none at the place.
 fn name_of(schema: &Schema, table: u32) -> Word<'_>

@@ -3,9 +3,9 @@ ghost use Rattle.std.specs.Prelude.{◌≡◌, ◌++◌, flat_map, OnOk, OnErr};
 ghost use Rattle.report_text.specs.Sheet.{StandBefore};
 ghost use Rattle.site_report.specs.Shows.{sender_text, destination_text, marks_text};
 
+use rep_lists::NoMemory;
 use rep_schema::RowStore;
 use rep_values::SiteName;
-use rep_lists::NoMemory;
 use report_text::{Lines, MOST_LINE, Word};
 use site_engine::Site;
 

@@ -5,9 +5,9 @@ ghost use Rattle.site_report.specs.Shows.{stream_place_of, past_text, queued_tex
 
 use deferred_queue::Queued;
 use rep_calls::PastEntry;
+use rep_lists::NoMemory;
 use rep_schema::RowStore;
 use rep_values::SiteName;
-use rep_lists::NoMemory;
 use report_text::{Lines, MOST_LINE, Word, add_calls};
 use site_engine::Site;
 

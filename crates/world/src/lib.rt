@@ -2,10 +2,10 @@
 //! the same of procedures; and why a line of the script is refused there.
 #![tactic(auto)]
 
-mod parts;
 mod joins;
 mod laws;
 mod names;
+mod parts;
 mod phases;
 mod procedures;
 mod procs;
@@ -15,8 +15,8 @@ mod room;
 mod snapshots;
 mod testing;
 
-pub use parts::{WorldParts, place_of};
 pub use laws::lines_keep_worlds_of_scripts;
+pub use parts::{WorldParts, place_of};
 pub use procs::{Procs, find_procedure, proc_place_of, procedure_place};
 pub use refreshes::young_step;
 pub use room::{drop_last, no_memory, room_for_line};

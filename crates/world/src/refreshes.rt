@@ -14,13 +14,13 @@ ghost use Rattle.world.specs.Precheck.{precheck_steps};
 use crate::WorldParts;
 use crate::parts::place_of;
 use crate::snapshots::master_of;
+use change_logs::{Notes, Watched};
 use page_tables::PageTables;
 use rep_schema::RowStore;
 use rep_values::{Refusal, SiteName, TableName};
 use schema_names::table_place;
 use script_parse::{Command, Refresh};
 use site_engine::Site;
-use change_logs::{Notes, Watched};
 
 fn purged_of(logs: &Notes, table: u32) -> u64
     ensures { result ≡ purged_of table logs.now.logs }

@@ -7,13 +7,13 @@ ghost use Rattle.world_state.specs.CallPushes.{proc_until_quiet, calls_until_qui
 ghost use Rattle.world.specs.Calling.{CallsPushInPart};
 ghost use Rattle.world_calls.specs.Applying.{told_calls_text, PartlyPassed};
 
-use world::{Procs, proc_place_of};
 use proc_calls::ProcSite;
 use rep_lists::NoMemory;
 use rep_values::SiteName;
 use report_text::{Lines, PushCount, push_calls_line};
 use site_rounds::{add_new_errors, finished_by_newest};
 use std::alloc::Global;
+use world::{Procs, proc_place_of};
 
 /// The site that is pushed to, and how many positions were sent to it.
 #[derive(Clone, Copy)]

@@ -4,12 +4,12 @@ ghost use Rattle.world_state.specs.CallBlocks.{calls_opened, called_more, with_c
 ghost use Rattle.world.specs.Precheck.{precheck_refusal};
 ghost use Rattle.world.specs.Doing.{Does};
 
-use world::{WorldParts, Procs, drop_last, no_memory};
 use rep_lists::{Copies, Items, NoMemory};
 use rep_values::SiteName;
 use report_text::Lines;
 use script_parse::{CallWords, Command, ProcLine};
 use std::alloc::Global;
+use world::{Procs, WorldParts, drop_last, no_memory};
 use world_state::{CallBlock, Refused};
 
 /// So many calls, and one more, are kept.

@@ -7,7 +7,6 @@ ghost use Rattle.world.specs.Following.{IsBuilt};
 ghost use Rattle.world.specs.Precheck.{precheck_refusal};
 ghost use Rattle.world.specs.Doing.{Does};
 
-use world::{WorldParts, Procs, column_number, no_memory, tests_in, tests_of};
 use proc_state::{Action, Procedure};
 use rep_lists::{Copies, Items, NoMemory};
 use rep_schema::{Column, TableEntry};
@@ -17,6 +16,7 @@ use schema_names::{find_table, table_place};
 use script_parse::{ActionWords, Command, ProcLine, TestWords};
 use snapshot_query::Query;
 use std::alloc::Global;
+use world::{Procs, WorldParts, column_number, no_memory, tests_in, tests_of};
 use world_state::Refused;
 
 /// A table that procedures write, behind those that are declared.

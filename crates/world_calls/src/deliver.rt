@@ -7,12 +7,12 @@ ghost use Rattle.world_state.specs.CallPushes.{calls_deliver_one, calls_deliver}
 ghost use Rattle.world_calls.specs.Repeats.{is_repeated};
 ghost use Rattle.world_calls.specs.Travelling.{CallsTravel};
 
-use world::{Procs, proc_place_of};
 use packet_code::Sealed;
 use proc_calls::ProcSite;
 use rep_lists::NoMemory;
 use rep_values::SiteName;
 use std::alloc::Global;
+use world::{Procs, proc_place_of};
 
 /// Whether the transaction of a packet arrived at a site before. It takes no memory.
 fn is_repeated(site: &ProcSite, sealed: &Sealed) -> bool
@@ -55,7 +55,12 @@ fn accept_at(
 
 /// A site takes in the first packet on the way to it, and whether there is one is answered. Where there is no memory, the
 /// packet may be gone, like one that is lost.
-fn deliver_one(procs: &mut Procs, alloc: Global, from: &SiteName, to: &SiteName) -> Result<bool, NoMemory>
+fn deliver_one(
+    procs: &mut Procs,
+    alloc: Global,
+    from: &SiteName,
+    to: &SiteName,
+) -> Result<bool, NoMemory>
     requires { HasDirection procs.old.net from.now to.now }
     ensures ok { OnOk result (procs.new ≡ calls_deliver_one from.now to.now procs.old) }
     ensures some { IfOk result (λ some. some ≡ is_some (first_between from.now to.now procs.old.net)) }

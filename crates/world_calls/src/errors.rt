@@ -7,11 +7,11 @@ ghost use Rattle.world.specs.Precheck.{precheck_refusal};
 ghost use Rattle.world.specs.Doing.{Does};
 ghost use Rattle.world_calls.specs.Sending.{execute_stop};
 
-use world::{WorldParts, Procs, no_memory, proc_place_of, room_for_line};
 use rep_values::{Refusal, SiteName};
 use report_text::{Lines, execute_calls_line};
 use script_parse::{Command, ProcLine};
 use std::alloc::Global;
+use world::{Procs, WorldParts, no_memory, proc_place_of, room_for_line};
 use world_state::Refused;
 
 /// Executes an error at a site again. Where the site isn't there nothing happens.

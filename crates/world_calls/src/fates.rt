@@ -5,13 +5,13 @@ ghost use Rattle.world.specs.Following.{IsBuilt};
 ghost use Rattle.world.specs.Precheck.{precheck_refusal};
 ghost use Rattle.world.specs.Doing.{Does};
 
-use world::{WorldParts, Procs, no_memory};
 use net_plan::Fate;
 use rep_lists::{Items, NoMemory};
 use rep_values::SiteName;
 use report_text::Lines;
 use script_parse::{Command, ProcLine};
 use std::alloc::Global;
+use world::{Procs, WorldParts, no_memory};
 use world_state::Refused;
 
 /// These fates come behind those that are left between two sites.

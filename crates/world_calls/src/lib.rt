@@ -2,7 +2,7 @@
 //! sent, pushed to another master and applied there, and errors of calls are executed again.
 #![tactic(auto)]
 
-mod marks;
+mod applying;
 mod blocks;
 mod declaring;
 mod deliver;
@@ -10,10 +10,10 @@ mod errors;
 mod fates;
 mod lines;
 mod literals;
+mod marks;
 mod outbound;
 mod pushing;
 mod sending;
-mod applying;
 mod words;
 
 pub use lines::run_proc_line;

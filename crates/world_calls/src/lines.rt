@@ -11,10 +11,10 @@ use crate::errors::execute_calls;
 use crate::fates::add_call_fates;
 use crate::pushing::push_calls;
 use crate::sending::send;
-use world::WorldParts;
 use report_text::Lines;
 use script_parse::ProcLine;
 use std::alloc::Global;
+use world::WorldParts;
 use world_state::Refused;
 
 /// Does a line about procedures that meets no refusal known before. What it prints is answered, or why it is refused; for want of
@@ -30,13 +30,7 @@ pub fn run_proc_line(
     ensures { Does line (Command.Procedures asked.now) parts.old parts.new result }
 {
     match asked {
-        ProcLine::Table { table, columns } => add_proc_table(
-            parts,
-            alloc,
-            line,
-            table,
-            columns,
-        ),
+        ProcLine::Table { table, columns } => add_proc_table(parts, alloc, line, table, columns),
         ProcLine::Procedure {
             procedure,
             table,
@@ -46,14 +40,7 @@ pub fn run_proc_line(
         ProcLine::Call(call) => add_call(parts, alloc, line, call),
         ProcLine::Send { to } => send(parts, alloc, line, to),
         ProcLine::Push { from, to } => push_calls(parts, alloc, line, from, to),
-        ProcLine::Fates { from, to, fates } => add_call_fates(
-            parts,
-            alloc,
-            line,
-            from,
-            to,
-            fates,
-        ),
+        ProcLine::Fates { from, to, fates } => add_call_fates(parts, alloc, line, from, to, fates),
         ProcLine::Execute {
             site,
             origin,

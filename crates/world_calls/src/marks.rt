@@ -7,12 +7,12 @@ ghost use Rattle.world.specs.Calling.{CallsPushInPart};
 
 use crate::deliver::deliver_all;
 use crate::outbound::{release, send_some};
-use world::{Procs, proc_place_of};
 use packet_code::Sealed;
 use proc_calls::ProcSite;
 use rep_lists::NoMemory;
 use rep_values::SiteName;
 use std::alloc::Global;
+use world::{Procs, proc_place_of};
 
 /// The mark of a site for another one, where the site is there.
 fn mark_of(

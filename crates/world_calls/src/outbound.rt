@@ -7,12 +7,12 @@ ghost use Rattle.world_state.specs.Procs.{proc_of};
 ghost use Rattle.world_state.specs.CallPushes.{calls_release, calls_from, calls_send, positions_of, calls_positions, calls_send_above};
 ghost use Rattle.world.specs.Calling.{CallsPushInPart};
 
-use world::{Procs, proc_place_of};
 use packet_code::Sealed;
 use proc_calls::ProcSite;
 use rep_lists::NoMemory;
 use rep_values::SiteName;
 use std::alloc::Global;
+use world::{Procs, proc_place_of};
 
 /// What is held from a site to another one goes on the way.
 pub(crate) fn release(procs: &mut Procs, from: &SiteName, to: &SiteName) -> Result<(), NoMemory>

@@ -10,16 +10,16 @@ ghost use Rattle.world.specs.Precheck.{precheck_refusal};
 ghost use Rattle.world.specs.Texts.{calls_pushed_text};
 ghost use Rattle.world.specs.Doing.{Does};
 
-use crate::marks::return_mark;
-use crate::deliver::deliver_all;
-use crate::outbound::{release, send_above};
 use crate::applying::{Pushed, apply_and_tell};
-use world::{WorldParts, Procs, no_memory, room_for_line};
+use crate::deliver::deliver_all;
+use crate::marks::return_mark;
+use crate::outbound::{release, send_above};
 use rep_lists::NoMemory;
 use rep_values::SiteName;
 use report_text::Lines;
 use script_parse::{Command, ProcLine};
 use std::alloc::Global;
+use world::{Procs, WorldParts, no_memory, room_for_line};
 use world_state::Refused;
 
 /// What is held is released, what isn't acknowledged is sent, and all is taken in. It answers how many positions were sent.

@@ -12,7 +12,6 @@ ghost use Rattle.world.specs.Doing.{Does};
 ghost use Rattle.world_calls.specs.Sending.{call_stop_of, StopsSend, EndsSend};
 
 use crate::words::{calls_of, words_stop};
-use world::{WorldParts, Procs, no_memory, proc_place_of, room_for_line};
 use proc_calls::{ProcSite, ProcStop};
 use proc_state::ProcCall;
 use rep_lists::{Items, NoMemory};
@@ -20,6 +19,7 @@ use rep_values::{Refusal, SiteName};
 use report_text::{Lines, nothing_sent_line, sent_line};
 use script_parse::{CallWords, Command, ProcLine};
 use std::alloc::Global;
+use world::{Procs, WorldParts, no_memory, proc_place_of, room_for_line};
 use world_state::{CallBlock, CallStop, Refused};
 
 /// Why the calls of a block aren't made.

@@ -9,7 +9,6 @@ ghost use Rattle.world_state.specs.ProcDeclaring.{procedure_place};
 ghost use Rattle.world_state.specs.CallBlocks.{literals_suit, call_refusal, words_stop, call_of, calls_of};
 
 use crate::literals::{are_in_range, literals_suit, values_of};
-use world::{find_procedure, procedure_place};
 use proc_calls::ProcSite;
 use proc_state::{ProcCall, Procedure};
 use rep_lists::{Items, NoMemory};
@@ -17,6 +16,7 @@ use rep_schema::{Schema, columns_of};
 use rep_values::{Limit, Literal, Name, Refusal};
 use script_parse::CallWords;
 use std::alloc::Global;
+use world::{find_procedure, procedure_place};
 use world_state::CallStop;
 
 /// A block has at most so many calls.

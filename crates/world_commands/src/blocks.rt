@@ -10,16 +10,16 @@ ghost use Rattle.world.specs.Precheck.{precheck_refusal};
 ghost use Rattle.world.specs.Texts.{committed_text};
 ghost use Rattle.world.specs.Doing.{Does};
 
-use world::{WorldParts, drop_last, no_memory, place_of, room_for_line};
-use site_engine::Site;
-use txn_effects::LocalStop;
 use page_tables::PageTables;
 use rep_calls::Statement;
 use rep_lists::{Copies, Items, NoMemory};
 use rep_values::{Refusal, SiteName};
 use report_text::{Lines, commit_line, nothing_committed_line};
 use script_parse::Command;
+use site_engine::Site;
 use std::alloc::Global;
+use txn_effects::LocalStop;
+use world::{WorldParts, drop_last, no_memory, place_of, room_for_line};
 use world_state::{Block, Refused};
 
 /// So many statements, and one more, are kept.

@@ -10,9 +10,6 @@ ghost use Rattle.world.specs.Precheck.{precheck_refusal};
 ghost use Rattle.world.specs.Doing.{Does};
 ghost use Rattle.world_commands.specs.Joining.{world_join};
 
-use world::{WorldParts, no_memory, place_of, room_for_line};
-use site_engine::Site;
-use site_making::master_here;
 use master_join::copy_site;
 use page_tables::PageTables;
 use rep_calls::PastEntry;
@@ -22,7 +19,10 @@ use rep_values::SiteName;
 use report_text::{Lines, join_line};
 use schema_names::{destinations_of, senders_of};
 use script_parse::Command;
+use site_engine::Site;
+use site_making::master_here;
 use std::alloc::Global;
+use world::{WorldParts, no_memory, place_of, room_for_line};
 use world_state::Refused;
 
 /// A sum. One that its type can't hold, which so many rows never make, is answered as want of memory.

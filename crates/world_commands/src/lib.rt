@@ -11,7 +11,7 @@ mod shown;
 mod sites;
 mod snapshots;
 
-pub use blocks::{abandon, commit, open_block, add_statement};
+pub use blocks::{abandon, add_statement, commit, open_block};
 pub use joins::join;
 pub use links::{add_fates, clear_fates, set_link};
 pub use refreshing::{purge_log, refresh};

@@ -5,13 +5,13 @@ ghost use Rattle.world.specs.Following.{IsBuilt};
 ghost use Rattle.world.specs.Precheck.{precheck_refusal};
 ghost use Rattle.world.specs.Doing.{Does};
 
-use world::{WorldParts, no_memory};
 use net_plan::Fate;
 use rep_lists::Items;
 use rep_values::SiteName;
 use report_text::Lines;
 use script_parse::{Command, Link};
 use std::alloc::Global;
+use world::{WorldParts, no_memory};
 use world_state::Refused;
 
 /// `fate` with fates

@@ -15,20 +15,20 @@ ghost use Rattle.world.specs.Doing.{Does};
 ghost use Rattle.world_commands.specs.Refreshing.{CanRefreshAt, refreshed_by, refreshed_at, refresh_told_at, told_of};
 
 use crate::ruled::{have_parents, rows_of_each, rows_of_each_by_logs};
-use world::{WorldParts, master_of, no_memory, place_of, room_for_line, young_step};
-use site_engine::Site;
+use change_logs::Notes;
 use event_laws::queries_are_rules;
-use refreshes::CountedView;
 use page_tables::PageTables;
+use refreshes::CountedView;
 use rep_lists::NoMemory;
 use rep_schema::RowStore;
 use rep_values::{SiteName, TableName};
 use report_text::{Lines, purge_log_line, refresh_complete_line, refresh_fast_line};
 use schema_names::table_place;
 use script_parse::{Command, Refresh};
-use change_logs::Notes;
+use site_engine::Site;
 use site_state::RefreshCount;
 use std::alloc::Global;
+use world::{WorldParts, master_of, no_memory, place_of, room_for_line, young_step};
 use world_state::Refused;
 
 /// What a refresh tells: whether it went by the logs, how many keys it looked up, and how many rows the snapshots have.

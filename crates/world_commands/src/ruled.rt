@@ -8,12 +8,12 @@ ghost use Rattle.site_state.specs.Fits.{SchemaIsKeyed, AreWithin};
 ghost use Rattle.site_events.specs.Rules.{rows_ruled, pending_parents, looked_up, HaveNoParents, IsParentWithin};
 ghost use Rattle.world_commands.specs.Ruled.{IsRuleOf, CanRenew, CanRenewEach};
 
-use refreshes::rows_shown;
+use change_logs::{Notes, Watched};
 use page_tables::PageTables;
+use refreshes::rows_shown;
 use rep_lists::{Items, NoMemory};
 use rep_schema::RowStore;
 use rep_values::{Key, Row};
-use change_logs::{Notes, Watched};
 use site_state::TableRows;
 use snapshot_query::Query;
 use std::alloc::Global;

@@ -11,8 +11,6 @@ ghost use Rattle.world.specs.Following.{IsBuilt};
 ghost use Rattle.world.specs.Precheck.{precheck_refusal};
 ghost use Rattle.world.specs.Doing.{Does};
 
-use world::{WorldParts, Procs, no_memory};
-use site_making::{make_net, make_proc_sites, make_sites};
 use local_txn::put_base_row;
 use rep_declare::Declare;
 use rep_lists::{Items, NoMemory};
@@ -20,7 +18,9 @@ use rep_schema::{RowStore, Schema};
 use rep_values::{Literal, TableName};
 use report_text::Lines;
 use script_parse::Command;
+use site_making::{make_net, make_proc_sites, make_sites};
 use std::alloc::Global;
+use world::{Procs, WorldParts, no_memory};
 use world_state::{Phase, Refused};
 
 /// A line that declares something.

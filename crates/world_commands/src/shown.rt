@@ -7,9 +7,6 @@ ghost use Rattle.world.specs.Precheck.{precheck_refusal};
 ghost use Rattle.world.specs.Texts.{senders_there, destinations_there, shown_text, shown_found, shown_calls, show_text};
 ghost use Rattle.world.specs.Doing.{Does};
 
-use world::{WorldParts, no_memory, place_of, proc_place_of};
-use site_engine::Site;
-use site_report::{add_errors, add_journal, add_log, add_marks, add_queue};
 use page_tables::PageTables;
 use proc_calls::ProcSite;
 use rep_lists::{Items, NoMemory};
@@ -18,7 +15,10 @@ use rep_values::SiteName;
 use report_text::{Lines, add_proc_tables, add_tables};
 use schema_names::{destinations_of, senders_of};
 use script_parse::{Command, Shown};
+use site_engine::Site;
+use site_report::{add_errors, add_journal, add_log, add_marks, add_queue};
 use std::alloc::Global;
+use world::{WorldParts, no_memory, place_of, proc_place_of};
 use world_state::Refused;
 
 /// Those of some sites that are there.

@@ -3,11 +3,11 @@ ghost use Rattle.std.specs.Prelude.{◌≡◌, None};
 ghost use Rattle.world.specs.Precheck.{precheck_refusal};
 ghost use Rattle.world.specs.Doing.{Does};
 
-use world::{WorldParts, no_memory, place_of, room_for_line};
 use rep_values::SiteName;
 use report_text::{Lines, drop_error_line, execute_line, purge_line};
 use script_parse::Command;
 use std::alloc::Global;
+use world::{WorldParts, no_memory, place_of, room_for_line};
 use world_state::Refused;
 
 /// `clock`

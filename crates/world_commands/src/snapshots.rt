@@ -9,7 +9,6 @@ ghost use Rattle.world.specs.Precheck.{precheck_refusal};
 ghost use Rattle.world.specs.Doing.{Does};
 ghost use Rattle.world_commands.specs.Declaring.{IsParentThere};
 
-use world::{WorldParts, column_number, no_memory, tests_in, tests_of};
 use rep_lists::{Items, NoMemory};
 use rep_schema::{Column, RowStore, Schema, columns_of};
 use rep_values::{Name, SiteName, TableName};
@@ -18,6 +17,7 @@ use schema_names::table_place;
 use script_parse::{Command, ParentWords, TestWords};
 use snapshot_query::{Parent, Query};
 use std::alloc::Global;
+use world::{WorldParts, column_number, no_memory, tests_in, tests_of};
 use world_state::{DeclaredSnapshot, Refused};
 
 /// The places of columns of these names.

@@ -10,14 +10,14 @@ ghost use Rattle.world.specs.Following.{PushesInPart};
 ghost use Rattle.site_rounds.specs.Parts.{MastersCanPass};
 ghost use Rattle.world_push.specs.Applying.{told_text, IsApplying, CanApplyThere};
 
-use world::{WorldParts, place_of};
-use site_engine::Site;
 use page_tables::PageTables;
 use rep_lists::NoMemory;
 use rep_values::SiteName;
 use report_text::{Lines, PushCount, push_line};
+use site_engine::Site;
 use site_rounds::{Passing, add_new_errors, apply_until_quiet};
 use std::alloc::Global;
+use world::{WorldParts, place_of};
 
 /// The site that is pushed to, and how many positions were sent to it.
 #[derive(Clone, Copy)]

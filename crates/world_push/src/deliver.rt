@@ -7,13 +7,13 @@ ghost use Rattle.world_state.specs.Pushes.{world_deliver_one, world_deliver};
 ghost use Rattle.world_push.specs.Repeats.{is_repeat};
 ghost use Rattle.world_push.specs.Travelling.{Travels};
 
-use world::{WorldParts, place_of};
-use site_engine::Site;
 use packet_code::Sealed;
 use page_tables::PageTables;
 use rep_lists::NoMemory;
 use rep_values::SiteName;
+use site_engine::Site;
 use std::alloc::Global;
+use world::{WorldParts, place_of};
 
 /// Whether the transaction of a packet arrived at a site before. It takes no memory.
 fn is_repeat(site: &Site<PageTables>, sealed: &Sealed) -> bool

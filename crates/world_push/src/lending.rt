@@ -12,14 +12,14 @@ ghost use Rattle.world_push.specs.Lending.{live_phase_step, live_refusal, reache
 
 use crate::marks::return_mark;
 use crate::pushing::send_and_deliver;
-use world::{WorldParts, place_of};
-use site_engine::Site;
 use page_tables::PageTables;
 use rep_lists::{Items, NoMemory};
 use rep_schema::RowStore;
 use rep_values::{Refusal, SiteName};
 use schema_names::senders_of;
+use site_engine::Site;
 use std::alloc::Global;
+use world::{WorldParts, place_of};
 use world_state::Phase;
 
 /// Whether a phase is Running.
@@ -83,11 +83,7 @@ fn reaches(parts: &WorldParts, name: &SiteName, from: &SiteName) -> bool
 }
 
 /// The other masters that reach a master, in declared order.
-fn reaching(
-    parts: &WorldParts,
-    alloc: Global,
-    name: &SiteName,
-) -> Result<Items<SiteName>, NoMemory>
+fn reaching(parts: &WorldParts, alloc: Global, name: &SiteName) -> Result<Items<SiteName>, NoMemory>
     requires built { IsBuilt parts.now }
     requires behind { is_setup parts.now.phase ≡ false }
     ensures { IfOk result (λ names. names ≡ reaching name.now parts.now) }
@@ -156,11 +152,7 @@ fn begin(parts: &mut WorldParts, name: &SiteName) -> Result<(), NoMemory>
 /// Makes a master ready to be lent out: what is held of the other masters that reach it goes on the way, what it hasn't
 /// acknowledged is sent, it takes all in, and a pass begins there. Where there is no memory, some of this may be done, a packet on
 /// the way may be lost, and nothing else.
-pub fn live_open(
-    parts: &mut WorldParts,
-    alloc: Global,
-    name: &SiteName,
-) -> Result<(), NoMemory>
+pub fn live_open(parts: &mut WorldParts, alloc: Global, name: &SiteName) -> Result<(), NoMemory>
     requires built { IsBuilt parts.old }
     requires passes { live_refusal name.now parts.old ≡ None }
     ensures ok { OnOk result (parts.new ≡ live_opened name.now parts.old) }
@@ -173,11 +165,7 @@ pub fn live_open(
 
 /// Sends the mark of a master that was lent out to the other masters that reach it, and lets them take it in, where the way there
 /// is up. Where there is no memory, some of this may be done, a packet on the way may be lost, and nothing else.
-pub fn live_close(
-    parts: &mut WorldParts,
-    alloc: Global,
-    name: &SiteName,
-) -> Result<(), NoMemory>
+pub fn live_close(parts: &mut WorldParts, alloc: Global, name: &SiteName) -> Result<(), NoMemory>
     requires built { IsBuilt parts.old }
     requires running { is_running parts.old.phase ≡ true }
     ensures ok { OnOk result (parts.new ≡ live_closed name.now parts.old) }

@@ -2,13 +2,13 @@
 //! tells what came of it, and its mark goes back. Pieces of it stand before and behind a live part at a master.
 #![tactic(auto)]
 
-mod marks;
+mod applying;
 mod deliver;
 mod laws;
 mod lending;
+mod marks;
 mod pushing;
 mod send;
-mod applying;
 
 pub use laws::live_parts_keep_worlds_built;
 pub use lending::{live_close, live_open, live_refusal};

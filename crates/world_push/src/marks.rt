@@ -8,13 +8,13 @@ ghost use Rattle.world.specs.Following.{PushesInPart};
 
 use crate::deliver::deliver_all;
 use crate::send::{release, send_some};
-use world::{WorldParts, place_of};
-use site_engine::Site;
 use packet_code::Sealed;
 use page_tables::PageTables;
 use rep_lists::NoMemory;
 use rep_values::SiteName;
+use site_engine::Site;
 use std::alloc::Global;
+use world::{WorldParts, place_of};
 
 /// The mark of a site for another one, where the site is there.
 fn mark_of(

@@ -11,16 +11,16 @@ ghost use Rattle.world.specs.Precheck.{precheck_refusal};
 ghost use Rattle.world.specs.Texts.{pushed_text};
 ghost use Rattle.world.specs.Doing.{Does};
 
-use crate::marks::return_mark;
-use crate::deliver::deliver_all;
-use crate::send::{release, send_above};
 use crate::applying::{Pushed, apply_and_tell};
-use world::WorldParts;
+use crate::deliver::deliver_all;
+use crate::marks::return_mark;
+use crate::send::{release, send_above};
 use rep_lists::NoMemory;
 use rep_values::{Refusal, SiteName};
 use report_text::{Lines, MOST_LINE};
 use site_rounds::Passing;
 use std::alloc::Global;
+use world::WorldParts;
 use world_state::Refused;
 
 /// What is held is released, what isn't acknowledged is sent, and all is taken in. It answers how many positions were sent.

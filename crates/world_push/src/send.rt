@@ -7,13 +7,13 @@ ghost use Rattle.site_events.specs.Events.{packet_from};
 ghost use Rattle.world_state.specs.Pushes.{at_most, sent_on, world_release, world_send, positions_in, positions_above, world_send_above};
 ghost use Rattle.world.specs.Following.{PushesInPart};
 
-use world::{WorldParts, place_of};
-use site_engine::Site;
 use packet_code::Sealed;
 use page_tables::PageTables;
 use rep_lists::NoMemory;
 use rep_values::SiteName;
+use site_engine::Site;
 use std::alloc::Global;
+use world::{WorldParts, place_of};
 
 /// What is held from a site to another one goes on the way.
 pub(crate) fn release(

@@ -18,10 +18,7 @@ ghost use Rattle.world_run.specs.Reporting.{PushLeavesNothingReady, PushLeavesNo
 
 use crate::crew::crew_pass;
 use crate::lines::run_or_refuse;
-use world::{WorldParts, place_of, proc_place_of};
-use site_engine::Site;
 use convergent_worlds::convergence_holds;
-use world_push::{live_close, live_open, live_refusal};
 use page_tables::PageTables;
 use parallel_apply::Workers;
 use proc_calls::ProcSite;
@@ -30,6 +27,7 @@ use rep_lists::NoMemory;
 use rep_values::{Refusal, SiteName};
 use report_text::Lines;
 use script_parse::Command;
+use site_engine::Site;
 use site_rounds::{By, Passing, Serial};
 use site_state::PassCount;
 use std::alloc::Global;
@@ -37,6 +35,8 @@ use std::marker::Model;
 use std::mem;
 use std::snapshot::Snapshot;
 use std::sync::Wait;
+use world::{WorldParts, place_of, proc_place_of};
+use world_push::{live_close, live_open, live_refusal};
 use world_state::Refused;
 
 /// A world: what a script has declared so far, its sites, the net between them, and the open block. From the end of Setup on

@@ -5,14 +5,18 @@ ghost use Rattle.world.specs.Following.{IsBuilt};
 ghost use Rattle.world.specs.Precheck.{precheck_refusal};
 ghost use Rattle.world.specs.Doing.{Does, AnswersPrecheck};
 
-use world_calls::run_proc_line;
-use world_commands::{abandon, add_fates, add_row, add_snapshot, clear_fates, commit, declare, drop_error, execute, join, open_block, purge, purge_log, refresh, resume, set_clock, set_link, show, add_statement, suspend};
-use world::WorldParts;
-use world_push::push;
 use report_text::Lines;
 use script_parse::Command;
 use site_rounds::Passing;
 use std::alloc::Global;
+use world::WorldParts;
+use world_calls::run_proc_line;
+use world_commands::{
+    abandon, add_fates, add_row, add_snapshot, add_statement, clear_fates, commit, declare,
+    drop_error, execute, join, open_block, purge, purge_log, refresh, resume, set_clock, set_link,
+    show, suspend,
+};
+use world_push::push;
 use world_state::Refused;
 
 /// Runs a line that meets no refusal that is known before it is tried. Passes are made as it is told.
@@ -38,9 +42,7 @@ pub fn run_line<P: Passing>(
         Command::Txn { site } => open_block(parts, alloc, line, site),
         Command::Commit => commit(parts, alloc, line),
         Command::Abandon => abandon(parts, alloc, line),
-        Command::Push { from, to, count } => {
-            push(parts, alloc, passing, line, from, to, *count)
-        }
+        Command::Push { from, to, count } => { push(parts, alloc, passing, line, from, to, *count) }
         Command::Fates { from, to, fates } => add_fates(parts, alloc, line, from, to, fates),
         Command::ClearFates { from, to } => clear_fates(parts, alloc, line, from, to),
         Command::Link { from, to, link } => set_link(parts, alloc, line, from, to, *link),

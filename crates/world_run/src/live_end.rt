@@ -5,9 +5,9 @@ ghost use Rattle.world_run.specs.LiveParts.{most_sessions, sessions_of, origins_
 ghost use Rattle.world_run.specs.LiveAnswers.{RunsSessions, IsRan};
 ghost use Rattle.world_run.specs.Streaming.{AnswersStreams};
 
+use crate::built_world::World;
 use crate::live_part::{EndedPart, OpenPart};
 use crate::streaming::Streaming;
-use crate::built_world::World;
 use live_laws::{LiveTurn, Session};
 use live_report::part_lines;
 use page_tables::PageTables;

@@ -8,11 +8,11 @@ ghost use Rattle.world_run.specs.LiveParts.{part_refusal, taken};
 ghost use Rattle.world_run.specs.LiveScripts.{live_start, live_step, allowed, known, known_by};
 ghost use Rattle.world_run.specs.LiveRunning.{world_in, MasterIsFree, answer_text, AnswersIn, IsRanIn, RunGoesOn};
 
+use crate::built_world::World;
 use crate::live_end::{Ran, run_part};
 use crate::live_part::{LivePart, OpenPart};
 use crate::runner::told;
 use crate::streaming::Streaming;
-use crate::built_world::World;
 use live_laws::LiveTurn;
 use rep_lists::{Items, NoMemory};
 use rep_values::{Refusal, SiteName};

@@ -5,7 +5,6 @@ ghost use Rattle.world_state.specs.World.{first_world};
 ghost use Rattle.world_run.specs.Scripts.{script_step};
 
 use crate::built_world::World;
-use world::WorldParts;
 use rep_lists::NoMemory;
 use rep_values::Refusal;
 use report_text::{Lines, MOST_LINE, refused_line};
@@ -15,6 +14,7 @@ use script_parse::parse_line;
 use site_rounds::Passing;
 use std::alloc::Global;
 use std::marker::Model;
+use world::WorldParts;
 use world_state::Refused;
 
 /// A world that runs each line, and what makes its passes.

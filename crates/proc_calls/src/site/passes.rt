@@ -8,9 +8,9 @@ ghost use Rattle.proc_state.specs.Passes.{proc_apply, proc_apply_answer, apply_e
 
 use super::ProcSite;
 use crate::arrived::apply_arrival;
-use sender_inbox::{Step, add_error, counted, place_from, reserve_position};
 use rep_lists::NoMemory;
 use rep_values::SiteName;
+use sender_inbox::{Step, add_error, counted, place_from, reserve_position};
 use site_state::{Applied, PassCount};
 use std::alloc::Global;
 

@@ -11,8 +11,8 @@ ghost use Rattle.sender_inbox.specs.Incoming.{by_position, IsFirstAbove};
 ghost use Rattle.proc_state.specs.State.{as_site, proc_queue};
 
 use super::ProcSite;
-use sender_inbox::{inbox_from, origin_at};
 use rep_values::SiteName;
+use sender_inbox::{inbox_from, origin_at};
 use site_state::Why;
 
 impl ProcSite {

@@ -7,12 +7,12 @@ ghost use Rattle.proc_state.specs.Packets.{is_foreign, proc_accept, proc_accept_
 
 use super::ProcSite;
 use crate::carrying::is_carried;
-use sender_inbox::{inbox_from, place_from};
 use packet_code::Packet;
 use rep_calls::{PastEntry, Txn};
 use rep_lists::NoMemory;
 use rep_schema::RowStore;
 use rep_values::SiteName;
+use sender_inbox::{inbox_from, place_from};
 use site_state::{Accepted, Arrival};
 
 impl ProcSite {
@@ -27,7 +27,13 @@ impl ProcSite {
     }
 
     /// Whether a transaction isn't for this site, is from no other master, has a call of no procedure's form, or has a past.
-    fn is_foreign_carry(&self, from: &SiteName, to: &SiteName, past: &[PastEntry], txn: &Txn) -> bool
+    fn is_foreign_carry(
+        &self,
+        from: &SiteName,
+        to: &SiteName,
+        past: &[PastEntry],
+        txn: &Txn,
+    ) -> bool
         ensures { (number position dep : ℕ) → result ≡ is_foreign (Carry from.now to.now number position dep past.now txn.now) self.now }
     {
         !to.is_same(&self.me)

@@ -6,11 +6,11 @@ ghost use Rattle.site_state.specs.Commits.{block_at, site_commit, commit_answer}
 use super::Site;
 use crate::committing::{Block, no_memory, run_block};
 use crate::journal::reserve_noting;
-use txn_effects::LocalStop;
 use rep_calls::Statement;
 use rep_schema::RowStore;
 use site_state::Entry;
 use std::alloc::Global;
+use txn_effects::LocalStop;
 
 impl<R: RowStore> Site<R> {
     /// Commits a block of statements as one transaction of the site's own: it is queued and journalled, and its changed rows

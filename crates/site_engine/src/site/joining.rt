@@ -5,9 +5,9 @@ ghost use Rattle.site_state.specs.Streams.{count_of};
 ghost use Rattle.site_state.specs.Joining.{site_open, site_first};
 
 use super::Site;
-use sender_inbox::{inbox_from, place_from};
 use rep_schema::RowStore;
 use rep_values::SiteName;
+use sender_inbox::{inbox_from, place_from};
 
 impl<R: RowStore> Site<R> {
     /// Whether the site is a master.

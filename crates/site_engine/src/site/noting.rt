@@ -3,8 +3,8 @@ ghost use Rattle.std.specs.Prelude.{◌≡◌};
 ghost use Rattle.site_state.specs.Purges.{site_purge_log, purge_log_answer};
 
 use super::Site;
-use rep_schema::RowStore;
 use change_logs::Notes;
+use rep_schema::RowStore;
 
 impl<R: RowStore> Site<R> {
     /// The logs of the site's tables, and its snapshots.

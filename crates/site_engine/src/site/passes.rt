@@ -14,12 +14,12 @@ ghost use Rattle.site_engine.specs.Working.{EndsHere};
 
 use super::Site;
 use crate::applying::apply_arrival;
-use sender_inbox::{Step, add_error, counted, inbox_from, place_from, reserve_position};
 use rep_calls::PastEntry;
 use rep_lists::{Items, NoMemory};
 use rep_schema::RowStore;
 use rep_values::SiteName;
 use schema_names::is_master_site;
+use sender_inbox::{Step, add_error, counted, inbox_from, place_from, reserve_position};
 use site_state::{Applied, PassCount};
 use std::alloc::Global;
 use txn_apply::Ending;

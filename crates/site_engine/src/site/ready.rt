@@ -10,11 +10,11 @@ ghost use Rattle.site_engine.specs.Looking.{NoneReady, Tells, IsNextReady};
 use super::Site;
 use crate::looking::{Look, Placed};
 use crate::seen::causal_past;
-use sender_inbox::{inbox_from, origin_at};
 use rep_calls::PastEntry;
 use rep_lists::{Items, NoMemory};
 use rep_schema::RowStore;
 use rep_values::SiteName;
+use sender_inbox::{inbox_from, origin_at};
 use site_state::{Arrival, Why};
 use std::alloc::Global;
 

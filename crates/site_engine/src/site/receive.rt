@@ -11,13 +11,13 @@ ghost use Rattle.site_engine.specs.SiteInvariant.{IsSized};
 
 use super::Site;
 use conflict_detect::fits;
-use sender_inbox::{inbox_from, place_from};
 use packet_code::Packet;
 use rep_calls::{PastEntry, Txn};
 use rep_lists::{Items, NoMemory};
 use rep_schema::RowStore;
 use rep_values::SiteName;
 use schema_names::is_master_site;
+use sender_inbox::{inbox_from, place_from};
 use site_state::{Accepted, Arrival};
 
 impl<R: RowStore> Site<R> {
@@ -61,7 +61,13 @@ impl<R: RowStore> Site<R> {
     }
 
     /// Whether a transaction isn't for this site, is from no sender, doesn't fit, or has a past of an unknown site.
-    fn is_foreign_carry(&self, from: &SiteName, to: &SiteName, past: &[PastEntry], txn: &Txn) -> bool
+    fn is_foreign_carry(
+        &self,
+        from: &SiteName,
+        to: &SiteName,
+        past: &[PastEntry],
+        txn: &Txn,
+    ) -> bool
         ensures { (number position dep : ℕ) → result ≡ is_foreign (Carry from.now to.now number position dep past.now txn.now) self.now }
     {
         !to.0.is_same(&self.here.site.0)

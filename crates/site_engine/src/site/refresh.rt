@@ -6,11 +6,11 @@ ghost use Rattle.site_state.specs.Refreshes.{rows_shown, site_refresh, refresh_f
 ghost use Rattle.refreshes.specs.Refreshing.{OthersAreShown, AreGivenFor, pending_count};
 
 use super::Site;
+use change_logs::Notes;
 use refreshes::{MasterView, refresh_all, refresh_all_fast};
-use sender_inbox::reserve_beside;
 use rep_lists::NoMemory;
 use rep_schema::{RowStore, holds_tables};
-use change_logs::Notes;
+use sender_inbox::reserve_beside;
 use site_state::{Entry, RefreshCount, TableRows};
 use std::alloc::Global;
 use std::snapshot::Snapshot;

@@ -8,14 +8,14 @@ ghost use Rattle.site_engine.specs.Working.{has_unique, IsWorkOf, EndsHere};
 
 use super::Site;
 use dependency_index::has_unique_token;
-use sender_inbox::inbox_from;
 use rep_lists::NoMemory;
 use rep_schema::RowStore;
 use rep_values::SiteName;
+use row_tables::SharedSchema;
+use sender_inbox::inbox_from;
 use site_state::{Applied, Arrival};
 use std::alloc::Global;
 use txn_apply::{Outcome, Work};
-use row_tables::SharedSchema;
 
 impl<R: RowStore> Site<R> {
     /// Whether a position of a sender arrived. It takes no memory.
