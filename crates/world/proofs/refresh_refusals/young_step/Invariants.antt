@@ -1,7 +1,7 @@
 -- Looking for a snapshot of which the log is too young.
 use Rattle.std.proofs.Common.{◌≡◌, drop}
 use Rattle.world_state.specs.Refusals.{young_step}
-use Rattle.world.proofs.refreshes.young_step.Given as goal
+use Rattle.world.proofs.refresh_refusals.young_step.Given as goal
 
 -- those so far hinder nothing
 abbrev pub invariant-loop-place : goal.invariant-loop-place

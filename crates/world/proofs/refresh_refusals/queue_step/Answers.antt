@@ -3,7 +3,7 @@ use Rattle.std.proofs.Common.{ap, ◌∙◌, arith}
 use Rattle.std.proofs.lemmas.Bool.Decides.{nat_tests}
 use Rattle.deferred_queue.specs.Streams.{last_position, acked_by}
 use Rattle.world.proofs.Queued.{nothing_waits, some_wait}
-use Rattle.world.proofs.refreshes.queue_step.Goals as goal
+use Rattle.world.proofs.refresh_refusals.queue_step.Goals as goal
 
 pub returns-then-acked-last : goal.returns-then-acked-last
 returns-then-acked-last c =
