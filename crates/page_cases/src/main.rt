@@ -14,7 +14,7 @@
 //!
 //! `picked T P COLUMN COLUMN ..` shows the rows of T whose parent, the row of P under the key in these columns, is there with a
 //! second value of 0 or more. `renewed T P COLUMN .., : KEY : KEY .., : PARENT : PARENT .. , : VALUES : VALUES ..` makes them from the
-//! rows behind the last comma, by the keys and the parents' keys before it, if these rows show what is settled. It tells the look-ups
+//! rows behind the last comma, by the keys and the parents' keys before it, if these rows show what is up to date. It tells the look-ups
 //! beside the most that there may be.
 //!
 //! The lines that follow need no store. `moment MARK, KEY : KEY : KEY ..` notes the keys behind the first colon at the moments
@@ -32,8 +32,8 @@ mod logged;
 mod refreshed;
 mod renewed;
 mod series;
-mod settled;
 mod undone;
+mod up_to_date;
 
 use anyhow::Result;
 use case_reader::CaseStop;

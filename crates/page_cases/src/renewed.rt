@@ -7,7 +7,7 @@ ghost use Rattle.rep_schema.specs.Tables.{columns_of, IsKeyed};
 use crate::calls::text;
 use crate::families::{all_shown, read_parent};
 use crate::refreshed::{keyed_table_in, read_master};
-use crate::settled::{any_row, shows_but, with_waiting};
+use crate::up_to_date::{any_row, shows_but, with_waiting};
 use case_reader::{CaseStop, Words};
 use change_logs::Log;
 use refreshes::{MasterView, rows_shown};
@@ -55,7 +55,7 @@ fn most_lookups(keys: usize, parents: usize, all: usize) -> u64 {
     twice.saturating_add(all) as u64
 }
 
-/// The rows that are made from older ones, where these show what is settled.
+/// The rows that are made from older ones, where these show what is up to date.
 fn by_keys_and_parents<R: RowStore>(
     alloc: Global,
     master: &R,

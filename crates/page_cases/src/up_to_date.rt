@@ -1,4 +1,4 @@
-//! Whether rows show what is settled at a master: those that neither have a pending key nor wait for a pending parent.
+//! Whether rows show what is up to date at a master: those that neither have a pending key nor wait for a pending parent.
 ghost use Rattle.std.specs.Prelude.{◌≡◌, ◌<◌, ◌++◌, [], length, map, slice_get, option_to_list, IsTrue, IfOk, OnOk};
 ghost use Rattle.rep_schema.specs.Tables.{columns_of, key_of, rows_of, IsKeyed, IsTable};
 ghost use Rattle.rep_schema.specs.Groups.{are_same};

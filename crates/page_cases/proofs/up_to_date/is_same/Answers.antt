@@ -1,6 +1,6 @@
 use Rattle.std.specs.Bool.{one_answer}
 use Rattle.rep_schema.proofs.ValuesAt.{are_same-Decides}
-use Rattle.page_cases.proofs.settled.is_same.Goals as goal
+use Rattle.page_cases.proofs.up_to_date.is_same.Goals as goal
 
 pub returns : goal.returns
 returns c =

@@ -2,7 +2,7 @@ use Rattle.std.proofs.Common.{◌≡◌, filter, ◌∙◌}
 use Rattle.rep_schema.specs.Tables.{columns_of, rows_of}
 use Rattle.snapshot_query.specs.Parents.{has_parent}
 use Rattle.page_cases.proofs.AllRows.{shows_picked}
-use Rattle.page_cases.proofs.settled.shows_but.Goals as goal
+use Rattle.page_cases.proofs.up_to_date.shows_but.Goals as goal
 
 pub returns : goal.returns
 returns g c = λ yes.

@@ -5,7 +5,7 @@ use Rattle.rep_schema.specs.Tables.{Cells, Rows, columns_of, key_of, rows_of}
 use Rattle.rep_schema.proofs.FilteredRows.{filter-first}
 use Rattle.snapshot_query.specs.Parents.{parent_key}
 use Rattle.refreshes.specs.Showing.{has_key}
-use Rattle.page_cases.proofs.settled.with_waiting.Goals as goal
+use Rattle.page_cases.proofs.up_to_date.with_waiting.Goals as goal
 
 pub loop-place-preserved : goal.loop-place-preserved
 loop-place-preserved g c =

@@ -2,7 +2,7 @@
 use Rattle.std.proofs.Common.{◌≡◌, ◌++◌, drop, map}
 use Rattle.rep_schema.specs.Tables.{columns_of, key_of, rows_of}
 use Rattle.subquery_snapshots.specs.Rules.{rows_of_parents}
-use Rattle.page_cases.proofs.settled.with_waiting.Given as goal
+use Rattle.page_cases.proofs.up_to_date.with_waiting.Given as goal
 
 -- the keys so far, with those of the rows left that wait, are all
 abbrev pub invariant-loop-place : goal.invariant-loop-place
