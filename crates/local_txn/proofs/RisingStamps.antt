@@ -30,7 +30,8 @@ use Rattle.txn_effects.specs.declared.local.LocalStop.{LocalStop}
 use Rattle.txn_effects.specs.Held.{statement_table, held_table}
 use Rattle.txn_effects.specs.Literals.{values_of}
 use Rattle.txn_effects.specs.Sets.{sets_filled, row_with}
-use Rattle.txn_effects.specs.Filled.{Filling, RowMade, everywhere, is_modified, bound_from, has_stamp_from, next_stamp, row_written}
+use Rattle.txn_effects.specs.declared.row_made.RowMade.{RowMade}
+use Rattle.txn_effects.specs.Filled.{Filling, everywhere, is_modified, bound_from, has_stamp_from, next_stamp, row_written}
 use Rattle.txn_effects.specs.Statements.{BlockState, row_at, insert_made, update_made, outcome_in, outcome_changes, steps_in, statement_refusal, statement_changes, block_state_after}
 use Rattle.txn_effects.specs.Locals.{BlockEffect, unless_refused, block_effect_behind, statements_effect, block_beginning, local_effect, most_statements, stop_at}
 use Rattle.local_txn.specs.Laws.{gives_stamp, StampsRise, GivesStamps}

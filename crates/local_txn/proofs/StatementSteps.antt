@@ -31,7 +31,8 @@ use Rattle.local_txn.specs.declared.stop.Stop.TheVariants.{Refused, Memory}
 use Rattle.txn_effects.specs.Literals.{literal_fits, literals_fit, key_literals_fit, values_of}
 use Rattle.txn_effects.specs.Sets.{names_columns, names_one_twice, takes_set, is_about, sets_fit, sets_filled, value_by, row_with}
 use Rattle.txn_effects.specs.ByColumn.{AreSets, names_refusal, takes_each, fills_some, row_by, row_where_in_range}
-use Rattle.txn_effects.specs.Filled.{Filling, RowMade, filled_from, value_filled, everywhere, is_modified, bound_from, next_stamp, made_with, written_columns, row_written}
+use Rattle.txn_effects.specs.declared.row_made.RowMade.{RowMade}
+use Rattle.txn_effects.specs.Filled.{Filling, filled_from, value_filled, everywhere, is_modified, bound_from, next_stamp, made_with, written_columns, row_written}
 use Rattle.txn_effects.specs.Stamps.{capped}
 use Rattle.txn_effects.specs.Convergent.{barred, own_key_step, rule_step}
 use Rattle.txn_effects.specs.Statements.{BlockState, row_at, insert_made, update_made, insert_in, update_in, delete_in, row_steps, there, new_row_steps, insert_steps, changed_row_steps, update_steps, delete_steps}

@@ -21,7 +21,8 @@ use Rattle.txn_effects.specs.declared.side.Side.{Side}
 use Rattle.txn_effects.specs.Literals.{key_literals_fit}
 use Rattle.txn_effects.specs.Sets.{names_columns, sets_fit, sets_filled}
 use Rattle.txn_effects.specs.ByColumn.{AreSets}
-use Rattle.txn_effects.specs.Filled.{RowMade, everywhere, is_modified, bound_from, next_stamp, made_with}
+use Rattle.txn_effects.specs.declared.row_made.RowMade.{RowMade}
+use Rattle.txn_effects.specs.Filled.{everywhere, is_modified, bound_from, next_stamp, made_with}
 use Rattle.txn_effects.specs.Stamps.{capped}
 use Rattle.txn_effects.specs.Convergent.{side_of, barred, rule_step}
 use Rattle.txn_effects.specs.Statements.{BlockState, StatementOutcome, outcome_changes, statement_refusal, statement_changes, block_state_after}
