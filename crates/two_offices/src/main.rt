@@ -40,19 +40,37 @@ fn acknowledge(alloc: Global, from: &Office, to: &mut Office) -> Result<String, 
     Ok(format!(in alloc; "receipt to {}: {accepted:?}, purged {purged}", to.name())?)
 }
 
-/// Letters from New York, of which the first is lost and sent again, and the second comes twice; and one from London.
-fn exchange(alloc: Global, nyc: &mut Office, lon: &mut Office) -> Result<Vec<String>, OfficeError> {
-    let mut told = Vec::new(alloc);
-    nyc.write_text(alloc, "update STOCK 1 : QTY + -4")?;
-    nyc.write_text(alloc, "update STOCK 1 : QTY + -1")?;
-    lon.write_text(alloc, "update STOCK 1 : QTY + -6")?;
-    for behind in [1, 1, 0] {
-        told.push(send(alloc, nyc, lon, behind)?)?;
+/// Prints what came of a letter or a receipt.
+fn tell(rt: &HostRuntime, told: Result<String, OfficeError>) -> Result<()> {
+    match told {
+        Ok(line) => Ok(println!(rt; "{line}")?),
+        Err(why) => bail!("{why}"),
     }
-    told.push(acknowledge(alloc, lon, nyc)?)?;
-    told.push(send(alloc, lon, nyc, 0)?)?;
-    told.push(acknowledge(alloc, nyc, lon)?)?;
-    Ok(told)
+}
+
+/// Ends the program where a block is refused.
+fn written(number: Result<u64, OfficeError>) -> Result<()> {
+    match number {
+        Ok(_) => Ok(()),
+        Err(why) => bail!("{why}"),
+    }
+}
+
+/// What the offices sell.
+fn sell(alloc: Global, nyc: &mut Office, lon: &mut Office) -> Result<()> {
+    written(nyc.write_text(alloc, "update STOCK 1 : QTY + -4"))?;
+    written(nyc.write_text(alloc, "update STOCK 1 : QTY + -1"))?;
+    written(lon.write_text(alloc, "update STOCK 1 : QTY + -6"))
+}
+
+/// Letters from New York, of which the first is lost and sent again, and the second comes twice; and one from London.
+fn exchange(rt: &HostRuntime, nyc: &mut Office, lon: &mut Office) -> Result<()> {
+    for behind in [1, 1, 0] {
+        tell(rt, send(rt.alloc(), nyc, lon, behind))?;
+    }
+    tell(rt, acknowledge(rt.alloc(), lon, nyc))?;
+    tell(rt, send(rt.alloc(), lon, nyc, 0))?;
+    tell(rt, acknowledge(rt.alloc(), nyc, lon))
 }
 
 fn show(rt: &HostRuntime, office: &Office) -> Result<()> {
@@ -63,17 +81,18 @@ fn show(rt: &HostRuntime, office: &Office) -> Result<()> {
     Ok(println!(rt; "{} has {quantity}", office.name())?)
 }
 
+fn trade(rt: &HostRuntime, nyc: &mut Office, lon: &mut Office) -> Result<()> {
+    sell(rt.alloc(), nyc, lon)?;
+    exchange(rt, nyc, lon)?;
+    if let Err(why) = lon.take(rt.alloc(), b"letter") {
+        println!(rt; "other bytes to LON: {why}")?;
+    }
+    show(rt, nyc)?;
+    show(rt, lon)
+}
+
 fn main(rt: HostRuntime) -> Result<()> {
     let mut nyc = Office::open(rt.alloc(), &SiteName(named("NYC")?), TEXT)?;
     let mut lon = Office::open(rt.alloc(), &SiteName(named("LON")?), TEXT)?;
-    let told = match exchange(rt.alloc(), &mut nyc, &mut lon) {
-        Ok(told) => told,
-        Err(why) => bail!("{why}"),
-    };
-    told.iter().try_for_each(|line| println!(&rt; "{line}"))?;
-    if let Err(why) = lon.take(rt.alloc(), b"letter") {
-        println!(&rt; "other bytes to LON: {why}")?;
-    }
-    show(&rt, &nyc)?;
-    show(&rt, &lon)
+    trade(&rt, &mut nyc, &mut lon)
 }
