@@ -7,6 +7,8 @@ ghost use Rattle.world_run.specs.Doing.{Does};
 ghost use Rattle.replication_cli.specs.Runs.{beginning, with_command, with_commands};
 
 use crate::tally::Tally;
+use page_tables::PageTables;
+use parallel_apply::{Workers, beside_workers};
 use rep_io::Watch;
 use rep_lists::NoMemory;
 use rep_values::Refusal;
@@ -20,26 +22,25 @@ use storm_script::{Draws, closing, opening};
 use world_run::World;
 use world_state::Refused;
 
-// Runs a command in a world with so many appliers. With one it takes no lock.
-fn step<X: Threads + Wait + Sync, W: Watch>(
+// Runs a command in a world beside workers. Where there are none it takes no lock.
+fn step<X: Wait, W: Watch>(
     rt: &X,
     alloc: Global,
+    workers: &Workers<PageTables>,
     world: &mut World,
     number: u32,
     command: &Command,
-    appliers: u32,
     watch: &W,
 ) -> Result<Lines, Refused>
     requires free { world.old.lent ≡ None }
     requires line { IsLine command.now }
-    requires appliers { (1 ≤ appliers) × (appliers ≤ 8) }
     ensures free { world.new.lent ≡ None }
     ensures does { Does number command.now world.old.world world.new.world result }
 {
-    if appliers == 1 {
+    if workers.is_empty() {
         return world.step(alloc, number, command);
     }
-    world.step_crew(rt, alloc, number, command, appliers, watch)
+    world.step_crew(rt, alloc, workers, number, command, watch)
 }
 
 /// A world, the number of the command that comes, and what those before it told. No master of the world is lent out.
@@ -89,22 +90,21 @@ impl Run {
     }
 
     // Runs a command, and counts what it tells.
-    fn run<X: Threads + Wait + Sync, W: Watch>(
+    fn run<X: Wait, W: Watch>(
         &mut self,
         rt: &X,
         alloc: Global,
+        workers: &Workers<PageTables>,
         command: &Command,
-        appliers: u32,
         watch: &W,
     ) -> Result<(), NoMemory>
         requires line { IsLine command.now }
-        requires appliers { (1 ≤ appliers) × (appliers ≤ 8) }
         requires room { self.old.number + 1 < 2 ^ 32 }
         ensures { OnOk result (self.new ≡ with_command self.old command.now) }
     {
         let number = self.number;
         self.number += 1;
-        match step(rt, alloc, &mut self.world, number, command, appliers, watch) {
+        match step(rt, alloc, workers, &mut self.world, number, command, watch) {
             Ok(lines) => {
                 self.tally.add(lines.bytes());
                 Ok(())
@@ -120,67 +120,81 @@ impl Run {
     }
 
     // Runs commands one after another.
-    fn run_all<X: Threads + Wait + Sync, W: Watch>(
+    fn run_all<X: Wait, W: Watch>(
         &mut self,
         rt: &X,
         alloc: Global,
+        workers: &Workers<PageTables>,
         commands: &[Command],
-        appliers: u32,
         watch: &W,
     ) -> Result<(), NoMemory>
         requires lines { All IsLine commands.now }
-        requires appliers { (1 ≤ appliers) × (appliers ≤ 8) }
         requires room { self.old.number + length commands.now < 2 ^ 32 }
         ensures { OnOk result (self.new ≡ with_commands self.old commands.now) }
     {
         for command in commands {
-            self.run(rt, alloc, command, appliers, watch)?;
+            self.run(rt, alloc, workers, command, watch)?;
         }
         Ok(())
     }
 
     // Runs so many rounds.
-    fn run_rounds<X: Threads + Wait + Sync, W: Watch>(
+    fn run_rounds<X: Wait, W: Watch>(
         &mut self,
         rt: &X,
         alloc: Global,
+        workers: &Workers<PageTables>,
         seed: u64,
         count: u32,
-        appliers: u32,
         watch: &W,
     ) -> Result<(), NoMemory>
         requires count { count ≤ most_rounds }
-        requires appliers { (1 ≤ appliers) × (appliers ≤ 8) }
         requires room { self.old.number + 5 * count < 2 ^ 32 }
         ensures { OnOk result (self.new ≡ with_commands self.old (rounds count 1 seed)) }
     {
         let mut draws = Draws { state: seed };
         for before in 0..count {
             let commands = draws.round(alloc, before + 1)?;
-            self.run_all(rt, alloc, &commands, appliers, watch)?;
+            self.run_all(rt, alloc, workers, &commands, watch)?;
         }
         Ok(())
     }
 
     // Runs all commands of a storm.
-    fn storm<X: Threads + Wait + Sync, W: Watch>(
+    fn storm<X: Wait, W: Watch>(
         &mut self,
         rt: &X,
         alloc: Global,
+        workers: &Workers<PageTables>,
         seed: u64,
         count: u32,
-        appliers: u32,
         watch: &W,
     ) -> Result<(), NoMemory>
         requires first { self.old.number ≡ 1 }
         requires count { count ≤ most_rounds }
-        requires appliers { (1 ≤ appliers) × (appliers ≤ 8) }
         ensures { OnOk result (self.new ≡ with_commands self.old (storm_commands seed count)) }
     {
-        self.run_all(rt, alloc, &opening(alloc)?, appliers, watch)?;
-        self.run_rounds(rt, alloc, seed, count, appliers, watch)?;
-        self.run_all(rt, alloc, &closing(alloc)?, appliers, watch)
+        self.run_all(rt, alloc, workers, &opening(alloc)?, watch)?;
+        self.run_rounds(rt, alloc, workers, seed, count, watch)?;
+        self.run_all(rt, alloc, workers, &closing(alloc)?, watch)
     }
+}
+
+// Runs the storm of a seed and a number of rounds beside workers.
+fn storm_beside<X: Wait, W: Watch>(
+    rt: &X,
+    alloc: Global,
+    workers: &Workers<PageTables>,
+    seed: u64,
+    count: u32,
+    watch: &W,
+) -> Result<Run, NoMemory>
+    requires { count ≤ most_rounds }
+    ensures { IfOk result (λ run. run ≡ with_commands beginning (storm_commands seed count)) }
+{
+    let mut run = Run::start(alloc)?;
+    run.storm(rt, alloc, workers, seed, count, watch)?;
+    Ok(run)
 }
 
 /// Runs the storm of a seed and a number of rounds, with so many appliers.
@@ -196,7 +210,11 @@ pub fn run_storm<X: Threads + Wait + Sync, W: Watch>(
     requires appliers { (1 ≤ appliers) × (appliers ≤ 8) }
     ensures { IfOk result (λ run. run ≡ with_commands beginning (storm_commands seed count)) }
 {
-    let mut run = Run::start(alloc)?;
-    run.storm(rt, alloc, seed, count, appliers, watch)?;
-    Ok(run)
+    let workers = Workers::new(alloc, appliers);
+    let shared = &workers;
+    let mut run = || -> Result<Run, NoMemory>
+        requires { count ≤ most_rounds }
+        ensures { IfOk result (λ run. run ≡ with_commands beginning (storm_commands seed count)) }
+    { storm_beside(rt, alloc, shared, seed, count, watch) };
+    beside_workers(rt, alloc, shared, watch, &mut run)
 }

@@ -3,6 +3,7 @@ pub mod Lent
 pub mod Reporting
 pub mod Scripts
 pub mod Completeness
+pub mod RunOf
 pub use Rattle.environment_lines.specs.Texts
 pub use Rattle.environment_lines.specs.Doing
 pub mod Ended

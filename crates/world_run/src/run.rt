@@ -8,12 +8,14 @@ ghost use Rattle.script_drive.specs.Outcome.{Told};
 ghost use Rattle.script_drive.specs.Prompt.{ReadsPromptly};
 ghost use Rattle.site_rounds.specs.Passing.{TakesPass, AnswersPass};
 ghost use Rattle.world_run.specs.Completeness.{RunsToItsEnd};
+ghost use Rattle.world_run.specs.RunOf.{RunOf};
 ghost use Rattle.world_run.specs.Scripts.{script_step, EachLineHolds};
 
 use crate::crew::crew_pass;
 use crate::laws::reported_worlds_hold;
 use crate::runner::Runner;
 use page_tables::PageTables;
+use parallel_apply::{Workers, beside_workers};
 use rep_io::{Sink, Source, Watch};
 use rep_lists::NoMemory;
 use rep_values::SiteName;
@@ -93,8 +95,8 @@ pub fn run_alone_through<S, K: Sink, R: Reader<S, K>>(
     run_by(alloc, Serial, at_end, reader, source, sink)
 }
 
-/// Runs a script as `run_alone` does, with so many appliers, 1 to 8: passes for what masters sent are made by as many threads.
-/// The report is that of one applier, byte for byte. It may wait for a lock.
+/// Runs a script as `run_alone` does, with so many appliers, 1 to 8: passes for what masters sent are made by as many threads, which
+/// are kept over the whole run. The report is that of one applier, byte for byte. It may wait for a lock.
 pub fn run_crew<X: Threads + Wait + Sync, S: Source, K: Sink, W: Watch>(
     rt: &X,
     alloc: Global,
@@ -124,6 +126,29 @@ pub fn run_crew<X: Threads + Wait + Sync, S: Source, K: Sink, W: Watch>(
     )
 }
 
+// Runs a script beside workers, which take part in passes for what masters sent.
+fn run_beside<X: Wait, S, K: Sink, R: Reader<S, K>, W: Watch>(
+    rt: &X,
+    alloc: Global,
+    workers: &Workers<PageTables>,
+    at_end: AtEnd,
+    reader: &mut R,
+    source: &mut S,
+    sink: &mut K,
+    watch: &W,
+) -> Status
+    ensures { RunOf (R.left source.old) (R.left source.new) (K.taken sink.old) (K.taken sink.new) (R.reads reader.old) (R.reads reader.new) (R.faults source.old) (R.faults source.new) (K.faults sink.old) (K.faults sink.new) result }
+{
+    let pass = |alloc: Global, site: Site<PageTables>, origin: SiteName| -> Result<
+        (Site<PageTables>, PassCount),
+        (Site<PageTables>, NoMemory),
+    >
+        requires { TakesPass origin site }
+        ensures { AnswersPass origin site result }
+    { crew_pass(rt, alloc, workers, site, &origin, watch) };
+    run_by(alloc, By { pass }, at_end, reader, source, sink)
+}
+
 /// Runs a script as `run_crew` does, through any reader. The memory of the world stays taken at the end where the caller asks for
 /// that.
 pub fn run_crew_through<X: Threads + Wait + Sync, S, K: Sink, R: Reader<S, K>, W: Watch>(
@@ -145,13 +170,10 @@ pub fn run_crew_through<X: Threads + Wait + Sync, S, K: Sink, R: Reader<S, K>, W
     ensures complete { RunsToItsEnd (R.left source.old) (K.taken sink.old) (R.faults source.old) (R.faults source.new) (K.faults sink.old) (K.faults sink.new) result }
     ensures worlds { EachLineHolds (R.left source.old) }
 {
-    let pass = |alloc: Global, site: Site<PageTables>, origin: SiteName| -> Result<
-        (Site<PageTables>, PassCount),
-        (Site<PageTables>, NoMemory),
-    >
-        requires takes { TakesPass origin site }
-        requires appliers { (1 ≤ appliers) × (appliers ≤ 8) }
-        ensures { AnswersPass origin site result }
-    { crew_pass(rt, alloc, site, &origin, appliers, watch) };
-    run_by(alloc, By { pass }, at_end, reader, source, sink)
+    let workers = Workers::new(alloc, appliers);
+    let shared = &workers;
+    let mut run = || -> Status
+        ensures { RunOf (R.left source.entry.now) (R.left source.exit.now) (K.taken sink.entry.now) (K.taken sink.exit.now) (R.reads reader.entry.now) (R.reads reader.exit.now) (R.faults source.entry.now) (R.faults source.exit.now) (K.faults sink.entry.now) (K.faults sink.exit.now) result }
+    { run_beside(rt, alloc, shared, at_end, reader, source, sink, watch) };
+    beside_workers(rt, alloc, shared, watch, &mut run)
 }

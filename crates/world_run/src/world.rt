@@ -1,5 +1,5 @@
 //! The world of a script.
-ghost use Rattle.std.specs.Prelude.{◌≡◌, ◌≤◌, Some, None, option_copied, IfOk, IfErr, OnOk, OnErr};
+ghost use Rattle.std.specs.Prelude.{◌≡◌, Some, None, option_copied, IfOk, IfErr, OnOk, OnErr};
 ghost use Rattle.script_parse.specs.Named.{NamesColumn};
 ghost use Rattle.rep_values.specs.declared.name.SiteName.{SiteName as SiteNameValue};
 ghost use Rattle.event_laws.specs.Core.{site_of};
@@ -22,6 +22,7 @@ use environment_calls::proc_place_of;
 use environment_lines::{Environment, Site, convergence_holds, place_of};
 use environment_push::{live_close, live_open, live_refusal};
 use page_tables::PageTables;
+use parallel_apply::Workers;
 use proc_calls::ProcSite;
 use rep_io::Watch;
 use rep_lists::NoMemory;
@@ -35,7 +36,6 @@ use std::marker::Model;
 use std::mem;
 use std::snapshot::Snapshot;
 use std::sync::Wait;
-use std::thread::Threads;
 use world_state::Refused;
 
 /// A world: what a script has declared so far, its sites, the net between them, and the open block. From the end of Setup on
@@ -115,20 +115,19 @@ impl World {
         self.step_by(alloc, &Serial, line, command)
     }
 
-    /// The same with so many appliers, 1 to 8: passes for what masters sent are made by as many threads. What comes of it is as
-    /// with one. It may wait for a lock.
-    pub fn step_crew<X: Threads + Wait + Sync, W: Watch>(
+    /// The same beside workers, which take part in passes for what masters sent. What comes of it is as without them. It may wait
+    /// for a lock.
+    pub fn step_crew<X: Wait, W: Watch>(
         &mut self,
         rt: &X,
         alloc: Global,
+        workers: &Workers<PageTables>,
         line: u32,
         command: &Command,
-        appliers: u32,
         watch: &W,
     ) -> Result<Lines, Refused>
         requires free { self.old.lent ≡ None }
         requires named { NamesColumn command.now }
-        requires appliers { (1 ≤ appliers) × (appliers ≤ 8) }
         ensures free { self.new.lent ≡ None }
         ensures does { Does line command.now self.old.world self.new.world result }
         ensures known { AnswersKnown line command.now self.old.world result }
@@ -145,10 +144,9 @@ impl World {
             (Site<PageTables>, PassCount),
             (Site<PageTables>, NoMemory),
         >
-            requires takes { TakesPass origin site }
-            requires appliers { (1 ≤ appliers) × (appliers ≤ 8) }
+            requires { TakesPass origin site }
             ensures { AnswersPass origin site result }
-        { crew_pass(rt, alloc, site, &origin, appliers, watch) };
+        { crew_pass(rt, alloc, workers, site, &origin, watch) };
         self.step_by(alloc, &By { pass }, line, command)
     }
 

@@ -1,6 +1,6 @@
 use Rattle.std.proofs.Common.{ap}
 use Rattle.replication_cli.specs.Runs.{Running}
-use Rattle.replication_cli.proofs.run.run_storm.Goals as goal
+use Rattle.replication_cli.proofs.run.storm_beside.Goals as goal
 
 -- its first command has number 1
 pub storm-requires-clause-first : goal.storm-requires-clause-first
