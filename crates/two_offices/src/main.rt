@@ -2,8 +2,9 @@
 #![tactic(auto)]
 
 use anyhow::{Context, Result, bail};
-use office::{Letter, Office};
+use office::{Letter, Office, OfficeError};
 use rep_values::{Name, SiteName, TableName, Value};
+use std::alloc::Global;
 
 const TEXT: &str =
     "site NYC\nsite LON\n\ntable STOCK ITEM:NUMBER:key QTY:NUMBER\ngroup STOCK qty QTY\nmethod STOCK qty additive\nrow STOCK 1 100\n";
@@ -12,47 +13,49 @@ fn named(name: &str) -> Result<Name> {
     Name::of(name.as_bytes()).context("this is no name")
 }
 
-/// Brings a letter, and applies what is ready then.
-fn deliver(rt: &HostRuntime, to: &mut Office, letter: &Letter) -> Result<()> {
-    let accepted = to.take(rt.alloc(), letter.bytes())?;
-    let count = to.work(rt.alloc())?;
-    let (position, name) = (letter.position(), to.name());
-    println!(rt; "letter {position} to {name}: {accepted:?}, {count:?}")?;
-    Ok(())
+/// Brings a letter, applies what is ready then, and tells what came of it.
+fn deliver(alloc: Global, to: &mut Office, letter: &Letter) -> Result<String, OfficeError> {
+    let accepted = to.take(alloc, letter.bytes())?;
+    let count = to.work(alloc)?;
+    let position = letter.position();
+    Ok(format!(in alloc;
+        "letter {position} to {}: {accepted:?}, {count:?}",
+        to.name()
+    )?)
 }
 
 /// Brings the next letter behind a position.
-fn send(rt: &HostRuntime, from: &Office, to: &mut Office, behind: u64) -> Result<()> {
-    match from.letter(rt.alloc(), to.name(), behind)? {
-        Some(letter) => deliver(rt, to, &letter),
-        None => bail!("there is no such letter"),
+fn send(alloc: Global, from: &Office, to: &mut Office, behind: u64) -> Result<String, OfficeError> {
+    match from.letter(alloc, to.name(), behind)? {
+        Some(letter) => deliver(alloc, to, &letter),
+        None => Ok(format!(in alloc; "no letter behind {behind}")?),
     }
 }
 
 /// Brings the receipt for what came, and lets go of that.
-fn acknowledge(rt: &HostRuntime, from: &Office, to: &mut Office) -> Result<()> {
-    let receipt = from.receipt(rt.alloc(), to.name())?;
-    let accepted = to.take(rt.alloc(), receipt.bytes())?;
+fn acknowledge(alloc: Global, from: &Office, to: &mut Office) -> Result<String, OfficeError> {
+    let receipt = from.receipt(alloc, to.name())?;
+    let accepted = to.take(alloc, receipt.bytes())?;
     let purged = to.purge();
-    println!(rt; "receipt to {}: {accepted:?}, purged {purged}", to.name())?;
-    Ok(())
+    Ok(format!(in alloc; "receipt to {}: {accepted:?}, purged {purged}", to.name())?)
 }
 
 /// Letters from New York, of which the first is lost and sent again, and the second comes twice; and one from London.
-fn exchange(rt: &HostRuntime, nyc: &mut Office, lon: &mut Office) -> Result<()> {
-    nyc.write_text(rt.alloc(), "update STOCK 1 : QTY + -4")?;
-    nyc.write_text(rt.alloc(), "update STOCK 1 : QTY + -1")?;
-    lon.write_text(rt.alloc(), "update STOCK 1 : QTY + -6")?;
+fn exchange(
+    alloc: Global,
+    nyc: &mut Office,
+    lon: &mut Office,
+    told: &mut Vec<String>,
+) -> Result<(), OfficeError> {
+    nyc.write_text(alloc, "update STOCK 1 : QTY + -4")?;
+    nyc.write_text(alloc, "update STOCK 1 : QTY + -1")?;
+    lon.write_text(alloc, "update STOCK 1 : QTY + -6")?;
     for behind in [1, 1, 0] {
-        send(rt, nyc, lon, behind)?;
+        told.push(send(alloc, nyc, lon, behind)?)?;
     }
-    acknowledge(rt, lon, nyc)?;
-    send(rt, lon, nyc, 0)?;
-    acknowledge(rt, nyc, lon)?;
-    if let Err(why) = lon.take(rt.alloc(), b"letter") {
-        println!(rt; "other bytes to LON: {why}")?;
-    }
-    Ok(())
+    told.push(acknowledge(alloc, lon, nyc)?)?;
+    told.push(send(alloc, lon, nyc, 0)?)?;
+    Ok(told.push(acknowledge(alloc, nyc, lon)?)?)
 }
 
 fn show(rt: &HostRuntime, office: &Office) -> Result<()> {
@@ -60,14 +63,20 @@ fn show(rt: &HostRuntime, office: &Office) -> Result<()> {
     let Some([_, Value::Num(quantity)]) = office.row(&table, 0).map(|row| row.values()) else {
         bail!("there is no such row")
     };
-    println!(rt; "{} has {quantity}", office.name())?;
-    Ok(())
+    Ok(println!(rt; "{} has {quantity}", office.name())?)
 }
 
 fn main(rt: HostRuntime) -> Result<()> {
     let mut nyc = Office::open(rt.alloc(), &SiteName(named("NYC")?), TEXT)?;
     let mut lon = Office::open(rt.alloc(), &SiteName(named("LON")?), TEXT)?;
-    exchange(&rt, &mut nyc, &mut lon)?;
+    let mut told = Vec::new(rt.alloc());
+    if let Err(why) = exchange(rt.alloc(), &mut nyc, &mut lon, &mut told) {
+        bail!("{why}")
+    }
+    told.iter().try_for_each(|line| println!(&rt; "{line}"))?;
+    if let Err(why) = lon.take(rt.alloc(), b"letter") {
+        println!(&rt; "other bytes to LON: {why}")?;
+    }
     show(&rt, &nyc)?;
     show(&rt, &lon)
 }
