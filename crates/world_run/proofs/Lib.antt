@@ -4,6 +4,7 @@ mod Stepping
 mod Steps
 mod Choices
 mod Completeness
+mod ToldRuns
 mod Worlds
 mod Crews
 mod LiveKeeping
