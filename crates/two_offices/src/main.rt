@@ -41,12 +41,8 @@ fn acknowledge(alloc: Global, from: &Office, to: &mut Office) -> Result<String, 
 }
 
 /// Letters from New York, of which the first is lost and sent again, and the second comes twice; and one from London.
-fn exchange(
-    alloc: Global,
-    nyc: &mut Office,
-    lon: &mut Office,
-    told: &mut Vec<String>,
-) -> Result<(), OfficeError> {
+fn exchange(alloc: Global, nyc: &mut Office, lon: &mut Office) -> Result<Vec<String>, OfficeError> {
+    let mut told = Vec::new(alloc);
     nyc.write_text(alloc, "update STOCK 1 : QTY + -4")?;
     nyc.write_text(alloc, "update STOCK 1 : QTY + -1")?;
     lon.write_text(alloc, "update STOCK 1 : QTY + -6")?;
@@ -55,7 +51,8 @@ fn exchange(
     }
     told.push(acknowledge(alloc, lon, nyc)?)?;
     told.push(send(alloc, lon, nyc, 0)?)?;
-    Ok(told.push(acknowledge(alloc, nyc, lon)?)?)
+    told.push(acknowledge(alloc, nyc, lon)?)?;
+    Ok(told)
 }
 
 fn show(rt: &HostRuntime, office: &Office) -> Result<()> {
@@ -69,10 +66,10 @@ fn show(rt: &HostRuntime, office: &Office) -> Result<()> {
 fn main(rt: HostRuntime) -> Result<()> {
     let mut nyc = Office::open(rt.alloc(), &SiteName(named("NYC")?), TEXT)?;
     let mut lon = Office::open(rt.alloc(), &SiteName(named("LON")?), TEXT)?;
-    let mut told = Vec::new(rt.alloc());
-    if let Err(why) = exchange(rt.alloc(), &mut nyc, &mut lon, &mut told) {
-        bail!("{why}")
-    }
+    let told = match exchange(rt.alloc(), &mut nyc, &mut lon) {
+        Ok(told) => told,
+        Err(why) => bail!("{why}"),
+    };
     told.iter().try_for_each(|line| println!(&rt; "{line}"))?;
     if let Err(why) = lon.take(rt.alloc(), b"letter") {
         println!(&rt; "other bytes to LON: {why}")?;
