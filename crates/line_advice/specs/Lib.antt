@@ -1,0 +1,4 @@
+-- The definitions of this crate.
+pub mod Fronts
+pub mod Forms
+pub mod Mistakes
