@@ -1,4 +1,3 @@
 -- The definitions of this crate.
 pub mod Fronts
-pub mod Forms
 pub mod Mistakes

@@ -1,6 +1,6 @@
 //! What was expected where a line breaks a rule.
 
-use crate::{Form, Wanted};
+use command_forms::{Form, Wanted};
 use thiserror::Error;
 
 /// What was expected at the column of a mistake. Its `Display` is a sentence without its full stop.

@@ -1,7 +1,7 @@
 //! The command that was meant by a word that is none.
 
-use crate::words::COMMANDS;
-use crate::{Form, Hint};
+use crate::Hint;
+use command_forms::{COMMANDS, Form};
 use std::alloc::{AllocError, Global};
 use strsim::generic_levenshtein;
 

@@ -11,11 +11,11 @@ ghost use Rattle.line_advice.specs.Fronts.{has_at_most, IsLongest};
 ghost use Rattle.line_advice.specs.Mistakes.{IsMistake, ReadsLine};
 
 use crate::bytes::{byte_hint, is_word_byte, token_hint};
-use crate::follow::follow;
 use crate::fronts::{counted_front, read_front};
 use crate::near::command_hint;
-use crate::words::form_at;
-use crate::{Hint, LineError, Mistake, Wanted};
+use crate::{Hint, LineError, Mistake};
+use command_forms::{Wanted, form_at};
+use form_stops::follow;
 use rep_lists::NoMemory;
 use script_lex::{LineStop, Span, spans};
 use script_parse::{Command, LineParser};

@@ -1,6 +1,6 @@
 //! The first name of a command that stands for nothing.
 
-use line_advice::NameOf;
+use command_forms::NameOf;
 use rep_calls::Statement;
 use rep_declare::{Declare, MethodWords, UniqueWords};
 use rep_lists::Items;

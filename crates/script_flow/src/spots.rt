@@ -1,6 +1,6 @@
 //! Where things stand in a script: the lines of declarations, and the column of a word.
 
-use line_advice::NameOf;
+use command_forms::NameOf;
 use rep_declare::Declare;
 use rep_lists::NoMemory;
 use rep_values::{Name, TableName};

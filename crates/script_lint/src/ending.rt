@@ -2,7 +2,7 @@
 
 use crate::linter::Linter;
 use crate::{Advice, AdviceFound};
-use line_advice::NameOf;
+use command_forms::NameOf;
 use rep_lists::NoMemory;
 use rep_schema::{Schema, TableEntry};
 use rep_values::{Name, SiteName};

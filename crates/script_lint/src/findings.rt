@@ -3,7 +3,7 @@ ghost use Rattle.std.specs.Prelude.{◌≡◌, length, nat_lt};
 
 use crate::trail::Further;
 use crate::{Advice, AdviceFound, ErrorFound, Level};
-use line_advice::NameOf;
+use command_forms::NameOf;
 use rep_schema::Schema;
 use schema_advice::{BrokenPart, RemarkText, rule_text};
 use script_flow::Spots;

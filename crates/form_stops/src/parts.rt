@@ -1,6 +1,6 @@
 //! The parts that forms share, passed over up to what isn't expected.
 
-use crate::{NameOf, Wanted};
+use command_forms::{NameOf, Wanted};
 use script_words::Reader;
 
 /// The types of a table's columns.

@@ -9,7 +9,7 @@ use crate::running::{
     clock, error_place, fate, fate_calls, link, one_name, purge_log, push, refresh, row, show,
     two_sites, update,
 };
-use crate::{Form, NameOf, Wanted};
+use command_forms::{Form, NameOf, Wanted};
 use script_words::Reader;
 
 /// Passes over what stands behind a command word as far as its form goes on with it. What it goes on with then is the error.

@@ -3,7 +3,7 @@
 use crate::parts::{
     TYPES, columns, comparison, end, name, names, number, one_of, passes_one, value, where_tests,
 };
-use crate::{NameOf, Wanted};
+use command_forms::{NameOf, Wanted};
 use script_words::Reader;
 
 const METHODS: &[&str] = &[

@@ -1,7 +1,7 @@
 //! What stands behind the first words of lines about procedures, and nothing behind it.
 
 use crate::parts::{PLAIN_TYPES, any_values, columns, end, name, one_of, where_tests};
-use crate::{NameOf, Wanted};
+use command_forms::{NameOf, Wanted};
 use script_words::Reader;
 
 /// `T COLUMN+`

@@ -4,7 +4,7 @@ ghost use Rattle.std.specs.Option.{option_map};
 ghost use Rattle.script_lex.specs.Lexemes.{lexeme_token};
 ghost use Rattle.script_words.specs.Words.{choice_of};
 ghost use Rattle.script_parse.specs.Heads.{heads};
-ghost use Rattle.line_advice.specs.Forms.{form_of_head};
+ghost use Rattle.command_forms.specs.Forms.{form_of_head};
 
 use crate::Form;
 use script_lex::Lexeme;

@@ -5,8 +5,8 @@ use Rattle.script_parse.specs.declared.heads.ProcHead.{ProcHead}
 use Rattle.script_parse.specs.declared.heads.ProcHead.TheVariants as proc_head
 use Rattle.script_parse.specs.declared.heads.Head.{Head}
 use Rattle.script_parse.specs.declared.heads.Head.TheVariants as head
-use Rattle.line_advice.specs.declared.forms.Form.{Form}
-use Rattle.line_advice.specs.declared.forms.Form.TheVariants as form
+use Rattle.command_forms.specs.declared.forms.Form.{Form}
+use Rattle.command_forms.specs.declared.forms.Form.TheVariants as form
 
 -- the form of a declaration
 abbrev pub form_of_declaring : Declaring → Form

@@ -1,7 +1,7 @@
 //! What stands behind the first words of commands for rows, blocks and links, and nothing behind it.
 
 use crate::parts::{end, fates, fates_or_clear, name, one_of, settings, values, whole_number};
-use crate::{NameOf, Wanted};
+use command_forms::{NameOf, Wanted};
 use script_words::Reader;
 
 const SHOWN: &[&str] = &[
