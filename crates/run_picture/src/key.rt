@@ -14,6 +14,11 @@ const HEIGHT: u32 = 66;
 /// How far the marks of the key are from each other.
 const STEP: u32 = 158;
 
+/// Where a mark of the key begins.
+fn column(place: u32) -> u32 {
+    place.saturating_mul(STEP).saturating_add(10)
+}
+
 /// Draws a badge with what it means.
 fn draw_badge(
     alloc: Global,
@@ -23,7 +28,7 @@ fn draw_badge(
     words: &[u8],
     meaning: &[u8],
 ) -> Result<(), NoMemory> {
-    let x = 10 + place * STEP;
+    let x = column(place);
     pen.badge(Badge {
         lane: 1_000_000,
         look,
@@ -32,18 +37,21 @@ fn draw_badge(
         words: words_of(alloc, words)?,
         tip: words_of(alloc, meaning)?,
     })?;
-    let at = Point { x: x + 32, y: 16 };
+    let at = Point {
+        x: x.saturating_add(32),
+        y: 16,
+    };
     pen.label(Look::Plain, at, Anchor::Start, words_of(alloc, meaning)?)
 }
 
 /// An arrow of the key, at a place of the row below.
 fn arrow_at(place: u32, y: u32, look: Look) -> Arrow {
-    let x = 10 + place * STEP;
+    let x = column(place);
     Arrow {
         look,
         ends: Ends {
             from: x,
-            to: x + 40,
+            to: x.saturating_add(40),
         },
         y,
     }
@@ -52,8 +60,8 @@ fn arrow_at(place: u32, y: u32, look: Look) -> Arrow {
 /// Puts what an arrow of the key means.
 fn mean(alloc: Global, pen: &mut Pen, place: u32, y: u32, meaning: &[u8]) -> Result<(), NoMemory> {
     let at = Point {
-        x: 56 + place * STEP,
-        y: y + 8,
+        x: column(place).saturating_add(46),
+        y: y.saturating_add(8),
     };
     pen.label(Look::Plain, at, Anchor::Start, words_of(alloc, meaning)?)
 }

@@ -1,4 +1,5 @@
 //! Where things stand in a picture.
+ghost use Rattle.std.specs.Prelude.{◌+◌, ◌*◌, ◌≤◌};
 
 /// The width of a picture.
 pub const WIDTH: u32 = 800;
@@ -30,9 +31,17 @@ pub struct Layout {
 impl Layout {
     /// The layout for so many lanes.
     pub fn of(lanes: usize) -> Layout {
-        let left = if lanes <= 4 { 300 } else { 230 };
-        let margin = if lanes <= 4 { 60 } else { 40 };
-        let between = (lanes as u64).saturating_sub(1).clamp(1, 1_000) as u32;
+        if lanes <= 4 {
+            Layout::spread(300, 60, lanes)
+        } else {
+            Layout::spread(230, 40, lanes)
+        }
+    }
+
+    /// So many lanes, spread over what is left between two margins behind the words.
+    fn spread(left: u32, margin: u32, lanes: usize) -> Layout
+        requires { left + 2 * margin ≤ 800 }
+    {
         let room = WIDTH - left - 2 * margin;
         if lanes <= 1 {
             return Layout {
@@ -41,6 +50,7 @@ impl Layout {
                 step: room,
             };
         }
+        let between = (lanes as u64).saturating_sub(1).clamp(1, 1_000) as u32;
         Layout {
             left,
             first: left + margin,
@@ -61,6 +71,6 @@ impl Layout {
 
     /// How many letters of a line find room beside the lanes.
     pub fn letters(&self) -> usize {
-        ((self.left - WORDS_AT - 6) * 10 / LETTER) as usize
+        (self.left.saturating_sub(WORDS_AT + 6).saturating_mul(10) / LETTER) as usize
     }
 }

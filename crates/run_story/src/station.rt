@@ -31,7 +31,7 @@ impl Station for Site<PageTables> {
     }
 
     fn has(&self, origin: &SiteName, position: u64) -> bool {
-        self.arrival(origin, position).is_some()
+        self.has_arrived(origin, position)
     }
 
     fn low(&self, origin: &SiteName) -> u64 {

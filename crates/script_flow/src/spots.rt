@@ -1,4 +1,5 @@
 //! Where things stand in a script: the lines of declarations, and the column of a word.
+ghost use Rattle.std.specs.Prelude.{◌≤◌, length};
 
 use command_forms::NameOf;
 use rep_declare::Declare;
@@ -135,8 +136,10 @@ impl Spots {
     }
 }
 
-/// The first place from which on the bytes have this one, or another one.
-fn run_of(bytes: &[u8], space: bool) -> usize {
+/// How many bytes in front are spaces, or are none.
+fn run_of(bytes: &[u8], space: bool) -> usize
+    ensures { result ≤ length bytes.now }
+{
     bytes
         .iter()
         .take_while(|byte| (**byte == b' ') == space)
