@@ -13,6 +13,7 @@ mod sheet;
 mod table;
 mod tag;
 mod whole;
+mod words;
 
 pub use drawing::{Anchor, Badge, Drawing, Label, Point, Shape};
 pub use laws::pages_are_markup;
@@ -20,3 +21,4 @@ pub use look::Look;
 pub use page::{Heading, Page, Part};
 pub use table::{Cell, Table};
 pub use whole::page_bytes;
+pub use words::{text_of, words_of};

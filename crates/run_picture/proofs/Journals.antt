@@ -9,13 +9,14 @@ use Rattle.std.proofs.lemmas.List.Elements.{filter_map-append}
 use Rattle.std.proofs.lemmas.Option.{slice_get_cases}
 use Rattle.rep_lists.proofs.Places.{drop_from_found}
 use Rattle.site_state.specs.declared.entry.Entry.{Entry}
-use Rattle.run_story.specs.declared.happening.Traffic.{Traffic}
-use Rattle.run_story.specs.declared.happening.Traffic.TheVariants.{Rows, Calls}
+use Rattle.packet_fates.specs.declared.packet.Traffic.{Traffic}
+use Rattle.packet_fates.specs.declared.packet.Traffic.TheVariants.{Rows, Calls}
 use Rattle.run_story.specs.declared.happening.Span.{Span}
 use Rattle.run_story.specs.declared.happening.Line.{Line}
 use Rattle.run_story.specs.declared.lane.Lane.{Lane}
 use Rattle.run_story.specs.Telling.{StoryView, journal_of, is_kind, places_in, told_places, spans_of, TellsJournals}
-use Rattle.run_picture.specs.Marks.{Mark, number_of, mark_of_entry, entries_at, entries_in, span_marks, line_marks, marks_with, DrawsJournals}
+use Rattle.lane_drawing.specs.Marks.{Mark}
+use Rattle.run_picture.specs.Marks.{number_of, mark_of_entry, entries_at, entries_in, span_marks, line_marks, marks_with, DrawsJournals}
 use Rattle.run_picture.specs.Folding.{shown_marks}
 
 -- ---- entries at places

@@ -4,10 +4,10 @@ use Rattle.std.specs.List.{list_all, list_any}
 use Rattle.live_laws.specs.declared.turn.LiveTurn.{LiveTurn}
 use Rattle.site_state.specs.declared.entry.Entry.{Entry}
 use Rattle.site_state.specs.declared.entry.Entry.TheVariants as entry
-use Rattle.run_story.specs.declared.happening.Coming.TheVariants as coming
-use Rattle.run_story.specs.declared.happening.Fared.{Fared}
-use Rattle.run_story.specs.declared.happening.Fared.TheVariants as fared
-use Rattle.run_story.specs.declared.happening.Packet.{Packet}
+use Rattle.packet_fates.specs.declared.packet.Coming.TheVariants as coming
+use Rattle.packet_fates.specs.declared.packet.Fared.{Fared}
+use Rattle.packet_fates.specs.declared.packet.Fared.TheVariants as fared
+use Rattle.packet_fates.specs.declared.packet.Packet.{Packet}
 use Rattle.run_story.specs.declared.happening.Event.{Event}
 use Rattle.run_story.specs.declared.happening.Event.TheVariants as event
 use Rattle.run_story.specs.declared.happening.Span.{Span}
@@ -15,7 +15,8 @@ use Rattle.run_story.specs.declared.happening.Line.{Line}
 use Rattle.run_story.specs.Telling.{StoryView, TellsJournals}
 use Rattle.run_picture.specs.declared.folding.Showing.{Showing}
 use Rattle.run_picture.specs.declared.folding.Showing.TheVariants as showing
-use Rattle.run_picture.specs.Marks.{Mark, entries_in, line_marks, DrawsJournals}
+use Rattle.lane_drawing.specs.Marks.{Mark}
+use Rattle.run_picture.specs.Marks.{entries_in, line_marks, DrawsJournals}
 
 -- an entry tells of more than that a transaction was made or applied
 abbrev pub is_notable : Entry → Bool

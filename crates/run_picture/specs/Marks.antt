@@ -2,39 +2,15 @@
 use Rattle.std.specs.Prelude.{◌≡◌, ℕ, ◌+◌, ◌*◌, ◌==◌, Bool, false, List, [], ◌∷◌, ◌++◌, map, filter, take, drop, slice_get, flat_map, Option, Some, None}
 use Rattle.page_text.specs.declared.look.Look.{Look}
 use Rattle.page_text.specs.declared.look.Look.TheVariants as look
-use Rattle.page_text.specs.declared.drawing.Badge.{Badge}
-use Rattle.page_text.specs.declared.drawing.Shape.{Shape}
-use Rattle.page_text.specs.declared.drawing.Shape.TheVariants as shape
+use Rattle.lane_drawing.specs.Marks.{Mark}
 use Rattle.site_state.specs.declared.entry.Entry.{Entry}
 use Rattle.site_state.specs.declared.entry.Entry.TheVariants as entry
-use Rattle.run_story.specs.declared.happening.Traffic.{Traffic}
-use Rattle.run_story.specs.declared.happening.Traffic.TheVariants.{Rows, Calls}
+use Rattle.packet_fates.specs.declared.packet.Traffic.{Traffic}
+use Rattle.packet_fates.specs.declared.packet.Traffic.TheVariants.{Rows, Calls}
 use Rattle.run_story.specs.declared.happening.Span.{Span}
 use Rattle.run_story.specs.declared.happening.Line.{Line}
 use Rattle.run_story.specs.declared.lane.Lane.{Lane}
 use Rattle.run_story.specs.Telling.{StoryView, journal_of}
-
--- the mark of an entry: the number of its journal, and how it looks
-pub record Mark : Type 0 where
-  pub number : ℕ
-  pub look : Look
-
--- ---- in a drawing
-
--- the mark that a badge is
-abbrev pub mark_of_badge : Badge → Mark
-mark_of_badge b = record { number = b.lane; look = b.look }
-
--- badges are marks, and no other shape is
-abbrev pub marks_in : Shape → List Mark
-marks_in (shape.Line look from to) = []
-marks_in (shape.Area look corner width height) = []
-marks_in (shape.Label label) = []
-marks_in (shape.Badge badge) = mark_of_badge badge ∷ []
-
--- the marks among shapes, in their order
-abbrev pub marks_of : List Shape → List Mark
-marks_of shapes = flat_map marks_in shapes
 
 -- ---- of entries
 

@@ -1,15 +1,16 @@
 //! The entries of journals as badges.
 ghost use Rattle.std.specs.Prelude.{◌≡◌, ◌<◌, ◌^◌, ◌++◌, map, take, drop, length, slice_get, option_copied, IfOk, OnOk};
 ghost use Rattle.run_story.specs.Telling.{journal_of};
-ghost use Rattle.run_picture.specs.Marks.{look_of, number_of, mark_of_badge, mark_of_entry, entries_in, span_marks};
+ghost use Rattle.lane_drawing.specs.Marks.{mark_of_badge};
+ghost use Rattle.run_picture.specs.Marks.{look_of, number_of, mark_of_entry, entries_in, span_marks};
 
-use crate::layout::{BADGE_ROW, Layout};
-use crate::pen::Pen;
-use crate::words::{error_words, short_name, text_of};
-use page_text::{Badge, Look, Point};
+use crate::words::{error_words, short_name};
+use lane_drawing::{BADGE_ROW, Layout, Pen};
+use packet_fates::Traffic;
+use page_text::{Badge, Look, Point, text_of};
 use rep_lists::{Items, NoMemory};
 use rep_values::SiteName;
-use run_story::{Lane, Span, Story, Traffic};
+use run_story::{Lane, Span, Story};
 use site_state::Entry;
 use std::alloc::Global;
 

@@ -1,13 +1,13 @@
 //! The lanes of a run with what happened, from the top down.
 ghost use Rattle.std.specs.Prelude.{◌≡◌, ◌≢◌, ◌++◌, [], flat_map, IfOk, OnOk};
-ghost use Rattle.run_picture.specs.Marks.{marks_of, line_marks};
+ghost use Rattle.lane_drawing.specs.Marks.{marks_of};
+ghost use Rattle.run_picture.specs.Marks.{line_marks};
 ghost use Rattle.run_picture.specs.Folding.{shown_marks};
 
 use crate::folding::{Showing, is_folded, showing};
 use crate::heads::draw_lanes;
-use crate::layout::{Layout, WIDTH};
-use crate::pen::Pen;
 use crate::rows::Scene;
+use lane_drawing::{Layout, Pen, WIDTH};
 use page_text::{Drawing, Shape};
 use rep_lists::{Items, NoMemory};
 use run_story::{Lane, Line, Story};

@@ -1,13 +1,12 @@
 //! The tables of the sites at the end, one after the other.
 
-use crate::tables::{is_same, table_at};
-use crate::words::{text_of, words_of};
 use page_tables::PageTables;
-use page_text::{Heading, Look, Part, Table};
+use page_text::{Heading, Look, Part, Table, text_of, words_of};
 use rep_lists::{Items, NoMemory};
 use rep_schema::{RowStore, TableEntry};
 use run_story::{Lane, Story};
 use std::alloc::Global;
+use table_cells::{is_same, table_at};
 
 /// The rows of a site, under its name.
 #[derive(Drop)]

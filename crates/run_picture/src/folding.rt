@@ -4,7 +4,8 @@ ghost use Rattle.std.specs.List.{list_all, list_any};
 ghost use Rattle.run_picture.specs.Folding.{is_notable, is_plain, has_notable, is_to_see, is_still_event, IsShowing};
 
 use crate::badges::{entry_at, entry_count};
-use run_story::{Coming, Event, Fared, Line, Outcome, Packet, Span, Story};
+use packet_fates::{Coming, Fared, Packet};
+use run_story::{Event, Line, Outcome, Span, Story};
 use site_state::Entry;
 
 /// With more lines than these in which something happens, only those are drawn in which there is something to see.

@@ -1,10 +1,9 @@
 //! The lanes of a picture and their names.
 ghost use Rattle.std.specs.Prelude.{◌≡◌, OnOk};
 
-use crate::layout::{Layout, WIDTH};
-use crate::pen::Pen;
-use crate::words::{cut_to, text_of};
-use page_text::{Anchor, Drawing, Look, Part, Point};
+use crate::words::cut_to;
+use lane_drawing::{Layout, Pen, WIDTH};
+use page_text::{Anchor, Drawing, Look, Part, Point, text_of};
 use rep_lists::{Items, NoMemory};
 use run_story::{Lane, LaneKind};
 use std::alloc::Global;

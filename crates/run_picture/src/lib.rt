@@ -6,16 +6,11 @@ mod chart;
 mod ending;
 mod folding;
 mod heads;
-mod key;
 mod laws;
-mod layout;
 mod marks;
-mod packets;
-mod pen;
 mod picture;
 mod rows;
 mod standing;
-mod tables;
 mod words;
 
 pub use laws::whole_stories_are_drawn;

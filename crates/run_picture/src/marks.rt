@@ -1,8 +1,7 @@
 //! How far the streams between sites are at the end.
 
-use crate::words::{text_of, words_of};
 use page_tables::PageTables;
-use page_text::{Cell, Heading, Look, Part, Table};
+use page_text::{Cell, Heading, Look, Part, Table, text_of, words_of};
 use rep_lists::{Items, NoMemory};
 use rep_values::SiteName;
 use run_story::Story;

@@ -3,15 +3,14 @@ ghost use Rattle.std.specs.Prelude.{◌≡◌, ◌++◌, flat_map, OnOk};
 ghost use Rattle.run_picture.specs.Marks.{span_marks, line_marks};
 
 use crate::badges::{draw_entries, entry_at, entry_count};
-use crate::layout::{Layout, NUMBER_AT, ROW, WORDS_AT};
-use crate::packets::{Arrow, Bundle, Ends, draw_bundle};
-use crate::pen::Pen;
-use crate::words::{cut_to, error_words, text_of};
+use crate::words::{cut_to, error_words};
+use lane_drawing::{Arrow, Bundle, Ends, Layout, NUMBER_AT, Pen, ROW, WORDS_AT, draw_bundle};
 use live_laws::{LiveTurn, Reply};
-use page_text::{Anchor, Look, Point};
+use packet_fates::Packet;
+use page_text::{Anchor, Look, Point, text_of};
 use rep_lists::{Items, NoMemory};
 use rep_values::SiteName;
-use run_story::{Event, Line, Outcome, Packet, Span, Story};
+use run_story::{Event, Line, Outcome, Span, Story};
 use script_parse::Link;
 use site_state::Entry;
 use std::alloc::Global;
@@ -390,7 +389,7 @@ impl Scene<'_> {
             y,
         };
         let to = Point {
-            x: crate::layout::WIDTH - 10,
+            x: WIDTH - 10,
             y,
         };
         pen.line(Look::Back, from, to)?;

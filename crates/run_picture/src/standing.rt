@@ -1,8 +1,8 @@
 //! The errors that stand at the end.
 
-use crate::words::{error_words, words_of};
+use crate::words::error_words;
 use error_queue::Errors;
-use page_text::{Heading, Look, Part};
+use page_text::{Heading, Look, Part, words_of};
 use rep_lists::{Items, NoMemory};
 use rep_values::SiteName;
 use run_story::Story;

@@ -7,8 +7,8 @@ use Rattle.std.proofs.lemmas.Grind.{flat_map-append}
 use Rattle.std.proofs.lemmas.List.{append-nil}
 use Rattle.std.proofs.lemmas.Option.{slice_get-map}
 use Rattle.world_run.specs.Lent.{LentWorld}
-use Rattle.run_story.specs.declared.happening.Traffic.{Traffic}
-use Rattle.run_story.specs.declared.happening.Traffic.TheVariants.{Rows, Calls}
+use Rattle.packet_fates.specs.declared.packet.Traffic.{Traffic}
+use Rattle.packet_fates.specs.declared.packet.Traffic.TheVariants.{Rows, Calls}
 use Rattle.run_story.specs.declared.happening.Span.{Span}
 use Rattle.run_story.specs.declared.happening.Line.{Line}
 use Rattle.run_story.specs.declared.lane.Lane.{Lane}

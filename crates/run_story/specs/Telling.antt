@@ -8,8 +8,8 @@ use Rattle.site_state.specs.State.{SiteState}
 use Rattle.proc_state.specs.State.{ProcState}
 use Rattle.world_state.specs.Procs.{proc_of}
 use Rattle.world_run.specs.Lent.{LentWorld, site_here}
-use Rattle.run_story.specs.declared.happening.Traffic.{Traffic}
-use Rattle.run_story.specs.declared.happening.Traffic.TheVariants.{Rows, Calls}
+use Rattle.packet_fates.specs.declared.packet.Traffic.{Traffic}
+use Rattle.packet_fates.specs.declared.packet.Traffic.TheVariants.{Rows, Calls}
 use Rattle.run_story.specs.declared.happening.Span.{Span}
 use Rattle.run_story.specs.declared.happening.Outcome.{Outcome}
 use Rattle.run_story.specs.declared.happening.Outcome.TheVariants.{PassedOver, Declared, Shown, Done, Refused, Malformed}

@@ -1,13 +1,10 @@
 //! What is told of a line that was done.
 
-use crate::happening::{Event, Packet, Traffic};
+use crate::happening::Event;
 use crate::looking::{Before, Renewal, written_at};
-use crate::outlook::{Outlook, Push};
 use crate::refreshing::{all_rows, snapshot_rows};
-use crate::roads::Roads;
-use crate::station::Station;
-use crate::telling::{tell_answer, tell_sent};
 use live_laws::LiveTurn;
+use packet_fates::{Outlook, Packet, Push, Roads, Station, Traffic, tell_answer, tell_sent};
 use rep_lists::{Items, NoMemory};
 use rep_values::SiteName;
 use script_parse::Command;

@@ -11,7 +11,7 @@ use crate::lane::Lane;
 use crate::living::run_part;
 use crate::looking::seen_before;
 use crate::part::{OpenPart, Part, refused};
-use crate::roads::Roads;
+use packet_fates::Roads;
 use rep_lists::NoMemory;
 use rep_values::{Refusal, SiteName};
 use script_lex::LineStop;

@@ -1,11 +1,12 @@
 //! The sites of a script, as far as the script is followed, and what was told of their journals.
 ghost use Rattle.std.specs.Prelude.{◌≡◌, [], ◌++◌, map, length, is_some, IfOk, OnOk};
 ghost use Rattle.world_run.specs.Lent.{site_here};
-ghost use Rattle.run_story.specs.declared.happening.Traffic.TheVariants.{Rows, Calls};
+ghost use Rattle.packet_fates.specs.declared.packet.Traffic.TheVariants.{Rows, Calls};
 ghost use Rattle.run_story.specs.Telling.{journal_of, new_span, since_at, lane_at, spans_at, spans_from, AddsLanes};
 
-use crate::happening::{Span, Traffic};
+use crate::happening::Span;
 use crate::lane::{Lane, LaneKind};
+use packet_fates::Traffic;
 use rep_declare::Declare;
 use rep_lists::NoMemory;
 use rep_values::SiteName;

@@ -1,13 +1,9 @@
 //! What is seen of a world before a line is run.
 
 use crate::following::{calls_length, lane_of, rows_length};
-use crate::happening::Traffic;
 use crate::lane::{Lane, LaneKind};
-use crate::outlook::{Outlook, Push, look_ahead};
 use crate::refreshing::keys_of_refresh;
-use crate::roads::Roads;
-use crate::station::Station;
-use crate::ways::Ways;
+use packet_fates::{Outlook, Push, Roads, Station, Traffic, Ways, look_ahead};
 use rep_lists::NoMemory;
 use rep_values::SiteName;
 use script_parse::{Command, ProcLine, Refresh};

@@ -1,5 +1,5 @@
 -- How a run of the program ends.
-use Rattle.std.specs.Prelude.{◌≡◌, ◌≢◌, ℕ, List, [], Option}
+use Rattle.std.specs.Prelude.{◌≡◌, ◌≢◌, ◌⊎◌, ℕ, List, [], Option}
 use Rattle.std.specs.Io.KnownBytes.{Consumes, IsAtEnd}
 use Rattle.script_drive.specs.declared.status.Status.{Status}
 use Rattle.script_drive.specs.declared.status.Status.TheVariants as status
@@ -9,6 +9,10 @@ use Rattle.script_lint.specs.Checking.{script_checked}
 pub record ReadsAll (before after : Option (List ℕ)) (bytes : List ℕ) : Type 0 where
   pub bytes : Consumes before after bytes
   pub end : IsAtEnd after
+
+-- the status of a run that wasn't hindered from outside
+abbrev pub EndsRun : Status → Type 0
+EndsRun ended = (ended ≡ status.Done) ⊎ (ended ≡ status.Malformed)
 
 -- Done where the engine does each line of the script, and Malformed where there is one that it doesn't
 abbrev pub LintEnds : List ℕ → Status → Type 0

@@ -1,6 +1,7 @@
 //! A script's run as a page.
-ghost use Rattle.std.specs.Prelude.{◌≡◌};
+ghost use Rattle.std.specs.Prelude.{◌≡◌, IfOk};
 ghost use Rattle.rep_io.specs.Faults.{Rose};
+ghost use Rattle.script_desk.specs.Ends.{EndsRun};
 
 use crate::reading::read_whole;
 use page_text::page_bytes;
@@ -17,7 +18,9 @@ use std::thread::Threads;
 const TITLE: &[u8] = b"A run of replication";
 
 /// The status of a run whose last line came to this.
-fn status_at(outcome: &Outcome) -> Status {
+fn status_at(outcome: &Outcome) -> Status
+    ensures { EndsRun result }
+{
     match outcome {
         Outcome::Malformed(_) => Status::Malformed,
         Outcome::PassedOver
@@ -29,7 +32,9 @@ fn status_at(outcome: &Outcome) -> Status {
 }
 
 /// How a story ended.
-fn status_of(story: &Story) -> Status {
+fn status_of(story: &Story) -> Status
+    ensures { EndsRun result }
+{
     match story.lines().last() {
         Some(line) => status_at(&line.outcome),
         None => Status::Done,
@@ -41,7 +46,9 @@ fn pictured<X: Threads + Wait + Sync>(
     rt: &X,
     alloc: Global,
     script: &[u8],
-) -> Result<(Items<u8>, Status), NoMemory> {
+) -> Result<(Items<u8>, Status), NoMemory>
+    ensures { IfOk result (λ drawn. EndsRun drawn.1) }
+{
     let story = story_of(rt, alloc, script)?;
     let page = picture(alloc, TITLE, &story)?;
     let bytes = page_bytes(alloc, &page)?;

@@ -25,11 +25,18 @@ pub struct Spots {
 }
 
 /// Whether both are the same table, or none.
-fn same_table(one: Option<TableName>, other: Option<TableName>) -> bool {
+fn same_table(one: &Option<TableName>, other: &Option<TableName>) -> bool {
     match (one, other) {
         (None, None) => true,
-        (Some(one), Some(other)) => one.is_same(&other),
+        (Some(one), Some(other)) => one.is_same(other),
         (None, Some(_)) | (Some(_), None) => false,
+    }
+}
+
+impl Spot {
+    /// Whether it is where something of this name was declared, or was to be.
+    fn is_named(&self, of: NameOf, name: &Name) -> bool {
+        self.of == of && self.name.is_same(name)
     }
 }
 
@@ -114,11 +121,7 @@ impl Spots {
     /// The line that declared something.
     pub fn line_of(&self, of: NameOf, table: Option<TableName>, name: &Name) -> Option<u32> {
         for spot in self.spots.as_slice() {
-            if spot.done
-                && spot.of == of
-                && spot.name.is_same(name)
-                && same_table(spot.table, table)
-            {
+            if spot.done && spot.is_named(of, name) && same_table(&spot.table, &table) {
                 return Some(spot.line);
             }
         }
@@ -128,7 +131,7 @@ impl Spots {
     /// The first line that was to declare something of this name, whatever table it belongs to, and was refused or malformed.
     pub fn failed_line_of(&self, of: NameOf, name: &Name) -> Option<u32> {
         for spot in self.spots.as_slice() {
-            if !spot.done && spot.of == of && spot.name.is_same(name) {
+            if !spot.done && spot.is_named(of, name) {
                 return Some(spot.line);
             }
         }

@@ -1,8 +1,8 @@
 -- Looking at masters one by one.
 use Rattle.std.proofs.Common.{◌≡◌, drop, map}
 use Rattle.std.specs.List.{list_all}
-use Rattle.run_picture.specs.Cells.{shows}
-use Rattle.run_picture.proofs.tables.all_show.Given as goal
+use Rattle.table_cells.specs.Cells.{shows}
+use Rattle.table_cells.proofs.tables.all_show.Given as goal
 
 -- those so far show the value
 abbrev pub invariant-loop-master : goal.invariant-loop-master

@@ -1,7 +1,7 @@
 //! What there is to be seen before a push.
 
 use crate::arrivals::Arrivals;
-use crate::happening::{Cargo, Traffic};
+use crate::packet::{Cargo, Traffic};
 use crate::station::Station;
 use crate::ways::{Way, Ways};
 use rep_lists::NoMemory;

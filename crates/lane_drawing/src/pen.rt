@@ -1,6 +1,6 @@
 //! Shapes that are drawn one after the other, from the top down.
 ghost use Rattle.std.specs.Prelude.{◌≡◌, [], ◌∷◌, ◌++◌, OnOk};
-ghost use Rattle.run_picture.specs.Marks.{mark_of_badge, marks_of};
+ghost use Rattle.lane_drawing.specs.Marks.{mark_of_badge, marks_of};
 
 use page_text::{Anchor, Badge, Label, Look, Point, Shape};
 use rep_lists::{Items, NoMemory};
@@ -15,7 +15,7 @@ pub struct Pen {
 
 impl Model for Pen {
     ghost use Rattle.std.specs.Prelude.{List};
-    ghost use Rattle.run_picture.specs.Marks.{Mark, marks_of};
+    ghost use Rattle.lane_drawing.specs.Marks.{Mark, marks_of};
 
     ghost Value = { List Mark };
 

@@ -1,6 +1,6 @@
 //! Which positions of a sender had come to a site.
 
-use crate::happening::Coming;
+use crate::packet::Coming;
 use rep_lists::NoMemory;
 use std::alloc::Global;
 

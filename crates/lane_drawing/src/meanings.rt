@@ -3,8 +3,7 @@
 use crate::layout::WIDTH;
 use crate::packets::{Arrow, Ends};
 use crate::pen::Pen;
-use crate::words::words_of;
-use page_text::{Anchor, Badge, Drawing, Look, Part, Point};
+use page_text::{Anchor, Badge, Drawing, Look, Part, Point, words_of};
 use rep_lists::{Items, NoMemory};
 use std::alloc::Global;
 

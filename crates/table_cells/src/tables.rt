@@ -2,11 +2,11 @@
 ghost use Rattle.std.specs.Prelude.{◌≡◌, ◌≤◌, [], map, drop, length, slice_get, option_copied, IfOk};
 ghost use Rattle.std.specs.List.{list_all};
 ghost use Rattle.rep_schema.specs.Tables.{key_of, columns_of, rows_of};
-ghost use Rattle.run_picture.specs.Cells.{value_words, cell_in, is_value, shows, is_key, look_of_cell, cell_of, cells_from, row_cells};
+ghost use Rattle.table_cells.specs.Cells.{cell_in, is_value, shows, is_key, look_of_cell, cell_of, cells_from, row_cells};
 
-use crate::words::{value_words, words_of};
+use crate::values::value_words;
 use page_tables::PageTables;
-use page_text::{Cell, Look, Table};
+use page_text::{Cell, Look, Table, words_of};
 use rep_lists::{Items, NoMemory};
 use rep_schema::{Column, RowStore, TableEntry};
 use rep_values::{Key, Row, Value};

@@ -1,6 +1,6 @@
 -- Copying names one by one.
 use Rattle.std.proofs.Common.{◌≡◌, ◌++◌, drop, map}
-use Rattle.run_picture.proofs.tables.names_of.Given as goal
+use Rattle.table_cells.proofs.tables.names_of.Given as goal
 
 -- those so far and those to come
 abbrev pub invariant-loop-column : goal.invariant-loop-column

@@ -1,6 +1,6 @@
 //! The ways between sites for both kinds of traffic, which directions are down, and the open block.
 
-use crate::happening::Traffic;
+use crate::packet::Traffic;
 use crate::ways::{Links, Ways};
 use net_plan::Fate;
 use rep_lists::NoMemory;

@@ -1,7 +1,7 @@
 //! What becomes of the packets of a push.
 
 use crate::arrivals::Arrivals;
-use crate::happening::{Cargo, Coming, Fared, Packet, Traffic};
+use crate::packet::{Cargo, Coming, Fared, Packet, Traffic};
 use crate::outlook::Outlook;
 use crate::ways::{Way, Ways};
 use net_plan::Fate;

@@ -1,6 +1,6 @@
 //! The ways between sites, as the lines of a script leave them.
 
-use crate::happening::Cargo;
+use crate::packet::Cargo;
 use net_plan::Fate;
 use rep_lists::NoMemory;
 use rep_values::SiteName;

@@ -2,10 +2,9 @@
 ghost use Rattle.std.specs.Prelude.{◌≡◌, OnOk};
 
 use crate::pen::Pen;
-use crate::words::text_of;
-use page_text::{Anchor, Look, Point};
+use packet_fates::{Cargo, Coming, Fared, Packet};
+use page_text::{Anchor, Look, Point, text_of};
 use rep_lists::{Items, NoMemory};
-use run_story::{Cargo, Coming, Fared, Packet};
 use std::alloc::Global;
 
 /// How far an arrow sinks on its way.

@@ -1,7 +1,7 @@
 -- Making cells one by one.
 use Rattle.std.proofs.Common.{◌≡◌, ◌++◌, drop, map}
-use Rattle.run_picture.specs.Cells.{cells_from, row_cells}
-use Rattle.run_picture.proofs.tables.cells_of.Given as goal
+use Rattle.table_cells.specs.Cells.{cells_from, row_cells}
+use Rattle.table_cells.proofs.tables.cells_of.Given as goal
 
 -- those so far and those to come
 abbrev pub invariant-loop-column : goal.invariant-loop-column

@@ -3,7 +3,7 @@ use Rattle.std.proofs.Common.{◌≡◌, List, [], ◌∷◌, ◌++◌, refl, ap
 use Rattle.std.proofs.lemmas.Grind.{flat_map-append}
 use Rattle.std.proofs.lemmas.List.{append-nil}
 use Rattle.page_text.specs.declared.drawing.Shape.{Shape}
-use Rattle.run_picture.specs.Marks.{Mark, marks_in, marks_of}
+use Rattle.lane_drawing.specs.Marks.{Mark, marks_in, marks_of}
 
 -- a shape more
 pub marks_on : (shapes new : List Shape) (s : Shape) → new ≡ shapes ++ s ∷ [] → marks_of new ≡ marks_of shapes ++ marks_in s

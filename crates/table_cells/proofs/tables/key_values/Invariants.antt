@@ -1,7 +1,7 @@
 -- Picking the values of a key.
 use Rattle.std.proofs.Common.{◌≡◌, ◌++◌, drop}
 use Rattle.rep_schema.specs.Tables.{key_of}
-use Rattle.run_picture.proofs.tables.key_values.Given as goal
+use Rattle.table_cells.proofs.tables.key_values.Given as goal
 
 -- those so far and those to come
 abbrev pub invariant-loop-place : goal.invariant-loop-place

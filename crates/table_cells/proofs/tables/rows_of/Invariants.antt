@@ -1,8 +1,8 @@
 -- Making rows one by one.
 use Rattle.std.proofs.Common.{◌≡◌, ◌++◌, drop, map}
 use Rattle.rep_schema.specs.Tables.{rows_of}
-use Rattle.run_picture.specs.Cells.{row_cells}
-use Rattle.run_picture.proofs.tables.rows_of.Given as goal
+use Rattle.table_cells.specs.Cells.{row_cells}
+use Rattle.table_cells.proofs.tables.rows_of.Given as goal
 
 -- those so far and those to come
 abbrev pub invariant-loop-place : goal.invariant-loop-place
