@@ -1,8 +1,8 @@
 //! What becomes of the packets of a push.
 
 use crate::arrivals::Arrivals;
-use crate::packet::{Cargo, Coming, Fared, Packet, Traffic};
 use crate::outlook::Outlook;
+use crate::packet::{Cargo, Coming, Fared, Packet, Traffic};
 use crate::ways::{Way, Ways};
 use net_plan::Fate;
 use rep_lists::NoMemory;

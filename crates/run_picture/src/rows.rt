@@ -4,7 +4,9 @@ ghost use Rattle.run_picture.specs.Marks.{span_marks, line_marks};
 
 use crate::badges::{draw_entries, entry_at, entry_count};
 use crate::words::{cut_to, error_words};
-use lane_drawing::{Arrow, Bundle, Ends, Layout, NUMBER_AT, Pen, ROW, WIDTH, WORDS_AT, draw_bundle};
+use lane_drawing::{
+    Arrow, Bundle, Ends, Layout, NUMBER_AT, Pen, ROW, WIDTH, WORDS_AT, draw_bundle,
+};
 use live_laws::{LiveTurn, Reply};
 use packet_fates::Packet;
 use page_text::{Anchor, Look, Point, text_of};
@@ -388,10 +390,7 @@ impl Scene<'_> {
             x: self.layout.left,
             y,
         };
-        let to = Point {
-            x: WIDTH - 10,
-            y,
-        };
+        let to = Point { x: WIDTH - 10, y };
         pen.line(Look::Back, from, to)?;
         Ok(top.saturating_add(ROW + 3))
     }
