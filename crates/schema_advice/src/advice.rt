@@ -79,7 +79,7 @@ fn add_constraints(constraints: &[Constraint], found: &mut Vec<Remark>) -> Resul
     ensures { OnOk result (found.new.items ≡ found.old.items ++ constraint_remarks 0 constraints.now) }
 {
     for place in 0..constraints.len() {
-        let has_methods = !constraints[place].methods.is_empty();
+        let has_methods = constraints[place].methods.len() != 0;
         add_if(has_methods, Remark::OwnRows(Some(place)), found)?;
     }
     Ok(())
@@ -108,7 +108,7 @@ fn plain_remarks(
     let is_ungrouped = has_shadow(groups, table.columns.as_slice());
     add_if(is_ungrouped, Remark::Ungrouped, &mut found)?;
     add_groups(master_count(schema), groups, &mut found)?;
-    let has_methods = !table.key_methods.is_empty();
+    let has_methods = table.key_methods.len() != 0;
     add_if(has_methods, Remark::OwnRows(None), &mut found)?;
     add_constraints(table.constraints.as_slice(), &mut found)?;
     let last = hindered(alloc, schema, table)?;
