@@ -4,7 +4,7 @@ ghost use Rattle.lane_drawing.specs.Marks.{marks_of};
 ghost use Rattle.run_picture.specs.Marks.{line_marks};
 ghost use Rattle.run_picture.specs.Folding.{shown_marks};
 
-use crate::folding::{Showing, is_folded, showing};
+use crate::folding::{Showing, shown_as};
 use crate::heads::draw_lanes;
 use crate::rows::Scene;
 use lane_drawing::{Layout, Pen, WIDTH};
@@ -103,7 +103,7 @@ fn show_line(
     ensures { OnOk result (pen.new ≡ pen.old ++ shown_marks scene.now.story.now folded line.now) }
 {
     let is_running = first_running(scene.story.lanes()) <= place;
-    let showing = showing(scene.story, line, folded, is_running);
+    let showing = shown_as(scene.story, line, folded, is_running);
     draw_or_count(scene, pen, place.saturating_add(1), line, showing, progress)
 }
 

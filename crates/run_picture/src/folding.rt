@@ -125,7 +125,7 @@ pub enum Showing {
 }
 
 /// What becomes of a line in which nothing happened, in a run that is folded or not, before or behind the end of its declarations.
-fn showing_still(line: &Line, is_folded: bool, is_running: bool) -> Showing {
+fn shown_still(line: &Line, is_folded: bool, is_running: bool) -> Showing {
     match line.outcome {
         Outcome::Refused(_) | Outcome::Malformed(_) => Showing::Drawn,
         Outcome::Declared | Outcome::Shown => Showing::Left,
@@ -140,11 +140,11 @@ fn showing_still(line: &Line, is_folded: bool, is_running: bool) -> Showing {
 }
 
 /// What becomes of a line. In a run that isn't folded each line is drawn in which something happened.
-pub fn showing(story: &Story, line: &Line, is_folded: bool, is_running: bool) -> Showing
+pub fn shown_as(story: &Story, line: &Line, is_folded: bool, is_running: bool) -> Showing
     ensures { IsShowing story.now is_folded line.now result }
 {
     if line.is_still() {
-        return showing_still(line, is_folded, is_running);
+        return shown_still(line, is_folded, is_running);
     }
     if !is_folded || is_to_see(story, line) {
         Showing::Drawn

@@ -4,8 +4,9 @@ ghost use Rattle.rep_io.specs.Faults.{Rose};
 ghost use Rattle.script_desk.specs.Ends.{EndsRun};
 
 use crate::reading::read_whole;
+use crate::writing::written;
 use page_text::page_bytes;
-use rep_io::{Sink, Source, offer};
+use rep_io::{Sink, Source};
 use rep_lists::{Items, NoMemory};
 use run_picture::picture;
 use run_story::{Outcome, Story, story_of};
@@ -72,8 +73,5 @@ pub fn draw<X: Threads + Wait + Sync, S: Source, K: Sink>(
     let Ok((page, status)) = pictured(rt, alloc, &script) else {
         return Status::Memory;
     };
-    match offer(sink, page.as_slice()) {
-        Ok(()) => status,
-        Err(_) => Status::WriteFault,
-    }
+    written(sink, page.as_slice(), status)
 }

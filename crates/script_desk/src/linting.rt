@@ -4,7 +4,8 @@ ghost use Rattle.rep_io.specs.Faults.{Rose};
 ghost use Rattle.script_desk.specs.Ends.{LintEnds, LintReads};
 
 use crate::reading::read_whole;
-use rep_io::{Sink, Source, offer};
+use crate::writing::written;
+use rep_io::{Sink, Source};
 use rep_lists::NoMemory;
 use script_drive::Status;
 use script_lint::{Findings, lint};
@@ -55,8 +56,5 @@ pub fn tell_findings<S: Source, K: Sink>(alloc: Global, source: &mut S, sink: &m
     let Ok((text, status)) = linted(alloc, &script) else {
         return Status::Memory;
     };
-    match offer(sink, text.as_bytes()) {
-        Ok(()) => status,
-        Err(_) => Status::WriteFault,
-    }
+    written(sink, text.as_bytes(), status)
 }

@@ -11,6 +11,7 @@ mod linting;
 mod program;
 mod reading;
 mod words;
+mod writing;
 
 pub use program::run_desk;
 use rep_io::{StdSink, StdSource};
