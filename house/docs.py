@@ -184,9 +184,53 @@ def decisions():
     tell(f"ok       {page}")
 
 
+def once_named():
+    """Crates that became one are named once."""
+    count = 0
+    for page in docs():
+        text = read(page)
+        after = before = text
+        while True:
+            after = re.sub(r"(`\w+`),(\s)\1(?=[,.;: )]|\n)", r"\1", after)
+            if after == before:
+                break
+            before = after
+        if after != text:
+            write(page, after)
+            count += 1
+    tell(f"ok       crates that became one are named once: {count} pages")
+    paged(r"`change_logs`, `refreshes`, `ordered_keys`, `change_logs` and", "`change_logs`, `refreshes`, `ordered_keys` and", "docs/PROOFS.md")
+    paged(r"defined in `event_laws` \(`specs/Rules\.antt`\)", "defined in `site_events` (`specs/Rules.antt`)", "crates/snapshot_query/README.md")
+    paged(r"A join is `joined` of `event_laws`", "A join is `joined` of `site_events`", "crates/world_state/README.md")
+    paged(r"(?m)^\| `Rounds\.antt` \| `site_until_quiet`", "| `site_state/specs/Rounds.antt` | `site_until_quiet`", "crates/world_state/README.md")
+    paged(r"on `sender_inbox`, `site_outbox` and `sender_inbox` for streams", "on `sender_inbox` and `site_outbox` for streams", "crates/site_engine/README.md")
+
+
+def seconds():
+    """The seconds of crates that became one are summed."""
+    page = "tools/crate-seconds"
+    if not os.path.isfile(page):
+        tell(f"nothing  {page}")
+        return
+    lines, sums = [], {}
+    for line in read(page).split("\n"):
+        m = re.fullmatch(r"(\w+) (\d+)", line)
+        if not m:
+            lines.append(line)
+        elif m[1] in sums:
+            sums[m[1]] += int(m[2])
+        else:
+            sums[m[1]] = int(m[2])
+            lines.append(m[1])
+    write(page, "\n".join(f"{line} {sums[line]}" if line in sums else line for line in lines))
+    tell(f"ok       {page}")
+
+
 def main():
     italics()
     lives()
+    once_named()
+    seconds()
     floor_plan()
     decisions()
     paged(r"\[DEFINITIONS\]\(docs/DEFINITIONS\.md\) \|", "[DEFINITIONS](docs/DEFINITIONS.md), [GLOSSARY](docs/GLOSSARY.md) |", "README.md")

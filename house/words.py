@@ -137,7 +137,7 @@ def pages():
     paged(r"`BeginAlike`", "`KeysBeginAlike`", "crates/excuse_laws/README.md")
     paged(r"`agreement_laws/specs/Beginning\.antt` `BeginAlike`", "`agreement_laws/specs/Beginning.antt` `RowsBeginAlike`", "docs/DEFINITIONS.md")
     paged(r"`Standing` is where a run stands", "`RunState` is where a run stands", "crates/rep_lines/README.md")
-    paged(r"`made`, `unmade`", "`after_change`, `before_change`", "docs/DEFINITIONS.md")
+    paged(r"`made`, `(?:unmade|before_change)`", "`after_change`, `before_change`", "docs/DEFINITIONS.md")
     paged(r"`page_tables/specs/Index\.antt` `IsIndex`", "`page_tables/specs/Index.antt` `IsUniqueIndex`", "docs/DEFINITIONS.md")
     paged(r"`rep_declare/specs/Refusals\.antt` `refusal_of`", "`rep_declare/specs/Refusals.antt` `declare_refusal`", "docs/DEFINITIONS.md")
     paged(r"`deferred_queue/specs/Streams\.antt` `place_of`", "`deferred_queue/specs/Streams.antt` `stream_place`", "docs/DEFINITIONS.md")
