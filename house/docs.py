@@ -213,7 +213,9 @@ def seconds():
         tell(f"nothing  {page}")
         return
     lines, sums = [], {}
+    last = dict(line.split("#")[0].split()[1:3] for line in read(f"{HERE}/crates_names.txt").split("\n") if line.startswith("crate "))
     for line in read(page).split("\n"):
+        line = re.sub(r"^(\w+)(?= \d+$)", lambda m: m[0] if os.path.isdir(f"crates/{m[0]}") else last.get(m[0], m[0]), line)
         m = re.fullmatch(r"(\w+) (\d+)", line)
         if not m:
             lines.append(line)
