@@ -184,6 +184,19 @@ def decisions():
     tell(f"ok       {page}")
 
 
+def how_to_add():
+    """Files that have another name or stand in another crate now, in the lists of what a new thing touches."""
+    for old, new in (
+        (r"`ProcSteps` \(`procs_done`\), `CallBlocks` \(`sent_to`\) of\n`world_state`, `Known`, `Doing` and `Texts` of `world`", "`ProcSteps` (`procs_done`), `CallBlocks` (`sent_to`) of\n`world_state`, `Precheck`, `Doing` and `Texts` of `world`"),
+        (r"- Proofs of `world_laws`: `Pieces` \(`done_leads`\), `Scripts` \(`done_in_setup`\); of `world_laws`: `Staying` \(`IsPlain`,\n  `plain_stays`, `schema_done`\), `Scripts` \(`done_in_setup`\); of `convergent_worlds`: `SetupEnds` \(`done_ends`\); of\n  `world_laws`: `Kept`\.\n",
+         "- Proofs of `world_laws`: `Pieces` (`done_leads`), `Scripts` (`done_in_setup`), `DeclaredStays` (`IsPlain`, `plain_stays`,\n  `schema_done`), `SnapshotScripts` (`done_in_setup`), `SetupEnds` (`done_ends`), `ProceduresStay`.\n"),
+        (r"specs `Doing` \(`is_push`\), `Known` \(`refuses_late`, `precheck_steps`\), `Texts`\n  \(`world_text`\); proofs `Keeping` \(`IsPlain`, `keeps_done`, `built_done`, `push_behind`\), `KnownRefusals` \(`known_met`,\n  `known_line`, `known_leaves`\)\.\n",
+         "specs `Doing` (`is_push`), `Precheck` (`refuses_late`, `precheck_steps`), `Texts`\n  (`world_text`); proofs `BuiltWorlds` (`IsPlain`, `keeps_done`, `built_done`), `Prechecks` (`known_met`, `known_line`).\n"),
+        (r"proofs `FormShapes` \(`convergence_laws`\), `SiteColumns`\n\(`convergence_laws`\), `LatestSigns` \(`error_cause_laws`\);", "proofs `FormShapes` and `SiteColumns`\n(`rep_laws`), `LatestWrites` (`error_cause_laws`);"),
+    ):
+        paged(old, new, PAGE)
+
+
 def once_named():
     """Crates that became one are named once."""
     count = 0
@@ -231,6 +244,7 @@ def seconds():
 def main():
     italics()
     lives()
+    how_to_add()
     once_named()
     seconds()
     floor_plan()
