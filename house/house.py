@@ -135,7 +135,7 @@ def pages():
     os.makedirs("tools", exist_ok=True)
     shutil.copy(f"{HERE}/chain", "tools/chain")
     os.chmod("tools/chain", 0o755)
-    for name in ("readme_new", "doc_paths", "docs", "glossary", "old_names"):
+    for name in ("readme_new", "doc_paths", "docs", "merged", "glossary", "old_names"):
         step(name)
     commit("docs: the floor plan, the glossary, decisions; tools/chain")
 
