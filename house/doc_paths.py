@@ -130,6 +130,24 @@ def main():
             return ", ".join(out)
 
         text = re.sub(r"`([\w/]+\.antt)`((?: `[^`\n]+`(?:, (?=`[^`/\n.]+`(?!\w)))?)(?:`[^`/\n.]+`(?:, (?=`[^`/\n.]+`))?)*|)", cell, text)
+
+        def listed(m):
+            """`NAME`, `NAME` (`FILE`): names that were renamed in that file."""
+            nonlocal moved
+            own = m[2] or (page.split("/")[1] if page.startswith("crates/") else None)
+            path = f"crates/{own}/{m[3]}/{m[4]}.antt"
+
+            def one(n):
+                nonlocal moved
+                new = new_names.get((own, m[3], m[4], n[1]))
+                if path in files and path not in found.get(n[1], ()) and path in found.get(new, ()):
+                    moved += 1
+                    return f"`{new}`"
+                return n[0]
+
+            return re.sub(r"`([^`\n/]+)`", one, m[1]) + m[0][len(m[1]) :]
+
+        text = re.sub(r"((?:`[^`\n/]+`(?:,\s| and\s))*`[^`\n/]+`)\s\(`(?:(\w+)/)?(specs|proofs)/(\w+)\.antt`", listed, text)
         if text != before:
             write(page, text)
     tell(f"{'refused ' if bad else 'ok      '} pages: {moved} names have another file now, {bad} aren't found")

@@ -87,6 +87,9 @@ MENDS = {
          "- `IsOfSnapshots` (`specs/SnapshotWorlds.antt`): a world of some script, with what a world keeps so that these laws hold of it. `IsOfConvergence` (`specs/AlikeWorlds.antt`): besides, events lead to it from sites whose masters begin alike (`MastersBeginAlike`, `specs/AlikeMasters.antt`). Each line keeps both (`proofs/AlikeWorlds.antt`); `convergent_worlds` draws its laws from the second."),
         (f"{WHAT} It stands on the sites of `proc_state`, on the definitions of `world_state`, and on `world_laws` and `world_laws`. The worlds keep", "They stand on the sites of `proc_state` and on the definitions of `world_state`. The worlds keep"),
     ],
+    "error_queue": [
+        ("is seen as a `OriginErrorsState`", "is seen as an `OriginErrorsState`"),
+    ],
     "convergent_worlds": [
         ("`world` keeps what it asks for, and `World::step`", "The worlds keep what it asks for (`IsOfConvergence` of `world_laws`), and `World::step`"),
     ],
