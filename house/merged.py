@@ -134,6 +134,8 @@ def main():
         text = read(path)
         for old, new in mends:
             found = find(text, old)
+            if len(find(text, new)) == 1 and len(find(new, old)):
+                continue  # it is said already
             if len(found) != 1:
                 if len(find(text, new)) != 1:
                     bad += 1
