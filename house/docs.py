@@ -219,6 +219,60 @@ def once_named():
     paged(r"on `sender_inbox`, `site_outbox` and `sender_inbox` for streams", "on `sender_inbox` and `site_outbox` for streams", "crates/site_engine/README.md")
 
 
+PROVED = {"site_events": "definitions: what can happen to the sites of a cluster, and to what was sent"}
+
+
+def proofs_table():
+    """docs/PROOFS.md, crate by crate: a row for each crate, in the groups of crates.txt."""
+    page = "docs/PROOFS.md"
+    text = read(page)
+    m = re.search(r"(?m)(?:^\| (?:\*\*[^|]*\*\*|\[\w+\]\(\.\./crates/\w+/README\.md\)) \|[^\n]*\n)+", text)
+    if not m:
+        tell(f"refused  {page} has no table of crates")
+        return
+    said = {}
+    for crate, what in re.findall(r"(?m)^\| \[\w+\]\(\.\./crates/(\w+)/README\.md\) \| ([^\n]*) \|$", m[0]):
+        said.setdefault(crate, []).append(what)
+    out, head = "", ""
+    for line in read("crates.txt").split("\n"):
+        if line.startswith("# ") and "bottom up" not in line:
+            head = f"| **{line[2:]}** | |\n"
+        c = re.match(r"(\w+)[^:#]*:", line)
+        if not c:
+            continue
+        what = "; ".join(dict.fromkeys(w for w in said.pop(c[1], []))) or PROVED.get(c[1])
+        if not what:
+            tell(f"         {page} has no row for {c[1]}")
+            continue
+        out += head + f"| [{c[1]}](../crates/{c[1]}/README.md) | {what} |\n"
+        head = ""
+    for crate in said:
+        tell(f"refused  {page} has a row for {crate}, which crates.txt doesn't list")
+    write(page, text[: m.start()] + out + text[m.end() :])
+    paged(r"Some ask that the\nenvironment `IsBuilt`", "Some ask that the\nworld `IsBuilt`", "crates/world_commands/README.md")
+    tell(f"ok       {page}: crate by crate")
+
+
+def heads():
+    """The first lines of crates that became one."""
+    for crate, old, new in (
+        ("change_logs", "//! The log of a master's table: the keys of its changed rows, each with its last moment.", "//! What is noted of changed rows: a master's logs, each key with its last moment, and the keys at snapshots."),
+        ("refreshes", "//! Refreshes of a snapshot's table: by the keys that may have changed, or whole.", "//! Refreshes of one snapshot's table, and of all snapshots of a site: by the keys that may have changed, or whole."),
+        ("txn_apply", "//! Applies a transaction to a store, all of it or nothing.", "//! Applies a transaction to a store, all of it or nothing, or evaluates it on copies of the rows that it names."),
+        ("script_drive", "//! A script that is read piece by piece and run line by line, and its report that is written as it comes.", "//! A script that is read piece by piece and run line by line, and its report that is written as it comes; laws of lines."),
+        ("schema_names", "//! What stands in a schema under a name.", "//! What stands in a schema under a name, and which of its sites sends to which."),
+        ("sender_inbox", "//! What arrived from one sender at a site, and which of it is finished.", "//! What arrived from each sender at a site, which of it is finished, and what a position adds to the journal."),
+        ("error_cause_laws", "//! Laws of errors on convergent tables, over every list of events: how a transaction can fail there.", "//! Laws of errors on convergent tables, over every list of events: how a transaction can fail there, and whose insert it lacks."),
+    ):
+        path = f"crates/{crate}/src/lib.rt"
+        text = read(path) if os.path.isfile(path) else ""
+        if text.startswith(old + "\n"):
+            write(path, new + text[len(old) :])
+        elif not text.startswith(new + "\n"):
+            tell(f"refused  {path} begins otherwise: {text.split(chr(10))[0]}")
+    tell("ok       first lines of crates that became one")
+
+
 def seconds():
     """The seconds of crates that became one are summed."""
     page = "tools/crate-seconds"
@@ -247,6 +301,8 @@ def main():
     how_to_add()
     once_named()
     seconds()
+    heads()
+    proofs_table()
     floor_plan()
     decisions()
     paged(r"\[DEFINITIONS\]\(docs/DEFINITIONS\.md\) \|", "[DEFINITIONS](docs/DEFINITIONS.md), [GLOSSARY](docs/GLOSSARY.md) |", "README.md")
