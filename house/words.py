@@ -128,6 +128,7 @@ def pages():
     paged(r"A key is settled\n", "A key is up to date\n", "docs/PROOFS.md")
     paged(r"but for the keys that are settled", "but for the keys that are up to date", "crates/snapshot_worlds/README.md")
     paged(r"what is settled\b", "what is up to date", "crates/subquery_snapshots/README.md", "docs/DEFINITIONS.md")
+    paged(r"(?<=\n  )settled(?= \(`rows_fast` asks it\))", "up to date", "crates/page_cases/README.md")
     paged(r"\(clause `settled`\)", "(clause `up_to_date`)", "crates/subquery_snapshots/README.md")
     paged(r"what isn't settled", "what isn't up to date", "crates/subquery_snapshots/README.md", "docs/DECISIONS.md")
     paged(r"the keys that aren't settled", "the keys that aren't up to date", "docs/DEFINITIONS.md")
@@ -185,7 +186,8 @@ def main():
     # ---- what becomes of a transaction
     said(r"\bwhose transaction is settled so\b", "whose transaction comes out so", "journal_steps/**")
     # ---- rows and keys that are up to date
-    token("settled", "up_to_date", "subquery_snapshots/src/**/*", "subquery_snapshots/proofs/**/*", "environment_lines/proofs/ruled/**/*", "snapshot_laws/proofs/*.antt")
+    token("settled", "up_to_date", "subquery_snapshots/src/**/*", "subquery_snapshots/proofs/**/*", "environment_lines/proofs/ruled/**/*", "snapshot_laws/proofs/*.antt", "page_cases/proofs/renewed/**/*")
+    said(r"\bshows? what is settled\b", lambda m: m[0].replace("settled", "up to date"), "page_cases/**")
     rows = ["subquery_snapshots/**", "snapshot_laws/**", "snapshot_worlds/**", "environment_lines/**"]
     said(r"\b([Ss])ettled (keys?|rows?)\b", lambda m: ("Up" if m[1] == "S" else "up") + "-to-date " + m[2], *rows)
     said(r"\bsettled\b", "up to date", *rows)
