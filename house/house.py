@@ -84,6 +84,7 @@ def down():
     step("regex", r"\bexcuses\.KeysBeginAlike", "KeysBeginAlike", "crates/convergent_worlds/*/Beginning.antt")
     moves("moves1.txt")
     step("applied_one")
+    step("passed")
     step("visible")
     step("lists")
     commit("Definitions stand below the crates that use them")
