@@ -8,7 +8,7 @@ ghost use Rattle.world.specs.Doing.{DoesAnywhere};
 ghost use Rattle.world_calls.specs.Sending.{execute_stop};
 
 use rep_values::{Refusal, SiteName};
-use report_text::{execute_calls_line};
+use report_text::execute_calls_line;
 use script_parse::{Command, ProcLine};
 use std::alloc::Global;
 use world::{Answer, CommandStop, Outcome, Procs, WorldParts, proc_place_of, room_for_line};
@@ -49,7 +49,10 @@ pub(crate) fn execute_calls(
     match execute_at(&mut parts.procs, alloc, site, origin, position) {
         Ok(()) => {
             execute_calls_line(&mut lines, *site, *origin, position);
-            Ok(Answer { lines, outcome: Outcome::Done })
+            Ok(Answer {
+                lines,
+                outcome: Outcome::Done,
+            })
         }
         Err(refusal) => Err(CommandStop::Refused(refusal)),
     }

@@ -226,7 +226,10 @@ pub(crate) fn send(
     match send_open(&mut parts.procs, alloc, line, to.as_slice()) {
         Ok(sent) => {
             put_sent(&mut lines, sent);
-            Ok(Answer { lines, outcome: Outcome::Done })
+            Ok(Answer {
+                lines,
+                outcome: Outcome::Done,
+            })
         }
         Err(SendEnd::Refused(refused)) => Err(CommandStop::RefusedAt(refused)),
         Err(SendEnd::Memory) => Err(CommandStop::Memory),

@@ -16,7 +16,7 @@ use rep_calls::PastEntry;
 use rep_lists::{Copies, Items, NoMemory};
 use rep_schema::RowStore;
 use rep_values::SiteName;
-use report_text::{join_line};
+use report_text::join_line;
 use schema_names::{destinations_of, senders_of};
 use script_parse::Command;
 use site_engine::Site;
@@ -186,5 +186,8 @@ pub fn join(
         return Err(CommandStop::Memory);
     };
     join_line(&mut lines, *site, *source, rows);
-    Ok(Answer { lines, outcome: Outcome::Done })
+    Ok(Answer {
+        lines,
+        outcome: Outcome::Done,
+    })
 }

@@ -28,7 +28,9 @@ use script_parse::{Command, Refresh};
 use site_engine::Site;
 use site_state::RefreshCount;
 use std::alloc::Global;
-use world::{Answer, CommandStop, Outcome, WorldParts, master_of, place_of, room_for_line, young_step};
+use world::{
+    Answer, CommandStop, Outcome, WorldParts, master_of, place_of, room_for_line, young_step,
+};
 
 /// What a refresh tells: whether it went by the logs, how many keys it looked up, and how many rows the snapshots have.
 #[derive(Drop)]
@@ -265,7 +267,10 @@ pub fn refresh(
         return Err(CommandStop::Memory);
     };
     put_told(&mut lines, *site, &told);
-    Ok(Answer { lines, outcome: Outcome::Done })
+    Ok(Answer {
+        lines,
+        outcome: Outcome::Done,
+    })
 }
 
 /// `purge-log`
@@ -291,5 +296,8 @@ pub fn purge_log(
     };
     let count = parts.sites[place].purge_log(number as u32);
     purge_log_line(&mut lines, *master, *table, count);
-    Ok(Answer { lines, outcome: Outcome::Done })
+    Ok(Answer {
+        lines,
+        outcome: Outcome::Done,
+    })
 }

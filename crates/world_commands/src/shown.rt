@@ -183,5 +183,8 @@ pub fn show(
     let Ok(()) = add_line(&mut lines, alloc, parts, what, site) else {
         return Err(CommandStop::Memory);
     };
-    Ok(Answer { lines, outcome: Outcome::Done })
+    Ok(Answer {
+        lines,
+        outcome: Outcome::Done,
+    })
 }

@@ -27,11 +27,7 @@ pub fn set_clock(
 }
 
 /// `purge`
-pub fn purge(
-    parts: &mut WorldParts,
-    alloc: Global,
-    site: &SiteName,
-) -> Result<Answer, CommandStop>
+pub fn purge(parts: &mut WorldParts, alloc: Global, site: &SiteName) -> Result<Answer, CommandStop>
     requires passes { precheck_refusal (Command.Purge site.now) parts.old ≡ None }
     ensures { DoesAnywhere (Command.Purge site.now) parts.old parts.new result }
 {
@@ -43,7 +39,10 @@ pub fn purge(
     };
     let count = parts.sites[place].purge();
     purge_line(&mut lines, *site, count);
-    Ok(Answer { lines, outcome: Outcome::Done })
+    Ok(Answer {
+        lines,
+        outcome: Outcome::Done,
+    })
 }
 
 /// `execute`
@@ -70,7 +69,10 @@ pub fn execute(
     match parts.sites[place].execute_error(alloc, origin, position) {
         Ok(()) => {
             execute_line(&mut lines, *site, *origin, position);
-            Ok(Answer { lines, outcome: Outcome::Done })
+            Ok(Answer {
+                lines,
+                outcome: Outcome::Done,
+            })
         }
         Err(refusal) => Err(CommandStop::Refused(refusal)),
     }
@@ -100,7 +102,10 @@ pub fn drop_error(
     match parts.sites[place].delete_error(origin, position) {
         Ok(()) => {
             drop_error_line(&mut lines, *site, *origin, position);
-            Ok(Answer { lines, outcome: Outcome::Done })
+            Ok(Answer {
+                lines,
+                outcome: Outcome::Done,
+            })
         }
         Err(refusal) => Err(CommandStop::Refused(refusal)),
     }
