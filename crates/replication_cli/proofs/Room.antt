@@ -13,7 +13,7 @@ HasRoom-IsCounted number t counted few = record { commits = omega arith; refused
 -- one command more, and what came of it
 pub IsCounted-with_outcome : (number : ℕ) (t : Tally) (came : Outcome) → NumbersFit came → IsCounted number t → IsCounted (number + 1) (with_outcome t came)
 IsCounted-with_outcome number t (outcome.Committed n) fits counted = record { commits = omega arith; refused = omega arith; pushes = omega arith; errors = omega arith }
-IsCounted-with_outcome number t (outcome.Pushed count) fits counted = record { commits = omega arith; refused = omega arith; pushes = omega arith; errors = omega (arith, fits.1.1.0) }
+IsCounted-with_outcome number t (outcome.Pushed count) fits counted = record { commits = omega arith; refused = omega arith; pushes = omega arith; errors = omega (arith, fits.2) }
 IsCounted-with_outcome number t outcome.NothingCommitted fits counted = record { commits = omega arith; refused = omega arith; pushes = omega arith; errors = omega arith }
 IsCounted-with_outcome number t outcome.Done fits counted = record { commits = omega arith; refused = omega arith; pushes = omega arith; errors = omega arith }
 

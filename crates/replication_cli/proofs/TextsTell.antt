@@ -75,10 +75,10 @@ committed_tells t site number named fits = go (number == 0) fits
     some = commit_text site.0 number
 
     nothing_third : word_at 2 (nothing ++ []) ≡ codes "none"
-    nothing_third = word_of_line 2 (codes "commit") (site.0 ∷ codes "none" ∷ []) [] (lit≤ tt) (refl, name_is_word site.0 named, refl, tt)
+    nothing_third = word_of_line 2 (codes "commit") (site.0 ∷ codes "none" ∷ []) [] (lit≤ tt) (refl, (name_is_word site.0 named, (refl, tt)))
 
     some_third : number < 2 ^ 64 → word_at 2 (some ++ []) ≡ decimal number
-    some_third small = word_of_line 2 (codes "commit") (site.0 ∷ decimal number ∷ []) [] (lit≤ tt) (refl, name_is_word site.0 named, decimal_is_word number small, tt)
+    some_third small = word_of_line 2 (codes "commit") (site.0 ∷ decimal number ∷ []) [] (lit≤ tt) (refl, (name_is_word site.0 named, (decimal_is_word number small, tt)))
 
     nothing_is : is_commit (nothing ++ []) ≡ false
     nothing_is = tells_commit (nothing ++ []) true true (ap (λ (w : List ℕ). same_bytes w (codes "none")) nothing_third) refl
@@ -105,8 +105,8 @@ pushed_tells t from to count more from_named to_named fits =
     let text : List ℕ = push_text from.0 to.0 count ++ more in
     let ninth : word_at 8 text ≡ decimal count.errors =
     word_of_line 8 (codes "push") (push_words from.0 to.0 count) more (lit≤ tt)
-    (refl, name_is_word from.0 from_named, name_is_word to.0 to_named, refl, decimal_is_word count.sent fits.0, refl, decimal_is_word count.done fits.1.0, refl, decimal_is_word count.errors fits.1.1.0, refl, decimal_is_word count.low fits.1.1.1, tt) in
-    let errors : errors_of text ≡ count.errors = some_errors text refl ∙ ap digits_number ninth ∙ digits_number-decimal count.errors fits.1.1.0 in
+    (refl, (name_is_word from.0 from_named, (name_is_word to.0 to_named, (refl, (decimal_is_word count.sent fits.0, (refl, (decimal_is_word count.done fits.1, (refl, (decimal_is_word count.errors fits.2, (refl, (decimal_is_word count.low fits.3, tt))))))))))) in
+    let errors : errors_of text ≡ count.errors = some_errors text refl ∙ ap digits_number ninth ∙ digits_number-decimal count.errors fits.2 in
     with_text_is t text false false true count.errors refl refl refl errors ∙ simp add-zero refl
 
 -- ---- other lines

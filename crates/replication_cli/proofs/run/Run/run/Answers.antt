@@ -13,7 +13,7 @@ invariant_of-self g c = (
   subst (IsCounted (c.self.inside.number + 1)) (sym c.add.ensures.counted)
       (IsCounted-with_outcome c.self.inside.number c.self.inside.tally c.in-Ok.answer.outcome c.add.ensures.fits c.self.invariant.0),
   c.step.ensures.free,
-  named_behind c.self.inside.number c.args.command.now c.self.inside.world.world c.step.new.world.world c.in-Ok.answer c.requires.line.formed c.in-Ok.ensures.does c.self.invariant.1.1,
+  named_behind c.self.inside.number c.args.command.now c.self.inside.world.world c.step.new.world.world c.in-Ok.answer c.requires.line.formed c.in-Ok.ensures.does c.self.invariant.2,
 )
 
 -- so it is counted as what it prints
@@ -22,7 +22,7 @@ returns-in-Ok g c =
     let before : Running = record { world = c.self.inside.world.world; number = c.self.inside.number; tally = c.self.inside.tally } in
     subst (λ (r : Running). ◌≡◌ {A = Running} (record { world = c.step.new.world.world; number = c.self.inside.number + 1; tally = c.add.new.self }) (with_command r c.args.command.now)) c.self.view_is
     (with_command-done before c.step.new.world.world c.add.new.self c.in-Ok.answer c.args.command.now c.in-Ok.ensures.does
-    (outcome_counted before.number before.tally c.add.new.self c.args.command.now before.world c.step.new.world.world c.in-Ok.answer c.requires.line.formed c.self.invariant.1.1 c.in-Ok.ensures.does c.add.ensures.fits c.add.ensures.counted))
+    (outcome_counted before.number before.tally c.add.new.self c.args.command.now before.world c.step.new.world.world c.in-Ok.answer c.requires.line.formed c.self.invariant.2 c.in-Ok.ensures.does c.add.ensures.fits c.add.ensures.counted))
 
 -- the command was refused, and not for want of memory
 pub returns-in_default : goal.returns-in_default
