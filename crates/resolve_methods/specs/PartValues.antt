@@ -15,5 +15,5 @@ pub record HasGroupValues (schema : Schema) (table : ℕ) (part : Part) : Type 0
 pub record IsDecidable (schema : Schema) (table : ℕ) (part : Part) (current : Cells) : Type 0 where
   pub of_table : table < length schema.tables
   pub shape : HasShape schema
-  pub part : HasGroupValues schema table part
+  pub values : HasGroupValues schema table part
   pub row : RowFits (columns_of schema table) current

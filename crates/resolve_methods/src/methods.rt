@@ -20,6 +20,7 @@ use rep_values::{Row, Value};
 use std::cmp::Ordering;
 
 /// A part of an update, and the row of a table in which its old values aren't found.
+#[derive(Clone, Copy)]
 struct Conflict<'a> {
     schema: &'a Schema,
     table: u32,
