@@ -1,6 +1,6 @@
 -- The priority groups with one of a name among them.
 use Rattle.std.proofs.Common.{◌≡◌, ◌+◌, ◌<◌, ◌≤◌, Bool, true, false, not, cond, Option, List, [], ◌∷◌, ◌++◌, length, take, Some, None, ℕ, refl, sym, ap, ◌∙◌, arith}
-use Rattle.std.specs.Prelude.{◌↔◌, IsSome, is_some, nat_lt, option_to_list}
+use Rattle.std.specs.Prelude.{IsSome, is_some, nat_lt, option_to_list}
 use Rattle.std.specs.List.{find, position, position_or_len}
 use Rattle.std.proofs.lemmas.Bool.{ltb-true, ltb-false, false≢true}
 use Rattle.std.proofs.lemmas.List.{length-append}
@@ -72,11 +72,11 @@ module _ (name : List ℕ) where
     at false is found = absent_past groups (ltb-false _ _ is)
 
 -- what is left without the last value
-pub without_last : {X : Type 0} (xs left : List X) (last : X) (taken : Option X) → xs ++ last ∷ [] ≡ left ++ option_to_list taken → (IsSome taken ↔ (0 < length (xs ++ last ∷ []))) → xs ≡ left
+pub without_last : {X : Type 0} (xs left : List X) (last : X) (taken : Option X) → xs ++ last ∷ [] ≡ left ++ option_to_list taken → (0 < length (xs ++ last ∷ []) → IsSome taken) → xs ≡ left
 without_last xs left last (Some one) is some =
     let long = length-append xs (last ∷ []) in
     let left_long = length-append left (one ∷ []) in
     let same = ap length is in
     let count : length xs ≡ length left = omega (arith, long, left_long, same) in
     sym (take-append_seam xs (last ∷ [])) ∙ (ap (take (length xs)) is ∙ (rw count (take-append_seam left (one ∷ []))))
-without_last xs left last None is some = absurd (some.1 (let long = length-append xs (last ∷ []) in omega (arith, long)))
+without_last xs left last None is some = absurd (false≢true (some (let long = length-append xs (last ∷ []) in omega (arith, long))))

@@ -168,16 +168,35 @@ fn add_method(
 fn group_of_level(
     alloc: Global,
     name: &Name,
-    level: PriorityLevel,
+    value: &Literal,
+    level: i64,
 ) -> Result<PriorityGroup, NoMemory>
-    ensures { IfOk result (λ group. group ≡ with_level level.value level.level record { name = name.now; levels = [] }) }
+    ensures { IfOk result (λ group. group ≡ with_level (value_of_literal value.now) level record { name = name.now; levels = [] }) }
 {
     let mut levels = Items::with_capacity(alloc, 1)?;
-    levels.push(level)?;
+    levels.push(PriorityLevel {
+        value: value.value(),
+        level,
+    })?;
     Ok(PriorityGroup {
         name: *name,
         levels,
     })
+}
+
+/// A priority group with one level comes into the schema.
+fn push_priority(
+    alloc: Global,
+    schema: &mut Schema,
+    name: &Name,
+    value: &Literal,
+    level: i64,
+) -> Result<(), NoMemory>
+    ensures ok { OnOk result (schema.new ≡ with_priorities (schema.old.priorities ++ with_level (value_of_literal value.now) level record { name = name.now; levels = [] } ∷ []) schema.old) }
+    ensures err { OnErr result (schema.new ≡ schema.old) }
+{
+    let one = group_of_level(alloc, name, value, level)?;
+    schema.priorities.push(one)
 }
 
 fn add_level(
@@ -190,16 +209,9 @@ fn add_level(
     ensures ok { OnOk result (schema.new ≡ declared (Declare.Priority group.now value.now level) schema.old) }
     ensures err { OnErr result (schema.new ≡ schema.old) }
 {
-    let level = PriorityLevel {
-        value: value.value(),
-        level,
-    };
     match priority_place(schema.priorities.as_slice(), group) {
-        Some(place) => put_level_in(alloc, schema.priorities.at_mut(place), level),
-        None => {
-            let one = group_of_level(alloc, group, level)?;
-            schema.priorities.push(one)
-        }
+        Some(place) => put_level_in(alloc, schema.priorities.at_mut(place), value, level),
+        None => push_priority(alloc, schema, group, value, level),
     }
 }
 

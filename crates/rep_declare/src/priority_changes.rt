@@ -3,12 +3,13 @@ ghost use Rattle.std.specs.Prelude.{◌≡◌, OnOk, OnErr};
 ghost use Rattle.std.specs.List.{position};
 ghost use Rattle.std.specs.Ordering.{is_ge};
 ghost use Rattle.rep_lists.specs.Rising.{put_at};
+ghost use Rattle.rep_values.specs.Literal.{value_of_literal};
 ghost use Rattle.rep_schema.specs.Levels.{beside_value};
 ghost use Rattle.rep_declare.specs.Additions.{with_level};
 
 use rep_lists::{Items, NoMemory};
 use rep_schema::{PriorityGroup, PriorityLevel};
-use rep_values::{Value, compare_values, same_value};
+use rep_values::{Literal, Value, compare_values, same_value};
 use std::alloc::Global;
 use std::mem;
 
@@ -46,11 +47,16 @@ fn put_level(levels: &mut Vec<PriorityLevel>, level: PriorityLevel) -> Result<()
 pub(crate) fn put_level_in(
     alloc: Global,
     group: &mut PriorityGroup,
-    level: PriorityLevel,
+    value: &Literal,
+    level: i64,
 ) -> Result<(), NoMemory>
-    ensures ok { OnOk result (group.new ≡ with_level level.value level.level group.old) }
+    ensures ok { OnOk result (group.new ≡ with_level (value_of_literal value.now) level group.old) }
     ensures err { OnErr result (group.new ≡ group.old) }
 {
+    let level = PriorityLevel {
+        value: value.value(),
+        level,
+    };
     let mut levels = mem::replace(&mut group.levels, Items::new(alloc)).into_vec();
     let result = put_level(&mut levels, level);
     group.levels = Items::from_vec(levels);

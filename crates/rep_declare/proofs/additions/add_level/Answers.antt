@@ -1,5 +1,5 @@
 -- A level comes into the priority group of a name, which comes with it where it isn't there.
-use Rattle.std.proofs.Common.{◌≡◌, sym, ap, ◌∙◌, ◌++◌, [], ◌∷◌, None, Some, w64}
+use Rattle.std.proofs.Common.{◌≡◌, sym, ap, ◌∙◌, ◌++◌, [], ◌∷◌, None, w64}
 use Rattle.std.specs.Prelude.{slice_set}
 use Rattle.std.specs.List.{find, position}
 use Rattle.std.proofs.Math.Facts.{to_z-of_z}
@@ -16,14 +16,12 @@ pub returns-in-Some-clause-ok : goal.returns-in-Some-clause-ok
 returns-in-Some-clause-ok c =
     let name = c.args.group.now in
     let groups = c.args.schema.now.priorities in
-    let one = c.at_mut.result.now in
     let by = c.priority_place.ensures ∙ ap (position (is_priority name)) c.as_slice.ensures in
     let level = with_level (value_of_literal c.args.value.now) c.args.level in
     on_ok_weaker c.put_level_in.result
     (λ put. ap (λ gs. with_priorities gs c.args.schema.now)
-    (ap (slice_set groups c.in-Some.place)
-    (put ∙ ap (λ z. with_level c.value.result z one) (to_z-of_z {w = w64} c.ranges.level) ∙ ap (λ v. with_level v c.args.level one) c.value.ensures)
-    ∙ changed_read (is_priority name) level groups c.priority_place.result c.in-Some.place one by c.in-Some.is c.at_mut.ensures.value
+    (ap (slice_set groups c.in-Some.place) (put ∙ ap (λ z. with_level (value_of_literal c.args.value.now) z c.at_mut.result.now) (to_z-of_z {w = w64} c.ranges.level))
+    ∙ changed_read (is_priority name) level groups c.priority_place.result c.in-Some.place c.at_mut.result.now by c.in-Some.is c.at_mut.ensures.value
     ∙ ap (with_changed (is_priority name) level) (sym (with_priority-placed name groups c.in-Some.place (sym by ∙ c.in-Some.is)))))
     c.put_level_in.ensures.ok
 
@@ -33,11 +31,8 @@ returns-in-None-clause-ok c =
     let groups = c.args.schema.now.priorities in
     let by = c.priority_place.ensures ∙ ap (position (is_priority name)) c.as_slice.ensures in
     let absent : find (is_priority name) groups ≡ None = find-unplaced name groups (sym by ∙ c.in-None.is) in
-    on_ok_weaker c.push.result
-    (λ pushed. ap (λ gs. with_priorities gs c.args.schema.now)
-    (pushed
-    ∙ ap (λ g. groups ++ g ∷ []) c.in_ok-one.ensures
-    ∙ ap (λ z. groups ++ with_level c.value.result z (record { name = name; levels = [] }) ∷ []) (to_z-of_z {w = w64} c.ranges.level)
-    ∙ ap (λ v. groups ++ with_level v c.args.level (record { name = name; levels = [] }) ∷ []) c.value.ensures
+    on_ok_weaker c.push_priority.result
+    (λ pushed. pushed ∙ ap (λ gs. with_priorities gs c.args.schema.now)
+    (ap (λ z. groups ++ with_level (value_of_literal c.args.value.now) z (record { name = name; levels = [] }) ∷ []) (to_z-of_z {w = w64} c.ranges.level)
     ∙ sym (with_changed-new name (with_level (value_of_literal c.args.value.now) c.args.level) (same_bytes-same name) groups absent)))
-    c.push.ensures.ok
+    c.push_priority.ensures.ok
