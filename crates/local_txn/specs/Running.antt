@@ -1,5 +1,5 @@
 -- What the steps of running a statement take and tell.
-use Rattle.std.specs.Prelude.{◌≡◌, ◌≢◌, ◌⊎◌, ℕ, ◌<◌, true, false, not, ◌&&◌, List, [], ◌∷◌, Option, Some, None, Result, Err}
+use Rattle.std.specs.Prelude.{◌≡◌, ◌≢◌, ◌⊎◌, ℕ, true, false, not, ◌&&◌, List, [], ◌∷◌, Option, Some, None, Result, Err}
 use Rattle.rep_values.specs.declared.refusal.Refusal.{Refusal}
 use Rattle.rep_values.specs.declared.refusal.Refusal.TheVariants as refusal
 use Rattle.rep_values.specs.declared.name.SiteName.{SiteName}
