@@ -1,0 +1,206 @@
+//! What became of the positions that a push sent.
+
+use crate::texts::add_note;
+use crate::ways::Ways;
+use deferred_queue::Sent;
+use net_plan::Fate;
+use page_tables::PageTables;
+use rep_calls::PastEntry;
+use rep_lists::NoMemory;
+use rep_values::SiteName;
+use site_engine::Site;
+use std::alloc::{AllocError, Global};
+use std::fmt;
+use world_run::World;
+
+/// A push that is about to be made: what is sent, and the fates of its packets in their order.
+#[derive(Drop)]
+pub struct Plan {
+    from: SiteName,
+    to: SiteName,
+    acked: u64,
+    fates: Vec<Fate>,
+    mark: Option<Fate>,
+}
+
+/// What became of a position.
+enum State<'a> {
+    Lost(u64),
+    Held(u64),
+    /// It didn't arrive, and this push says no reason.
+    Missing(u64),
+    /// It waits for earlier positions of its own stream: all up to one, of which this is the first.
+    Behind { position: u64, first: u64, dep: u64 },
+    /// It waits for a transaction of another master.
+    After { position: u64, past: &'a PastEntry },
+    /// It arrived, and isn't finished.
+    Waits(u64),
+}
+
+impl<'a> fmt::Display for State<'a> {
+    fn fmt<W: fmt::Write>(&self, f: &mut fmt::Formatter<W>) -> fmt::Result {
+        match self {
+            State::Lost(position) => write!(f, "position {position} was lost: push again"),
+            State::Held(position) => write!(
+                f,
+                "position {position} is held until the next push between the two sites, in either direction"
+            ),
+            State::Missing(position) => write!(f, "position {position} didn't arrive: push again"),
+            State::Behind {
+                position,
+                first,
+                dep,
+            } => write!(
+                f,
+                "position {position} waits for all up to position {dep} of its sender, of which {first} isn't finished"
+            ),
+            State::After { position, past } => write!(
+                f,
+                "position {position} waits for transaction {} of {}, which its sender had seen before",
+                past.number, past.origin
+            ),
+            State::Waits(position) => write!(f, "position {position} arrived, and waits"),
+        }
+    }
+}
+
+/// How many positions a push sends.
+fn sent_count(site: &Site<PageTables>, to: &SiteName, count: Option<u64>) -> u64 {
+    let waiting = site.last_sent(to).saturating_sub(site.queue().acked(to));
+    match count {
+        Some(most) => most.min(waiting),
+        None => waiting,
+    }
+}
+
+/// What a push is about to send. Its packets take the fates of their direction, and its mark one of the other direction.
+pub fn plan(
+    alloc: Global,
+    world: &World,
+    ways: &mut Ways,
+    from: &SiteName,
+    to: &SiteName,
+    count: Option<u64>,
+) -> Result<Option<Plan>, NoMemory> {
+    let Some(site) = world.site(from) else {
+        return Ok(None);
+    };
+    if !ways.is_up(from, to) || world.site(to).is_none() {
+        return Ok(None);
+    }
+    let mut fates = Vec::new(alloc);
+    for _ in 0..sent_count(site, to, count) {
+        fates.push(ways.take_fate(from, to))?;
+    }
+    let mark = if ways.is_up(to, from) {
+        Some(ways.take_fate(to, from))
+    } else {
+        None
+    };
+    Ok(Some(Plan {
+        from: *from,
+        to: *to,
+        acked: site.queue().acked(to),
+        fates,
+        mark,
+    }))
+}
+
+/// The transaction of another master that one waits for at a site, if there is one.
+fn missing_past<'a>(site: &Site<PageTables>, sent: &Sent<'a>) -> Option<&'a PastEntry> {
+    sent.past.iter().find(|past| !past.origin.is_same(site.name())
+        && site.covered(&past.origin) < past.number)
+}
+
+/// What became of a position that didn't arrive.
+fn missing(position: u64, fate: Fate) -> State<'static> {
+    match fate {
+        Fate::Lose => State::Lost(position),
+        Fate::Late => State::Held(position),
+        Fate::Pass | Fate::Twice => State::Missing(position),
+    }
+}
+
+/// What became of a position of a sender at the receiver, where it isn't finished.
+fn state_of<'a>(
+    sender: &'a Site<PageTables>,
+    site: &Site<PageTables>,
+    position: u64,
+    fate: Fate,
+) -> Option<State<'a>> {
+    let from = sender.name();
+    if site.is_finished(from, position) {
+        return None;
+    }
+    if !site.has_arrived(from, position) {
+        return Some(missing(position, fate));
+    }
+    let Some(sent) = sender.queue().entry(site.name(), position) else {
+        return Some(State::Waits(position));
+    };
+    let mark = site.mark(from);
+    if sent.dep > mark {
+        return Some(State::Behind {
+            position,
+            first: mark.saturating_add(1),
+            dep: sent.dep,
+        });
+    }
+    Some(match missing_past(site, &sent) {
+        Some(past) => State::After { position, past },
+        None => State::Waits(position),
+    })
+}
+
+impl Plan {
+    /// Tells of the mark, where it didn't come back.
+    fn add_mark(&self, text: &mut String) -> Result<(), AllocError> {
+        let Plan { from, to, .. } = self;
+        match self.mark {
+            None => add_note(
+                text,
+                &format_args!(
+                    "the acknowledgement is lost, as the direction from {to} to {from} is down: what arrived is sent again, which changes nothing"
+                ),
+            ),
+            Some(Fate::Lose) => add_note(
+                text,
+                &format_args!(
+                    "the acknowledgement is lost: what arrived is sent again at the next push, which changes nothing"
+                ),
+            ),
+            Some(Fate::Late) => add_note(
+                text,
+                &format_args!(
+                    "the acknowledgement is held until the next push between the two sites"
+                ),
+            ),
+            Some(Fate::Pass) | Some(Fate::Twice) => Ok(()),
+        }
+    }
+
+    /// Tells what became of each position that the push sent and the receiver didn't finish.
+    pub fn add_notes(&self, world: &World, text: &mut String) -> Result<(), NoMemory> {
+        let (Some(sender), Some(site)) = (world.site(&self.from), world.site(&self.to)) else {
+            return Ok(());
+        };
+        if self.fates.is_empty() {
+            add_note(
+                text,
+                &format_args!(
+                    "{} has nothing for {} that isn't acknowledged; what it got from other masters isn't sent on",
+                    self.from, self.to
+                ),
+            )?;
+        }
+        let mut position = self.acked;
+        for fate in self.fates.as_slice() {
+            position = position.saturating_add(1);
+            if let Some(state) = state_of(sender, site, position, *fate) {
+                add_note(text, &state)?;
+            }
+        }
+        self.add_mark(text)?;
+        Ok(())
+    }
+}
