@@ -19,7 +19,8 @@ use Rattle.world_state.specs.declared.refused.Refused.{Refused}
 use Rattle.world_state.specs.World.{WorldState}
 use Rattle.world_state.specs.Declaring.{with_snapshot_at, tests_in}
 use Rattle.rep_schema.specs.Named.{table_place}
-use Rattle.world_state.specs.Phases.{declaring_step, declare_step}
+use Rattle.world_state.specs.Phases.{declare_step}
+use Rattle.world_state.specs.ProcRefusals.{declaring_step}
 use Rattle.world_state.specs.Refusals.{world_refusal}
 use Rattle.world_state.specs.Steps.{resumed, world_done}
 use Rattle.world_laws.proofs.DeclaredStays.{IsPlain, plain_stays, refused_stays}
