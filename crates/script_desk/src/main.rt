@@ -1,4 +1,5 @@
-//! The program for people who write scripts: `lint` tells what is wrong with one, and `picture` draws what it does.
+//! The program for people who write scripts: `lint` tells what is wrong with one, `picture` draws what it does, and `explain` runs it
+//! with words behind what it prints.
 #![tactic(auto)]
 
 ghost use Rattle.std.specs.Prelude.{◌≡◌, ◌≢◌, map, string_bytes, IfOk};
@@ -7,6 +8,7 @@ ghost use Rattle.std.specs.Process.{exit_status};
 ghost use Rattle.script_drive.specs.Codes.{code_of};
 
 mod drawing;
+mod explaining;
 mod linting;
 mod program;
 mod reading;

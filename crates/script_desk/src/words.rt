@@ -9,6 +9,8 @@ pub enum Asked {
     Lint,
     /// `picture`
     Picture,
+    /// `explain`
+    Explain,
 }
 
 /// What one word asks for.
@@ -21,6 +23,9 @@ fn asked_of(word: &str) -> Option<Asked>
     }
     if word == b"picture".as_slice() {
         return Some(Asked::Picture);
+    }
+    if word == b"explain".as_slice() {
+        return Some(Asked::Explain);
     }
     None
 }
