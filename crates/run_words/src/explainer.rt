@@ -11,7 +11,7 @@ ghost use Rattle.run_words.specs.Telling.{is_end};
 
 use crate::failed::{Here, add_failed};
 use crate::lines::{first_line, line_at};
-use crate::pushes::{Plan, plan};
+use crate::pushes::{Plan, plan_push};
 use crate::texts::{LineText, add_marked, add_note};
 use crate::told::Told;
 use crate::ways::Ways;
@@ -157,7 +157,7 @@ impl Explainer {
         ensures { self.new ≡ self.old }
     {
         if let Command::Push { from, to, count } = command {
-            return plan(alloc, self.steps.world(), &mut self.ways, from, to, *count);
+            return plan_push(alloc, self.steps.world(), &mut self.ways, from, to, *count);
         }
         Ok(None)
     }

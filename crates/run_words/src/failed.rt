@@ -46,6 +46,7 @@ fn added(old: &Value, new: &Value, here: &Value) -> Option<i64> {
 }
 
 /// One column of a part that was refused.
+#[derive(Clone, Copy)]
 struct Cell<'a> {
     old: &'a Value,
     new: &'a Value,

@@ -24,6 +24,7 @@ pub struct Plan {
 }
 
 /// What became of a position.
+#[derive(Clone, Copy)]
 enum State<'a> {
     Lost(u64),
     Held(u64),
@@ -74,7 +75,7 @@ fn sent_count(site: &Site<PageTables>, to: &SiteName, count: Option<u64>) -> u64
 }
 
 /// What a push is about to send. Its packets take the fates of their direction, and its mark one of the other direction.
-pub fn plan(
+pub fn plan_push(
     alloc: Global,
     world: &World,
     ways: &mut Ways,

@@ -8,6 +8,7 @@ use std::fmt;
 const SHOWN_BYTES: usize = 200;
 
 /// A value as scripts write it.
+#[derive(Clone, Copy)]
 pub struct ValueText<'a>(pub &'a Value);
 
 impl<'a> fmt::Display for ValueText<'a> {
@@ -26,6 +27,7 @@ impl<'a> fmt::Display for ValueText<'a> {
 }
 
 /// Values behind one another, a space between two.
+#[derive(Clone, Copy)]
 pub struct ValuesText<'a>(pub &'a [Value]);
 
 impl<'a> fmt::Display for ValuesText<'a> {
@@ -43,6 +45,7 @@ impl<'a> fmt::Display for ValuesText<'a> {
 }
 
 /// A line of a script as it can be shown: 200 bytes at most, and `?` for a byte that isn't printable.
+#[derive(Clone, Copy)]
 pub struct LineText<'a>(pub &'a [u8]);
 
 impl<'a> fmt::Display for LineText<'a> {
