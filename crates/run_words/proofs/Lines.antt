@@ -1,14 +1,19 @@
 -- One line more of a run.
 use Rattle.std.proofs.Common.{◌≡◌, ◌<◌, ◌≤◌, ℕ, ◌+◌, Bool, true, false, List, [], ◌∷◌, ◌++◌, length, refl, sym, ap, ◌∙◌, arith, append_assoc, append-nil}
-use Rattle.std.specs.Prelude.{◌||◌, if◌then◌else◌, Result, Ok, Err}
+use Rattle.std.specs.Prelude.{◌||◌, if◌then◌else◌, ⊥, Option, Some, None, Result, Ok, Err}
 use Rattle.script_drive.specs.Runs.{Stepped, printed, is_stopped}
 use Rattle.report_text.specs.Texts.{malformed_text}
 use Rattle.script_parse.specs.declared.command.Command.{Command}
 use Rattle.script_parse.specs.Parsed.{parsed}
 use Rattle.script_drive.specs.LineBytes.{most_lines, line_step}
+use Rattle.world_state.specs.declared.refused.Refused.{Refused}
 use Rattle.world_state.specs.World.{WorldState}
 use Rattle.world_run.specs.Scripts.{script_step}
+use Rattle.script_steps.specs.declared.answer.Answer.{Answer}
+use Rattle.script_steps.specs.declared.answer.Verdict.{Verdict}
+use Rattle.script_steps.specs.declared.answer.Verdict.TheVariants as verdict
 use Rattle.script_steps.specs.Lines.{lines_of}
+use Rattle.script_steps.specs.Saying.{malformed_at, refused_so}
 use Rattle.script_steps.proofs.Worlds.{world_past-command, world_past-malformed, prints_at-command, prints_at-malformed}
 use Rattle.script_steps.proofs.Limits.{line_step-within, line_step-many}
 
@@ -22,6 +27,21 @@ unfolding script_step
 stops-malformed w number line rule read = rw read refl
 
 pub ruleset line_facts = (world_past-command, world_past-malformed, prints_at-command, prints_at-malformed, stops-command, stops-malformed)
+
+-- ---- a command that was read
+
+is_broken : Verdict → Bool
+is_broken (verdict.Malformed rule) = true
+is_broken (verdict.Refused refusal) = false
+
+says_broken : Option Answer → Bool
+says_broken None = false
+says_broken (Some answer) = is_broken answer.verdict
+
+-- what is said of it isn't that its line breaks a rule
+pub no_rule : (number rule : ℕ) (o : Option Refused) → Some (malformed_at number rule) ≡ refused_so o → ⊥
+no_rule number rule None same = let no : true ≡ false = ap says_broken same in cc
+no_rule number rule (Some refused) same = let no : true ≡ false = ap says_broken same in cc
 
 -- ---- the lines to come
 

@@ -11,7 +11,7 @@ ghost use Rattle.run_words.specs.Telling.{is_end};
 
 use crate::failed::{Here, add_failed};
 use crate::lines::{first_line, line_at};
-use crate::pushes::{Plan, plan_push};
+use crate::pushes::{Plan, Pushed, plan_push};
 use crate::texts::{LineText, add_marked, add_note};
 use crate::told::Told;
 use crate::ways::Ways;
@@ -126,6 +126,8 @@ impl Explainer {
         }
     }
 
+    /// Does a command, and tells what that prints, with words.
+    #[tactic(auto, using(crate::proofs::Lines::no_rule))]
     fn step(
         &mut self,
         alloc: Global,
@@ -138,12 +140,13 @@ impl Explainer {
         ensures world { OnOk result (self.new ≡ world_step number command self.old) }
         ensures told { OnOk result (told.new ≡ told.old ++ line_text number command self.old) }
     {
-        let plan = self.planned(alloc, &command)?;
+        let plan = self.planned(&command);
         match self.steps.take_command(alloc, number, command)? {
             Came::Done(command, lines) => {
                 self.flow.done(number, &command)?;
                 self.ways.done(alloc, &command)?;
-                self.tell_done(alloc, &command, plan, lines.bytes(), told)
+                let pushed = self.fared(alloc, plan)?;
+                self.tell_done(alloc, &command, &pushed, lines.bytes(), told)
             }
             Came::Refused(command, refused) => {
                 self.tell_refused(alloc, script, number, &command, &refused, told)
@@ -153,13 +156,21 @@ impl Explainer {
     }
 
     /// What a push is about to send.
-    fn planned(&mut self, alloc: Global, command: &Command) -> Result<Option<Plan>, NoMemory>
+    fn planned(&self, command: &Command) -> Option<Plan> {
+        if let Command::Push { from, to, count } = command {
+            return plan_push(self.steps.world(), from, to, *count);
+        }
+        None
+    }
+
+    /// What a push has sent, and how its packets fared.
+    fn fared(&mut self, alloc: Global, plan: Option<Plan>) -> Result<Option<Pushed>, NoMemory>
         ensures { self.new ≡ self.old }
     {
-        if let Command::Push { from, to, count } = command {
-            return plan_push(alloc, self.steps.world(), &mut self.ways, from, to, *count);
+        match plan {
+            Some(plan) => Ok(Some(plan.fare(alloc, &mut self.ways)?)),
+            None => Ok(None),
         }
-        Ok(None)
     }
 
     /// Tells what a command printed, with words behind lines that want some.
@@ -167,17 +178,17 @@ impl Explainer {
         &self,
         alloc: Global,
         command: &Command,
-        plan: Option<Plan>,
+        pushed: &Option<Pushed>,
         bytes: &[u8],
         told: &mut Told,
     ) -> Result<(), NoMemory>
         ensures { OnOk result (told.new ≡ told.old ++ bytes.now) }
     {
         if let Command::Push { to, .. } = command {
-            return self.tell_push(alloc, Stream::Rows, to, plan, bytes, told);
+            return self.tell_push(alloc, Stream::Rows, to, pushed, bytes, told);
         }
         if let Command::Procedures(ProcLine::Push { to, .. }) = command {
-            return self.tell_push(alloc, Stream::Calls, to, None, bytes, told);
+            return self.tell_push(alloc, Stream::Calls, to, pushed, bytes, told);
         }
         told.add_report(alloc, bytes)?;
         let words = done_words(alloc, command, bytes)?;
@@ -190,7 +201,7 @@ impl Explainer {
         alloc: Global,
         stream: Stream,
         to: &SiteName,
-        plan: Option<Plan>,
+        pushed: &Option<Pushed>,
         bytes: &[u8],
         told: &mut Told,
     ) -> Result<(), NoMemory>
@@ -200,7 +211,7 @@ impl Explainer {
         while !left.is_empty() {
             let (line, behind) = left.split_at(first_line(left));
             told.add_report(alloc, line)?;
-            let words = self.push_words(alloc, stream, to, &plan, line)?;
+            let words = self.push_words(alloc, stream, to, pushed, line)?;
             told.add_words(words)?;
             left = behind;
         }
@@ -213,14 +224,14 @@ impl Explainer {
         alloc: Global,
         stream: Stream,
         to: &SiteName,
-        plan: &Option<Plan>,
+        pushed: &Option<Pushed>,
         line: &[u8],
     ) -> Result<String, NoMemory> {
         let mut text = String::new(alloc);
         if let Some((origin, position)) = error_of(line) {
             self.add_error(alloc, stream, to, &origin, position, &mut text)?;
-        } else if let Some(plan) = plan {
-            plan.add_notes(self.steps.world(), &mut text)?;
+        } else if let Some(pushed) = pushed {
+            pushed.add_notes(self.steps.world(), &mut text)?;
         }
         Ok(text)
     }

@@ -5,8 +5,10 @@ use error_queue::ErrorEntry;
 use page_tables::PageTables;
 use rep_calls::{Call, Part};
 use rep_lists::NoMemory;
-use rep_schema::{RowStore, SHADOW, TableEntry, has_place, is_grouped, named_columns};
-use rep_values::{ApplyError, Key, Name, Row, SiteName, Value};
+use rep_schema::{
+    Column, Kind, RowStore, SHADOW, TableEntry, has_place, is_grouped, is_in_range, named_columns,
+};
+use rep_values::{ApplyError, Key, Row, SiteName, Value};
 use schema_advice::method_word;
 use std::alloc::{AllocError, Global};
 
@@ -17,10 +19,10 @@ pub struct Here<'a> {
     pub store: &'a PageTables,
 }
 
-/// Whether a column belongs to a group by its number.
-fn is_in_group(table: &TableEntry, group: u8, place: usize) -> bool {
+/// Whether a column, which stands at a place of its table, belongs to a group by the group's number.
+fn is_in_group(table: &TableEntry, group: u8, place: usize, column: &Column) -> bool {
     if group == SHADOW {
-        return !table.columns.as_slice()[place].key && !is_grouped(table.groups.as_slice(), place);
+        return !column.key && !is_grouped(table.groups.as_slice(), place);
     }
     has_place(named_columns(table.groups.as_slice(), group), place)
 }
@@ -28,29 +30,38 @@ fn is_in_group(table: &TableEntry, group: u8, place: usize) -> bool {
 /// The values of the key columns of a row.
 fn key_values(alloc: Global, table: &TableEntry, row: &Row) -> Result<Vec<Value>, AllocError> {
     let mut values = Vec::new(alloc);
-    let columns = table.columns.as_slice();
-    for place in 0..columns.len().min(row.values().len()) {
-        if columns[place].key {
-            values.push(row.values()[place])?;
+    for (column, value) in table.columns.iter().zip(row.values()) {
+        if column.key {
+            values.push(*value)?;
         }
     }
     Ok(values)
 }
 
-/// What the sum of both changes would be, where all three are numbers.
+/// What the sum of both changes would be, where all three are numbers and it is in their range.
 fn added(old: &Value, new: &Value, here: &Value) -> Option<i64> {
-    if let (Value::Num(old), Value::Num(new), Value::Num(here)) = (old, new, here) {
-        return new.checked_sub(*old)?.checked_add(*here);
-    }
-    None
+    let (Value::Num(old), Value::Num(new), Value::Num(here)) = (old, new, here) else {
+        return None;
+    };
+    let sum = new.checked_sub(*old)?.checked_add(*here)?;
+    if is_in_range(sum) { Some(sum) } else { None }
 }
 
 /// One column of a part that was refused.
 #[derive(Clone, Copy)]
 struct Cell<'a> {
+    column: &'a Column,
     old: &'a Value,
     new: &'a Value,
     here: Option<&'a Value>,
+}
+
+/// What `additive` would make of a column, where its kind is NUMBER.
+fn sum_of(cell: &Cell<'_>, here: &Value) -> Option<i64> {
+    match cell.column.kind {
+        Kind::Number => added(cell.old, cell.new, here),
+        Kind::Words | Kind::Date | Kind::Stamp | Kind::Site => None,
+    }
 }
 
 /// Tells of one column.
@@ -58,9 +69,9 @@ fn add_cell(
     text: &mut String,
     origin: &SiteName,
     here: &SiteName,
-    column: &Name,
     cell: &Cell<'_>,
 ) -> Result<(), AllocError> {
+    let column = &cell.column.name;
     let old = ValueText(cell.old);
     let new = ValueText(cell.new);
     match cell.here {
@@ -70,13 +81,13 @@ fn add_cell(
                 text,
                 "        {column}: {origin} saw {old} and wrote {new}; {here} has {present} now"
             )?;
-            if let Some(sum) = added(cell.old, cell.new, value) {
-                writeln!(
+            match sum_of(cell, value) {
+                Some(sum) => writeln!(
                     text,
                     "            `additive` would make {sum} of it, `overwrite` {new}, `discard` {present}"
-                )?;
+                ),
+                None => Ok(()),
             }
-            Ok(())
         }
         None => writeln!(
             text,
@@ -95,9 +106,8 @@ fn add_part(
     row: Option<&Row>,
 ) -> Result<(), AllocError> {
     let mut at = 0usize;
-    let columns = table.columns.as_slice();
-    for place in 0..columns.len() {
-        if !is_in_group(table, part.group, place) {
+    for (place, column) in table.columns.iter().enumerate() {
+        if !is_in_group(table, part.group, place, column) {
             continue;
         }
         if let (Some(old), Some(new)) = (part.old.as_slice().get(at), part.new.as_slice().get(at)) {
@@ -106,11 +116,12 @@ fn add_part(
                 None => None,
             };
             let cell = Cell {
+                column,
                 old,
                 new,
                 here: present,
             };
-            add_cell(text, origin, here, &columns[place].name, &cell)?;
+            add_cell(text, origin, here, &cell)?;
         }
         at = at.saturating_add(1);
     }

@@ -13,12 +13,20 @@ use std::alloc::{AllocError, Global};
 use std::fmt;
 use world_run::World;
 
-/// A push that is about to be made: what is sent, and the fates of its packets in their order.
-#[derive(Drop)]
+/// A push that is about to be made: how far it is acknowledged, and how many positions behind that wait and are sent.
+#[derive(Clone, Copy)]
 pub struct Plan {
     from: SiteName,
     to: SiteName,
     acked: u64,
+    waiting: u64,
+    sent: u64,
+}
+
+/// A push that was made, and the fates of its packets in their order; none of its mark where the way back is down.
+#[derive(Drop)]
+pub struct Pushed {
+    plan: Plan,
     fates: Vec<Fate>,
     mark: Option<Fate>,
 }
@@ -44,7 +52,7 @@ impl<'a> fmt::Display for State<'a> {
             State::Lost(position) => write!(f, "position {position} was lost: push again"),
             State::Held(position) => write!(
                 f,
-                "position {position} is held until the next push between the two sites, in either direction"
+                "position {position} is held until the next push between the two sites, in either direction, that finds its own direction up"
             ),
             State::Missing(position) => write!(f, "position {position} didn't arrive: push again"),
             State::Behind {
@@ -65,46 +73,23 @@ impl<'a> fmt::Display for State<'a> {
     }
 }
 
-/// How many positions a push sends.
-fn sent_count(site: &Site<PageTables>, to: &SiteName, count: Option<u64>) -> u64 {
-    let waiting = site.last_sent(to).saturating_sub(site.queue().acked(to));
-    match count {
-        Some(most) => most.min(waiting),
-        None => waiting,
-    }
-}
-
-/// What a push is about to send. Its packets take the fates of their direction, and its mark one of the other direction.
+/// What a push is about to send, where its sender is there.
 pub fn plan_push(
-    alloc: Global,
     world: &World,
-    ways: &mut Ways,
     from: &SiteName,
     to: &SiteName,
     count: Option<u64>,
-) -> Result<Option<Plan>, NoMemory> {
-    let Some(site) = world.site(from) else {
-        return Ok(None);
-    };
-    if !ways.is_up(from, to) || world.site(to).is_none() {
-        return Ok(None);
-    }
-    let mut fates = Vec::new(alloc);
-    for _ in 0..sent_count(site, to, count) {
-        fates.push(ways.take_fate(from, to))?;
-    }
-    let mark = if ways.is_up(to, from) {
-        Some(ways.take_fate(to, from))
-    } else {
-        None
-    };
-    Ok(Some(Plan {
+) -> Option<Plan> {
+    let site = world.site(from)?;
+    let acked = site.queue().acked(to);
+    let waiting = site.last_sent(to).saturating_sub(acked);
+    Some(Plan {
         from: *from,
         to: *to,
-        acked: site.queue().acked(to),
-        fates,
-        mark,
-    }))
+        acked,
+        waiting,
+        sent: count.unwrap_or(waiting).min(waiting),
+    })
 }
 
 /// The transaction of another master that one waits for at a site, if there is one.
@@ -154,14 +139,48 @@ fn state_of<'a>(
 }
 
 impl Plan {
+    /// The push was made: its packets take the fates of their direction, and its mark one of the other direction.
+    pub fn fare(self, alloc: Global, ways: &mut Ways) -> Result<Pushed, NoMemory> {
+        let mut fates = Vec::new(alloc);
+        for _ in 0..self.sent {
+            fates.push(ways.take_fate(&self.from, &self.to))?;
+        }
+        let mark = if ways.is_up(&self.to, &self.from) {
+            Some(ways.take_fate(&self.to, &self.from))
+        } else {
+            None
+        };
+        Ok(Pushed {
+            plan: self,
+            fates,
+            mark,
+        })
+    }
+
+    /// Tells that there was nothing to send, where that is so.
+    fn add_nothing(&self, text: &mut String) -> Result<(), AllocError> {
+        if self.waiting > 0 {
+            return Ok(());
+        }
+        add_note(
+            text,
+            &format_args!(
+                "{} has nothing for {} that isn't acknowledged; what it got from other masters isn't sent on",
+                self.from, self.to
+            ),
+        )
+    }
+}
+
+impl Pushed {
     /// Tells of the mark, where it didn't come back.
     fn add_mark(&self, text: &mut String) -> Result<(), AllocError> {
-        let Plan { from, to, .. } = self;
+        let Plan { from, to, .. } = self.plan;
         match self.mark {
             None => add_note(
                 text,
                 &format_args!(
-                    "the acknowledgement is lost, as the direction from {to} to {from} is down: what arrived is sent again, which changes nothing"
+                    "no acknowledgement, as the direction from {to} to {from} is down: what arrived is sent again, which changes nothing"
                 ),
             ),
             Some(Fate::Lose) => add_note(
@@ -173,7 +192,7 @@ impl Plan {
             Some(Fate::Late) => add_note(
                 text,
                 &format_args!(
-                    "the acknowledgement is held until the next push between the two sites"
+                    "the acknowledgement is held until the next push between the two sites, in either direction, that finds its own direction up"
                 ),
             ),
             Some(Fate::Pass) | Some(Fate::Twice) => Ok(()),
@@ -182,26 +201,21 @@ impl Plan {
 
     /// Tells what became of each position that the push sent and the receiver didn't finish.
     pub fn add_notes(&self, world: &World, text: &mut String) -> Result<(), NoMemory> {
-        let (Some(sender), Some(site)) = (world.site(&self.from), world.site(&self.to)) else {
+        let Plan { from, to, .. } = self.plan;
+        let (Some(sender), Some(site)) = (world.site(&from), world.site(&to)) else {
             return Ok(());
         };
-        if self.fates.is_empty() {
-            add_note(
-                text,
-                &format_args!(
-                    "{} has nothing for {} that isn't acknowledged; what it got from other masters isn't sent on",
-                    self.from, self.to
-                ),
-            )?;
-        }
-        let mut position = self.acked;
+        self.plan.add_nothing(text)?;
+        let mut position = self.plan.acked;
         for fate in self.fates.as_slice() {
             position = position.saturating_add(1);
             if let Some(state) = state_of(sender, site, position, *fate) {
                 add_note(text, &state)?;
             }
         }
-        self.add_mark(text)?;
+        if self.plan.waiting > 0 {
+            self.add_mark(text)?;
+        }
         Ok(())
     }
 }

@@ -16,6 +16,13 @@ struct Way {
     fates: VecDeque<Fate>,
 }
 
+impl Way {
+    /// Whether it goes from one of these sites to the other.
+    fn is_between(&self, from: &SiteName, to: &SiteName) -> bool {
+        self.from.is_same(from) && self.to.is_same(to)
+    }
+}
+
 /// The directions of which a line has told something.
 #[derive(Drop)]
 pub struct Ways {
@@ -33,7 +40,7 @@ impl Ways {
     fn place_of(&self, from: &SiteName, to: &SiteName) -> Option<usize> {
         self.ways
             .iter()
-            .position(|way| way.from.is_same(from) && way.to.is_same(to))
+            .position(|way| way.is_between(from, to))
     }
 
     /// The place of a direction, which is added where no line has told of it.
@@ -57,8 +64,8 @@ impl Ways {
 
     /// Whether the direction is up.
     pub fn is_up(&self, from: &SiteName, to: &SiteName) -> bool {
-        match self.place_of(from, to) {
-            Some(place) => self.ways[place].is_up,
+        match self.ways.iter().find(|way| way.is_between(from, to)) {
+            Some(way) => way.is_up,
             None => true,
         }
     }
