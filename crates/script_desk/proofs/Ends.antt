@@ -51,6 +51,15 @@ pub run_ends : (script : List ℕ) (next : Next) (ended : Status) → is_end nex
 run_ends script next.GoesOn ended is so = rw so (sym is)
 run_ends script next.Ends ended is so = rw so (sym is)
 
+-- such a status isn't one of a fault either
+pub run_ends_run : (script : List ℕ) (ended : Status) → RunEnds script ended → EndsRun ended
+run_ends_run script status.Done ends = inl refl
+run_ends_run script status.Malformed ends = inr refl
+run_ends_run script status.ReadFault ends = absurd ends
+run_ends_run script status.WriteFault ends = absurd ends
+run_ends_run script status.Memory ends = absurd ends
+run_ends_run script status.Usage ends = absurd ends
+
 -- all was read
 pub says_of_all : (Says : List ℕ → Status → Type 0) (before after : Option (List ℕ)) (script : List ℕ) (ended : Status) → ReadsAll before after script → Says script ended → SaysOfAll Says before after ended
 says_of_all Says before after script status.Done reads says = (script, reads, says)
@@ -60,4 +69,4 @@ says_of_all Says before after script status.WriteFault reads says = tt
 says_of_all Says before after script status.Memory reads says = tt
 says_of_all Says before after script status.Usage reads says = tt
 
-pub ruleset end_facts = (lint_ends, lint_ends_run, run_ends, says_of_all)
+pub ruleset end_facts = (lint_ends, lint_ends_run, run_ends, run_ends_run, says_of_all)
