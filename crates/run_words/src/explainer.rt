@@ -20,10 +20,11 @@ use line_advice::{LineError, Mistake};
 use rep_lists::NoMemory;
 use rep_values::{Name, Refusal, SiteName};
 use report_text::{Lines, MOST_LINE, malformed_line, refused_line};
+use schema_advice::{BrokenPart, broken_parts};
 use script_flow::{Cause, Flow, unknown};
 use script_parse::{Command, ProcLine, Refresh};
 use script_steps::{Came, Steps};
-use std::alloc::Global;
+use std::alloc::{AllocError, Global};
 use std::marker::Model;
 use world_state::Refused;
 
@@ -339,6 +340,7 @@ impl Explainer {
             (Refusal::WrongPhase, Some(cause)) => self.add_cause(refused.line, cause, text),
             (Refusal::UnknownName, _) => self.add_unknown(command, refused, text),
             (Refusal::StillFails(_), _) => self.add_failing(alloc, command, refused, text),
+            (Refusal::SchemaRule(_), _) => self.add_broken(alloc, command, refused, text),
             (refusal, _) => Ok(add_note(text, &RefusalNote { command, refusal })?),
         }
     }
@@ -391,6 +393,28 @@ impl Explainer {
         Ok(())
     }
 
+    /// Appends which tables and groups break rules of schemas.
+    fn add_broken(
+        &self,
+        alloc: Global,
+        command: &Command,
+        refused: &Refused,
+        text: &mut String,
+    ) -> Result<(), NoMemory> {
+        add_note(
+            text,
+            &RefusalNote {
+                command,
+                refusal: refused.refusal,
+            },
+        )?;
+        let parts = broken_parts(alloc, self.steps.schema())?;
+        for part in parts.as_slice() {
+            add_part(text, part)?;
+        }
+        Ok(())
+    }
+
     /// Appends why an error that was executed stays.
     fn add_failing(
         &self,
@@ -425,6 +449,19 @@ impl Explainer {
             self.add_error(alloc, Stream::Calls, site, origin, *position, text)?;
         }
         Ok(())
+    }
+}
+
+/// Appends which table or group breaks a rule.
+fn add_part(text: &mut String, part: &BrokenPart) -> Result<(), AllocError> {
+    let rule = part.rule;
+    let table = part.table.0;
+    match part.group {
+        Some(group) => add_note(
+            text,
+            &format_args!("group {group} of {table} breaks rule {rule}"),
+        ),
+        None => add_note(text, &format_args!("{table} breaks rule {rule}")),
     }
 }
 

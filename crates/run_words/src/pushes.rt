@@ -9,11 +9,13 @@ use rep_calls::PastEntry;
 use rep_lists::NoMemory;
 use rep_values::SiteName;
 use site_engine::Site;
+use site_state::Entry;
 use std::alloc::{AllocError, Global};
 use std::fmt;
 use world_run::World;
 
-/// A push that is about to be made: how far it is acknowledged, and how many positions behind that wait and are sent.
+/// A push that is about to be made: how far it is acknowledged, how many positions behind that wait and are sent, and how many entries
+/// the receiver's journal has.
 #[derive(Clone, Copy)]
 pub struct Plan {
     from: SiteName,
@@ -21,6 +23,7 @@ pub struct Plan {
     acked: u64,
     waiting: u64,
     sent: u64,
+    seen: u64,
 }
 
 /// A push that was made, and the fates of its packets in their order; none of its mark where the way back is down.
@@ -73,7 +76,7 @@ impl<'a> fmt::Display for State<'a> {
     }
 }
 
-/// What a push is about to send, where its sender is there.
+/// What a push is about to send, where both sites are there.
 pub fn plan_push(
     world: &World,
     from: &SiteName,
@@ -89,6 +92,7 @@ pub fn plan_push(
         acked,
         waiting,
         sent: count.unwrap_or(waiting).min(waiting),
+        seen: world.site(to)?.journal_len(),
     })
 }
 
@@ -157,6 +161,13 @@ impl Plan {
         })
     }
 
+    /// Whether a position of a site is one that the push sends.
+    fn sends(&self, origin: &SiteName, position: u64) -> bool {
+        origin.is_same(&self.from)
+            && self.acked < position
+            && position.saturating_sub(self.acked) <= self.sent
+    }
+
     /// Tells that there was nothing to send, where that is so.
     fn add_nothing(&self, text: &mut String) -> Result<(), AllocError> {
         if self.waiting > 0 {
@@ -172,7 +183,41 @@ impl Plan {
     }
 }
 
+/// Tells of a transaction that was done in a push which didn't send it.
+fn add_late(
+    text: &mut String,
+    from: &SiteName,
+    origin: &SiteName,
+    position: u64,
+) -> Result<(), AllocError> {
+    if origin.is_same(from) {
+        return add_note(
+            text,
+            &format_args!("position {position} is done now: it was held, or had waited"),
+        );
+    }
+    add_note(
+        text,
+        &format_args!("position {position} of {origin} is done now: it had waited"),
+    )
+}
+
 impl Pushed {
+    /// Tells of each transaction that the receiver did in this push, and the push didn't send.
+    fn add_others(&self, site: &Site<PageTables>, text: &mut String) -> Result<(), AllocError> {
+        for place in self.plan.seen..site.journal_len() {
+            if let Some(Entry::Done {
+                origin, position, ..
+            }) = site.journal(place)
+            {
+                if !self.plan.sends(origin, *position) {
+                    add_late(text, &self.plan.from, origin, *position)?;
+                }
+            }
+        }
+        Ok(())
+    }
+
     /// Tells of the mark, where it didn't come back.
     fn add_mark(&self, text: &mut String) -> Result<(), AllocError> {
         let Plan { from, to, .. } = self.plan;
@@ -213,6 +258,7 @@ impl Pushed {
                 add_note(text, &state)?;
             }
         }
+        self.add_others(site, text)?;
         if self.plan.waiting > 0 {
             self.add_mark(text)?;
         }
