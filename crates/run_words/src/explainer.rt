@@ -20,7 +20,7 @@ use line_advice::{LineError, Mistake};
 use rep_lists::NoMemory;
 use rep_values::{Name, Refusal, SiteName};
 use report_text::{Lines, MOST_LINE, malformed_line, refused_line};
-use schema_advice::{BrokenPart, broken_parts};
+use schema_advice::{BrokenPart, broken_parts, rule_text};
 use script_flow::{Cause, Flow, unknown};
 use script_parse::{Command, ProcLine, Refresh};
 use script_steps::{Came, Steps};
@@ -456,12 +456,13 @@ impl Explainer {
 fn add_part(text: &mut String, part: &BrokenPart) -> Result<(), AllocError> {
     let rule = part.rule;
     let table = part.table.0;
+    let asked = rule_text(rule).unwrap_or("see the rules of schemas");
     match part.group {
         Some(group) => add_note(
             text,
-            &format_args!("group {group} of {table} breaks rule {rule}"),
+            &format_args!("group {group} of {table} breaks rule {rule}: {asked}"),
         ),
-        None => add_note(text, &format_args!("{table} breaks rule {rule}")),
+        None => add_note(text, &format_args!("{table} breaks rule {rule}: {asked}")),
     }
 }
 
