@@ -101,7 +101,7 @@ impl Explainer {
     }
 
     /// Runs the line of a number of a script, and tells what it prints, with words behind what wants some.
-    #[tactic(auto, using(crate::proofs::Lines::line_facts))]
+    #[tactic(auto, using(crate::proofs::RunLemmas::line_facts))]
     pub fn take_line(
         &mut self,
         alloc: Global,
@@ -128,7 +128,7 @@ impl Explainer {
     }
 
     /// Does a command, and tells what that prints, with words.
-    #[tactic(auto, using(crate::proofs::Lines::no_rule))]
+    #[tactic(auto, using(crate::proofs::RunLemmas::no_rule))]
     fn step(
         &mut self,
         alloc: Global,

@@ -1,7 +1,7 @@
 //! A script that is run, with what happened and what to do behind each line of its report that wants it.
 #![tactic(auto)]
 
-mod explain;
+mod script;
 mod explainer;
 mod failed;
 mod lines;
@@ -10,6 +10,6 @@ mod texts;
 mod told;
 mod ways;
 
-pub use explain::explain;
+pub use script::explain;
 pub use explainer::{Explainer, Next};
 pub use told::Told;

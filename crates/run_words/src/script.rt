@@ -17,7 +17,7 @@ use std::alloc::Global;
 const MOST_LINES: u32 = 200_000;
 
 /// Runs a script, and tells what the run prints, with words behind what wants some; and answers whether a line ended the run.
-#[tactic(auto, using(crate::proofs::Lines::run_facts))]
+#[tactic(auto, using(crate::proofs::RunLemmas::run_facts))]
 pub fn explain(alloc: Global, script: &[u8], told: &mut Told) -> Result<Next, NoMemory>
     ensures told { OnOk result (told.new ≡ told.old ++ script_report script.now) }
     ensures next { IfOk result (λ next. is_end next ≡ is_ended_early (line_step script_step) first_world script.now) }
