@@ -1,8 +1,8 @@
 //! The tables of the sites at the end, and where masters differ.
-ghost use Rattle.std.specs.Prelude.{◌≡◌, ◌≤◌, [], map, drop, length, slice_get, option_copied, IfOk};
+ghost use Rattle.std.specs.Prelude.{◌≡◌, ◌<◌, ◌+◌, ◌∷◌, map, drop, length, option_copied, IfOk};
 ghost use Rattle.std.specs.List.{list_all};
-ghost use Rattle.rep_schema.specs.Tables.{key_of, columns_of, rows_of};
-ghost use Rattle.table_cells.specs.Cells.{cell_in, is_value, shows, is_key, look_of_cell, cell_of, cells_from, row_cells};
+ghost use Rattle.rep_schema.specs.Tables.{key_of, rows_of};
+ghost use Rattle.table_cells.specs.Cells.{cell_in, is_value, shows, look_of_cell, cell_of, row_cells};
 
 use crate::values::value_words;
 use page_tables::PageTables;
@@ -121,6 +121,18 @@ fn names_of(alloc: Global, columns: &[Column]) -> Result<Items<Items<u8>>, NoMem
     Ok(Items::from_vec(names))
 }
 
+/// The row at a place that has one.
+fn row_at(store: &PageTables, table: u32, place: u64) -> &Row
+    requires table { table < length store.now.schema.tables }
+    requires place { place < length (rows_of store.now.tables table) }
+    ensures { drop place (rows_of store.now.tables table) ≡ result.now ∷ drop (place + 1) (rows_of store.now.tables table) }
+{
+    match store.row_in_order(table, place) {
+        Some(row) => row,
+        None => unreachable!(),
+    }
+}
+
 /// The rows of a table at a site as cells, by their keys.
 fn rows_of(
     alloc: Global,
@@ -132,11 +144,11 @@ fn rows_of(
     requires { table < length store.now.schema.tables }
     ensures { IfOk result (λ rows. rows ≡ map (row_cells (map (λ master. master.now) masters.now) table columns.now) (rows_of store.now.tables table)) }
 {
+    let count = store.count(table);
     let mut rows = Vec::new(alloc);
-    for place in 0..store.count(table) {
-        if let Some(row) = store.row_in_order(table, place) {
-            rows.push(cells_of(alloc, masters, table, columns, row.values())?)?;
-        }
+    for place in 0..count {
+        let row = row_at(store, table, place);
+        rows.push(cells_of(alloc, masters, table, columns, row.values())?)?;
     }
     Ok(Items::from_vec(rows))
 }
