@@ -40,16 +40,16 @@ key_fails key keyless = false_from_ne_true (is_key key) (λ passes.
 
 module _ (masters : List Stored) (table : ℕ) (key : Cells) (column : ℕ) (v : Value) where
   -- each master shows the value
-  pub look-same : IsKeyLen (length key) → list_all (shows table key column v) masters ≡ true → Same ≡ look_of_cell masters table key column v
-  look-same keyed all = sym (cond-true (is_key key && list_all (shows table key column v) masters) Same Differs
+  pub look_same : IsKeyLen (length key) → list_all (shows table key column v) masters ≡ true → Same ≡ look_of_cell masters table key column v
+  look_same keyed all = sym (cond-true (is_key key && list_all (shows table key column v) masters) Same Differs
       (and_from (is_key key) (list_all (shows table key column v) masters) (key_passes key keyed) all))
 
   -- a master doesn't
-  pub look-differs : list_all (shows table key column v) masters ≡ false → Differs ≡ look_of_cell masters table key column v
-  look-differs one = sym (cond-false (is_key key && list_all (shows table key column v) masters) Same Differs
+  pub look_differs : list_all (shows table key column v) masters ≡ false → Differs ≡ look_of_cell masters table key column v
+  look_differs one = sym (cond-false (is_key key && list_all (shows table key column v) masters) Same Differs
       (and_right (is_key key) (list_all (shows table key column v) masters) one))
 
   -- the row has no key that a store knows
-  pub look-keyless : (IsKeyLen (length key) → ⊥) → Differs ≡ look_of_cell masters table key column v
-  look-keyless keyless = sym (cond-false (is_key key && list_all (shows table key column v) masters) Same Differs
+  pub look_keyless : (IsKeyLen (length key) → ⊥) → Differs ≡ look_of_cell masters table key column v
+  look_keyless keyless = sym (cond-false (is_key key && list_all (shows table key column v) masters) Same Differs
       (and_left (is_key key) (list_all (shows table key column v) masters) (key_fails key keyless)))

@@ -27,7 +27,7 @@ fn key_values(alloc: Global, columns: &[Column], row: &[Value]) -> Result<Vec<Va
 
 /// Whether a row has a value in a column.
 fn has_value(row: Option<&Row>, column: usize, value: &Value) -> bool
-    ensures { result ≡ is_value (cell_in (option_copied row) column) value.now }
+    ensures { result ≡ is_value (cell_in (option_copied row.entry) column) value.now }
 {
     let Some(row) = row else {
         return false;
@@ -39,6 +39,7 @@ fn has_value(row: Option<&Row>, column: usize, value: &Value) -> bool
 }
 
 /// Whether a store has a value in a column of the row with a key.
+#[tactic(auto, using(crate::proofs::Marking::table_beyond, crate::proofs::Marking::table_within))]
 fn shows(store: &PageTables, table: u32, key: &Key, column: usize, value: &Value) -> bool
     ensures { result ≡ shows table key.now column value.now store.now }
 {
@@ -62,6 +63,14 @@ fn all_show(masters: &[&PageTables], table: u32, key: &Key, column: usize, value
 
 /// How a cell looks: marked exactly where a master shows another value under the row's key, or no row. A row without a key, which
 /// no table has, is marked.
+#[tactic(
+    auto,
+    using(
+        crate::proofs::Marking::look_same,
+        crate::proofs::Marking::look_differs,
+        crate::proofs::Marking::look_keyless
+    )
+)]
 fn look_of(masters: &[&PageTables], table: u32, key: &[Value], column: usize, value: &Value) -> Look
     ensures { result ≡ look_of_cell (map (λ master. master.now) masters.now) table key.now column value.now }
 {
@@ -102,10 +111,11 @@ fn cells_of(
 ) -> Result<Items<Cell>, NoMemory>
     ensures { IfOk result (λ cells. cells ≡ row_cells (map (λ master. master.now) masters.now) table columns.now row.now) }
 {
-    let key = key_values(alloc, columns, row)?;
+    let values = key_values(alloc, columns, row)?;
+    let key = values.as_slice();
     let mut cells = Vec::new(alloc);
     for column in 0..row.len() {
-        cells.push(cell_of(alloc, masters, table, &key, column, &row[column])?)?;
+        cells.push(cell_of(alloc, masters, table, key, column, &row[column])?)?;
     }
     Ok(Items::from_vec(cells))
 }
