@@ -2,7 +2,7 @@
 ghost use Rattle.std.specs.Prelude.{◌≡◌, ◌<◌, ◌+◌, ◌∷◌, map, drop, length, option_copied, IfOk};
 ghost use Rattle.std.specs.List.{list_all};
 ghost use Rattle.rep_schema.specs.Tables.{key_of, rows_of};
-ghost use Rattle.table_cells.specs.Cells.{cell_in, is_value, shows, look_of_cell, cell_of, row_cells};
+ghost use Rattle.table_cells.specs.Cells.{cell_in, is_value, shows, look_of_cell, cell_of, row_cells, is_unmarked};
 
 use crate::values::value_words;
 use page_tables::PageTables;
@@ -185,14 +185,40 @@ pub fn table_at(
     })
 }
 
-/// Whether no cell of a table is marked.
-pub fn is_same(table: &Table) -> bool {
-    for row in table.rows.iter() {
-        for cell in row.iter() {
-            if cell.look != Look::Same {
-                return false;
-            }
+/// Whether a look is that of a cell which isn't marked.
+fn is_unmarked(look: Look) -> bool
+    ensures { result ≡ is_unmarked look }
+{
+    matches!(look, Look::Same)
+}
+
+/// Whether no cell of a row is marked.
+fn is_row_same(cells: &[Cell]) -> bool
+    ensures { result ≡ list_all (λ cell. is_unmarked cell.look) cells.now }
+{
+    for cell in cells {
+        if !is_unmarked(cell.look) {
+            return false;
         }
     }
     true
+}
+
+/// Whether no cell of rows is marked.
+fn are_rows_same(rows: &[Items<Cell>]) -> bool
+    ensures { result ≡ list_all (list_all (λ cell. is_unmarked cell.look)) rows.now }
+{
+    for row in rows {
+        if !is_row_same(row.as_slice()) {
+            return false;
+        }
+    }
+    true
+}
+
+/// Whether no cell of a table is marked.
+pub fn is_same(table: &Table) -> bool
+    ensures { result ≡ list_all (list_all (λ cell. is_unmarked cell.look)) table.now.rows }
+{
+    are_rows_same(table.rows.as_slice())
 }
