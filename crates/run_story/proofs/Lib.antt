@@ -7,3 +7,4 @@ mod Steps
 mod LineSteps
 mod Runs
 mod PartEnds
+mod Sound

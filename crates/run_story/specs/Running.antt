@@ -5,7 +5,6 @@ use Rattle.script_drive.specs.Runs.{Stepped, last_state}
 use Rattle.script_drive.specs.LineBytes.{line_step}
 use Rattle.script_parse.specs.declared.live_lines.LiveCommand.{LiveCommand}
 use Rattle.live_laws.specs.declared.turn.LiveTurn.{LiveTurn}
-use Rattle.world_state.specs.declared.refused.Refused.{Refused as RefusedLine}
 use Rattle.world_state.specs.World.{WorldState}
 use Rattle.world_run.specs.Lent.{LentWorld}
 use Rattle.world_run.specs.Ended.{RanPart}
@@ -17,9 +16,10 @@ use Rattle.world_run.specs.LiveScripts.{LiveState, live_start, command_step, liv
 use Rattle.world_run.specs.LiveAnswers.{RunsSessions}
 use Rattle.run_story.specs.declared.part.Part.{Part}
 use Rattle.run_story.specs.declared.part.Part.TheVariants as kept
+use Rattle.run_story.specs.declared.happening.Line.{Line}
 use Rattle.run_story.specs.declared.happening.Outcome.{Outcome}
 use Rattle.run_story.specs.declared.happening.Outcome.TheVariants.{PassedOver, Declared, Shown, Done, Refused, Malformed}
-use Rattle.run_story.specs.Telling.{StoryView, Followed, words_of, ends_run, ends_run_in}
+use Rattle.run_story.specs.Telling.{StoryView, Followed, words_of, ends_run, ends_run_in, IsTold}
 
 -- ---- where a script stands
 
@@ -38,6 +38,10 @@ stand_of f = stand_in f.world f.part
 
 abbrev pub story_stand : StoryView → LiveState
 story_stand story = stand_in story.world story.part
+
+-- what a contract sees of a world that is followed, with lines
+abbrev pub story_view : Followed → List Line → StoryView
+story_view f lines = record { world = f.world; part = f.part; lanes = f.lanes; lines = lines }
 
 -- what a line does to a script, where the live part has these turns
 abbrev pub engine_step : List LiveTurn → LiveState → ℕ → List ℕ → Stepped LiveState
@@ -77,6 +81,12 @@ pub record IsRun (story : StoryView) : Type 0 where
   pub known : known (story_stand story)
   pub stands : (turns : List LiveTurn) → allowed (story_stand story) turns
       → Stands (ends_run_in (slice_get story.lines (length story.lines - 1))) turns (words_of story.lines) (story_stand story)
+
+-- what is so of each story: its lines tell the journals, and the engine's run of them stands there, with no master lent out
+pub record IsSound (story : StoryView) : Type 0 where
+  pub told : IsTold story
+  pub run : IsRun story
+  pub free : story.world.lent ≡ None
 
 -- the world of a story is the one in which the engine's own run of the script ends, by turns that are full for the script
 pub record RunsAsEngine (script : List ℕ) (story : StoryView) : Type 0 where
