@@ -1,2 +1,4 @@
 -- The lemmas of this crate.
 mod Journals
+mod Entries
+mod Shown

@@ -1,5 +1,5 @@
 //! Which lines of a run are drawn.
-ghost use Rattle.std.specs.Prelude.{◌≡◌, ◌≢◌, [], false, true};
+ghost use Rattle.std.specs.Prelude.{◌≡◌};
 ghost use Rattle.std.specs.List.{list_all, list_any};
 ghost use Rattle.run_picture.specs.Folding.{is_notable, is_plain, has_notable, is_to_see, is_still_event, IsShowing};
 
@@ -49,10 +49,8 @@ fn has_notable(story: &Story, span: &Span) -> bool
     ensures { result ≡ has_notable story.now span.now }
 {
     for place in 0..entry_count(story, span) {
-        if let Some(entry) = entry_at(story, span, place) {
-            if is_notable(entry) {
-                return true;
-            }
+        if is_notable(entry_at(story, span, place)) {
+            return true;
         }
     }
     false
@@ -140,6 +138,7 @@ fn shown_still(line: &Line, is_folded: bool, is_running: bool) -> Showing {
 }
 
 /// What becomes of a line. In a run that isn't folded each line is drawn in which something happened.
+#[tactic(auto, using(crate::proofs::Shown::still_shows))]
 pub fn shown_as(story: &Story, line: &Line, is_folded: bool, is_running: bool) -> Showing
     ensures { IsShowing story.now is_folded line.now result }
 {

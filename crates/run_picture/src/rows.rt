@@ -82,25 +82,31 @@ impl Scene<'_> {
         pen.label(Look::Faint, at, Anchor::End, words)
     }
 
+    /// Tells an entry beside the lanes, where it is an error.
+    fn put_error(&self, pen: &mut Pen, entry: &Entry, free: &mut Free) -> Result<(), NoMemory>
+        ensures { OnOk result (pen.new ≡ pen.old) }
+    {
+        if let Entry::Error {
+            origin,
+            position,
+            call,
+            error,
+            ..
+        } = entry
+        {
+            let words = error_words(self.alloc, origin, *position, *call, error)?;
+            self.put_beside(pen, Look::Refused, words.as_slice(), free.words)?;
+            free.words = free.words.saturating_add(ROW);
+        }
+        Ok(())
+    }
+
     /// Tells the errors among some entries beside the lanes.
     fn put_errors(&self, pen: &mut Pen, span: &Span, free: &mut Free) -> Result<(), NoMemory>
         ensures { OnOk result (pen.new ≡ pen.old) }
     {
         for place in 0..entry_count(self.story, span) {
-            if let Some(
-                Entry::Error {
-                    origin,
-                    position,
-                    call,
-                    error,
-                    ..
-                },
-            ) = entry_at(self.story, span, place)
-            {
-                let words = error_words(self.alloc, origin, *position, *call, error)?;
-                self.put_beside(pen, Look::Refused, words.as_slice(), free.words)?;
-                free.words = free.words.saturating_add(ROW);
-            }
+            self.put_error(pen, entry_at(self.story, span, place), free)?;
         }
         Ok(())
     }
@@ -110,7 +116,8 @@ impl Scene<'_> {
         ensures { OnOk result (pen.new ≡ pen.old ++ span_marks self.now.story.now span.now) }
     {
         free.lanes = draw_entries(self.alloc, pen, &self.layout, self.story, span, free.lanes)?;
-        self.put_errors(pen, span, free)
+        self.put_errors(pen, span, free)?;
+        Ok(())
     }
 
     /// Draws something that goes from one lane to another, with words.
@@ -246,10 +253,10 @@ impl Scene<'_> {
             }
             open = Some(longer.unwrap_or(Bundle::of(*packet)));
         }
-        match open {
-            Some(bundle) => self.draw_bundle(pen, &bundle, free),
-            None => Ok(()),
+        if let Some(bundle) = open {
+            self.draw_bundle(pen, &bundle, free)?;
         }
+        Ok(())
     }
 
     /// What a turn of a live part did.
@@ -327,7 +334,8 @@ impl Scene<'_> {
         self.draw_spans(pen, line.entries.as_slice(), free)?;
         // The words of what goes back stand above their arrow.
         free.lanes = free.lanes.saturating_add(6);
-        self.draw_packets(pen, line.answered.as_slice(), free)
+        self.draw_packets(pen, line.answered.as_slice(), free)?;
+        Ok(())
     }
 
     /// Tells why a line was refused, or that it is none.
