@@ -49,3 +49,8 @@ cells_from masters table key column (v ∷ vs) = cell_of masters table key colum
 -- the cells of a row
 abbrev pub row_cells : List Stored → ℕ → List Column → Cells → List Cell
 row_cells masters table columns row = cells_from masters table (key_of columns row) 0 row
+
+-- a cell of this look isn't marked
+abbrev pub is_unmarked : Look → Bool
+is_unmarked Same = true
+is_unmarked look = false
