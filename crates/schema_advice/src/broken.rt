@@ -32,55 +32,47 @@ fn is_table_rule(rule: u8) -> bool
     rule != 1 && !is_group_rule(rule)
 }
 
-/// The rule of groups that a group breaks, if it does.
-fn group_part(
+/// Adds the group, if it breaks a rule of groups.
+fn add_group_part(
     alloc: Global,
     schema: &Schema,
     table: &TableEntry,
     group: &Group,
-) -> Result<Option<BrokenPart>, NoMemory>
-    ensures { IfOk result (λ part. part ≡ group_part schema.now table.now group.now) }
+    found: &mut Vec<BrokenPart>,
+) -> Result<(), NoMemory>
+    ensures { OnOk result (found.new.items ≡ found.old.items ++ option_to_list (group_part schema.now table.now group.now)) }
 {
     let Some(rule) = group_rule(alloc, schema, table, group)? else {
-        return Ok(None);
+        return Ok(());
     };
-    if !is_group_rule(rule) {
-        return Ok(None);
+    if is_group_rule(rule) {
+        found.push(BrokenPart {
+            rule,
+            table: table.name,
+            group: Some(group.name),
+        })?;
     }
-    Ok(Some(BrokenPart {
-        rule,
-        table: table.name,
-        group: Some(group.name),
-    }))
+    Ok(())
 }
 
-/// The rule of tables that a table breaks, if it does.
-fn own_part(
+/// Adds the table, if it breaks a rule of tables.
+fn add_own_part(
     alloc: Global,
     schema: &Schema,
     table: &TableEntry,
-) -> Result<Option<BrokenPart>, NoMemory>
-    ensures { IfOk result (λ part. part ≡ own_part schema.now table.now) }
+    found: &mut Vec<BrokenPart>,
+) -> Result<(), NoMemory>
+    ensures { OnOk result (found.new.items ≡ found.old.items ++ option_to_list (own_part schema.now table.now)) }
 {
     let Some(rule) = table_rule(alloc, schema, table)? else {
-        return Ok(None);
+        return Ok(());
     };
-    if !is_table_rule(rule) {
-        return Ok(None);
-    }
-    Ok(Some(BrokenPart {
-        rule,
-        table: table.name,
-        group: None,
-    }))
-}
-
-/// Adds the part, if there is one.
-fn add_part(part: Option<BrokenPart>, found: &mut Vec<BrokenPart>) -> Result<(), NoMemory>
-    ensures { OnOk result (found.new.items ≡ found.old.items ++ option_to_list part) }
-{
-    if let Some(part) = part {
-        found.push(part)?;
+    if is_table_rule(rule) {
+        found.push(BrokenPart {
+            rule,
+            table: table.name,
+            group: None,
+        })?;
     }
     Ok(())
 }
@@ -96,8 +88,7 @@ fn add_group_parts(
 {
     let groups = table.groups.as_slice();
     for group in groups {
-        let part = group_part(alloc, schema, table, group)?;
-        add_part(part, found)?;
+        add_group_part(alloc, schema, table, group, found)?;
     }
     Ok(())
 }
@@ -112,8 +103,7 @@ fn add_table_parts(
     ensures { OnOk result (found.new.items ≡ found.old.items ++ table_parts schema.now table.now) }
 {
     add_group_parts(alloc, schema, table, found)?;
-    let part = own_part(alloc, schema, table)?;
-    add_part(part, found)
+    add_own_part(alloc, schema, table, found)
 }
 
 /// The tables and groups of a schema that break a rule, in the order of their declarations: each group that breaks a rule of groups

@@ -1,6 +1,5 @@
 //! Methods that decide every conflict, and those that leave sites apart.
 ghost use Rattle.std.specs.Prelude.{◌≡◌};
-ghost use Rattle.std.specs.List.{list_any};
 ghost use Rattle.schema_advice.specs.Methods.{is_decisive, is_extreme, is_undecided, parts_sites, parting_method};
 
 use rep_schema::{Group, Method};
@@ -41,7 +40,12 @@ fn is_extreme(method: &Method) -> bool
 pub fn is_undecided(group: &Group) -> bool
     ensures { result ≡ is_undecided group.now }
 {
-    !group.methods.iter().any(|method| is_decisive(method))
+    for method in group.methods.as_slice() {
+        if is_decisive(method) {
+            return false;
+        }
+    }
+    true
 }
 
 /// Whether a method leaves sites apart, at so many masters, where what the one before didn't decide is equal or isn't.

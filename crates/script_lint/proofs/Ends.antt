@@ -47,13 +47,17 @@ said_world (Some said) c = refl
 tells_more : (said : Option Answer) (c : Checked) → tells_malformed c ≡ true → tells_malformed (with_said said c) ≡ true
 tells_more said c told = tells_said said c ∙ ap (λ (b : Bool). b || said_malformed said) told
 
+-- where a line is one too many, the run's end is told, and else what is told of the lines behind it
+tells_either : (many : Bool) (over behind : Checked) → tells_malformed over ≡ true → tells_malformed behind ≡ true → tells_malformed (if many then over else behind) ≡ true
+tells_either true over behind ends later = ends
+tells_either false over behind ends later = later
+
 tells_on : (number : ℕ) (lines : List (List ℕ)) (c : Checked) → tells_malformed c ≡ true → tells_malformed (checked_from number lines c) ≡ true
 tells_on number [] c told = told
-tells_on number (line ∷ lines) c told = go (nat_lt most_lines number)
-  where
-    go : (many : Bool) → tells_malformed (if many then with_said (Some (malformed_at number 2)) c else checked_from (number + 1) lines (checked number line c)) ≡ true
-    go true = tells_more (Some (malformed_at number 2)) c told
-    go false = tells_on (number + 1) lines (checked number line c) (tells_more (said_at c.world number line) (record c { world = world_past c.world number line }) told)
+tells_on number (line ∷ lines) c told =
+    let more : tells_malformed (checked number line c) ≡ true = tells_more (said_at c.world number line) (record c { world = world_past c.world number line }) told in
+    tells_either (nat_lt most_lines number) (with_said (Some (malformed_at number 2)) c) (checked_from (number + 1) lines (checked number line c))
+    (tells_more (Some (malformed_at number 2)) c told) (tells_on (number + 1) lines (checked number line c) more)
 
 -- ---- a line
 
@@ -79,33 +83,56 @@ meets w number line few = subst (Meets w number line) (sym (line_step-within w n
 
 -- ---- lines
 
--- a run from a world on is stopped where a line to come is told as malformed
-pub stops_where_told : (number : ℕ) (lines : List (List ℕ)) (c : Checked) → tells_malformed c ≡ false → is_stopped (line_step script_step) c.world number lines ≡ tells_malformed (checked_from number lines c)
-stops_where_told number [] c none = sym none
-stops_where_told number (line ∷ lines) c none = go (nat_lt most_lines number) refl
-  where
-    within : number ≤ most_lines → (told : Bool) → said_malformed (said_at c.world number line) ≡ told
-        → is_stopped (line_step script_step) c.world number (line ∷ lines) ≡ tells_malformed (checked_from (number + 1) lines (checked number line c))
-    within few true is =
-        let m = meets c.world number line few in
-        let told : tells_malformed (checked number line c) ≡ true =
-        tells_said (said_at c.world number line) (record c { world = world_past c.world number line }) ∙ ap (λ (b : Bool). tells_malformed c || b) is ∙ or_true (tells_malformed c) in
-        ap (λ (b : Bool). b || is_stopped (line_step script_step) (line_step script_step c.world number line).state (number + 1) lines) (m.stops ∙ is)
-        ∙ sym (tells_on (number + 1) lines (checked number line c) told)
-    within few false is =
-        let m = meets c.world number line few in
-        let told : tells_malformed (checked number line c) ≡ false =
-        tells_said (said_at c.world number line) (record c { world = world_past c.world number line }) ∙ ap (λ (b : Bool). tells_malformed c || b) is ∙ sym (or_false (tells_malformed c)) ∙ none in
-        let world : (line_step script_step c.world number line).state ≡ (checked number line c).world =
-        m.state ∙ sym (said_world (said_at c.world number line) (record c { world = world_past c.world number line })) in
-        ap (λ (b : Bool). b || is_stopped (line_step script_step) (line_step script_step c.world number line).state (number + 1) lines) (m.stops ∙ is)
-        ∙ ap (λ (w : WorldState). is_stopped (line_step script_step) w (number + 1) lines) world
-        ∙ stops_where_told (number + 1) lines (checked number line c) told
+-- a run from a world on is stopped exactly where one of these lines is told as malformed
+abbrev StopsWhereTold : ℕ → List (List ℕ) → Checked → Type 0
+StopsWhereTold number lines c = tells_malformed c ≡ false → is_stopped (line_step script_step) c.world number lines ≡ tells_malformed (checked_from number lines c)
 
-    go : (many : Bool) → nat_lt most_lines number ≡ many
-        → is_stopped (line_step script_step) c.world number (line ∷ lines) ≡ tells_malformed (if many then with_said (Some (malformed_at number 2)) c else checked_from (number + 1) lines (checked number line c))
-    go true is =
-        let many : most_lines < number = ltb-true most_lines number is in
-        ap (λ (s : Stepped WorldState). s.stops || is_stopped (line_step script_step) s.state (number + 1) lines) (line_step-many c.world number line many)
-        ∙ sym (tells_said (Some (malformed_at number 2)) c ∙ or_true (tells_malformed c))
-    go false is = within (ltb-false most_lines number is) (said_malformed (said_at c.world number line)) refl
+-- a line, and those behind it
+module _ (number : ℕ) (line : List ℕ) (lines : List (List ℕ)) (c : Checked) (none : tells_malformed c ≡ false) (later : StopsWhereTold (number + 1) lines (checked number line c)) where
+  abbrev told : Bool
+  told = said_malformed (said_at c.world number line)
+
+  -- the step of the line
+  abbrev taken : Stepped WorldState
+  taken = line_step script_step c.world number line
+
+  tells_line : tells_malformed (checked number line c) ≡ told
+  tells_line = tells_said (said_at c.world number line) (record c { world = world_past c.world number line }) ∙ ap (λ (b : Bool). b || told) none
+
+  -- it is told as malformed
+  stops_here : taken.stops ≡ told → told ≡ true
+      → (taken.stops || is_stopped (line_step script_step) taken.state (number + 1) lines) ≡ tells_malformed (checked_from (number + 1) lines (checked number line c))
+  stops_here stops is =
+      ap (λ (b : Bool). b || is_stopped (line_step script_step) taken.state (number + 1) lines) (stops ∙ is)
+      ∙ sym (tells_on (number + 1) lines (checked number line c) (tells_line ∙ is))
+
+  -- it isn't
+  goes_on : Meets c.world number line taken → told ≡ false
+      → (taken.stops || is_stopped (line_step script_step) taken.state (number + 1) lines) ≡ tells_malformed (checked_from (number + 1) lines (checked number line c))
+  goes_on meet is =
+      let world : taken.state ≡ (checked number line c).world =
+      meet.state ∙ sym (said_world (said_at c.world number line) (record c { world = world_past c.world number line })) in
+      ap (λ (b : Bool). b || is_stopped (line_step script_step) taken.state (number + 1) lines) (meet.stops ∙ is)
+      ∙ (ap (λ (w : WorldState). is_stopped (line_step script_step) w (number + 1) lines) world ∙ later (tells_line ∙ is))
+
+  stops_within : number ≤ most_lines → (b : Bool) → told ≡ b
+      → (taken.stops || is_stopped (line_step script_step) taken.state (number + 1) lines) ≡ tells_malformed (checked_from (number + 1) lines (checked number line c))
+  stops_within few true is = stops_here (meets c.world number line few).stops is
+  stops_within few false is = goes_on (meets c.world number line few) is
+
+  -- it is one too many
+  stops_over : most_lines < number → (taken.stops || is_stopped (line_step script_step) taken.state (number + 1) lines) ≡ tells_malformed (with_said (Some (malformed_at number 2)) c)
+  stops_over many =
+      ap (λ (s : Stepped WorldState). s.stops || is_stopped (line_step script_step) s.state (number + 1) lines) (line_step-many c.world number line many)
+      ∙ sym (tells_said (Some (malformed_at number 2)) c ∙ or_true (tells_malformed c))
+
+  stops_line : (many : Bool) → nat_lt most_lines number ≡ many
+      → (taken.stops || is_stopped (line_step script_step) taken.state (number + 1) lines)
+      ≡ tells_malformed (if many then with_said (Some (malformed_at number 2)) c else checked_from (number + 1) lines (checked number line c))
+  stops_line true is = stops_over (ltb-true most_lines number is)
+  stops_line false is = stops_within (ltb-false most_lines number is) told refl
+
+pub stops_where_told : (number : ℕ) (lines : List (List ℕ)) (c : Checked) → StopsWhereTold number lines c
+stops_where_told number [] c none = sym none
+stops_where_told number (line ∷ lines) c none =
+    stops_line number line lines c none (stops_where_told (number + 1) lines (checked number line c)) (nat_lt most_lines number) refl
