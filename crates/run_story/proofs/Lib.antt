@@ -3,3 +3,8 @@ mod Ranges
 mod Spans
 pub mod Stories
 mod Scripts
+mod Steps
+mod LineSteps
+mod Runs
+mod PartEnds
+mod Sound

@@ -18,20 +18,23 @@ range_with_len-append a (suc n) m =
 beyond : {X : Type 0} (xs : List X) (k : ℕ) → slice_get xs k ≡ None → length xs ≤ k
 beyond xs k is = elim (slice_get_cases xs k).1 [ inl found ↦ absurd (let there = found.2 in cc) | inr past ↦ past.0 ]
 
+-- so many numbers from 0 on, and so many behind them
+pub range_from_0-append : (n m : ℕ) → range_with_len 0 n ++ range_with_len n m ≡ range_with_len 0 (n + m)
+range_from_0-append n m =
+    let same : 0 + n ≡ n = omega arith in
+    ap (λ k. range_with_len 0 n ++ range_with_len k m) (sym same) ∙ range_with_len-append 0 n m
+
 -- what stands in a list at all places from one on
 pub filter_map-slice_get : {X : Type 0} (xs : List X) (n k : ℕ) → length xs ≤ k + n → filter_map (slice_get xs) (range_with_len k n) ≡ drop k xs
-filter_map-slice_get xs zero k within = sym (drop_all k xs (omega arith))
-filter_map-slice_get {X} xs (suc n) k within = go (slice_get xs k) refl
+filter_map-slice_get xs zero k within = sym (drop_all k xs (omega (arith, within)))
+filter_map-slice_get {X} xs (suc n) k within = go (slice_get xs k) refl (filter_map-slice_get xs n (k + 1) (omega (arith, within)))
   where
-    rest : filter_map (slice_get xs) (range_with_len (k + 1) n) ≡ drop (k + 1) xs
-    rest = filter_map-slice_get xs n (k + 1) (omega arith)
-
-    go : (o : Option X) → slice_get xs k ≡ o → filter_map (slice_get xs) (k ∷ range_with_len (k + 1) n) ≡ drop k xs
-    go None is = rw is (rest ∙ ends)
+    go : (o : Option X) → slice_get xs k ≡ o → filter_map (slice_get xs) (range_with_len (k + 1) n) ≡ drop (k + 1) xs → filter_map (slice_get xs) (k ∷ range_with_len (k + 1) n) ≡ drop k xs
+    go None is rest = rw is (rest ∙ ends)
       where
         past : length xs ≤ k
         past = beyond xs k is
 
         ends : drop (k + 1) xs ≡ drop k xs
         ends = drop_all (k + 1) xs (omega (arith, past)) ∙ sym (drop_all k xs past)
-    go (Some x) is = rw is (ap (λ ys. x ∷ ys) rest ∙ sym (drop_from_found xs k x is))
+    go (Some x) is rest = rw is (ap (λ ys. x ∷ ys) rest ∙ sym (drop_from_found xs k x is))

@@ -13,7 +13,7 @@ use Rattle.packet_fates.specs.declared.packet.Traffic.TheVariants.{Rows, Calls}
 use Rattle.run_story.specs.declared.happening.Span.{Span}
 use Rattle.run_story.specs.declared.lane.Lane.{Lane}
 use Rattle.run_story.specs.Telling.{journal_of, is_kind, places_in, told_places, count_in, new_span, lane_at, spans_at, spans_from, AddsLanes, Counts}
-use Rattle.run_story.proofs.Ranges.{range_with_len-append}
+use Rattle.run_story.proofs.Ranges.{range_from_0-append}
 
 pub told_places-append : (place : ℕ) (traffic : Traffic) (xs ys : List Span) → told_places place traffic (xs ++ ys) ≡ told_places place traffic xs ++ told_places place traffic ys
 told_places-append place traffic xs ys = flat_map-append (places_in place traffic) xs ys
@@ -109,7 +109,7 @@ looks_count v number lanes spans counts = record { each = each }
     joined : (traffic : Traffic) (o : Option Lane) → range_with_len 0 (count_in traffic o) ++ new_in v number traffic o ≡ range_with_len 0 (count_in traffic (option_map (lane_at v number) o))
     joined traffic None = refl
     joined traffic (Some lane) =
-        range_with_len-append 0 (count_in traffic (Some lane)) (count_in traffic (Some (lane_at v number lane)) - count_in traffic (Some lane))
+        range_from_0-append (count_in traffic (Some lane)) (count_in traffic (Some (lane_at v number lane)) - count_in traffic (Some lane))
         ∙ ap (λ n. range_with_len 0 n) (longer traffic lane)
 
     each : (place : ℕ) (traffic : Traffic) → told_places place traffic (spans ++ spans_from v 0 lanes) ≡ range_with_len 0 (count_in traffic (slice_get (map (lane_at v number) lanes) place))

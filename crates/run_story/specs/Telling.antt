@@ -8,6 +8,7 @@ use Rattle.site_state.specs.State.{SiteState}
 use Rattle.proc_state.specs.State.{ProcState}
 use Rattle.world_state.specs.Procs.{proc_of}
 use Rattle.world_run.specs.Lent.{LentWorld, site_here}
+use Rattle.world_run.specs.declared.live_part.LivePart.{LivePart}
 use Rattle.packet_fates.specs.declared.packet.Traffic.{Traffic}
 use Rattle.packet_fates.specs.declared.packet.Traffic.TheVariants.{Rows, Calls}
 use Rattle.run_story.specs.declared.happening.Span.{Span}
@@ -16,15 +17,17 @@ use Rattle.run_story.specs.declared.happening.Outcome.TheVariants.{PassedOver, D
 use Rattle.run_story.specs.declared.happening.Line.{Line}
 use Rattle.run_story.specs.declared.lane.Lane.{Lane}
 
--- what a contract sees of a story: its world, its sites, and its lines
+-- what a contract sees of a story: its world, its live part, its sites, and its lines
 pub record StoryView : Type 0 where
   pub world : LentWorld
+  pub part : LivePart
   pub lanes : List Lane
   pub lines : List Line
 
--- what a contract sees of a world that is followed: the world, and its sites
+-- what a contract sees of a world that is followed: the world, its live part, and its sites
 pub record Followed : Type 0 where
   pub world : LentWorld
+  pub part : LivePart
   pub lanes : List Lane
 
 -- ---- journals

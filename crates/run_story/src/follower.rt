@@ -1,16 +1,22 @@
 //! A world that is followed.
-ghost use Rattle.std.specs.Prelude.{◌≡◌, [], None, map, IfOk, OnOk};
+ghost use Rattle.std.specs.Prelude.{◌≡◌, ◌+◌, ◌≤◌, [], false, None, Some, map, IfOk, OnOk};
 ghost use Rattle.script_parse.specs.Named.{NamesColumn};
 ghost use Rattle.script_parse.specs.LiveLines.{LiveNamesColumn};
-ghost use Rattle.run_story.specs.Telling.{lane_at, spans_from, AddsLanes, KeepsTold};
+ghost use Rattle.report_text.specs.Refusals.{is_memory};
+ghost use Rattle.world_state.specs.Steps.{world_step};
+ghost use Rattle.world_run.specs.LiveParts.{taken};
+ghost use Rattle.world_run.specs.LiveScripts.{live_start, known};
+ghost use Rattle.world_run.specs.LiveAnswers.{IsAnswered};
+ghost use Rattle.run_story.specs.Telling.{lane_at, spans_from, ends_run, AddsLanes, KeepsTold};
+ghost use Rattle.run_story.specs.Running.{engine_part, stand_of, refusal_in, GoesOn, LineGoes};
 
 use crate::events::{Told, tell};
 use crate::following::{declare, entries_of, lanes_at};
 use crate::happening::{Outcome, Span};
 use crate::lane::Lane;
 use crate::living::run_part;
-use crate::looking::seen_before;
-use crate::part::{OpenPart, Part, refused};
+use crate::looking::{Before, seen_before};
+use crate::part::{OpenPart, Part};
 use packet_fates::Roads;
 use rep_lists::NoMemory;
 use rep_values::{Refusal, SiteName};
@@ -22,6 +28,7 @@ use std::mem;
 use std::sync::Wait;
 use std::thread::Threads;
 use world_run::World;
+use world_state::Refused;
 
 /// The most lines of a script.
 const MOST_LINES: usize = 200_000;
@@ -39,10 +46,11 @@ pub struct Follower {
 
 impl Model for Follower {
     ghost use Rattle.run_story.specs.Telling.{Followed};
+    ghost use Rattle.run_story.specs.Running.{engine_part};
 
     ghost Value = { Followed };
 
-    ghost view = { λ f. record { world = f.world; lanes = f.lanes.items } };
+    ghost view = { λ f. record { world = f.world; part = engine_part f.part; lanes = f.lanes.items } };
 }
 
 /// What came of a line, and the entries that came to journals.
@@ -53,7 +61,9 @@ pub struct Answer {
 }
 
 /// What came of a command that was done.
-fn done(command: &Command) -> Outcome {
+fn done(command: &Command) -> Outcome
+    ensures ends { ends_run result ≡ false }
+{
     match command {
         Command::Declare(_) | Command::Snapshot { .. } | Command::Row { .. } => Outcome::Declared,
         Command::Procedures(ProcLine::Table { .. } | ProcLine::Procedure { .. }) => {
@@ -64,9 +74,45 @@ fn done(command: &Command) -> Outcome {
     }
 }
 
+/// A line that was refused.
+fn refused(line: u32, refusal: Refusal) -> Outcome
+    ensures why { refusal_in result ≡ Some refusal }
+    ensures ends { ends_run result ≡ false }
+{
+    Outcome::Refused(Refused { line, refusal })
+}
+
+/// What came of a line that went into a part or was refused.
+fn answered(line: u32, refusal: Option<Refusal>) -> Outcome
+    ensures why { refusal_in result ≡ refusal }
+    ensures ends { ends_run result ≡ false }
+{
+    match refusal {
+        None => Outcome::Done,
+        Some(refusal) => refused(line, refusal),
+    }
+}
+
+/// Takes a line that every script may have into an open part.
+fn take_in(
+    part: &mut OpenPart,
+    alloc: Global,
+    number: u32,
+    command: &Command,
+) -> Result<Outcome, NoMemory>
+    ensures answers { IfOk result (λ outcome. IsAnswered (taken number command.now part.old) part.old part.new (refusal_in outcome)) }
+    ensures ends { IfOk result (λ outcome. ends_run outcome ≡ false) }
+{
+    match part.take(alloc, number, command) {
+        Ok(refusal) => Ok(answered(number, refusal)),
+        Err(NoMemory) => Err(NoMemory),
+    }
+}
+
 /// The answer where no entry came to journals.
 fn without_entries(alloc: Global, outcome: Outcome) -> Answer
-    ensures { result.entries.items ≡ [] }
+    ensures entries { result.entries.items ≡ [] }
+    ensures outcome { result.outcome ≡ outcome }
 {
     Answer {
         outcome,
@@ -78,6 +124,7 @@ impl Follower {
     /// A world in which nothing is declared.
     pub fn make(alloc: Global) -> Result<Follower, NoMemory>
         ensures free { IfOk result (λ follower. follower.world.lent ≡ None) }
+        ensures stands { IfOk result (λ follower. stand_of follower ≡ live_start false) }
         ensures lanes { IfOk result (λ follower. follower.lanes ≡ []) }
     {
         Ok(Follower {
@@ -107,6 +154,7 @@ impl Follower {
     #[tactic(auto, using(crate::proofs::Stories::adds_none))]
     fn follow(&mut self, alloc: Global, command: &Command) -> Result<(), NoMemory>
         ensures world { self.new.world ≡ self.old.world }
+        ensures part { self.new.part ≡ self.old.part }
         ensures lanes { OnOk result (AddsLanes self.old.lanes self.new.lanes) }
     {
         self.roads.follow(alloc, command)?;
@@ -116,8 +164,44 @@ impl Follower {
         Ok(())
     }
 
-    /// Runs a command that every script may have, and tells what came of it, beside what came to journals.
+    /// Tells a command that was done, and follows it.
+    fn follow_done(
+        &mut self,
+        alloc: Global,
+        command: &Command,
+        seen: Before,
+        told: &mut Told,
+    ) -> Result<Outcome, NoMemory>
+        ensures world { self.new.world ≡ self.old.world }
+        ensures part { self.new.part ≡ self.old.part }
+        ensures lanes { OnOk result (AddsLanes self.old.lanes self.new.lanes) }
+        ensures ends { IfOk result (λ outcome. ends_run outcome ≡ false) }
+    {
+        tell(alloc, &self.world, &mut self.roads, command, seen, told)?;
+        self.follow(alloc, command)?;
+        Ok(done(command))
+    }
+
+    /// Follows a command that was refused.
     #[tactic(auto, using(crate::proofs::Stories::adds_none))]
+    fn follow_refused(&mut self, command: &Command, refused: Refused) -> Result<Outcome, NoMemory>
+        ensures world { self.new.world ≡ self.old.world }
+        ensures part { self.new.part ≡ self.old.part }
+        ensures lanes { self.new.lanes ≡ self.old.lanes }
+        ensures ends { IfOk result (λ outcome. ends_run outcome ≡ false) }
+        ensures memory { OnOk result (is_memory refused.refusal ≡ false) }
+    {
+        if let Refusal::Memory = refused.refusal {
+            return Err(NoMemory);
+        }
+        if let Command::Commit | Command::Procedures(ProcLine::Send { .. }) = command {
+            self.roads.block = None;
+        }
+        Ok(Outcome::Refused(refused))
+    }
+
+    /// Runs a command that every script may have, and tells what came of it, beside what came to journals.
+    #[tactic(auto, using(crate::proofs::Stories::adds_none, crate::proofs::Steps::done_steps, crate::proofs::Steps::refused_steps))]
     fn step(
         &mut self,
         alloc: Global,
@@ -128,29 +212,20 @@ impl Follower {
         requires free { self.old.world.lent ≡ None }
         requires named { NamesColumn command.now }
         ensures free { OnOk result (self.new.world.lent ≡ None) }
+        ensures world { OnOk result (self.new.world.world ≡ world_step number command.now self.old.world.world) }
+        ensures part { OnOk result (self.new.part ≡ self.old.part) }
         ensures lanes { OnOk result (AddsLanes self.old.lanes self.new.lanes) }
+        ensures ends { IfOk result (λ outcome. ends_run outcome ≡ false) }
     {
         let seen = seen_before(alloc, &self.world, &self.lanes, &self.roads, command)?;
         match self.world.step(alloc, number, command) {
-            Ok(_) => {
-                tell(alloc, &self.world, &mut self.roads, command, seen, told)?;
-                self.follow(alloc, command)?;
-                Ok(done(command))
-            }
-            Err(refused) => {
-                if let Refusal::Memory = refused.refusal {
-                    return Err(NoMemory);
-                }
-                if let Command::Commit | Command::Procedures(ProcLine::Send { .. }) = command {
-                    self.roads.block = None;
-                }
-                Ok(Outcome::Refused(refused))
-            }
+            Ok(_) => self.follow_done(alloc, command, seen, told),
+            Err(refused) => self.follow_refused(command, refused),
         }
     }
 
     /// Runs a command that every script may have, or takes it into the open part.
-    #[tactic(auto, using(crate::proofs::Stories::adds_none))]
+    #[tactic(auto, using(crate::proofs::Stories::adds_none, crate::proofs::Steps::goes_taken, crate::proofs::Steps::goes_around, crate::proofs::Steps::known_taken, crate::proofs::Steps::known_around))]
     fn run_plain(
         &mut self,
         alloc: Global,
@@ -160,19 +235,29 @@ impl Follower {
     ) -> Result<Outcome, NoMemory>
         requires free { self.old.world.lent ≡ None }
         requires named { NamesColumn command.now }
+        requires known { known (stand_of self.old) }
         ensures free { OnOk result (self.new.world.lent ≡ None) }
+        ensures known { OnOk result (known (stand_of self.new)) }
+        ensures goes { OnOk result (GoesOn number (LiveCommand.Plain command.now) (stand_of self.old) (stand_of self.new)) }
         ensures lanes { OnOk result (AddsLanes self.old.lanes self.new.lanes) }
+        ensures ends { IfOk result (λ outcome. ends_run outcome ≡ false) }
     {
         if let Part::Open(part) = &mut self.part {
-            return part.take(alloc, number, command);
+            return take_in(part, alloc, number, command);
         }
         self.step(alloc, number, command, told)
     }
 
     /// `live`
+    #[tactic(auto, using(crate::proofs::Steps::goes_open, crate::proofs::Steps::goes_unopened))]
     fn open_part(&mut self, alloc: Global, number: u32, site: SiteName) -> Outcome
-        requires { self.old.world.lent ≡ None }
-        ensures { self.new ≡ self.old }
+        requires free { self.old.world.lent ≡ None }
+        requires known { known (stand_of self.old) }
+        ensures world { self.new.world ≡ self.old.world }
+        ensures lanes { self.new.lanes ≡ self.old.lanes }
+        ensures known { known (stand_of self.new) }
+        ensures goes { GoesOn number (LiveCommand.Open site) (stand_of self.old) (stand_of self.new) }
+        ensures ends { ends_run result ≡ false }
     {
         let Part::NotYet = &self.part else {
             return refused(number, Refusal::WrongPhase);
@@ -187,47 +272,24 @@ impl Follower {
     }
 
     /// `session`
+    #[tactic(auto, using(crate::proofs::Steps::goes_session, crate::proofs::Steps::known_session))]
     fn begin_session(&mut self, alloc: Global, number: u32) -> Result<Outcome, NoMemory>
-        ensures { OnOk result (self.new ≡ self.old) }
-    {
-        match &mut self.part {
-            Part::Open(part) => part.begin_session(alloc, number),
-            Part::NotYet | Part::Ended => Ok(refused(number, Refusal::WrongPhase)),
-        }
-    }
-
-    /// Runs a part that was open.
-    fn run_open<X: Threads + Wait + Sync>(
-        &mut self,
-        rt: &X,
-        alloc: Global,
-        number: u32,
-        part: OpenPart,
-        told: &mut Told,
-    ) -> Result<Outcome, NoMemory>
-        requires free { self.old.world.lent ≡ None }
-        ensures free { OnOk result (self.new.world.lent ≡ None) }
+        requires known { known (stand_of self.old) }
+        ensures world { self.new.world ≡ self.old.world }
         ensures lanes { self.new.lanes ≡ self.old.lanes }
+        ensures known { OnOk result (known (stand_of self.new)) }
+        ensures goes { OnOk result (GoesOn number LiveCommand.Session (stand_of self.old) (stand_of self.new)) }
+        ensures ends { IfOk result (λ outcome. ends_run outcome ≡ false) }
     {
-        let OpenPart { site, sessions, .. } = part;
-        if let Err(refusal) = self.world.live_check(&site) {
-            return Ok(refused(number, refusal));
-        }
-        let world = &mut self.world;
-        run_part(
-            rt,
-            alloc,
-            world,
-            &self.lanes,
-            &mut self.roads,
-            &site,
-            sessions,
-            told,
-        )?;
-        Ok(Outcome::Done)
+        let refusal = match &mut self.part {
+            Part::Open(part) => part.begin_session(alloc)?,
+            Part::NotYet | Part::Ended(_) => Some(Refusal::WrongPhase),
+        };
+        Ok(answered(number, refusal))
     }
 
     /// `end`
+    #[tactic(auto, using(crate::proofs::Steps::goes_end, crate::proofs::Steps::known_end, crate::proofs::Steps::free_end))]
     fn end_part<X: Threads + Wait + Sync>(
         &mut self,
         rt: &X,
@@ -236,11 +298,21 @@ impl Follower {
         told: &mut Told,
     ) -> Result<Outcome, NoMemory>
         requires free { self.old.world.lent ≡ None }
+        requires known { known (stand_of self.old) }
         ensures free { OnOk result (self.new.world.lent ≡ None) }
         ensures lanes { self.new.lanes ≡ self.old.lanes }
+        ensures known { OnOk result (known (stand_of self.new)) }
+        ensures goes { OnOk result (GoesOn number LiveCommand.End (stand_of self.old) (stand_of self.new)) }
+        ensures ends { IfOk result (λ outcome. ends_run outcome ≡ false) }
     {
-        match mem::replace(&mut self.part, Part::Ended) {
-            Part::Open(part) => self.run_open(rt, alloc, number, part, told),
+        match mem::replace(&mut self.part, Part::NotYet) {
+            Part::Open(part) => {
+                let world = &mut self.world;
+                let roads = &mut self.roads;
+                let ended = run_part(rt, alloc, world, &self.lanes, roads, part, told)?;
+                self.part = Part::Ended(ended);
+                Ok(Outcome::Done)
+            }
             other => {
                 self.part = other;
                 Ok(refused(number, Refusal::WrongPhase))
@@ -260,8 +332,12 @@ impl Follower {
     ) -> Result<Outcome, NoMemory>
         requires free { self.old.world.lent ≡ None }
         requires named { LiveNamesColumn command }
+        requires known { known (stand_of self.old) }
         ensures free { OnOk result (self.new.world.lent ≡ None) }
+        ensures known { OnOk result (known (stand_of self.new)) }
+        ensures goes { OnOk result (GoesOn number command (stand_of self.old) (stand_of self.new)) }
         ensures lanes { OnOk result (AddsLanes self.old.lanes self.new.lanes) }
+        ensures ends { IfOk result (λ outcome. ends_run outcome ≡ false) }
     {
         match command {
             LiveCommand::Plain(command) => self.run_plain(alloc, number, &command, told),
@@ -274,6 +350,7 @@ impl Follower {
     /// Tells what came to journals, behind a line of this number.
     fn look(&mut self, alloc: Global, number: u32) -> Result<Vec<Span>, NoMemory>
         ensures world { self.new.world ≡ self.old.world }
+        ensures part { self.new.part ≡ self.old.part }
         ensures told { IfOk result (λ entries. entries.items ≡ spans_from self.old.world 0 self.old.lanes) }
         ensures lanes { OnOk result (self.new.lanes ≡ map (lane_at self.old.world number) self.old.lanes) }
     {
@@ -294,8 +371,12 @@ impl Follower {
     ) -> Result<Answer, NoMemory>
         requires free { self.old.world.lent ≡ None }
         requires named { LiveNamesColumn command }
+        requires known { known (stand_of self.old) }
         ensures free { OnOk result (self.new.world.lent ≡ None) }
+        ensures known { OnOk result (known (stand_of self.new)) }
+        ensures goes { OnOk result (GoesOn number command (stand_of self.old) (stand_of self.new)) }
         ensures keeps { IfOk result (λ answer. KeepsTold self.old self.new answer.entries.items) }
+        ensures ends { IfOk result (λ answer. ends_run answer.outcome ≡ false) }
     {
         let outcome = self.run_command(rt, alloc, number, command, told)?;
         let entries = self.look(alloc, number)?;
@@ -303,7 +384,7 @@ impl Follower {
     }
 
     /// Runs a line, and tells what came of it and to journals.
-    #[tactic(auto, using(crate::proofs::Stories::keeps_all))]
+    #[tactic(auto, using(crate::proofs::Stories::keeps_all, crate::proofs::LineSteps::line_goes, crate::proofs::LineSteps::line_passes, crate::proofs::LineSteps::line_breaks))]
     fn run_line<X: Threads + Wait + Sync>(
         &mut self,
         rt: &X,
@@ -313,7 +394,11 @@ impl Follower {
         told: &mut Told,
     ) -> Result<Answer, NoMemory>
         requires free { self.old.world.lent ≡ None }
+        requires known { known (stand_of self.old) }
+        requires few { number ≤ 200000 }
         ensures free { OnOk result (self.new.world.lent ≡ None) }
+        ensures known { OnOk result (known (stand_of self.new)) }
+        ensures goes { IfOk result (λ answer. LineGoes number line.now answer.outcome (stand_of self.old) (stand_of self.new)) }
         ensures keeps { IfOk result (λ answer. KeepsTold self.old self.new answer.entries.items) }
     {
         match self.parser.parse_live(alloc, line) {
@@ -328,7 +413,7 @@ impl Follower {
 
     /// Runs the line behind so many, and tells what came of it and to journals. One line too many breaks rule 2. Where there is no
     /// memory, no further line may be run.
-    #[tactic(auto, using(crate::proofs::Stories::keeps_all))]
+    #[tactic(auto, using(crate::proofs::Stories::keeps_all, crate::proofs::LineSteps::line_many))]
     pub fn run_next<X: Threads + Wait + Sync>(
         &mut self,
         rt: &X,
@@ -338,7 +423,10 @@ impl Follower {
         told: &mut Told,
     ) -> Result<Answer, NoMemory>
         requires free { self.old.world.lent ≡ None }
+        requires known { known (stand_of self.old) }
         ensures free { OnOk result (self.new.world.lent ≡ None) }
+        ensures known { OnOk result (known (stand_of self.new)) }
+        ensures goes { IfOk result (λ answer. LineGoes (before + 1) line.now answer.outcome (stand_of self.old) (stand_of self.new)) }
         ensures keeps { IfOk result (λ answer. KeepsTold self.old self.new answer.entries.items) }
     {
         if before >= MOST_LINES {

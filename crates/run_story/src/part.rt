@@ -1,27 +1,72 @@
-//! The live part of a script, as far as it was stated.
+//! The live part of a script, line by line.
+ghost use Rattle.std.specs.Prelude.{◌≡◌, [], nat_lt, length, OnOk, IfOk};
+ghost use Rattle.world_run.specs.LiveParts.{most_sessions, stated_more, stated, block_ended, new_part, sessions_of};
+ghost use Rattle.world_run.specs.LiveAnswers.{AnswersInSession, AnswersTaken, AnswersSession};
 
-use crate::happening::Outcome;
-use live_laws::{Block, Session};
+use live_laws::{Block, LiveTurn, Session};
 use rep_calls::Statement;
 use rep_lists::{Copies, Items, NoMemory};
 use rep_values::{Limit, Refusal, SiteName};
 use script_parse::Command;
 use std::alloc::Global;
+use std::marker::Model;
 use std::mem;
-use world_state::Refused;
+use std::snapshot::Snapshot;
+use world_run::World;
 
 /// So many statements of a block, and one more, are kept.
 const MOST_STATEMENTS: usize = 1_000;
 
 /// The most sessions of a part.
-pub const MOST_SESSIONS: usize = 8;
+const MOST_SESSIONS: usize = 8;
 
-/// A live part whose end didn't come yet: its site, its sessions, and the open block of the last one.
+/// The session that stands: its blocks that were ended, and the one that is open. That keeps one statement more than a block may
+/// have, so that the line of that one is known.
+#[derive(Drop)]
+pub struct OpenSession {
+    blocks: Items<Block>,
+    block: Block,
+}
+
+impl Model for OpenSession {
+    ghost use Rattle.world_run.specs.declared.live_part.OpenSession.{OpenSession as EngineSession};
+
+    ghost Value = { EngineSession };
+
+    ghost view = { λ s. record { blocks = s.blocks; block = s.block } };
+}
+
+/// A live part whose end didn't come yet: its site, the sessions before the one that stands, and that one.
 #[derive(Drop)]
 pub struct OpenPart {
     pub site: SiteName,
-    pub sessions: Items<Session>,
-    block: Block,
+    earlier: Items<Session>,
+    session: Option<OpenSession>,
+}
+
+impl Model for OpenPart {
+    ghost use Rattle.world_run.specs.declared.live_part.OpenPart.{OpenPart as EnginePart};
+
+    ghost Value = { EnginePart };
+
+    ghost view = { λ p. record { site = p.site; earlier = p.earlier; session = p.session } };
+}
+
+/// A live part that was run. Only contracts look at what it was.
+#[derive(Drop)]
+pub struct EndedPart {
+    pub site: SiteName,
+    pub before: Snapshot<World>,
+    pub sessions: Snapshot<Items<Session>>,
+    pub turns: Snapshot<Items<LiveTurn>>,
+}
+
+impl Model for EndedPart {
+    ghost use Rattle.world_run.specs.Ended.{RanPart};
+
+    ghost Value = { RanPart };
+
+    ghost view = { λ e. record { site = e.site; before = e.before.value.world; sessions = e.sessions.value; turns = e.turns.value } };
 }
 
 /// How far the live part of a script is.
@@ -32,79 +77,168 @@ pub enum Part {
     /// A part is open.
     Open(OpenPart),
     /// The part was run.
-    Ended,
-}
-
-/// A line that was refused.
-pub fn refused(line: u32, refusal: Refusal) -> Outcome {
-    Outcome::Refused(Refused { line, refusal })
+    Ended(EndedPart),
 }
 
 /// A block without a statement.
-fn empty_block(alloc: Global) -> Block {
+fn empty_block(alloc: Global) -> Block
+    ensures { result ≡ record { lines = []; statements = [] } }
+{
     Block {
         lines: Items::new(alloc),
         statements: Items::new(alloc),
     }
 }
 
-impl OpenPart {
-    /// A part at a site that has no session yet.
-    pub fn new(alloc: Global, site: SiteName) -> OpenPart {
-        OpenPart {
-            site,
-            sessions: Items::new(alloc),
+/// Keeps a statement and its line.
+fn keep_statement(
+    block: &mut Block,
+    alloc: Global,
+    number: u32,
+    statement: &Statement,
+) -> Result<(), NoMemory>
+    ensures { OnOk result (block.new ≡ stated_more number statement.now block.old) }
+{
+    if block.statements.len() > MOST_STATEMENTS {
+        return Ok(());
+    }
+    let statement = statement.copy(alloc)?;
+    block.lines.push(number)?;
+    block.statements.push(statement)
+}
+
+impl OpenSession {
+    /// A session without a block.
+    fn new(alloc: Global) -> OpenSession
+        ensures { result ≡ record { blocks = []; block = record { lines = []; statements = [] } } }
+    {
+        OpenSession {
+            blocks: Items::new(alloc),
             block: empty_block(alloc),
         }
     }
 
-    /// Keeps a statement in the open block. One more than a block may have is kept too, so that its line is known.
-    fn state(&mut self, alloc: Global, line: u32, statement: &Statement) -> Result<(), NoMemory> {
-        if self.block.statements.len() > MOST_STATEMENTS {
-            return Ok(());
-        }
-        let statement = statement.copy(alloc)?;
-        self.block.lines.push(line)?;
-        self.block.statements.push(statement)
+    /// Keeps a statement in the open block.
+    fn state(&mut self, alloc: Global, number: u32, statement: &Statement) -> Result<(), NoMemory>
+        ensures { OnOk result (self.new ≡ stated number statement.now self.old) }
+    {
+        keep_statement(&mut self.block, alloc, number, statement)
     }
 
     /// Ends the open block.
-    fn commit(&mut self, alloc: Global) -> Result<(), NoMemory> {
+    fn end_block(&mut self, alloc: Global) -> Result<(), NoMemory>
+        ensures { OnOk result (self.new ≡ block_ended self.old) }
+    {
         let block = mem::replace(&mut self.block, empty_block(alloc));
-        let place = self.sessions.len().saturating_sub(1);
-        if place < self.sessions.len() {
-            self.sessions.at_mut(place).blocks.push(block)?;
+        self.blocks.push(block)
+    }
+}
+
+impl OpenPart {
+    /// A part at a site that has no session yet.
+    pub fn new(alloc: Global, site: SiteName) -> OpenPart
+        ensures { result ≡ new_part site }
+    {
+        OpenPart {
+            site,
+            earlier: Items::new(alloc),
+            session: None,
         }
-        Ok(())
     }
 
-    /// Takes a line that every script may have.
+    /// The site of the part.
+    pub fn site(&self) -> SiteName
+        ensures { result ≡ self.now.site }
+    {
+        self.site
+    }
+
+    /// Keeps a statement in the open block of the session that stands.
+    fn state(
+        &mut self,
+        alloc: Global,
+        number: u32,
+        statement: &Statement,
+    ) -> Result<Option<Refusal>, NoMemory>
+        ensures { IfOk result (λ refusal. AnswersInSession (stated number statement.now) self.old self.new refusal) }
+    {
+        let Some(session) = &mut self.session else {
+            return Ok(Some(Refusal::WrongPhase));
+        };
+        session.state(alloc, number, statement)?;
+        Ok(None)
+    }
+
+    /// Ends the open block of the session that stands.
+    fn commit(&mut self, alloc: Global) -> Result<Option<Refusal>, NoMemory>
+        ensures { IfOk result (λ refusal. AnswersInSession block_ended self.old self.new refusal) }
+    {
+        let Some(session) = &mut self.session else {
+            return Ok(Some(Refusal::WrongPhase));
+        };
+        session.end_block(alloc)?;
+        Ok(None)
+    }
+
+    /// Takes a line that every script may have, or tells why it is refused.
     pub fn take(
         &mut self,
         alloc: Global,
-        line: u32,
+        number: u32,
         command: &Command,
-    ) -> Result<Outcome, NoMemory> {
-        if self.sessions.is_empty() {
-            return Ok(refused(line, Refusal::WrongPhase));
-        }
+    ) -> Result<Option<Refusal>, NoMemory>
+        ensures { IfOk result (λ refusal. AnswersTaken number command.now self.old self.new refusal) }
+    {
         match command {
-            Command::Statement(statement) => self.state(alloc, line, statement)?,
-            Command::Commit => self.commit(alloc)?,
-            _ => return Ok(refused(line, Refusal::WrongPhase)),
+            Command::Nothing => Ok(None),
+            Command::Statement(statement) => self.state(alloc, number, statement),
+            Command::Commit => self.commit(alloc),
+            _ => Ok(Some(Refusal::WrongPhase)),
         }
-        Ok(Outcome::Done)
     }
 
-    /// Begins the next session. An open block of the last one is dropped.
-    pub fn begin_session(&mut self, alloc: Global, line: u32) -> Result<Outcome, NoMemory> {
-        if self.sessions.len() >= MOST_SESSIONS {
-            return Ok(refused(line, Refusal::LimitReached(Limit::Sessions)));
+    /// The session that stands is ended, and stands behind those before it.
+    fn end_session(&mut self) -> Result<(), NoMemory>
+        ensures { OnOk result (self.new ≡ record { site = self.old.site; earlier = sessions_of self.old; session = None }) }
+    {
+        match mem::replace(&mut self.session, None) {
+            Some(session) => self.earlier.push(Session {
+                blocks: session.blocks,
+            }),
+            None => Ok(()),
         }
-        self.block = empty_block(alloc);
-        self.sessions.push(Session {
-            blocks: Items::new(alloc),
-        })?;
-        Ok(Outcome::Done)
+    }
+
+    /// Whether there are fewer sessions than there may be.
+    fn has_room(&self) -> bool
+        ensures { result ≡ nat_lt (length (sessions_of self.now)) most_sessions }
+    {
+        let earlier = self.earlier.len();
+        match &self.session {
+            None => earlier < MOST_SESSIONS,
+            Some(_) => earlier < MOST_SESSIONS - 1,
+        }
+    }
+
+    /// Begins the next session, or tells that there are as many as there may be.
+    pub fn begin_session(&mut self, alloc: Global) -> Result<Option<Refusal>, NoMemory>
+        ensures { IfOk result (λ refusal. AnswersSession self.old self.new refusal) }
+    {
+        if !self.has_room() {
+            return Ok(Some(Refusal::LimitReached(Limit::Sessions)));
+        }
+        self.end_session()?;
+        self.session = Some(OpenSession::new(alloc));
+        Ok(None)
+    }
+
+    /// All its sessions. An open block is dropped.
+    pub fn into_sessions(self) -> Result<Items<Session>, NoMemory>
+        ensures { IfOk result (λ sessions. sessions ≡ sessions_of self) }
+    {
+        let mut part = self;
+        part.end_session()?;
+        let OpenPart { earlier, .. } = part;
+        Ok(earlier)
     }
 }

@@ -1,6 +1,7 @@
 //! A script that is followed line by line.
-ghost use Rattle.std.specs.Prelude.{◌≡◌, ◌-◌, [], ◌∷◌, ◌++◌, length, slice_get, IfOk};
+ghost use Rattle.std.specs.Prelude.{◌≡◌, ◌-◌, [], ◌∷◌, ◌++◌, false, length, slice_get, IfOk};
 ghost use Rattle.run_story.specs.Telling.{words_of, ends_run, ends_run_in, TellsJournals, AreLinesOf};
+ghost use Rattle.run_story.specs.Running.{IsSound, RunsAsEngine};
 
 use crate::events::Told;
 use crate::follower::{Answer, Follower};
@@ -21,19 +22,20 @@ pub struct Story {
 }
 
 impl Model for Story {
-    ghost use Rattle.std.specs.Prelude.{◌≡◌, None};
-    ghost use Rattle.run_story.specs.Telling.{StoryView, IsTold};
+    ghost use Rattle.run_story.specs.Telling.{StoryView};
+    ghost use Rattle.run_story.specs.Running.{story_view, IsSound};
 
     ghost Value = { StoryView };
 
-    ghost view = { λ s. record { world = s.follower.world; lanes = s.follower.lanes; lines = s.lines.items } };
+    ghost view = { λ s. story_view s.follower s.lines.items };
 
-    ghost invariant = { λ s. IsTold (record { world = s.follower.world; lanes = s.follower.lanes; lines = s.lines.items }) × (s.follower.world.lent ≡ None) };
+    ghost invariant = { λ s. IsSound (story_view s.follower s.lines.items) };
 }
 
 /// A line with what came of it.
 fn line_of(alloc: Global, words: &[u8], answer: Answer, told: Told) -> Result<Line, NoMemory>
     ensures words { IfOk result (λ line. line.words ≡ words.now) }
+    ensures outcome { IfOk result (λ line. line.outcome ≡ answer.outcome) }
     ensures entries { IfOk result (λ line. line.entries ≡ answer.entries.items) }
 {
     let Told {
@@ -70,9 +72,10 @@ fn ends_run(outcome: &Outcome) -> bool
 
 impl Story {
     /// A script of which nothing was read.
-    #[tactic(auto, using(crate::proofs::Stories::nothing_is_told))]
+    #[tactic(auto, using(crate::proofs::Sound::sound_at_start))]
     fn make(alloc: Global) -> Result<Story, NoMemory>
-        ensures { IfOk result (λ story. story.lines ≡ []) }
+        ensures lines { IfOk result (λ story. story.lines ≡ []) }
+        ensures sound { IfOk result IsSound }
     {
         Ok(Story {
             follower: Follower::make(alloc)?,
@@ -81,7 +84,7 @@ impl Story {
     }
 
     /// The world behind the lines.
-    #[tactic(auto, using(crate::proofs::Stories::told_stories_tell))]
+    #[tactic(auto, using(crate::proofs::Sound::sound_tells))]
     pub fn world(&self) -> &World
         ensures value { result.now ≡ self.now.world }
         ensures tells { TellsJournals self.now }
@@ -103,15 +106,17 @@ impl Story {
         &self.lines
     }
 
-    /// Runs the next line of the script, and tells what came of it.
-    #[tactic(auto, using(crate::proofs::Stories::told_on))]
+    /// Runs the next line of the script, and tells what came of it. No line before it ended the run.
+    #[tactic(auto, using(crate::proofs::Sound::sound_behind))]
     fn take<X: Threads + Wait + Sync>(
         self,
         rt: &X,
         alloc: Global,
         words: &[u8],
     ) -> Result<Story, NoMemory>
-        ensures { IfOk result (λ story. words_of story.lines ≡ words_of self.lines ++ words.now ∷ []) }
+        requires { ends_run_in (slice_get self.lines (length self.lines - 1)) ≡ false }
+        ensures lines { IfOk result (λ story. words_of story.lines ≡ words_of self.lines ++ words.now ∷ []) }
+        ensures sound { IfOk result IsSound }
     {
         let Story { follower, lines } = self;
         let mut follower = follower;
@@ -134,14 +139,15 @@ impl Story {
 }
 
 /// Follows a script from its first line to its last, or to the first that is malformed. A live part is run by threads, in whatever
-/// order their turns come.
-#[tactic(auto, using(crate::proofs::Scripts::at_start, crate::proofs::Scripts::past_byte, crate::proofs::Scripts::past_end, crate::proofs::Scripts::stopped_early, crate::proofs::Scripts::read_whole, crate::proofs::Scripts::read_last))]
+/// order their turns come; the world is the one in which the engine's own run of the script ends.
+#[tactic(auto, using(crate::proofs::Scripts::at_start, crate::proofs::Scripts::past_byte, crate::proofs::Scripts::past_end, crate::proofs::Scripts::stopped_early, crate::proofs::Scripts::read_whole, crate::proofs::Scripts::read_last, crate::proofs::Sound::sound_tells, crate::proofs::Sound::sound_runs))]
 pub fn story_of<X: Threads + Wait + Sync>(
     rt: &X,
     alloc: Global,
     script: &[u8],
 ) -> Result<Story, NoMemory>
     ensures tells { IfOk result TellsJournals }
+    ensures runs { IfOk result (λ story. RunsAsEngine script.now story) }
     ensures lines { IfOk result (λ story. AreLinesOf script.now story.lines) }
 {
     let mut story = Story::make(alloc)?;
