@@ -2,3 +2,4 @@
 mod Journals
 mod Entries
 mod Shown
+mod Drawn

@@ -1,16 +1,17 @@
 -- What is shown of a line, and shapes behind others.
 use Rattle.std.proofs.Common.{◌≡◌, List, [], ◌∷◌, ◌++◌, refl, sym, ap, ◌∙◌}
-use Rattle.std.specs.Prelude.{Bool, true, false, cond, not, ◌||◌, flat_map}
+use Rattle.std.specs.Prelude.{◌↔◌, IsTrue, Bool, true, false, cond, not, ◌||◌, flat_map}
 use Rattle.std.proofs.lemmas.Grind.{flat_map-append}
 use Rattle.page_text.specs.declared.drawing.Shape.{Shape}
 use Rattle.lane_drawing.specs.Marks.{Mark, marks_in, marks_of}
+use Rattle.live_laws.specs.declared.turn.LiveTurn.{LiveTurn}
 use Rattle.run_story.specs.declared.happening.Line.{Line}
 use Rattle.run_story.specs.declared.happening.Span.{Span}
 use Rattle.run_story.specs.Telling.{StoryView}
 use Rattle.run_picture.specs.declared.folding.Showing.{Showing}
 use Rattle.run_picture.specs.declared.folding.Showing.TheVariants as showing
 use Rattle.run_picture.specs.Marks.{span_marks, line_marks}
-use Rattle.run_picture.specs.Folding.{is_to_see, shown_marks, marks_as, IsShowing}
+use Rattle.run_picture.specs.Folding.{has_turns, is_to_see, shown_marks, marks_as, IsShowing}
 
 -- of a line to whose journals nothing came there are no marks
 no_marks : (story : StoryView) (line : Line) → line.entries ≡ [] → line_marks story line ≡ []
@@ -30,6 +31,13 @@ still_shows story folded line how still = none_either_way (not folded || is_to_s
     nothing showing.Drawn = none
     nothing showing.Folded = refl
     nothing showing.Left = refl
+
+-- turns were made, as far as it is known whether there are none
+pub turns_there : (turns : List LiveTurn) (b : Bool) → (IsTrue b ↔ (turns ≡ [])) → not b ≡ has_turns turns
+turns_there [] true is = refl
+turns_there [] false is = sym (is.1 refl)
+turns_there (turn ∷ turns) true is = absurd (let none : turn ∷ turns ≡ [] = is.0 refl in cc)
+turns_there (turn ∷ turns) false is = refl
 
 -- the marks among shapes behind others
 pub marks_behind : (front back : List Shape) → marks_of (front ++ back) ≡ marks_of front ++ marks_of back
