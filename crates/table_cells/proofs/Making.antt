@@ -1,5 +1,5 @@
 -- Steps of making lists one value after the other.
-use Rattle.std.proofs.Common.{◌≡◌, ℕ, suc, ◌+◌, List, [], ◌∷◌, ◌++◌, drop, map, sym, ap, ◌∙◌, append_assoc, add-one}
+use Rattle.std.proofs.Common.{◌≡◌, ℕ, suc, ◌+◌, List, [], ◌∷◌, ◌++◌, map, ap, ◌∙◌, append_assoc, add-one}
 use Rattle.rep_schema.specs.Tables.{Cells}
 use Rattle.rep_values.specs.declared.value.Value.{Value}
 use Rattle.page_tables.specs.Stored.{Stored}

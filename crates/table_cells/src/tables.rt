@@ -63,14 +63,7 @@ fn all_show(masters: &[&PageTables], table: u32, key: &Key, column: usize, value
 
 /// How a cell looks: marked exactly where a master shows another value under the row's key, or no row. A row without a key, which
 /// no table has, is marked.
-#[tactic(
-    auto,
-    using(
-        crate::proofs::Marking::look_same,
-        crate::proofs::Marking::look_differs,
-        crate::proofs::Marking::look_keyless
-    )
-)]
+#[tactic(auto, using(crate::proofs::Marking::look_same, crate::proofs::Marking::look_differs, crate::proofs::Marking::look_keyless))]
 fn look_of(masters: &[&PageTables], table: u32, key: &[Value], column: usize, value: &Value) -> Look
     ensures { result ≡ look_of_cell (map (λ master. master.now) masters.now) table key.now column value.now }
 {
