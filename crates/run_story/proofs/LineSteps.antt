@@ -1,7 +1,7 @@
 -- The step of a line, by what its command does, and that of all lines.
 use Rattle.std.proofs.Common.{◌≡◌, ◌≢◌, ℕ, ◌+◌, ◌-◌, ◌≤◌, ◌<◌, arith, List, [], ◌∷◌, ◌++◌, length, map, Bool, true, false, cond, Some, None, refl, sym, ap, subst, ◌∙◌, nat_lt, append_assoc, append-nil}
 use Rattle.std.specs.Prelude.{slice_get, is_err, Option, Result, Ok, Err}
-use Rattle.std.proofs.lemmas.Bool.{ltb-true, ltb-false, lt-leb}
+use Rattle.std.proofs.lemmas.Bool.{ltb-true, ltb-false, lt-leb, le-ltb, lt-ltb}
 use Rattle.rep_values.specs.declared.refusal.Refusal.{Refusal}
 use Rattle.report_text.specs.Texts.{malformed_text}
 use Rattle.script_lex.specs.Lines.{lexed}
@@ -16,15 +16,21 @@ use Rattle.script_parse.specs.declared.live_lines.LiveCommand.{LiveCommand}
 use Rattle.script_parse.specs.declared.live_lines.LiveCommand.TheVariants as live_command
 use Rattle.script_parse.specs.LiveLines.{live_parsed}
 use Rattle.live_laws.specs.declared.turn.LiveTurn.{LiveTurn}
+use Rattle.world_state.specs.declared.refused.Refused.{Refused as RefusedLine}
+use Rattle.world_state.specs.World.{WorldState}
 use Rattle.world_run.specs.declared.live_part.LivePart.{LivePart}
 use Rattle.world_run.specs.declared.live_part.LivePart.TheVariants as part
 use Rattle.world_run.specs.LiveParts.{taken, part_opened, as_part, session_in}
 use Rattle.world_run.specs.LiveScripts.{LiveState, answered, plain_in, end_in, command_step, read_step, live_step, allowed}
 use Rattle.run_story.specs.declared.happening.Outcome.{Outcome}
-use Rattle.run_story.specs.declared.happening.Outcome.TheVariants.{PassedOver, Malformed}
+use Rattle.run_story.specs.declared.happening.Outcome.TheVariants.{PassedOver, Declared, Shown, Done, Refused, Malformed}
 use Rattle.run_story.specs.Telling.{ends_run}
-use Rattle.run_story.specs.Running.{engine_step, GoesOn, LineGoes}
+use Rattle.run_story.specs.Running.{engine_step, said_in, plain_refused, command_refused, said_of, line_said, GoesOn, LineGoes}
 use Rattle.run_story.proofs.Steps.{goes_nothing}
+
+-- a script stands so
+abbrev at : WorldState → LivePart → LiveState
+at w p = record { world = w; part = p; json = false }
 
 -- ---- a command ends no run
 
@@ -70,26 +76,48 @@ step_is turns s n line few = go (nat_lt most_bytes (length line)) refl
         limited-long most_lines most_bytes malformed_text (live_step turns) s n line few long ∙ ap (read_step turns s n) (sym (long_breaks line long))
     go false is = within_is turns s n line few (ltb-false most_bytes (length line) is)
 
+-- what is said of a line, if it isn't one too many
+said_is : (s : LiveState) (n : ℕ) (line : List ℕ) (read : Result LiveCommand ℕ) → n ≤ most_lines → live_parsed line ≡ read → line_said s n line ≡ said_of s n read
+said_is s n line read few is = rw (le-ltb most_lines n few, is) refl
+
+-- an outcome that doesn't say that a rule is broken ends no run
+ends_by_said : (outcome : Outcome) (refused : Option RefusedLine) → said_in outcome ≡ Ok refused → ends_run outcome ≡ false
+ends_by_said PassedOver refused is = refl
+ends_by_said Declared refused is = refl
+ends_by_said Shown refused is = refl
+ends_by_said Done refused is = refl
+ends_by_said (Refused r) refused is = refl
+ends_by_said (Malformed rule) refused is = absurd (cc is)
+
 -- a line that gives a command, where this goes on so
-pub line_goes : (n : ℕ) (line : List ℕ) (c : LiveCommand) (outcome : Outcome) (s s' : LiveState) → n ≤ most_lines → live_parsed line ≡ Ok c → GoesOn n c s s' → ends_run outcome ≡ false → LineGoes n line outcome s s'
-line_goes n line c outcome s s' few read goes going = record {
+pub line_goes : (n : ℕ) (line : List ℕ) (c : LiveCommand) (outcome : Outcome) (s s' : LiveState) → n ≤ most_lines → live_parsed line ≡ Ok c → GoesOn n c s s'
+    → said_in outcome ≡ Ok (command_refused s n c) → LineGoes n line outcome s s'
+line_goes n line c outcome s s' few read goes said = record {
+  said = said ∙ sym (said_is s n line (Ok c) few read);
   state = λ turns may. let went = goes turns may in (went.0, ap (λ (x : Stepped LiveState). x.state) (is turns) ∙ went.1);
-  ends = λ turns. ap (λ (x : Stepped LiveState). x.stops) (is turns) ∙ command_goes turns s n c ∙ sym going;
+  ends = λ turns. ap (λ (x : Stepped LiveState). x.stops) (is turns) ∙ command_goes turns s n c ∙ sym (ends_by_said outcome (command_refused s n c) said);
 }
   where
     is : (turns : List LiveTurn) → engine_step turns s n line ≡ command_step turns s n c
     is turns = step_is turns s n line few ∙ ap (read_step turns s n) read
 
+-- an empty line meets no refusal
+nothing_meets : (p : LivePart) (w : WorldState) (n : ℕ) → plain_refused p w n command.Nothing ≡ None
+nothing_meets part.NotYet w n = refl
+nothing_meets (part.Open p) w n = refl
+nothing_meets (part.Ended e) w n = refl
+
 -- a line that is passed over
-pub line_passes : (n : ℕ) (line : List ℕ) (outcome : Outcome) (s : LiveState) → s.json ≡ false → n ≤ most_lines → live_parsed line ≡ Ok (live_command.Plain command.Nothing) → outcome ≡ PassedOver → LineGoes n line outcome s s
-line_passes n line outcome s plain few read is = line_goes n line (live_command.Plain command.Nothing) outcome s s few read passes (ap ends_run is)
-  where
-    passes : GoesOn n (live_command.Plain command.Nothing) s s
-    passes = subst (λ (b : Bool). GoesOn n (live_command.Plain command.Nothing) (record { world = s.world; part = s.part; json = b }) (record { world = s.world; part = s.part; json = b })) (sym plain) (goes_nothing s.world n s.part)
+pub line_passes : (n : ℕ) (line : List ℕ) (outcome : Outcome) (w : WorldState) (p : LivePart) → n ≤ most_lines → live_parsed line ≡ Ok (live_command.Plain command.Nothing)
+    → outcome ≡ PassedOver → LineGoes n line outcome (at w p) (at w p)
+line_passes n line outcome w p few read is =
+    line_goes n line (live_command.Plain command.Nothing) outcome (at w p) (at w p) few read (goes_nothing w n p)
+    (ap said_in is ∙ ap Ok (sym (nothing_meets p w n)))
 
 -- a line that breaks a rule
 pub line_breaks : (n : ℕ) (line : List ℕ) (rule : ℕ) (outcome : Outcome) (s : LiveState) → n ≤ most_lines → live_parsed line ≡ Err rule → outcome ≡ Malformed rule → LineGoes n line outcome s s
 line_breaks n line rule outcome s few read is = record {
+  said = ap said_in is ∙ sym (said_is s n line (Err rule) few read);
   state = λ turns may. (may, ap (λ (x : Stepped LiveState). x.state) (halted turns));
   ends = λ turns. ap (λ (x : Stepped LiveState). x.stops) (halted turns) ∙ sym (ap ends_run is);
 }
@@ -100,9 +128,14 @@ line_breaks n line rule outcome s few read is = record {
 -- one line too many
 pub line_many : (n : ℕ) (line : List ℕ) (outcome : Outcome) (s : LiveState) → most_lines < n → outcome ≡ Malformed 2 → LineGoes n line outcome s s
 line_many n line outcome s many is = record {
+  said = ap said_in is ∙ too_many (nat_lt most_lines n) (lt-ltb most_lines n many);
   state = λ turns may. (may, ap (λ (x : Stepped LiveState). x.state) (halted turns));
   ends = λ turns. ap (λ (x : Stepped LiveState). x.stops) (halted turns) ∙ sym (ap ends_run is);
 }
   where
     halted : (turns : List LiveTurn) → engine_step turns s n line ≡ halts s (malformed_text n 2)
     halted turns = limited-many most_lines most_bytes malformed_text (live_step turns) s n line many
+
+    too_many : (b : Bool) → b ≡ true → Err 2 ≡ cond b (Err 2) (said_of s n (live_parsed line))
+    too_many true is = refl
+    too_many false is = absurd (cc is)

@@ -1,8 +1,9 @@
 -- A script that is run line by line, and where the engine's own run of it ends.
-use Rattle.std.proofs.Common.{◌≡◌, ℕ, ◌+◌, ◌-◌, arith, List, [], ◌∷◌, ◌++◌, length, length-append, map, Bool, true, false, cond, Some, None, refl, sym, ap, subst, ◌∙◌, append_assoc, append-nil}
+use Rattle.std.proofs.Common.{◌≡◌, ℕ, suc, ◌+◌, ◌-◌, arith, List, [], ◌∷◌, ◌++◌, length, length-append, map, Bool, true, false, cond, Some, None, refl, sym, ap, subst, ◌∙◌, append_assoc, append-nil}
 use Rattle.std.specs.Prelude.{slice_get, Option}
 use Rattle.std.proofs.lemmas.List.{map-append, length-map}
-use Rattle.script_drive.specs.Runs.{Stepped, last_state}
+use Rattle.script_drive.specs.Runs.{Stepped, state_after, last_state}
+use Rattle.script_drive.proofs.RunLemmas.{state_after-append}
 use Rattle.script_drive.specs.Lines.{lines_after}
 use Rattle.live_laws.specs.declared.turn.LiveTurn.{LiveTurn}
 use Rattle.world_run.specs.Ended.{RanPart}
@@ -11,7 +12,7 @@ use Rattle.world_run.specs.declared.live_part.LivePart.TheVariants as part
 use Rattle.world_run.specs.LiveScripts.{LiveState, live_start, end_of, FullIn, IsFull, allowed, known, known_by}
 use Rattle.run_story.specs.declared.happening.Line.{Line}
 use Rattle.run_story.specs.Telling.{StoryView, words_of, ends_run, ends_run_in, AreLinesOf}
-use Rattle.run_story.specs.Running.{story_stand, engine_step, LineGoes, Stands, IsRun, RunsAsEngine}
+use Rattle.run_story.specs.Running.{story_stand, engine_step, said_in, line_said, LineGoes, Stands, SaysAll, IsRun, RunsAsEngine}
 
 -- a line more
 stands_on : (ends : Bool) (turns : List LiveTurn) (ws : List (List ℕ)) (w : List ℕ) (s s' : LiveState) → Stands false turns ws s → (engine_step turns s (length ws + 1) w).state ≡ s'
@@ -39,10 +40,23 @@ last_is lines line =
     let same : length (lines ++ line ∷ []) - 1 ≡ length lines = omega (arith, counted) in
     ap (slice_get (lines ++ line ∷ [])) same ∙ behind_all lines line
 
+-- what the outcome of a line more says
+says_more : (turns : List LiveTurn) (s : LiveState) (n : ℕ) (lines : List Line) (line : Line) → SaysAll turns s n lines
+    → said_in line.outcome ≡ line_said (state_after (engine_step turns) s n (words_of lines)) (n + length lines) line.words → SaysAll turns s n (lines ++ line ∷ [])
+says_more turns s n [] line says more =
+    let same : n + 0 ≡ n = omega arith in
+    (more ∙ ap (λ (k : ℕ). line_said s k line.words) same, tt)
+says_more turns s n (l ∷ lines) line says more =
+    let next : n + suc (length lines) ≡ n + 1 + length lines = omega arith in
+    (says.0, says_more turns (engine_step turns s n l.words).state (n + 1) lines line says.1
+    (more ∙ ap (λ (k : ℕ). line_said (state_after (engine_step turns) (engine_step turns s n l.words).state (n + 1) (words_of lines)) k line.words) next))
+
 -- no line was run
 pub nothing_is_run : (story : StoryView) → story_stand story ≡ live_start false → story.lines ≡ [] → IsRun story
 nothing_is_run story starts none = record {
   known = subst known (sym starts) tt;
+  there = λ turns may. subst (λ (ls : List Line). state_after (engine_step turns) (live_start false) 1 (words_of ls) ≡ story_stand story) (sym none) (sym starts);
+  said = λ turns may. subst (λ (ls : List Line). SaysAll turns (live_start false) 1 ls) (sym none) tt;
   stands = λ turns may. subst (λ (s : LiveState). Stands (ends_run_in (slice_get story.lines (length story.lines - 1))) turns (words_of story.lines) s) (sym starts)
       (subst (λ (ls : List Line). Stands (ends_run_in (slice_get ls (length ls - 1))) turns (words_of ls) (live_start false)) (sym none) (λ rest. refl));
 }
@@ -50,10 +64,32 @@ nothing_is_run story starts none = record {
 -- a line more is run
 pub run_on : (story new : StoryView) (line : Line) → IsRun story → ends_run_in (slice_get story.lines (length story.lines - 1)) ≡ false
     → LineGoes (length story.lines + 1) line.words line.outcome (story_stand story) (story_stand new) → known (story_stand new) → new.lines ≡ story.lines ++ line ∷ [] → IsRun new
-run_on story new line is going goes knows more = record { known = knows; stands = stands }
+run_on story new line is going goes knows more = record { known = knows; there = there; said = said; stands = stands }
   where
     counted : length (words_of story.lines) ≡ length story.lines
     counted = length-map story.lines (λ (l : Line). l.words)
+
+    next : 1 + length (words_of story.lines) ≡ length story.lines + 1
+    next = omega (arith, counted)
+
+    there : (turns : List LiveTurn) → allowed (story_stand new) turns → state_after (engine_step turns) (live_start false) 1 (words_of new.lines) ≡ story_stand new
+    there turns may =
+        let went = goes.state turns may in
+        let before = is.there turns went.0 in
+        ap (λ (ls : List Line). state_after (engine_step turns) (live_start false) 1 (words_of ls)) more
+        ∙ ap (λ (ws : List (List ℕ)). state_after (engine_step turns) (live_start false) 1 ws) (map-append (λ (l : Line). l.words) story.lines (line ∷ []))
+        ∙ state_after-append (engine_step turns) (live_start false) 1 (words_of story.lines) (line.words ∷ [])
+        ∙ ap (λ (x : LiveState). (engine_step turns x (1 + length (words_of story.lines)) line.words).state) before
+        ∙ ap (λ (n : ℕ). (engine_step turns (story_stand story) n line.words).state) next
+        ∙ went.1
+
+    said : (turns : List LiveTurn) → allowed (story_stand new) turns → SaysAll turns (live_start false) 1 new.lines
+    said turns may =
+        let went = goes.state turns may in
+        let behind : 1 + length story.lines ≡ length story.lines + 1 = omega arith in
+        subst (λ (ls : List Line). SaysAll turns (live_start false) 1 ls) (sym more)
+        (says_more turns (live_start false) 1 story.lines line (is.said turns went.0)
+        (rw (is.there turns went.0, behind) goes.said))
 
     stands : (turns : List LiveTurn) → allowed (story_stand new) turns → Stands (ends_run_in (slice_get new.lines (length new.lines - 1))) turns (words_of new.lines) (story_stand new)
     stands turns may =
@@ -102,4 +138,5 @@ runs_as_engine script story is lines =
       turns = full.turns;
       full = subst (λ (s : LiveState). FullIn full.turns s.part) (sym ends) full.full;
       world = ap (λ (s : LiveState). s.world) (sym ends);
+      said = is.said full.turns full.allowed;
     }

@@ -1,6 +1,6 @@
 -- What comes of a command, by how far the part is.
 use Rattle.std.proofs.Common.{◌≡◌, ◌≢◌, ℕ, ◌≤◌, ◌<◌, arith, List, [], length, length-append, Bool, true, false, cond, Some, None, refl, sym, ap, subst, ◌∙◌, nat_lt, inl, inr}
-use Rattle.std.specs.Prelude.{◌⊎◌, Option, Ok, Err}
+use Rattle.std.specs.Prelude.{◌⊎◌, Option, Result, Ok, Err}
 use Rattle.std.proofs.lemmas.Bool.{ltb-true}
 use Rattle.rep_values.specs.declared.name.SiteName.{SiteName}
 use Rattle.rep_values.specs.declared.refusal.Limit.TheVariants as limit
@@ -15,7 +15,7 @@ use Rattle.live_laws.specs.declared.turn.LiveTurn.{LiveTurn}
 use Rattle.world_state.specs.declared.refused.Refused.{Refused}
 use Rattle.world_state.specs.World.{WorldState}
 use Rattle.world_state.specs.Refusals.{world_refusal}
-use Rattle.world_state.specs.Steps.{world_step, world_refused, step_by, told_by}
+use Rattle.world_state.specs.Steps.{world_step, world_refused, step_by, told_by, step_refused}
 use Rattle.world.specs.Doing.{IsDone, IsOutOfMemory, IsRefused}
 use Rattle.world_push.specs.Lending.{live_refusal}
 use Rattle.world_run.specs.Lent.{LentWorld}
@@ -27,7 +27,7 @@ use Rattle.world_run.specs.declared.live_part.LivePart.TheVariants as part
 use Rattle.world_run.specs.LiveParts.{most_sessions, sessions_of, new_part, part_refusal, stated, block_ended, changed_by, taken, with_session, next_session}
 use Rattle.world_run.specs.LiveScripts.{LiveState, allowed, known_by}
 use Rattle.world_run.specs.LiveAnswers.{IsAnswered}
-use Rattle.run_story.specs.Running.{GoesOn, PartRan}
+use Rattle.run_story.specs.Running.{hindrance_of, GoesOn, PartRan}
 
 -- ---- the world of a line
 
@@ -51,6 +51,24 @@ nothing_steps number w = go (world_refusal command.Nothing w)
     go : (o : Option Refusal) → step_by o number command.Nothing w ≡ w
     go None = refl
     go (Some why) = refl
+
+-- ---- what is said of a line
+
+-- a line that was done met no refusal
+pub done_said : (number : ℕ) (c : Command) (w w' : WorldState) (out : List ℕ) → IsDone number c w w' out → step_refused number c w ≡ None
+done_said number c w w' out done = rw done.passes refl
+
+pub refused_said : (number : ℕ) (c : Command) (w w' : WorldState) (r : Refused) → is_memory r.refusal ≡ false → IsOutOfMemory number c w w' r ⊎ IsRefused number c w w' r → step_refused number c w ≡ Some r
+refused_said number c w w' r told (inl short) = let memory = rw short.memory at told in absurd (cc memory)
+refused_said number c w w' r told (inr is) = is.told
+
+-- an empty line meets none
+pub nothing_said : (number : ℕ) (w : WorldState) → step_refused number command.Nothing w ≡ None
+nothing_said number w = refl
+
+pub taken_said : (told : Result OpenPart Refusal) (old new : OpenPart) (refused : Option Refusal) → IsAnswered told old new refused → hindrance_of told ≡ refused
+taken_said told old new None is = rw is refl
+taken_said told old new (Some why) is = rw is.0 refl
 
 -- ---- where the script stands behind a command
 

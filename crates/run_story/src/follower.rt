@@ -1,14 +1,14 @@
 //! A world that is followed.
-ghost use Rattle.std.specs.Prelude.{◌≡◌, ◌+◌, ◌≤◌, [], false, None, Some, map, IfOk, OnOk};
+ghost use Rattle.std.specs.Prelude.{◌≡◌, ◌+◌, ◌≤◌, [], false, None, Some, Ok, map, IfOk, OnOk};
 ghost use Rattle.script_parse.specs.Named.{NamesColumn};
 ghost use Rattle.script_parse.specs.LiveLines.{LiveNamesColumn};
 ghost use Rattle.report_text.specs.Refusals.{is_memory};
-ghost use Rattle.world_state.specs.Steps.{world_step};
+ghost use Rattle.world_state.specs.Steps.{world_step, step_refused};
 ghost use Rattle.world_run.specs.LiveParts.{taken};
 ghost use Rattle.world_run.specs.LiveScripts.{live_start, known};
 ghost use Rattle.world_run.specs.LiveAnswers.{IsAnswered};
-ghost use Rattle.run_story.specs.Telling.{lane_at, spans_from, ends_run, AddsLanes, KeepsTold};
-ghost use Rattle.run_story.specs.Running.{engine_part, stand_of, refusal_in, GoesOn, LineGoes};
+ghost use Rattle.run_story.specs.Telling.{lane_at, spans_from, AddsLanes, KeepsTold};
+ghost use Rattle.run_story.specs.Running.{engine_part, stand_of, refusal_in, said_in, refused_at, hindrance_of, command_refused, GoesOn, LineGoes};
 
 use crate::events::{Told, tell};
 use crate::following::{declare, entries_of, lanes_at};
@@ -62,7 +62,7 @@ pub struct Answer {
 
 /// What came of a command that was done.
 fn done(command: &Command) -> Outcome
-    ensures ends { ends_run result ≡ false }
+    ensures { said_in result ≡ Ok None }
 {
     match command {
         Command::Declare(_) | Command::Snapshot { .. } | Command::Row { .. } => Outcome::Declared,
@@ -77,7 +77,7 @@ fn done(command: &Command) -> Outcome
 /// A line that was refused.
 fn refused(line: u32, refusal: Refusal) -> Outcome
     ensures why { refusal_in result ≡ Some refusal }
-    ensures ends { ends_run result ≡ false }
+    ensures said { said_in result ≡ Ok (refused_at line (Some refusal)) }
 {
     Outcome::Refused(Refused { line, refusal })
 }
@@ -85,7 +85,7 @@ fn refused(line: u32, refusal: Refusal) -> Outcome
 /// What came of a line that went into a part or was refused.
 fn answered(line: u32, refusal: Option<Refusal>) -> Outcome
     ensures why { refusal_in result ≡ refusal }
-    ensures ends { ends_run result ≡ false }
+    ensures said { said_in result ≡ Ok (refused_at line refusal) }
 {
     match refusal {
         None => Outcome::Done,
@@ -94,6 +94,7 @@ fn answered(line: u32, refusal: Option<Refusal>) -> Outcome
 }
 
 /// Takes a line that every script may have into an open part.
+#[tactic(auto, using(crate::proofs::Steps::taken_said))]
 fn take_in(
     part: &mut OpenPart,
     alloc: Global,
@@ -101,7 +102,7 @@ fn take_in(
     command: &Command,
 ) -> Result<Outcome, NoMemory>
     ensures answers { IfOk result (λ outcome. IsAnswered (taken number command.now part.old) part.old part.new (refusal_in outcome)) }
-    ensures ends { IfOk result (λ outcome. ends_run outcome ≡ false) }
+    ensures said { IfOk result (λ outcome. said_in outcome ≡ Ok (refused_at number (hindrance_of (taken number command.now part.old)))) }
 {
     match part.take(alloc, number, command) {
         Ok(refusal) => Ok(answered(number, refusal)),
@@ -175,7 +176,7 @@ impl Follower {
         ensures world { self.new.world ≡ self.old.world }
         ensures part { self.new.part ≡ self.old.part }
         ensures lanes { OnOk result (AddsLanes self.old.lanes self.new.lanes) }
-        ensures ends { IfOk result (λ outcome. ends_run outcome ≡ false) }
+        ensures said { IfOk result (λ outcome. said_in outcome ≡ Ok None) }
     {
         tell(alloc, &self.world, &mut self.roads, command, seen, told)?;
         self.follow(alloc, command)?;
@@ -188,7 +189,7 @@ impl Follower {
         ensures world { self.new.world ≡ self.old.world }
         ensures part { self.new.part ≡ self.old.part }
         ensures lanes { self.new.lanes ≡ self.old.lanes }
-        ensures ends { IfOk result (λ outcome. ends_run outcome ≡ false) }
+        ensures said { IfOk result (λ outcome. said_in outcome ≡ Ok (Some refused)) }
         ensures memory { OnOk result (is_memory refused.refusal ≡ false) }
     {
         if let Refusal::Memory = refused.refusal {
@@ -201,7 +202,7 @@ impl Follower {
     }
 
     /// Runs a command that every script may have, and tells what came of it, beside what came to journals.
-    #[tactic(auto, using(crate::proofs::Stories::adds_none, crate::proofs::Steps::done_steps, crate::proofs::Steps::refused_steps))]
+    #[tactic(auto, using(crate::proofs::Stories::adds_none, crate::proofs::Steps::done_steps, crate::proofs::Steps::refused_steps, crate::proofs::Steps::done_said, crate::proofs::Steps::refused_said))]
     fn step(
         &mut self,
         alloc: Global,
@@ -215,7 +216,7 @@ impl Follower {
         ensures world { OnOk result (self.new.world.world ≡ world_step number command.now self.old.world.world) }
         ensures part { OnOk result (self.new.part ≡ self.old.part) }
         ensures lanes { OnOk result (AddsLanes self.old.lanes self.new.lanes) }
-        ensures ends { IfOk result (λ outcome. ends_run outcome ≡ false) }
+        ensures said { IfOk result (λ outcome. said_in outcome ≡ Ok (step_refused number command.now self.old.world.world)) }
     {
         let seen = seen_before(alloc, &self.world, &self.lanes, &self.roads, command)?;
         match self.world.step(alloc, number, command) {
@@ -240,7 +241,7 @@ impl Follower {
         ensures known { OnOk result (known (stand_of self.new)) }
         ensures goes { OnOk result (GoesOn number (LiveCommand.Plain command.now) (stand_of self.old) (stand_of self.new)) }
         ensures lanes { OnOk result (AddsLanes self.old.lanes self.new.lanes) }
-        ensures ends { IfOk result (λ outcome. ends_run outcome ≡ false) }
+        ensures said { IfOk result (λ outcome. said_in outcome ≡ Ok (command_refused (stand_of self.old) number (LiveCommand.Plain command.now))) }
     {
         if let Part::Open(part) = &mut self.part {
             return take_in(part, alloc, number, command);
@@ -257,7 +258,7 @@ impl Follower {
         ensures lanes { self.new.lanes ≡ self.old.lanes }
         ensures known { known (stand_of self.new) }
         ensures goes { GoesOn number (LiveCommand.Open site) (stand_of self.old) (stand_of self.new) }
-        ensures ends { ends_run result ≡ false }
+        ensures said { said_in result ≡ Ok (command_refused (stand_of self.old) number (LiveCommand.Open site)) }
     {
         let Part::NotYet = &self.part else {
             return refused(number, Refusal::WrongPhase);
@@ -279,7 +280,7 @@ impl Follower {
         ensures lanes { self.new.lanes ≡ self.old.lanes }
         ensures known { OnOk result (known (stand_of self.new)) }
         ensures goes { OnOk result (GoesOn number LiveCommand.Session (stand_of self.old) (stand_of self.new)) }
-        ensures ends { IfOk result (λ outcome. ends_run outcome ≡ false) }
+        ensures said { IfOk result (λ outcome. said_in outcome ≡ Ok (command_refused (stand_of self.old) number LiveCommand.Session)) }
     {
         let refusal = match &mut self.part {
             Part::Open(part) => part.begin_session(alloc)?,
@@ -303,7 +304,7 @@ impl Follower {
         ensures lanes { self.new.lanes ≡ self.old.lanes }
         ensures known { OnOk result (known (stand_of self.new)) }
         ensures goes { OnOk result (GoesOn number LiveCommand.End (stand_of self.old) (stand_of self.new)) }
-        ensures ends { IfOk result (λ outcome. ends_run outcome ≡ false) }
+        ensures said { IfOk result (λ outcome. said_in outcome ≡ Ok (command_refused (stand_of self.old) number LiveCommand.End)) }
     {
         match mem::replace(&mut self.part, Part::NotYet) {
             Part::Open(part) => {
@@ -337,7 +338,7 @@ impl Follower {
         ensures known { OnOk result (known (stand_of self.new)) }
         ensures goes { OnOk result (GoesOn number command (stand_of self.old) (stand_of self.new)) }
         ensures lanes { OnOk result (AddsLanes self.old.lanes self.new.lanes) }
-        ensures ends { IfOk result (λ outcome. ends_run outcome ≡ false) }
+        ensures said { IfOk result (λ outcome. said_in outcome ≡ Ok (command_refused (stand_of self.old) number command)) }
     {
         match command {
             LiveCommand::Plain(command) => self.run_plain(alloc, number, &command, told),
@@ -376,7 +377,7 @@ impl Follower {
         ensures known { OnOk result (known (stand_of self.new)) }
         ensures goes { OnOk result (GoesOn number command (stand_of self.old) (stand_of self.new)) }
         ensures keeps { IfOk result (λ answer. KeepsTold self.old self.new answer.entries.items) }
-        ensures ends { IfOk result (λ answer. ends_run answer.outcome ≡ false) }
+        ensures said { IfOk result (λ answer. said_in answer.outcome ≡ Ok (command_refused (stand_of self.old) number command)) }
     {
         let outcome = self.run_command(rt, alloc, number, command, told)?;
         let entries = self.look(alloc, number)?;
