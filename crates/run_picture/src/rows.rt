@@ -39,6 +39,11 @@ impl Free {
     }
 }
 
+/// The middle between two places.
+fn middle_of(one: u32, other: u32) -> u32 {
+    one / 2 + other / 2
+}
+
 impl Scene<'_> {
     /// Where the lane of a site stands.
     fn lane(&self, site: &SiteName) -> u32 {
@@ -138,7 +143,7 @@ impl Scene<'_> {
         };
         arrow.draw(pen)?;
         let at = Point {
-            x: ends.from / 2 + ends.to / 2,
+            x: middle_of(ends.from, ends.to),
             y: free.lanes.saturating_add(9),
         };
         pen.label(Look::Note, at, Anchor::Middle, words)?;
@@ -165,7 +170,7 @@ impl Scene<'_> {
         let y = free.lanes.saturating_add(14);
         pen.line(look, Point { x: ends.from, y }, Point { x: ends.to, y })?;
         let at = Point {
-            x: ends.from / 2 + ends.to / 2,
+            x: middle_of(ends.from, ends.to),
             y: free.lanes.saturating_add(10),
         };
         let words = text_of(format!(in self.alloc; "{from} to {to} is {word}")?);
@@ -225,11 +230,11 @@ impl Scene<'_> {
     }
 
     /// Draws packets that go together.
-    fn draw_bundle(&self, pen: &mut Pen, bundle: &Bundle, free: &mut Free) -> Result<(), NoMemory>
+    fn draw_bundle(&self, pen: &mut Pen, bundle: Bundle, free: &mut Free) -> Result<(), NoMemory>
         ensures { OnOk result (pen.new ≡ pen.old) }
     {
         let ends = self.ends(&bundle.packet.from, &bundle.packet.to);
-        free.lanes = draw_bundle(self.alloc, pen, ends, bundle, free.lanes)?;
+        free.lanes = draw_bundle(self.alloc, pen, ends, &bundle, free.lanes)?;
         Ok(())
     }
 
@@ -242,20 +247,18 @@ impl Scene<'_> {
     ) -> Result<(), NoMemory>
         ensures { OnOk result (pen.new ≡ pen.old) }
     {
-        let mut open: Option<Bundle> = None;
-        for packet in packets {
-            let longer = match open {
-                Some(bundle) => bundle.with(packet),
-                None => None,
-            };
-            if let (None, Some(bundle)) = (longer, open) {
-                self.draw_bundle(pen, &bundle, free)?;
+        let Some((first, rest)) = packets.split_first() else {
+            return Ok(());
+        };
+        let mut open = Bundle::of(*first);
+        for packet in rest {
+            let longer = open.with(packet);
+            if longer.is_none() {
+                self.draw_bundle(pen, open, free)?;
             }
-            open = Some(longer.unwrap_or(Bundle::of(*packet)));
+            open = longer.unwrap_or(Bundle::of(*packet));
         }
-        if let Some(bundle) = open {
-            self.draw_bundle(pen, &bundle, free)?;
-        }
+        self.draw_bundle(pen, open, free)?;
         Ok(())
     }
 
