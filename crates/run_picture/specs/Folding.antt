@@ -65,11 +65,15 @@ is_to_see story line = not (is_still_event line.event) || (not (list_all is_plai
 abbrev pub shown_marks : StoryView → Bool → Line → List Mark
 shown_marks story folded line = cond (not folded || is_to_see story line) (line_marks story line) []
 
--- what becomes of a line: it is drawn, or no marks are shown of it
+-- the marks of a line of which this becomes
+abbrev pub marks_as : Showing → StoryView → Line → List Mark
+marks_as showing.Drawn story line = line_marks story line
+marks_as showing.Folded story line = []
+marks_as showing.Left story line = []
+
+-- what becomes of a line: with it, the marks are those that are shown
 abbrev pub IsShowing : StoryView → Bool → Line → Showing → Type 0
-IsShowing story folded line showing.Drawn = shown_marks story folded line ≡ line_marks story line
-IsShowing story folded line showing.Folded = shown_marks story folded line ≡ []
-IsShowing story folded line showing.Left = shown_marks story folded line ≡ []
+IsShowing story folded line showing = shown_marks story folded line ≡ marks_as showing story line
 
 -- where no line is left out, each entry of each journal is drawn once, in order, in the mark of its kind
 abbrev pub WholeStoriesAreDrawn : Type 0

@@ -1,3 +1,4 @@
 -- The definitions of this crate.
 pub mod Marks
 pub mod Folding
+pub mod Drawn

@@ -1,8 +1,8 @@
 //! The entries of journals as badges.
-ghost use Rattle.std.specs.Prelude.{◌≡◌, ◌<◌, ◌^◌, ◌++◌, map, take, drop, length, slice_get, option_copied, IfOk, OnOk};
+ghost use Rattle.std.specs.Prelude.{◌≡◌, ◌<◌, ◌+◌, ◌++◌, ◌∷◌, map, drop, length, slice_get, option_copied, Some, IfOk, OnOk};
 ghost use Rattle.run_story.specs.Telling.{journal_of};
 ghost use Rattle.lane_drawing.specs.Marks.{mark_of_badge};
-ghost use Rattle.run_picture.specs.Marks.{look_of, number_of, mark_of_entry, entries_in, span_marks};
+ghost use Rattle.run_picture.specs.Marks.{look_of, number_of, mark_of_entry, entries_at, entries_in, span_marks};
 
 use crate::words::{error_words, short_name};
 use lane_drawing::{BADGE_ROW, Layout, Pen};
@@ -116,11 +116,10 @@ fn width_of(letters: usize) -> u32 {
 }
 
 /// The number by which a page tells whose journal a badge is of: twice the lane's place, and one more for calls.
-pub fn number_of(lane: usize, traffic: Traffic) -> u64
-    requires { lane < 2 ^ 63 }
+pub fn number_of(lane: u32, traffic: Traffic) -> u64
     ensures { result ≡ number_of lane traffic }
 {
-    let twice = 2 * lane as u64;
+    let twice = 2 * u64::from(lane);
     match traffic {
         Traffic::Rows => twice,
         Traffic::Calls => twice + 1,
@@ -148,28 +147,51 @@ fn entry_in<'a>(story: &'a Story, lane: &Lane, traffic: Traffic, place: u64) -> 
     ensures { option_copied result ≡ slice_get (journal_of traffic lane.now.site story.now.world) place }
 {
     match traffic {
-        Traffic::Rows => story.world().site(&lane.site)?.journal(place),
-        Traffic::Calls => story.world().proc_site(&lane.site)?.journal(place),
+        Traffic::Rows => match story.world().site(&lane.site) {
+            Some(site) => site.journal(place),
+            None => None,
+        },
+        Traffic::Calls => match story.world().proc_site(&lane.site) {
+            Some(site) => site.journal(place),
+            None => None,
+        },
     }
 }
 
 /// How many of the entries that a span tells there are.
+#[tactic(auto, using(crate::proofs::Entries::piece_length))]
 fn count_in(story: &Story, lane: &Lane, span: &Span) -> u64
-    ensures { result ≡ length (take span.now.count (drop span.now.first (journal_of span.now.traffic lane.now.site story.now.world))) }
+    ensures { result ≡ length (entries_at (Some lane.now) story.now span.now) }
 {
     let length = journal_length(story, lane, span.traffic);
     length.saturating_sub(span.first).min(span.count)
 }
 
-/// The entry that a span tells at a place, from 0.
-pub fn entry_at<'a>(story: &'a Story, span: &Span, place: u64) -> Option<&'a Entry>
-    ensures { option_copied result ≡ slice_get (entries_in story.now span.now) place }
+/// The entry that a span of a lane tells at a place, from 0.
+#[tactic(auto, using(crate::proofs::Entries::piece_within, crate::proofs::Entries::piece_from))]
+fn entry_of<'a>(story: &'a Story, lane: &Lane, span: &Span, place: u64) -> &'a Entry
+    requires { place < length (entries_at (Some lane.now) story.now span.now) }
+    ensures { drop place (entries_at (Some lane.now) story.now span.now) ≡ result.now ∷ drop (place + 1) (entries_at (Some lane.now) story.now span.now) }
 {
-    let lane = story.lanes().get(span.lane)?;
-    if place >= count_in(story, lane, span) {
-        return None;
+    let length = journal_length(story, lane, span.traffic);
+    if span.first >= length {
+        unreachable!();
     }
-    entry_in(story, lane, span.traffic, span.first + place)
+    match entry_in(story, lane, span.traffic, span.first + place) {
+        Some(entry) => entry,
+        None => unreachable!(),
+    }
+}
+
+/// The entry that a span tells at a place, from 0: the first from there on.
+pub fn entry_at<'a>(story: &'a Story, span: &Span, place: u64) -> &'a Entry
+    requires { place < length (entries_in story.now span.now) }
+    ensures { drop place (entries_in story.now span.now) ≡ result.now ∷ drop (place + 1) (entries_in story.now span.now) }
+{
+    match story.lanes().get(span.lane) {
+        Some(lane) => entry_of(story, lane, span, place),
+        None => unreachable!(),
+    }
 }
 
 /// How many entries a span tells.
@@ -187,8 +209,7 @@ fn badge_of(
     alloc: Global,
     number: u64,
     entry: &Entry,
-    middle: u32,
-    y: u32,
+    middle: Point,
 ) -> Result<Badge, NoMemory>
     ensures { IfOk result (λ badge. mark_of_badge badge ≡ mark_of_entry number entry.now) }
 {
@@ -198,8 +219,8 @@ fn badge_of(
         lane: number,
         look: look_of(entry),
         corner: Point {
-            x: middle.saturating_sub(width / 2),
-            y,
+            x: middle.x.saturating_sub(width / 2),
+            y: middle.y,
         },
         width,
         words,
@@ -211,9 +232,8 @@ fn badge_of(
 fn widest(alloc: Global, story: &Story, span: &Span) -> Result<u32, NoMemory> {
     let mut width = 20;
     for place in 0..entry_count(story, span) {
-        if let Some(entry) = entry_at(story, span, place) {
-            width = width.max(width_of(words_on(alloc, entry)?.len()));
-        }
+        let words = words_on(alloc, entry_at(story, span, place))?;
+        width = width.max(width_of(words.len()));
     }
     Ok(width)
 }
@@ -277,10 +297,9 @@ fn draw_badges(
     ensures { OnOk result (pen.new ≡ pen.old ++ map (mark_of_entry number) (entries_in story.now span.now)) }
 {
     for place in 0..entry_count(story, span) {
-        if let Some(entry) = entry_at(story, span, place) {
-            let at = rank.place(place);
-            pen.badge(badge_of(alloc, number, entry, at.x, at.y)?)?;
-        }
+        let entry = entry_at(story, span, place);
+        let badge = badge_of(alloc, number, entry, rank.place(place))?;
+        pen.badge(badge)?;
     }
     Ok(())
 }
@@ -296,10 +315,11 @@ pub fn draw_entries(
 ) -> Result<u32, NoMemory>
     ensures { OnOk result (pen.new ≡ pen.old ++ span_marks story.now span.now) }
 {
-    if span.lane >= story.lanes().len() {
-        return Ok(top);
-    }
-    let number = number_of(span.lane, span.traffic);
+    // There is no memory for more lanes than these.
+    let Ok(lane) = u32::try_from(span.lane) else {
+        return Err(NoMemory);
+    };
+    let number = number_of(lane, span.traffic);
     let count = entry_count(story, span);
     let width = widest(alloc, story, span)?;
     let rank = Rank::of(layout, span.lane, width, count, top);

@@ -1,8 +1,7 @@
 //! The lanes of a run with what happened, from the top down.
-ghost use Rattle.std.specs.Prelude.{◌≡◌, ◌≢◌, ◌++◌, [], flat_map, IfOk, OnOk};
+ghost use Rattle.std.specs.Prelude.{◌≡◌, ◌++◌, flat_map, IfOk, OnOk};
 ghost use Rattle.lane_drawing.specs.Marks.{marks_of};
-ghost use Rattle.run_picture.specs.Marks.{line_marks};
-ghost use Rattle.run_picture.specs.Folding.{shown_marks};
+ghost use Rattle.run_picture.specs.Folding.{shown_marks, marks_as};
 
 use crate::folding::{Showing, shown_as};
 use crate::heads::draw_lanes;
@@ -74,8 +73,7 @@ fn draw_or_count(
     showing: Showing,
     progress: &mut Progress,
 ) -> Result<(), NoMemory>
-    ensures drawn { showing ≡ Showing.Drawn → OnOk result (pen.new ≡ pen.old ++ line_marks scene.now.story.now line.now) }
-    ensures left { showing ≢ Showing.Drawn → OnOk result (pen.new ≡ pen.old) }
+    ensures { OnOk result (pen.new ≡ pen.old ++ marks_as showing scene.now.story.now line.now) }
 {
     match showing {
         Showing::Left => Ok(()),
@@ -104,7 +102,8 @@ fn show_line(
 {
     let is_running = first_running(scene.story.lanes()) <= place;
     let showing = shown_as(scene.story, line, folded, is_running);
-    draw_or_count(scene, pen, place.saturating_add(1), line, showing, progress)
+    draw_or_count(scene, pen, place.saturating_add(1), line, showing, progress)?;
+    Ok(())
 }
 
 /// Draws the rows of a story. It gives the height below them.
@@ -135,8 +134,9 @@ fn draw_rows(
 }
 
 /// Shapes behind others.
+#[tactic(auto, using(crate::proofs::Shown::marks_behind))]
 fn joined(front: Vec<Shape>, back: Vec<Shape>) -> Result<Items<Shape>, NoMemory>
-    ensures { IfOk result (λ shapes. shapes ≡ front.items ++ back.items) }
+    ensures { IfOk result (λ shapes. marks_of shapes ≡ marks_of front.items ++ marks_of back.items) }
 {
     let mut shapes = front;
     let mut back = back;

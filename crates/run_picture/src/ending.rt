@@ -126,7 +126,7 @@ fn tables_of(
 
 /// Whether a table is the same at all masters.
 fn is_same_at(holders: &[Held<'_>], tables: &[Table], place: usize) -> bool {
-    let mut shown = 0;
+    let mut shown: usize = 0;
     for holder in holders {
         if holder.has(place) {
             if let Some(table) = tables.get(shown) {
@@ -134,7 +134,7 @@ fn is_same_at(holders: &[Held<'_>], tables: &[Table], place: usize) -> bool {
                     return false;
                 }
             }
-            shown += 1;
+            shown = shown.saturating_add(1);
         }
     }
     true

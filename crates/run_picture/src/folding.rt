@@ -1,10 +1,12 @@
 //! Which lines of a run are drawn.
-ghost use Rattle.std.specs.Prelude.{◌≡◌, ◌≢◌, [], false, true};
+ghost use Rattle.std.specs.Prelude.{◌≡◌, ◌≤◌, length, false};
 ghost use Rattle.std.specs.List.{list_all, list_any};
-ghost use Rattle.run_picture.specs.Folding.{is_notable, is_plain, has_notable, is_to_see, is_still_event, IsShowing};
+ghost use Rattle.run_picture.specs.Folding.{is_notable, is_plain, has_notable, has_turns, is_to_see, is_still_event, IsShowing};
 
 use crate::badges::{entry_at, entry_count};
+use live_laws::LiveTurn;
 use packet_fates::{Coming, Fared, Packet};
+use rep_lists::Items;
 use run_story::{Event, Line, Outcome, Span, Story};
 use site_state::Entry;
 
@@ -21,7 +23,9 @@ fn is_event(line: &Line) -> bool {
 }
 
 /// Whether the lines of a run are folded.
-pub fn is_folded(lines: &[Line]) -> bool {
+pub fn is_folded(lines: &[Line]) -> bool
+    ensures { length lines.now ≤ 300 → result ≡ false }
+{
     let mut events: usize = 0;
     for line in lines {
         if is_event(line) {
@@ -49,10 +53,8 @@ fn has_notable(story: &Story, span: &Span) -> bool
     ensures { result ≡ has_notable story.now span.now }
 {
     for place in 0..entry_count(story, span) {
-        if let Some(entry) = entry_at(story, span, place) {
-            if is_notable(entry) {
-                return true;
-            }
+        if is_notable(entry_at(story, span, place)) {
+            return true;
         }
     }
     false
@@ -102,15 +104,31 @@ fn is_still_event(event: &Option<Event>) -> bool
     }
 }
 
+/// Whether a live part made turns.
+#[tactic(auto, using(crate::proofs::Shown::turns_there))]
+fn has_turns(turns: &Items<LiveTurn>) -> bool
+    ensures { result ≡ has_turns turns.now }
+{
+    !turns.is_empty()
+}
+
 /// Whether there is more to see in a line than that transactions were made, sent and applied.
 fn is_to_see(story: &Story, line: &Line) -> bool
     ensures { result ≡ is_to_see story.now line.now }
 {
-    !is_still_event(&line.event)
-        || !are_plain(line.sent.as_slice())
-        || !are_plain(line.answered.as_slice())
-        || !line.turns.is_empty()
-        || have_notable(story, line.entries.as_slice())
+    if !is_still_event(&line.event) {
+        return true;
+    }
+    if !are_plain(line.sent.as_slice()) {
+        return true;
+    }
+    if !are_plain(line.answered.as_slice()) {
+        return true;
+    }
+    if has_turns(&line.turns) {
+        return true;
+    }
+    have_notable(story, line.entries.as_slice())
 }
 
 /// What becomes of a line in the picture.
@@ -140,13 +158,17 @@ fn shown_still(line: &Line, is_folded: bool, is_running: bool) -> Showing {
 }
 
 /// What becomes of a line. In a run that isn't folded each line is drawn in which something happened.
+#[tactic(auto, using(crate::proofs::Shown::still_shows))]
 pub fn shown_as(story: &Story, line: &Line, is_folded: bool, is_running: bool) -> Showing
     ensures { IsShowing story.now is_folded line.now result }
 {
     if line.is_still() {
         return shown_still(line, is_folded, is_running);
     }
-    if !is_folded || is_to_see(story, line) {
+    if !is_folded {
+        return Showing::Drawn;
+    }
+    if is_to_see(story, line) {
         Showing::Drawn
     } else {
         Showing::Folded

@@ -58,7 +58,8 @@ fn draw_lane(pen: &mut Pen, x: u32, lane: &Lane, start: u32, bottom: u32) -> Res
         (LaneKind::Late, None) => pen.line(Look::LateLane, from, to),
         (LaneKind::Late, Some(_)) => {
             pen.line(Look::LateLane, from, middle)?;
-            pen.line(Look::Lane, middle, to)
+            pen.line(Look::Lane, middle, to)?;
+            Ok(())
         }
     }
 }

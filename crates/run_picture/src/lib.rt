@@ -8,10 +8,10 @@ mod folding;
 mod heads;
 mod laws;
 mod marks;
-mod picture;
+mod page;
 mod rows;
 mod standing;
 mod words;
 
 pub use laws::whole_stories_are_drawn;
-pub use picture::picture;
+pub use page::picture;

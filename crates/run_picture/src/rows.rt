@@ -39,6 +39,11 @@ impl Free {
     }
 }
 
+/// The middle between two places.
+fn middle_of(one: u32, other: u32) -> u32 {
+    one / 2 + other / 2
+}
+
 impl Scene<'_> {
     /// Where the lane of a site stands.
     fn lane(&self, site: &SiteName) -> u32 {
@@ -82,25 +87,31 @@ impl Scene<'_> {
         pen.label(Look::Faint, at, Anchor::End, words)
     }
 
+    /// Tells an entry beside the lanes, where it is an error.
+    fn put_error(&self, pen: &mut Pen, entry: &Entry, free: &mut Free) -> Result<(), NoMemory>
+        ensures { OnOk result (pen.new ≡ pen.old) }
+    {
+        if let Entry::Error {
+            origin,
+            position,
+            call,
+            error,
+            ..
+        } = entry
+        {
+            let words = error_words(self.alloc, origin, *position, *call, error)?;
+            self.put_beside(pen, Look::Refused, words.as_slice(), free.words)?;
+            free.words = free.words.saturating_add(ROW);
+        }
+        Ok(())
+    }
+
     /// Tells the errors among some entries beside the lanes.
     fn put_errors(&self, pen: &mut Pen, span: &Span, free: &mut Free) -> Result<(), NoMemory>
         ensures { OnOk result (pen.new ≡ pen.old) }
     {
         for place in 0..entry_count(self.story, span) {
-            if let Some(
-                Entry::Error {
-                    origin,
-                    position,
-                    call,
-                    error,
-                    ..
-                },
-            ) = entry_at(self.story, span, place)
-            {
-                let words = error_words(self.alloc, origin, *position, *call, error)?;
-                self.put_beside(pen, Look::Refused, words.as_slice(), free.words)?;
-                free.words = free.words.saturating_add(ROW);
-            }
+            self.put_error(pen, entry_at(self.story, span, place), free)?;
         }
         Ok(())
     }
@@ -110,7 +121,8 @@ impl Scene<'_> {
         ensures { OnOk result (pen.new ≡ pen.old ++ span_marks self.now.story.now span.now) }
     {
         free.lanes = draw_entries(self.alloc, pen, &self.layout, self.story, span, free.lanes)?;
-        self.put_errors(pen, span, free)
+        self.put_errors(pen, span, free)?;
+        Ok(())
     }
 
     /// Draws something that goes from one lane to another, with words.
@@ -131,7 +143,7 @@ impl Scene<'_> {
         };
         arrow.draw(pen)?;
         let at = Point {
-            x: ends.from / 2 + ends.to / 2,
+            x: middle_of(ends.from, ends.to),
             y: free.lanes.saturating_add(9),
         };
         pen.label(Look::Note, at, Anchor::Middle, words)?;
@@ -158,7 +170,7 @@ impl Scene<'_> {
         let y = free.lanes.saturating_add(14);
         pen.line(look, Point { x: ends.from, y }, Point { x: ends.to, y })?;
         let at = Point {
-            x: ends.from / 2 + ends.to / 2,
+            x: middle_of(ends.from, ends.to),
             y: free.lanes.saturating_add(10),
         };
         let words = text_of(format!(in self.alloc; "{from} to {to} is {word}")?);
@@ -218,11 +230,11 @@ impl Scene<'_> {
     }
 
     /// Draws packets that go together.
-    fn draw_bundle(&self, pen: &mut Pen, bundle: &Bundle, free: &mut Free) -> Result<(), NoMemory>
+    fn draw_bundle(&self, pen: &mut Pen, bundle: Bundle, free: &mut Free) -> Result<(), NoMemory>
         ensures { OnOk result (pen.new ≡ pen.old) }
     {
         let ends = self.ends(&bundle.packet.from, &bundle.packet.to);
-        free.lanes = draw_bundle(self.alloc, pen, ends, bundle, free.lanes)?;
+        free.lanes = draw_bundle(self.alloc, pen, ends, &bundle, free.lanes)?;
         Ok(())
     }
 
@@ -235,21 +247,19 @@ impl Scene<'_> {
     ) -> Result<(), NoMemory>
         ensures { OnOk result (pen.new ≡ pen.old) }
     {
-        let mut open: Option<Bundle> = None;
-        for packet in packets {
-            let longer = match open {
-                Some(bundle) => bundle.with(packet),
-                None => None,
-            };
-            if let (None, Some(bundle)) = (longer, open) {
-                self.draw_bundle(pen, &bundle, free)?;
+        let Some((first, rest)) = packets.split_first() else {
+            return Ok(());
+        };
+        let mut open = Bundle::of(*first);
+        for packet in rest {
+            let longer = open.with(packet);
+            if longer.is_none() {
+                self.draw_bundle(pen, open, free)?;
             }
-            open = Some(longer.unwrap_or(Bundle::of(*packet)));
+            open = longer.unwrap_or(Bundle::of(*packet));
         }
-        match open {
-            Some(bundle) => self.draw_bundle(pen, &bundle, free),
-            None => Ok(()),
-        }
+        self.draw_bundle(pen, open, free)?;
+        Ok(())
     }
 
     /// What a turn of a live part did.
@@ -327,7 +337,8 @@ impl Scene<'_> {
         self.draw_spans(pen, line.entries.as_slice(), free)?;
         // The words of what goes back stand above their arrow.
         free.lanes = free.lanes.saturating_add(6);
-        self.draw_packets(pen, line.answered.as_slice(), free)
+        self.draw_packets(pen, line.answered.as_slice(), free)?;
+        Ok(())
     }
 
     /// Tells why a line was refused, or that it is none.

@@ -8,7 +8,10 @@ use std::alloc::Global;
 
 /// Bytes, or as many of them as there is room for, with two dots behind.
 pub fn cut_to(alloc: Global, bytes: &[u8], room: usize) -> Result<Items<u8>, NoMemory> {
-    if bytes.len() <= room || room < 2 {
+    if room < 2 {
+        return words_of(alloc, bytes);
+    }
+    if bytes.len() <= room {
         return words_of(alloc, bytes);
     }
     let mut cut = Vec::from_slice(alloc, &bytes[..room - 2])?;

@@ -1,4 +1,5 @@
 //! What happens in a line of a script.
+ghost use Rattle.std.specs.Prelude.{◌≡◌, [], IsTrue};
 
 use live_laws::LiveTurn;
 use packet_fates::{Packet, Traffic};
@@ -76,12 +77,18 @@ pub struct Line {
 }
 
 impl Line {
-    /// Whether nothing happened in it.
-    pub fn is_still(&self) -> bool {
+    /// Whether nothing happened in it beside what came to journals.
+    fn is_quiet(&self) -> bool {
         self.sent.is_empty()
-            && self.entries.is_empty()
             && self.answered.is_empty()
             && self.turns.is_empty()
             && self.event.is_none()
+    }
+
+    /// Whether nothing happened in it.
+    pub fn is_still(&self) -> bool
+        ensures { IsTrue result → self.now.entries ≡ [] }
+    {
+        self.entries.is_empty() && self.is_quiet()
     }
 }

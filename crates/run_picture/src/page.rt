@@ -1,4 +1,6 @@
 //! The picture of a run as a page.
+ghost use Rattle.std.specs.Prelude.{IfOk};
+ghost use Rattle.run_picture.specs.Drawn.{HasChart, IsDrawnIn};
 
 use crate::chart::chart;
 use crate::ending::add_ending;
@@ -28,10 +30,14 @@ fn summary(alloc: Global, story: &Story) -> Result<Items<u8>, NoMemory> {
     Ok(text_of(text))
 }
 
-/// The picture of a run, as a page of this title: a lane for each site with what happened there and between them, from the top
-/// down; the errors that stand at the end, how far the streams are, and the tables.
-pub fn picture(alloc: Global, title: &[u8], story: &Story) -> Result<Page, NoMemory> {
+/// What stands above the drawing of a run, and the drawing.
+#[tactic(auto, using(crate::proofs::Drawn::five_parts))]
+fn front(alloc: Global, title: &[u8], story: &Story) -> Result<Vec<Part>, NoMemory>
+    ensures { IfOk result (λ parts. HasChart story.now parts.items) }
+{
     let layout = Layout::of(story.lanes().len());
+    let folded = is_folded(story.lines());
+    let drawing = chart(alloc, &layout, story, folded)?;
     let mut parts = Vec::new(alloc);
     parts.push(Part::Heading {
         level: Heading::Page,
@@ -43,11 +49,31 @@ pub fn picture(alloc: Global, title: &[u8], story: &Story) -> Result<Page, NoMem
     })?;
     parts.push(key(alloc)?)?;
     parts.push(heads(alloc, &layout, story.lanes())?)?;
-    let folded = is_folded(story.lines());
-    parts.push(Part::Drawing(chart(alloc, &layout, story, folded)?))?;
+    parts.push(Part::Drawing(drawing))?;
+    Ok(parts)
+}
+
+/// What stands below the drawing.
+fn behind(alloc: Global, story: &Story) -> Result<Vec<Part>, NoMemory> {
+    let mut parts = Vec::new(alloc);
     add_standing(alloc, story, &mut parts)?;
     add_marks(alloc, story, &mut parts)?;
     add_ending(alloc, story, &mut parts)?;
+    Ok(parts)
+}
+
+/// The picture of a run, as a page of this title: a lane for each site with what happened there and between them, from the top
+/// down; the errors that stand at the end, how far the streams are, and the tables. Where no line is left out, and none is in a run
+/// of at most 300 lines, each entry of each site's journals is drawn once, in their order, in the mark of its kind.
+#[tactic(auto, using(crate::proofs::Drawn::whole_page))]
+pub fn picture(alloc: Global, title: &[u8], story: &Story) -> Result<Page, NoMemory>
+    ensures { IfOk result (λ page. IsDrawnIn story.now page.parts) }
+{
+    // A story tells the journals of its world.
+    let _ = story.world();
+    let mut parts = front(alloc, title, story)?;
+    let mut rest = behind(alloc, story)?;
+    parts.append(&mut rest)?;
     Ok(Page {
         title: words_of(alloc, title)?,
         parts: Items::from_vec(parts),

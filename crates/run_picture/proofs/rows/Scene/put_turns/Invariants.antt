@@ -1,6 +1,6 @@
 -- Telling turns one by one.
 use Rattle.std.proofs.Common.{◌≡◌}
-use Rattle.run_picture.proofs.rows.put_turns.Given as goal
+use Rattle.run_picture.proofs.rows.Scene.put_turns.Given as goal
 
 -- nothing is marked
 abbrev pub invariant-loop-turn : goal.invariant-loop-turn

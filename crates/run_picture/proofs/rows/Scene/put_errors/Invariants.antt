@@ -1,6 +1,6 @@
 -- Telling errors one by one.
 use Rattle.std.proofs.Common.{◌≡◌}
-use Rattle.run_picture.proofs.rows.put_errors.Given as goal
+use Rattle.run_picture.proofs.rows.Scene.put_errors.Given as goal
 
 -- nothing is marked
 abbrev pub invariant-loop-place : goal.invariant-loop-place
