@@ -71,10 +71,10 @@ other_number l p Calls Calls is = ne_eqb (2 * l + 1) (2 * p + 1) (grind arith)
 -- ---- the marks of spans
 
 module _ (story : StoryView) (place : ℕ) (lane : Lane) (traffic : Traffic) (there : slice_get story.lanes place ≡ Some lane) where
-  journal : List Entry
+  abbrev journal : List Entry
   journal = journal_of traffic lane.site story.world
 
-  number : ℕ
+  abbrev number : ℕ
   number = number_of place traffic
 
   span_drawn : (s : Span) → marks_with number (span_marks story s) ≡ map (mark_of_entry number) (filter_map (slice_get journal) (places_in place traffic s))
