@@ -4,9 +4,9 @@ use Rattle.std.specs.Prelude.{slice_get, Option, Some}
 use Rattle.rep_lists.proofs.Places.{drop_from_found}
 
 get_behind : {X : Type 0} (xs : List X) (first place : ℕ) → slice_get (drop first xs) place ≡ slice_get xs (first + place)
-get_behind xs zero place = refl
+get_behind xs zero place = let same : 0 + place ≡ place = omega arith in rw same refl
 get_behind [] (suc first) place = refl
-get_behind (x ∷ xs) (suc first) place = get_behind xs first place
+get_behind (x ∷ xs) (suc first) place = let same : suc first + place ≡ suc (first + place) = omega arith in rw same (get_behind xs first place)
 
 get_front : {X : Type 0} (xs : List X) (count place : ℕ) → place < count → slice_get (take count xs) place ≡ slice_get xs place
 get_front xs zero place less = absurd (omega (arith, less))

@@ -1,12 +1,11 @@
 -- Each entry of each journal of a story is drawn once, where no line is left out.
-use Rattle.std.proofs.Common.{◌≡◌, ℕ, zero, suc, ◌+◌, ◌*◌, List, [], ◌∷◌, ◌++◌, length, map, take, drop, refl, sym, ap, ◌∙◌, arith, inl, inr, elim}
+use Rattle.std.proofs.Common.{◌≡◌, ℕ, zero, suc, ◌+◌, ◌*◌, ◌≤◌, List, [], ◌∷◌, ◌++◌, length, map, take, drop, refl, sym, ap, ◌∙◌, arith}
 use Rattle.std.specs.Prelude.{◌==◌, ◌&&◌, Bool, true, false, cond, slice_get, flat_map, Option, None, Some}
 use Rattle.std.specs.List.{filter_map, range_with_len}
 use Rattle.std.proofs.lemmas.Bool.{eq-eqb, ne_eqb}
 use Rattle.std.proofs.lemmas.Grind.{flat_map-append}
-use Rattle.std.proofs.lemmas.List.{append-nil, drop_all}
-use Rattle.std.proofs.lemmas.List.Elements.{filter_map-append}
-use Rattle.std.proofs.lemmas.Option.{slice_get_cases}
+use Rattle.std.proofs.lemmas.List.{drop_all, map-append}
+use Rattle.std.proofs.lemmas.List.Elements.{filter_map-append, filter-append}
 use Rattle.rep_lists.proofs.Places.{drop_from_found}
 use Rattle.site_state.specs.declared.entry.Entry.{Entry}
 use Rattle.packet_fates.specs.declared.packet.Traffic.{Traffic}
@@ -21,36 +20,35 @@ use Rattle.run_picture.specs.Folding.{shown_marks}
 
 -- ---- entries at places
 
+none_past : {X : Type 0} (xs : List X) (k : ℕ) → slice_get xs k ≡ None → length xs ≤ k
+none_past [] k is = omega arith
+none_past (x ∷ xs) zero is = absurd cc
+none_past (x ∷ xs) (suc k) is = let rest = none_past xs k is in omega (arith, rest)
+
+take_none : {X : Type 0} (m : ℕ) (xs : List X) → xs ≡ [] → take m xs ≡ []
+take_none zero xs none = refl
+take_none (suc m) [] none = refl
+take_none (suc m) (x ∷ xs) none = absurd cc
+
+-- one place more
+piece_more : {X : Type 0} (xs : List X) (n k : ℕ) (o : Option X) → slice_get xs k ≡ o → filter_map (slice_get xs) (range_with_len (k + 1) n) ≡ take n (drop (k + 1) xs)
+    → filter_map (slice_get xs) (k ∷ range_with_len (k + 1) n) ≡ take (suc n) (drop k xs)
+piece_more xs n k None is rest =
+    let past : length xs ≤ k = none_past xs k is in
+    let next : take n (drop (k + 1) xs) ≡ [] = take_none n (drop (k + 1) xs) (drop_all (k + 1) xs (omega (arith, past))) in
+    let here : take (suc n) (drop k xs) ≡ [] = take_none (suc n) (drop k xs) (drop_all k xs past) in
+    rw is (rest ∙ (next ∙ sym here))
+piece_more xs n k (Some x) is rest = rw (is, drop_from_found xs k x is) (ap (λ ys. x ∷ ys) rest)
+
 -- what stands at places one after the other is a piece of the list
 filter_map-piece : {X : Type 0} (xs : List X) (n k : ℕ) → filter_map (slice_get xs) (range_with_len k n) ≡ take n (drop k xs)
 filter_map-piece xs zero k = refl
-filter_map-piece {X} xs (suc n) k = go (slice_get xs k) refl
-  where
-    rest : filter_map (slice_get xs) (range_with_len (k + 1) n) ≡ take n (drop (k + 1) xs)
-    rest = filter_map-piece xs n (k + 1)
-    go : (o : Option X) → slice_get xs k ≡ o → filter_map (slice_get xs) (k ∷ range_with_len (k + 1) n) ≡ take (suc n) (drop k xs)
-    go None is = rw is (rest ∙ ap (λ (ys : List X). take n ys) none ∙ nothing n ∙ sym (nothing (suc n)) ∙ ap (λ (ys : List X). take (suc n) ys) (sym here))
-      where
-        past : length xs ≤ k
-        past = elim (slice_get_cases xs k).1 [ inl found ↦ absurd (let there = found.2 in cc) | inr past ↦ past.0 ]
-        none : drop (k + 1) xs ≡ []
-        none = drop_all (k + 1) xs (omega (arith, past))
-        here : drop k xs ≡ []
-        here = drop_all k xs past
-        nothing : (m : ℕ) → take m ([] : List X) ≡ []
-        nothing zero = refl
-        nothing (suc m) = refl
-    go (Some x) is = rw (is, drop_from_found xs k x is) (ap (λ (ys : List X). x ∷ ys) rest)
+filter_map-piece xs (suc n) k = piece_more xs n k (slice_get xs k) refl (filter_map-piece xs n (k + 1))
 
 -- ---- marks of one journal
 
 with_append : (n : ℕ) (xs ys : List Mark) → marks_with n (xs ++ ys) ≡ marks_with n xs ++ marks_with n ys
-with_append n [] ys = refl
-with_append n (x ∷ xs) ys = go (x.number == n) refl
-  where
-    go : (b : Bool) → (x.number == n) ≡ b → marks_with n (x ∷ (xs ++ ys)) ≡ marks_with n (x ∷ xs) ++ marks_with n ys
-    go true is = rw is (ap (λ (ms : List Mark). x ∷ ms) (with_append n xs ys))
-    go false is = rw is (with_append n xs ys)
+with_append n xs ys = filter-append (λ (m : Mark). m.number == n) xs ys
 
 with_same : (n m : ℕ) (es : List Entry) → (m == n) ≡ true → marks_with n (map (mark_of_entry m) es) ≡ map (mark_of_entry m) es
 with_same n m [] is = refl
@@ -59,10 +57,6 @@ with_same n m (e ∷ es) is = rw is (ap (λ (ms : List Mark). mark_of_entry m e 
 with_other : (n m : ℕ) (es : List Entry) → (m == n) ≡ false → marks_with n (map (mark_of_entry m) es) ≡ []
 with_other n m [] is = refl
 with_other n m (e ∷ es) is = rw is (with_other n m es is)
-
-map-append : (n : ℕ) (xs ys : List Entry) → map (mark_of_entry n) (xs ++ ys) ≡ map (mark_of_entry n) xs ++ map (mark_of_entry n) ys
-map-append n [] ys = refl
-map-append n (x ∷ xs) ys = ap (λ (ms : List Mark). mark_of_entry n x ∷ ms) (map-append n xs ys)
 
 -- two journals have different numbers
 same_number : (l p : ℕ) (t traffic : Traffic) → (l == p && is_kind t traffic) ≡ true → (number_of l t ≡ number_of p traffic) × ((l ≡ p) × (t ≡ traffic))
@@ -77,10 +71,10 @@ other_number l p Calls Calls is = ne_eqb (2 * l + 1) (2 * p + 1) (grind arith)
 -- ---- the marks of spans
 
 module _ (story : StoryView) (place : ℕ) (lane : Lane) (traffic : Traffic) (there : slice_get story.lanes place ≡ Some lane) where
-  journal : List Entry
+  abbrev journal : List Entry
   journal = journal_of traffic lane.site story.world
 
-  number : ℕ
+  abbrev number : ℕ
   number = number_of place traffic
 
   span_drawn : (s : Span) → marks_with number (span_marks story s) ≡ map (mark_of_entry number) (filter_map (slice_get journal) (places_in place traffic s))
@@ -99,6 +93,7 @@ module _ (story : StoryView) (place : ℕ) (lane : Lane) (traffic : Traffic) (th
             where
               found : slice_get story.lanes s.lane ≡ Some lane
               found = ap (λ (k : ℕ). slice_get story.lanes k) same.1.0 ∙ there
+
               entries : entries_in story s ≡ filter_map (slice_get journal) (range_with_len s.first s.count)
               entries =
                   ap (λ (o : Option Lane). entries_at o story s) found
@@ -112,7 +107,7 @@ module _ (story : StoryView) (place : ℕ) (lane : Lane) (traffic : Traffic) (th
       with_append number (span_marks story s) (flat_map (span_marks story) spans)
       ∙ ap (λ (ms : List Mark). ms ++ marks_with number (flat_map (span_marks story) spans)) (span_drawn s)
       ∙ ap (λ (ms : List Mark). map (mark_of_entry number) (filter_map (slice_get journal) (places_in place traffic s)) ++ ms) (spans_drawn spans)
-      ∙ sym (map-append number (filter_map (slice_get journal) (places_in place traffic s)) (filter_map (slice_get journal) (told_places place traffic spans)))
+      ∙ sym (map-append (mark_of_entry number) (filter_map (slice_get journal) (places_in place traffic s)) (filter_map (slice_get journal) (told_places place traffic spans)))
       ∙ ap (λ (es : List Entry). map (mark_of_entry number) es) (sym (filter_map-append (slice_get journal) (places_in place traffic s) (told_places place traffic spans)))
 
 -- ---- the marks of lines

@@ -27,6 +27,7 @@ still_shows story folded line how still = none_either_way (not folded || is_to_s
   where
     none : line_marks story line ≡ []
     none = no_marks story line still
+
     nothing : (h : Showing) → marks_as h story line ≡ []
     nothing showing.Drawn = none
     nothing showing.Folded = refl

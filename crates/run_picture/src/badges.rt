@@ -205,12 +205,7 @@ pub fn entry_count(story: &Story, span: &Span) -> u64
 }
 
 /// The badge of an entry, with its middle at a place.
-fn badge_of(
-    alloc: Global,
-    number: u64,
-    entry: &Entry,
-    middle: Point,
-) -> Result<Badge, NoMemory>
+fn badge_of(alloc: Global, number: u64, entry: &Entry, middle: Point) -> Result<Badge, NoMemory>
     ensures { IfOk result (λ badge. mark_of_badge badge ≡ mark_of_entry number entry.now) }
 {
     let words = words_on(alloc, entry)?;
