@@ -104,7 +104,10 @@ fn form_hint(line: &[u8], found: &[Span]) -> (usize, Hint)
     requires { list_all (is_span line.now) found.now ≡ true }
 {
     let mut tokens = Reader::of(line, found);
-    let Some(form) = tokens.next().and_then(form_at) else {
+    let Some(first) = tokens.next() else {
+        return (0, Hint::UnknownCommand);
+    };
+    let Some(form) = form_at(first) else {
         return (0, Hint::UnknownCommand);
     };
     let wanted = match follow(form, &mut tokens) {
