@@ -41,6 +41,8 @@ pub(crate) struct Trail {
     block: Vec<Pending>,
     /// The lines at which the errors were found, rising.
     lines: Vec<u32>,
+    /// Of each error the place of the first one of its cause, which is its own where it is no consequence.
+    firsts: Vec<usize>,
     further: Vec<Further>,
     /// The causes that were told, with the places of their errors.
     causes: Vec<(Cause, usize)>,
@@ -75,6 +77,7 @@ impl Trail {
             spots: Spots::new(alloc),
             block: Vec::new(alloc),
             lines: Vec::new(alloc),
+            firsts: Vec::new(alloc),
             further: Vec::new(alloc),
             causes: Vec::new(alloc),
             pushes: Vec::new(alloc),
@@ -108,11 +111,17 @@ impl Trail {
         (spots, further)
     }
 
-    /// Counts an error that was found at a line: it is one of its own, or a consequence of the one at a place.
+    /// Counts an error that was found at a line: it is one of its own, or a consequence of the one at a place, which may be a
+    /// consequence too.
     pub(crate) fn count(&mut self, line: u32, cause: Option<usize>) -> Result<(), NoMemory> {
+        let first = match cause {
+            Some(place) => self.firsts.get(place).copied(),
+            None => None,
+        };
+        self.firsts.push(first.unwrap_or(self.lines.len()))?;
         self.lines.push(line)?;
         self.further.push(Further { count: 0, last: 0 })?;
-        if let Some(place) = cause {
+        if let Some(place) = first {
             if let Some(further) = self.further.get_mut(place) {
                 further.count = further.count.saturating_add(1);
                 further.last = line;
