@@ -105,6 +105,16 @@ pub struct Ends {
     pub to: u32,
 }
 
+/// The middle of the way from one place to another.
+fn middle_of(from: u32, to: u32) -> u32 {
+    from / 2 + to / 2
+}
+
+/// A quarter of the way from one place to another.
+fn quarter_of(from: u32, to: u32) -> u32 {
+    from / 2 + from / 4 + to / 4
+}
+
 /// An arrow between two lanes.
 #[derive(Clone, Copy)]
 pub struct Arrow {
@@ -122,7 +132,7 @@ impl Arrow {
     /// The middle of its way.
     fn middle(&self) -> Point {
         Point {
-            x: self.ends.from / 2 + self.ends.to / 2,
+            x: middle_of(self.ends.from, self.ends.to),
             y: self.y.saturating_add(SINKS / 2),
         }
     }
@@ -194,9 +204,9 @@ impl Arrow {
     /// Where its words stand: above its first quarter, or its third one.
     fn words_at(&self, is_late: bool) -> Point {
         let quarter = if is_late {
-            self.ends.from / 4 + self.ends.to / 4 + self.ends.to / 2
+            quarter_of(self.ends.to, self.ends.from)
         } else {
-            self.ends.from / 2 + self.ends.from / 4 + self.ends.to / 4
+            quarter_of(self.ends.from, self.ends.to)
         };
         Point {
             x: quarter,

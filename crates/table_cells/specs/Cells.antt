@@ -1,5 +1,5 @@
 -- The cells of a table, and where masters show other values.
-use Rattle.std.specs.Prelude.{ℕ, Bool, true, false, ◌&&◌, cond, nat_le, nat_lt, List, [], ◌∷◌, map, length, slice_get, Option, Some, None}
+use Rattle.std.specs.Prelude.{ℕ, Bool, true, false, ◌&&◌, cond, nat_le, nat_lt, List, [], ◌∷◌, length, slice_get, Option, Some, None}
 use Rattle.std.specs.Fmt.{signed_decimal}
 use Rattle.std.specs.List.{list_all}
 use Rattle.rep_values.specs.declared.value.Value.{Value}
@@ -49,3 +49,8 @@ cells_from masters table key column (v ∷ vs) = cell_of masters table key colum
 -- the cells of a row
 abbrev pub row_cells : List Stored → ℕ → List Column → Cells → List Cell
 row_cells masters table columns row = cells_from masters table (key_of columns row) 0 row
+
+-- a cell of this look isn't marked
+abbrev pub is_unmarked : Look → Bool
+is_unmarked Same = true
+is_unmarked look = false

@@ -1,8 +1,8 @@
 //! The tables of the sites at the end, and where masters differ.
-ghost use Rattle.std.specs.Prelude.{◌≡◌, ◌≤◌, [], map, drop, length, slice_get, option_copied, IfOk};
+ghost use Rattle.std.specs.Prelude.{◌≡◌, ◌<◌, ◌+◌, ◌∷◌, map, drop, length, option_copied, IfOk};
 ghost use Rattle.std.specs.List.{list_all};
-ghost use Rattle.rep_schema.specs.Tables.{key_of, columns_of, rows_of};
-ghost use Rattle.table_cells.specs.Cells.{cell_in, is_value, shows, is_key, look_of_cell, cell_of, cells_from, row_cells};
+ghost use Rattle.rep_schema.specs.Tables.{key_of, rows_of};
+ghost use Rattle.table_cells.specs.Cells.{cell_in, is_value, shows, look_of_cell, cell_of, row_cells, is_unmarked};
 
 use crate::values::value_words;
 use page_tables::PageTables;
@@ -27,7 +27,7 @@ fn key_values(alloc: Global, columns: &[Column], row: &[Value]) -> Result<Vec<Va
 
 /// Whether a row has a value in a column.
 fn has_value(row: Option<&Row>, column: usize, value: &Value) -> bool
-    ensures { result ≡ is_value (cell_in (option_copied row) column) value.now }
+    ensures { result ≡ is_value (cell_in (option_copied row.entry) column) value.now }
 {
     let Some(row) = row else {
         return false;
@@ -39,6 +39,7 @@ fn has_value(row: Option<&Row>, column: usize, value: &Value) -> bool
 }
 
 /// Whether a store has a value in a column of the row with a key.
+#[tactic(auto, using(crate::proofs::Marking::table_beyond, crate::proofs::Marking::table_within))]
 fn shows(store: &PageTables, table: u32, key: &Key, column: usize, value: &Value) -> bool
     ensures { result ≡ shows table key.now column value.now store.now }
 {
@@ -62,6 +63,7 @@ fn all_show(masters: &[&PageTables], table: u32, key: &Key, column: usize, value
 
 /// How a cell looks: marked exactly where a master shows another value under the row's key, or no row. A row without a key, which
 /// no table has, is marked.
+#[tactic(auto, using(crate::proofs::Marking::look_same, crate::proofs::Marking::look_differs, crate::proofs::Marking::look_keyless))]
 fn look_of(masters: &[&PageTables], table: u32, key: &[Value], column: usize, value: &Value) -> Look
     ensures { result ≡ look_of_cell (map (λ master. master.now) masters.now) table key.now column value.now }
 {
@@ -102,10 +104,11 @@ fn cells_of(
 ) -> Result<Items<Cell>, NoMemory>
     ensures { IfOk result (λ cells. cells ≡ row_cells (map (λ master. master.now) masters.now) table columns.now row.now) }
 {
-    let key = key_values(alloc, columns, row)?;
+    let values = key_values(alloc, columns, row)?;
+    let key = values.as_slice();
     let mut cells = Vec::new(alloc);
     for column in 0..row.len() {
-        cells.push(cell_of(alloc, masters, table, &key, column, &row[column])?)?;
+        cells.push(cell_of(alloc, masters, table, key, column, &row[column])?)?;
     }
     Ok(Items::from_vec(cells))
 }
@@ -121,6 +124,18 @@ fn names_of(alloc: Global, columns: &[Column]) -> Result<Items<Items<u8>>, NoMem
     Ok(Items::from_vec(names))
 }
 
+/// The row at a place that has one.
+fn row_at(store: &PageTables, table: u32, place: u64) -> &Row
+    requires table { table < length store.now.schema.tables }
+    requires place { place < length (rows_of store.now.tables table) }
+    ensures { drop place (rows_of store.now.tables table) ≡ result.now ∷ drop (place + 1) (rows_of store.now.tables table) }
+{
+    match store.row_in_order(table, place) {
+        Some(row) => row,
+        None => unreachable!(),
+    }
+}
+
 /// The rows of a table at a site as cells, by their keys.
 fn rows_of(
     alloc: Global,
@@ -132,11 +147,11 @@ fn rows_of(
     requires { table < length store.now.schema.tables }
     ensures { IfOk result (λ rows. rows ≡ map (row_cells (map (λ master. master.now) masters.now) table columns.now) (rows_of store.now.tables table)) }
 {
+    let count = store.count(table);
     let mut rows = Vec::new(alloc);
-    for place in 0..store.count(table) {
-        if let Some(row) = store.row_in_order(table, place) {
-            rows.push(cells_of(alloc, masters, table, columns, row.values())?)?;
-        }
+    for place in 0..count {
+        let row = row_at(store, table, place);
+        rows.push(cells_of(alloc, masters, table, columns, row.values())?)?;
     }
     Ok(Items::from_vec(rows))
 }
@@ -163,14 +178,40 @@ pub fn table_at(
     })
 }
 
-/// Whether no cell of a table is marked.
-pub fn is_same(table: &Table) -> bool {
-    for row in table.rows.iter() {
-        for cell in row.iter() {
-            if cell.look != Look::Same {
-                return false;
-            }
+/// Whether a look is that of a cell which isn't marked.
+fn is_unmarked(look: Look) -> bool
+    ensures { result ≡ is_unmarked look }
+{
+    matches!(look, Look::Same)
+}
+
+/// Whether no cell of a row is marked.
+fn is_row_same(cells: &[Cell]) -> bool
+    ensures { result ≡ list_all (λ cell. is_unmarked cell.look) cells.now }
+{
+    for cell in cells {
+        if !is_unmarked(cell.look) {
+            return false;
         }
     }
     true
+}
+
+/// Whether no cell of rows is marked.
+fn are_rows_same(rows: &[Items<Cell>]) -> bool
+    ensures { result ≡ list_all (list_all (λ cell. is_unmarked cell.look)) rows.now }
+{
+    for row in rows {
+        if !is_row_same(row.as_slice()) {
+            return false;
+        }
+    }
+    true
+}
+
+/// Whether no cell of a table is marked.
+pub fn is_same(table: &Table) -> bool
+    ensures { result ≡ list_all (list_all (λ cell. is_unmarked cell.look)) table.now.rows }
+{
+    are_rows_same(table.rows.as_slice())
 }
