@@ -40,6 +40,6 @@ module _ (name : SiteName) (w : WorldState) (sessions : List Session) (turns : L
   }
 
 -- what only contracts look at
-pub ended_is : (site : SiteName) (before before' : WorldState) (sessions sessions' : List Session) (turns turns' : List LiveTurn) → before ≡ before' → sessions ≡ sessions' → turns ≡ turns'
-    → ◌≡◌ {A = RanPart} (record { site = site; before = before; sessions = sessions; turns = turns }) (record { site = site; before = before'; sessions = sessions'; turns = turns' })
-ended_is site before before' sessions sessions' turns turns' same_before same_sessions same_turns = rw (same_before, same_sessions, same_turns) refl
+pub ended_is : (site site' : SiteName) (before before' : WorldState) (sessions sessions' : List Session) (turns turns' : List LiveTurn) → site ≡ site' → before ≡ before' → sessions ≡ sessions' → turns ≡ turns'
+    → ◌≡◌ {A = RanPart} (record { site = site; before = before; sessions = sessions; turns = turns }) (record { site = site'; before = before'; sessions = sessions'; turns = turns' })
+ended_is site site' before before' sessions sessions' turns turns' same_site same_before same_sessions same_turns = rw (same_site, same_before, same_sessions, same_turns) refl

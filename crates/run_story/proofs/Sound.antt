@@ -1,12 +1,13 @@
 -- What is so of each story.
 use Rattle.std.proofs.Common.{◌≡◌, ℕ, ◌+◌, ◌-◌, List, [], ◌∷◌, ◌++◌, length, false, None, refl, subst, ap, sym, ◌∙◌}
 use Rattle.std.specs.Prelude.{slice_get}
+use Rattle.std.proofs.lemmas.List.{map-append}
 use Rattle.world_run.specs.LiveScripts.{LiveState, live_start, known}
 use Rattle.run_story.specs.declared.happening.Span.{Span}
 use Rattle.run_story.specs.declared.happening.Line.{Line}
 use Rattle.run_story.specs.declared.happening.Outcome.{Outcome}
 use Rattle.run_story.specs.declared.lane.Lane.{Lane}
-use Rattle.run_story.specs.Telling.{StoryView, Followed, ends_run_in, KeepsTold, TellsJournals, AreLinesOf}
+use Rattle.run_story.specs.Telling.{StoryView, Followed, words_of, ends_run_in, KeepsTold, TellsJournals, AreLinesOf}
 use Rattle.run_story.specs.Running.{stand_of, story_view, LineGoes, IsSound, RunsAsEngine}
 use Rattle.run_story.proofs.Stories.{nothing_is_told, told_on, told_stories_tell}
 use Rattle.run_story.proofs.Runs.{nothing_is_run, run_on, runs_as_engine}
@@ -38,3 +39,7 @@ sound_tells story is = told_stories_tell story is.told
 
 pub sound_runs : (script : List ℕ) (story : StoryView) → IsSound story → AreLinesOf script story.lines → RunsAsEngine script story
 sound_runs script story is lines = runs_as_engine script story is.run lines
+
+-- the words of a line more
+pub words_more : (lines lines' : List Line) (line : Line) (words : List ℕ) → line.words ≡ words → lines' ≡ lines ++ line ∷ [] → words_of lines' ≡ words_of lines ++ words ∷ []
+words_more lines lines' line words said more = ap words_of more ∙ map-append (λ (l : Line). l.words) lines (line ∷ []) ∙ ap (λ (ws : List ℕ). words_of lines ++ ws ∷ []) said

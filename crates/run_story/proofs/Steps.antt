@@ -25,9 +25,13 @@ use Rattle.world_run.specs.declared.live_part.OpenPart.{OpenPart}
 use Rattle.world_run.specs.declared.live_part.LivePart.{LivePart}
 use Rattle.world_run.specs.declared.live_part.LivePart.TheVariants as part
 use Rattle.world_run.specs.LiveParts.{most_sessions, sessions_of, new_part, part_refusal, stated, block_ended, changed_by, taken, with_session, next_session}
-use Rattle.world_run.specs.LiveScripts.{LiveState, allowed, known_by}
+use Rattle.world_run.specs.LiveScripts.{LiveState, allowed, known, known_by}
 use Rattle.world_run.specs.LiveAnswers.{IsAnswered}
-use Rattle.run_story.specs.Running.{hindrance_of, GoesOn, PartRan}
+use Rattle.run_story.specs.declared.lane.Lane.{Lane}
+use Rattle.run_story.specs.declared.part.Part.{Part}
+use Rattle.run_story.specs.declared.part.Part.TheVariants as kept
+use Rattle.run_story.specs.Telling.{Followed}
+use Rattle.run_story.specs.Running.{engine_part, stand_in, stand_of, hindrance_of, GoesOn, PartRan}
 
 -- ---- the world of a line
 
@@ -183,3 +187,22 @@ known_open w site passes = (passes, omega arith)
 -- a part that was run
 pub known_end : (w w' : WorldState) (p : OpenPart) (v : LentWorld) (e : RanPart) → PartRan w p v e → known_by (part.Ended e) w'
 known_end w w' p v e ran = rw ran.part ran.runs.full
+
+-- with no master lent out
+pub free_end : (w : WorldState) (p : OpenPart) (v : LentWorld) (e : RanPart) → PartRan w p v e → v.lent ≡ None
+free_end w p v e ran = ran.runs.free
+
+-- ---- a script that is followed
+
+-- its open part is one of a master that may be lent out
+pub open_passes : (f : Followed) (p : OpenPart) → known (stand_of f) → f.part ≡ part.Open p → live_refusal p.site f.world.world ≡ None
+open_passes f p knows is = (subst (λ (q : LivePart). known_by q f.world.world) is knows).0
+
+-- and has not too many sessions
+pub open_few : (f : Followed) (p : OpenPart) → known (stand_of f) → f.part ≡ part.Open p → length (sessions_of p) ≤ most_sessions
+open_few f p knows is = (subst (λ (q : LivePart). known_by q f.world.world) is knows).1
+
+-- it goes on behind the end of its part
+pub followed_end : (f : Followed) (w : LentWorld) (k : Part) (lanes : List Lane) (n : ℕ) (p : OpenPart) (v : LentWorld) (e : RanPart) → f ≡ record { world = w; part = engine_part k; lanes = lanes }
+    → k ≡ kept.Open p → PartRan w.world p v e → GoesOn n live_command.End (stand_of f) (stand_in v (part.Ended e))
+followed_end f w k lanes n p v e stands is_open ran = rw (stands, is_open) (goes_end w.world n p v e ran)

@@ -290,7 +290,7 @@ impl Follower {
     }
 
     /// `end`
-    #[tactic(auto, using(crate::proofs::Steps::goes_end, crate::proofs::Steps::known_end, crate::proofs::Steps::free_end))]
+    #[tactic(auto, using(crate::proofs::Steps::known_end, crate::proofs::Steps::free_end, crate::proofs::Steps::goes_no_end, crate::proofs::Steps::open_passes, crate::proofs::Steps::open_few))]
     fn end_part<X: Threads + Wait + Sync>(
         &mut self,
         rt: &X,

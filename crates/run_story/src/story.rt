@@ -107,7 +107,7 @@ impl Story {
     }
 
     /// Runs the next line of the script, and tells what came of it. No line before it ended the run.
-    #[tactic(auto, using(crate::proofs::Sound::sound_behind))]
+    #[tactic(auto, using(crate::proofs::Sound::words_more))]
     fn take<X: Threads + Wait + Sync>(
         self,
         rt: &X,
