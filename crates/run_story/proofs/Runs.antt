@@ -47,9 +47,11 @@ says_more turns s n [] line says more =
     let same : n + 0 ≡ n = omega arith in
     (more ∙ ap (λ (k : ℕ). line_said s k line.words) same, tt)
 says_more turns s n (l ∷ lines) line says more =
-    let next : n + suc (length lines) ≡ n + 1 + length lines = omega arith in
-    (says.0, says_more turns (engine_step turns s n l.words).state (n + 1) lines line says.1
-    (more ∙ ap (λ (k : ℕ). line_said (state_after (engine_step turns) (engine_step turns s n l.words).state (n + 1) (words_of lines)) k line.words) next))
+    let next : n + suc (length lines) ≡ n + 1 + length lines = omega arith in (
+      says.0,
+      says_more turns (engine_step turns s n l.words).state (n + 1) lines line says.1
+          (more ∙ ap (λ (k : ℕ). line_said (state_after (engine_step turns) (engine_step turns s n l.words).state (n + 1) (words_of lines)) k line.words) next),
+    )
 
 -- no line was run
 pub nothing_is_run : (story : StoryView) → story_stand story ≡ live_start false → story.lines ≡ [] → IsRun story
