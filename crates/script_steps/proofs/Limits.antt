@@ -1,8 +1,8 @@
 -- A line that isn't one too many does what its step says: a line that is too long is malformed.
-use Rattle.std.proofs.Common.{◌≡◌, ◌<◌, ◌≤◌, ℕ, Bool, true, false, List, length, refl, sym, ◌∙◌}
-use Rattle.std.specs.Prelude.{nat_lt, Result, Err}
+use Rattle.std.proofs.Common.{◌≡◌, ◌<◌, ◌≤◌, ℕ, Bool, true, false, List, length, refl, ◌∙◌}
+use Rattle.std.specs.Prelude.{nat_lt, Err}
 use Rattle.std.proofs.lemmas.Bool.{ltb-true, ltb-false, lt-leb}
-use Rattle.script_drive.specs.Runs.{Stepped, halts}
+use Rattle.script_drive.specs.Runs.{halts}
 use Rattle.script_drive.proofs.LimitLemmas.{limited-many, limited-long, limited-within}
 use Rattle.report_text.specs.Texts.{malformed_text}
 use Rattle.script_lex.specs.Lines.{lexed}

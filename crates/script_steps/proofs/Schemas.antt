@@ -21,17 +21,11 @@ use Rattle.world_state.specs.Declaring.{with_snapshot_at, tests_in}
 use Rattle.rep_schema.specs.Named.{table_place}
 use Rattle.world_state.specs.Phases.{declare_step}
 use Rattle.world_state.specs.ProcRefusals.{declaring_step}
-use Rattle.world_state.specs.Refusals.{world_refusal}
 use Rattle.world_state.specs.Steps.{resumed, world_done}
 use Rattle.world_laws.proofs.DeclaredStays.{IsPlain, plain_stays, refused_stays}
 use Rattle.world.specs.Doing.{IsDone, IsOutOfMemory, IsRefused}
-use Rattle.script_steps.specs.Coming.{schema_with, declared_unless}
+use Rattle.script_steps.specs.Coming.{schema_with, declared_unless, renewed}
 use Rattle.script_steps.proofs.Worlds.{world_step-done, step_refused-done, world_step-told, step_refused-told, line_text-done, line_text-told}
-
--- the schema that a command makes, or the old one
-abbrev pub Lands : Option Schema → Schema → Schema → Type 0
-Lands None old new = old ≡ new
-Lands (Some made) old new = made ≡ new
 
 -- a command that is no declaration leaves it
 module _ (number : ℕ) (w w' : WorldState) where
@@ -54,14 +48,14 @@ module _ (number : ℕ) (w w' : WorldState) where
   along y made kept = sym (ap (λ (z : WorldState). z.schema) made ∙ kept)
 
 -- a declaration that was done is taken into the schema
-declared_lands : (number : ℕ) (d : Declare) (w w' : WorldState) (out : List ℕ) → IsDone number (command.Declare d) w w' out → Lands (schema_with (command.Declare d) w.schema) w.schema w'.schema
+declared_lands : (number : ℕ) (d : Declare) (w w' : WorldState) (out : List ℕ) → IsDone number (command.Declare d) w w' out → renewed (schema_with (command.Declare d) w.schema) w.schema ≡ w'.schema
 declared_lands number d w w' out done =
     let takes : declare_refusal w.schema d ≡ None =
     (or_then-None (declare_refusal w.schema d) None (or_then-None (declaring_step d w) _ (or_then-None (declare_step d w) _ done.passes).1).1).0 in
-    subst (λ (o : Option Refusal). Lands (declared_unless o d w.schema) w.schema w'.schema) (sym takes) (sym (ap (λ (y : WorldState). y.schema) done.world))
+    subst (λ (o : Option Refusal). renewed (declared_unless o d w.schema) w.schema ≡ w'.schema) (sym takes) (sym (ap (λ (y : WorldState). y.schema) done.world))
 
 -- the schema behind a command that was done
-pub lands : (number : ℕ) (c : Command) (w w' : WorldState) (out : List ℕ) → IsDone number c w w' out → Lands (schema_with c w.schema) w.schema w'.schema
+pub lands : (number : ℕ) (c : Command) (w w' : WorldState) (out : List ℕ) → IsDone number c w w' out → renewed (schema_with c w.schema) w.schema ≡ w'.schema
 lands number command.Nothing w w' out done = plain number w w' command.Nothing tt done.world
 lands number (command.Declare d) w w' out done = declared_lands number d w w' out done
 lands number (command.Snapshot site table parent tests) w w' out done =
@@ -88,13 +82,10 @@ lands number (command.Show what site) w w' out done = plain number w w' (command
 lands number (command.Procedures line) w w' out done = plain number w w' (command.Procedures line) tt done.world
 
 -- the same, by what was found of it
-pub lands-none : (number : ℕ) (c : Command) (w w' : WorldState) (out : List ℕ) (schema : Schema) → IsDone number c w w' out → schema ≡ w.schema → None ≡ schema_with c schema → schema ≡ w'.schema
-lands-none number c w w' out schema done same none =
-    same ∙ subst (λ (o : Option Schema). Lands o w.schema w'.schema) (sym (none ∙ ap (schema_with c) same)) (lands number c w w' out done)
-
-pub lands-some : (number : ℕ) (c : Command) (w w' : WorldState) (out : List ℕ) (schema made : Schema) → IsDone number c w w' out → schema ≡ w.schema → Some made ≡ schema_with c schema → made ≡ w'.schema
-lands-some number c w w' out schema made done same some =
-    subst (λ (o : Option Schema). Lands o w.schema w'.schema) (sym (some ∙ ap (schema_with c) same)) (lands number c w w' out done)
+pub schema-done : (number : ℕ) (c : Command) (w w' : WorldState) (out : List ℕ) (schema : Schema) (next : Option Schema) → IsDone number c w w' out → schema ≡ w.schema → next ≡ schema_with c schema
+    → renewed next schema ≡ w'.schema
+schema-done number c w w' out schema next done same is =
+    ap (λ (o : Option Schema). renewed o schema) (is ∙ ap (schema_with c) same) ∙ (ap (renewed (schema_with c w.schema)) same ∙ lands number c w w' out done)
 
 -- a refused line leaves it
 pub schema-refused : (number : ℕ) (c : Command) (w w' : WorldState) (r : Refused) → IsRefused number c w w' r → w.schema ≡ w'.schema
@@ -141,4 +132,4 @@ pub schema-err : (number : ℕ) (c : Command) (w w' : WorldState) (r : Refused) 
 schema-err number c w w' r schema (inl short) same = same ∙ schema-short number c w w' r short
 schema-err number c w w' r schema (inr refused) same = same ∙ schema-refused number c w w' r refused
 
-pub ruleset step_facts = (lands-none, lands-some, schema-err, world_step-done, step_refused-done, world_step-told, step_refused-told, line_text-done, line_text-told)
+pub ruleset step_facts = (schema-done, schema-err, world_step-done, step_refused-done, world_step-told, step_refused-told, line_text-done, line_text-told)

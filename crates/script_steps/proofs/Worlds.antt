@@ -1,22 +1,16 @@
 -- What a step leaves of the schema, and what is told of it.
-use Rattle.std.proofs.Common.{◌≡◌, ℕ, List, Some, None, true, false, refl, sym, ap, inl, inr, ◌∙◌}
+use Rattle.std.proofs.Common.{◌≡◌, ℕ, List, Some, None, false, refl, sym, ap, inl, inr, ◌∙◌}
 use Rattle.std.specs.Prelude.{◌⊎◌, Option, Result, Ok, Err}
 use Rattle.rep_values.specs.declared.refusal.Refusal.{Refusal}
-use Rattle.rep_values.specs.declared.refusal.Refusal.TheVariants as refusal
 use Rattle.report_text.specs.Refusals.{is_memory, refused_text}
 use Rattle.report_text.specs.Texts.{malformed_text}
-use Rattle.rep_schema.specs.declared.schema.Schema.{Schema}
-use Rattle.rep_declare.specs.declared.declaration.Declare.{Declare}
-use Rattle.rep_declare.specs.Refusals.{declare_refusal}
 use Rattle.script_parse.specs.declared.command.Command.{Command}
-use Rattle.script_parse.specs.declared.command.Command.TheVariants as command
-use Rattle.script_parse.specs.declared.proc_line.ProcLine.TheVariants as proc_line
 use Rattle.script_parse.specs.Parsed.{parsed}
 use Rattle.world_state.specs.declared.refused.Refused.{Refused}
 use Rattle.world_state.specs.World.{WorldState}
 use Rattle.world_state.specs.Refusals.{world_refusal}
-use Rattle.world_state.specs.Steps.{world_done, world_refused, world_step, step_by, step_refused, told_by}
-use Rattle.world_run.specs.Scripts.{script_step}
+use Rattle.world_state.specs.Steps.{world_refused, world_step, step_by, step_refused, told_by}
+use Rattle.world_run.specs.Scripts.{script_step, stepped_by}
 use Rattle.world.specs.Doing.{IsDone, IsOutOfMemory, IsRefused}
 use Rattle.world.specs.Texts.{told_text, line_text}
 use Rattle.script_steps.specs.Saying.{world_past, prints_at}
@@ -56,19 +50,19 @@ line_text-told number c w w' r told (inr refused) = sym (ap (λ (o : Option Refu
 -- the world behind a line that is a command, and behind one that is none
 pub world_past-command : (w : WorldState) (number : ℕ) (line : List ℕ) (c : Command) → parsed line ≡ Ok c → world_step number c w ≡ world_past w number line
 unfolding script_step
-world_past-command w number line c read = rw read refl
+world_past-command w number line c read = sym (ap (λ (r : Result Command ℕ). (stepped_by w number r).state) read)
 
 pub world_past-malformed : (w : WorldState) (number : ℕ) (line : List ℕ) (rule : ℕ) → parsed line ≡ Err rule → w ≡ world_past w number line
 unfolding script_step
-world_past-malformed w number line rule read = rw read refl
+world_past-malformed w number line rule read = sym (ap (λ (r : Result Command ℕ). (stepped_by w number r).state) read)
 
 -- what such a line prints, and what is said of it
 pub prints_at-command : (w : WorldState) (number : ℕ) (line : List ℕ) (c : Command) → parsed line ≡ Ok c → line_text number c w ≡ prints_at w number line
 unfolding script_step
-prints_at-command w number line c read = rw read refl
+prints_at-command w number line c read = sym (ap (λ (r : Result Command ℕ). (stepped_by w number r).prints) read)
 
 pub prints_at-malformed : (w : WorldState) (number : ℕ) (line : List ℕ) (rule : ℕ) → parsed line ≡ Err rule → malformed_text number rule ≡ prints_at w number line
 unfolding script_step
-prints_at-malformed w number line rule read = rw read refl
+prints_at-malformed w number line rule read = sym (ap (λ (r : Result Command ℕ). (stepped_by w number r).prints) read)
 
 pub ruleset past_facts = (world_past-command, world_past-malformed, prints_at-command, prints_at-malformed)

@@ -26,6 +26,11 @@ abbrev pub schema_with : Command → Schema → Option Schema
 schema_with (command.Declare declaration) schema = declared_unless (declare_refusal schema declaration) declaration schema
 schema_with other schema = None
 
+-- the schema where there may be another one in its place
+abbrev pub renewed : Option Schema → Schema → Schema
+renewed None old = old
+renewed (Some next) old = next
+
 -- what the engine said of the line of a number of which this came
 abbrev pub said_of : ℕ → Came → Option Answer
 said_of number (came.Done command lines) = None

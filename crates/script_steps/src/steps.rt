@@ -8,7 +8,7 @@ ghost use Rattle.world_state.specs.Steps.{world_step, step_refused};
 ghost use Rattle.world.specs.Texts.{line_text};
 ghost use Rattle.line_advice.specs.Mistakes.{ReadsLine};
 ghost use Rattle.script_steps.specs.Saying.{refused_so, said_at, world_past, prints_at};
-ghost use Rattle.script_steps.specs.Coming.{schema_with, said_of, printed_by, refused_in, text_in};
+ghost use Rattle.script_steps.specs.Coming.{schema_with, renewed, said_of, printed_by, refused_in, text_in};
 
 use crate::Came;
 use line_advice::{LineError, read_line};
@@ -79,6 +79,18 @@ fn schema_with(
     }
 }
 
+/// Puts another schema in the place of this one, if there is one.
+fn renew(schema: &mut Schema, next: Option<Schema>)
+    requires shape { HasShape schema.old }
+    requires next { IfSome next HasShape }
+    ensures value { schema.new ≡ renewed next schema.old }
+    ensures shape { HasShape schema.new }
+{
+    if let Some(next) = next {
+        *schema = next;
+    }
+}
+
 impl Steps {
     /// No line yet.
     pub fn make(alloc: Global) -> Result<Steps, NoMemory>
@@ -121,10 +133,7 @@ impl Steps {
         let next = schema_with(alloc, &self.schema, command)?;
         match self.world.step(alloc, number, command) {
             Ok(lines) => {
-                let Some(schema) = next else {
-                    return Ok(Ok(lines));
-                };
-                self.schema = schema;
+                renew(&mut self.schema, next);
                 Ok(Ok(lines))
             }
             Err(refused) => {
