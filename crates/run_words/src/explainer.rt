@@ -338,9 +338,9 @@ impl Explainer {
     {
         match (refused.refusal, cause) {
             (Refusal::WrongPhase, Some(cause)) => self.add_cause(refused.line, cause, text),
-            (Refusal::UnknownName, _) => self.add_unknown(command, refused, text),
+            (Refusal::UnknownName, _) => self.add_unknown(command, text),
             (Refusal::StillFails(_), _) => self.add_failing(alloc, command, refused, text),
-            (Refusal::SchemaRule(_), _) => self.add_broken(alloc, command, refused, text),
+            (Refusal::SchemaRule(rule), _) => self.add_broken(alloc, command, rule, text),
             (refusal, _) => Ok(add_note(text, &RefusalNote { command, refusal })?),
         }
     }
@@ -370,7 +370,6 @@ impl Explainer {
     fn add_unknown(
         &self,
         command: &Command,
-        refused: &Refused,
         text: &mut String,
     ) -> Result<(), NoMemory> {
         match unknown(self.steps.schema(), command) {
@@ -384,33 +383,32 @@ impl Explainer {
             )?,
             None => add_note(
                 text,
-                &RefusalNote {
-                    command,
-                    refusal: refused.refusal,
-                },
+                &format_args!(
+                    "what it names is declared, but not for this: a site pushes and sends to others alone, and not every site and table has each use"
+                ),
             )?,
         }
         Ok(())
     }
 
-    /// Appends which tables and groups break rules of schemas.
+    /// Appends which tables and groups break rules of schemas, where a command was refused for one.
     fn add_broken(
         &self,
         alloc: Global,
         command: &Command,
-        refused: &Refused,
+        told: u8,
         text: &mut String,
     ) -> Result<(), NoMemory> {
         add_note(
             text,
             &RefusalNote {
                 command,
-                refusal: refused.refusal,
+                refusal: Refusal::SchemaRule(told),
             },
         )?;
         let parts = broken_parts(alloc, self.steps.schema())?;
         for part in parts.as_slice() {
-            add_part(text, part)?;
+            add_part(text, told, part)?;
         }
         Ok(())
     }
@@ -452,17 +450,20 @@ impl Explainer {
     }
 }
 
-/// Appends which table or group breaks a rule.
-fn add_part(text: &mut String, part: &BrokenPart) -> Result<(), AllocError> {
+/// Appends which table or group breaks a rule, and what that asks for where it is another one than was told.
+fn add_part(text: &mut String, told: u8, part: &BrokenPart) -> Result<(), AllocError> {
     let rule = part.rule;
     let table = part.table.0;
-    let asked = rule_text(rule).unwrap_or("see the rules of schemas");
     match part.group {
         Some(group) => add_note(
             text,
-            &format_args!("group {group} of {table} breaks rule {rule}: {asked}"),
-        ),
-        None => add_note(text, &format_args!("{table} breaks rule {rule}: {asked}")),
+            &format_args!("group {group} of {table} breaks rule {rule}"),
+        )?,
+        None => add_note(text, &format_args!("{table} breaks rule {rule}"))?,
+    }
+    match rule_text(rule) {
+        Some(asked) if rule != told => add_note(text, &format_args!("rule {rule}: {asked}")),
+        _ => Ok(()),
     }
 }
 
