@@ -35,10 +35,11 @@ pub enum Next {
     Ends,
 }
 
-/// A refusal that was told in full: its cause, and its line.
+/// A refusal that was told in full: its cause, the line that brought that about, if one did, and its own line.
 #[derive(Clone, Copy)]
 struct Refusing {
     cause: Cause,
+    first: Option<u32>,
     line: u32,
 }
 
@@ -313,7 +314,9 @@ impl Explainer {
     {
         let mut text = String::new(alloc);
         let cause = self.flow.cause(command);
-        self.flow.refused(number, command);
+        if self.flow.open_block().is_none() || !opens_block(command) {
+            self.flow.refused(number, command);
+        }
         add_note(&mut text, &LineText(line_at(script, refused.line)))?;
         if refused.line != number {
             add_note(
@@ -349,15 +352,16 @@ impl Explainer {
     fn add_cause(&mut self, line: u32, cause: Cause, text: &mut String) -> Result<(), NoMemory>
         ensures { self.new ≡ self.old }
     {
+        let first = self.flow.first_cause(cause);
         if let Some(told) = self.told {
-            if told.cause == cause {
+            if told.cause == cause && told.first == first {
                 add_note(text, &format_args!("for the cause of line {}", told.line))?;
                 return Ok(());
             }
         }
-        self.told = Some(Refusing { cause, line });
+        self.told = Some(Refusing { cause, first, line });
         add_note(text, &cause)?;
-        if let Some(first) = self.flow.first_cause(cause) {
+        if let Some(first) = first {
             add_note(
                 text,
                 &format_args!("line {first} was to do that, and was refused"),
@@ -367,11 +371,7 @@ impl Explainer {
     }
 
     /// Appends which name stands for nothing.
-    fn add_unknown(
-        &self,
-        command: &Command,
-        text: &mut String,
-    ) -> Result<(), NoMemory> {
+    fn add_unknown(&self, command: &Command, text: &mut String) -> Result<(), NoMemory> {
         match unknown(self.steps.schema(), command) {
             Some(named) => add_note(
                 text,
@@ -465,6 +465,14 @@ fn add_part(text: &mut String, told: u8, part: &BrokenPart) -> Result<(), AllocE
         Some(asked) if rule != told => add_note(text, &format_args!("rule {rule}: {asked}")),
         _ => Ok(()),
     }
+}
+
+/// Whether a command is to open a block.
+fn opens_block(command: &Command) -> bool {
+    if let Command::Txn { .. } | Command::Procedures(ProcLine::Calls { .. }) = command {
+        return true;
+    }
+    false
 }
 
 /// The line of a refusal.

@@ -6,7 +6,8 @@ use page_tables::PageTables;
 use rep_calls::{Call, Part};
 use rep_lists::NoMemory;
 use rep_schema::{
-    Column, Kind, Method, RowStore, SHADOW, TableEntry, has_place, is_grouped, is_in_range, named_columns,
+    Column, Kind, Method, RowStore, SHADOW, TableEntry, has_place, is_grouped, is_in_range,
+    named_columns,
 };
 use rep_values::{ApplyError, Key, Row, SiteName, Value};
 use schema_advice::method_word;
