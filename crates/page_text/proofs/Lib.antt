@@ -1,4 +1,0 @@
--- The lemmas of this crate.
-pub mod Putting
-mod Texts
-mod Pages

@@ -1,4 +1,0 @@
--- The definitions of this crate.
-pub mod Marks
-pub mod Folding
-pub mod Drawn
