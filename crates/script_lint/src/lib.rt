@@ -7,13 +7,13 @@ mod error;
 mod findings;
 mod laws;
 mod level;
-mod lint;
 mod linter;
 mod trail;
+mod whole;
 
 pub use advice::{Advice, AdviceFound};
 pub use error::{ErrorFound, Why};
 pub use findings::Findings;
 pub use laws::malformed_lines_end_runs;
 pub use level::Level;
-pub use lint::lint;
+pub use whole::lint;

@@ -139,9 +139,9 @@ impl Trail {
     }
 
     /// The place of the error that told of this cause.
-    fn told_cause(&self, cause: Cause) -> Option<usize> {
+    fn told_cause(&self, cause: &Cause) -> Option<usize> {
         for (told, place) in self.causes.as_slice() {
-            if *told == cause {
+            if told == cause {
                 return Some(*place);
             }
         }
@@ -194,21 +194,33 @@ impl Trail {
         command
     }
 
-    /// What is told of a command that isn't for now.
-    fn not_now(&mut self, cause: Option<Cause>, command: Command) -> Result<Note, NoMemory> {
-        let Some(cause) = cause else {
-            let refusal = Refusal::WrongPhase;
-            return Ok(Note::of(Why::Refused { command, refusal }, None));
-        };
-        let first = match self.flow.first_cause(cause) {
-            Some(failed) => self.error_at(failed),
+    /// The place of the error that a cause goes back to: the line that brought it about, or the first that it hindered.
+    fn first_of(&self, cause: &Cause) -> Option<usize> {
+        let failed = match self.flow.first_cause(*cause) {
+            Some(line) => self.error_at(line),
             None => None,
         };
-        let first = first.or(self.told_cause(cause));
+        failed.or(self.told_cause(cause))
+    }
+
+    /// What is told of a command that a cause hinders.
+    fn hindered(&mut self, cause: &Cause) -> Result<Note, NoMemory> {
+        let first = self.first_of(cause);
         if first.is_none() {
-            self.causes.push((cause, self.lines.len()))?;
+            self.causes.push((*cause, self.lines.len()))?;
         }
-        Ok(Note::of(Why::NotNow(cause), first))
+        Ok(Note::of(Why::NotNow(*cause), first))
+    }
+
+    /// What is told of a command that isn't for now.
+    fn not_now(&mut self, cause: Option<Cause>, command: Command) -> Result<Note, NoMemory> {
+        match cause {
+            Some(cause) => self.hindered(&cause),
+            None => {
+                let refusal = Refusal::WrongPhase;
+                Ok(Note::of(Why::Refused { command, refusal }, None))
+            }
+        }
     }
 
     /// What is told of a command with a name that stands for nothing.
