@@ -1,6 +1,6 @@
 -- One line more of a run.
 use Rattle.std.proofs.Common.{◌≡◌, ◌<◌, ◌≤◌, ℕ, ◌+◌, Bool, true, false, List, [], ◌∷◌, ◌++◌, length, refl, sym, ap, ◌∙◌, arith, append_assoc, append-nil}
-use Rattle.std.specs.Prelude.{◌||◌, if◌then◌else◌, ⊥, Option, Some, None, Result, Ok, Err}
+use Rattle.std.specs.Prelude.{◌||◌, if◌then◌else◌, Option, Some, None, Result, Ok, Err}
 use Rattle.script_drive.specs.Runs.{Stepped, printed, is_stopped}
 use Rattle.report_text.specs.Texts.{malformed_text}
 use Rattle.script_parse.specs.declared.command.Command.{Command}
@@ -30,11 +30,11 @@ pub ruleset line_facts = (world_past-command, world_past-malformed, prints_at-co
 
 -- ---- a command that was read
 
-is_broken : Verdict → Bool
+abbrev is_broken : Verdict → Bool
 is_broken (verdict.Malformed rule) = true
 is_broken (verdict.Refused refusal) = false
 
-says_broken : Option Answer → Bool
+abbrev says_broken : Option Answer → Bool
 says_broken None = false
 says_broken (Some answer) = is_broken answer.verdict
 

@@ -35,10 +35,11 @@ pub enum Next {
     Ends,
 }
 
-/// A refusal that was told in full: its cause, and its line.
+/// A refusal that was told in full: its cause, the line that brought that about, if one did, and its own line.
 #[derive(Clone, Copy)]
 struct Refusing {
     cause: Cause,
+    first: Option<u32>,
     line: u32,
 }
 
@@ -313,7 +314,9 @@ impl Explainer {
     {
         let mut text = String::new(alloc);
         let cause = self.flow.cause(command);
-        self.flow.refused(number, command);
+        if self.flow.open_block().is_none() || !opens_block(command) {
+            self.flow.refused(number, command);
+        }
         add_note(&mut text, &LineText(line_at(script, refused.line)))?;
         if refused.line != number {
             add_note(
@@ -338,9 +341,9 @@ impl Explainer {
     {
         match (refused.refusal, cause) {
             (Refusal::WrongPhase, Some(cause)) => self.add_cause(refused.line, cause, text),
-            (Refusal::UnknownName, _) => self.add_unknown(command, refused, text),
+            (Refusal::UnknownName, _) => self.add_unknown(command, text),
             (Refusal::StillFails(_), _) => self.add_failing(alloc, command, refused, text),
-            (Refusal::SchemaRule(_), _) => self.add_broken(alloc, command, refused, text),
+            (Refusal::SchemaRule(rule), _) => self.add_broken(alloc, command, rule, text),
             (refusal, _) => Ok(add_note(text, &RefusalNote { command, refusal })?),
         }
     }
@@ -349,15 +352,16 @@ impl Explainer {
     fn add_cause(&mut self, line: u32, cause: Cause, text: &mut String) -> Result<(), NoMemory>
         ensures { self.new ≡ self.old }
     {
+        let first = self.flow.first_cause(cause);
         if let Some(told) = self.told {
-            if told.cause == cause {
+            if told.cause == cause && told.first == first {
                 add_note(text, &format_args!("for the cause of line {}", told.line))?;
                 return Ok(());
             }
         }
-        self.told = Some(Refusing { cause, line });
+        self.told = Some(Refusing { cause, first, line });
         add_note(text, &cause)?;
-        if let Some(first) = self.flow.first_cause(cause) {
+        if let Some(first) = first {
             add_note(
                 text,
                 &format_args!("line {first} was to do that, and was refused"),
@@ -367,12 +371,7 @@ impl Explainer {
     }
 
     /// Appends which name stands for nothing.
-    fn add_unknown(
-        &self,
-        command: &Command,
-        refused: &Refused,
-        text: &mut String,
-    ) -> Result<(), NoMemory> {
+    fn add_unknown(&self, command: &Command, text: &mut String) -> Result<(), NoMemory> {
         match unknown(self.steps.schema(), command) {
             Some(named) => add_note(
                 text,
@@ -384,33 +383,32 @@ impl Explainer {
             )?,
             None => add_note(
                 text,
-                &RefusalNote {
-                    command,
-                    refusal: refused.refusal,
-                },
+                &format_args!(
+                    "what it names is declared, but not for this: a site pushes and sends to others alone, and not every site and table has each use"
+                ),
             )?,
         }
         Ok(())
     }
 
-    /// Appends which tables and groups break rules of schemas.
+    /// Appends which tables and groups break rules of schemas, where a command was refused for one.
     fn add_broken(
         &self,
         alloc: Global,
         command: &Command,
-        refused: &Refused,
+        told: u8,
         text: &mut String,
     ) -> Result<(), NoMemory> {
         add_note(
             text,
             &RefusalNote {
                 command,
-                refusal: refused.refusal,
+                refusal: Refusal::SchemaRule(told),
             },
         )?;
         let parts = broken_parts(alloc, self.steps.schema())?;
         for part in parts.as_slice() {
-            add_part(text, part)?;
+            add_part(text, told, part)?;
         }
         Ok(())
     }
@@ -452,18 +450,29 @@ impl Explainer {
     }
 }
 
-/// Appends which table or group breaks a rule.
-fn add_part(text: &mut String, part: &BrokenPart) -> Result<(), AllocError> {
+/// Appends which table or group breaks a rule, and what that asks for where it is another one than was told.
+fn add_part(text: &mut String, told: u8, part: &BrokenPart) -> Result<(), AllocError> {
     let rule = part.rule;
     let table = part.table.0;
-    let asked = rule_text(rule).unwrap_or("see the rules of schemas");
     match part.group {
         Some(group) => add_note(
             text,
-            &format_args!("group {group} of {table} breaks rule {rule}: {asked}"),
-        ),
-        None => add_note(text, &format_args!("{table} breaks rule {rule}: {asked}")),
+            &format_args!("group {group} of {table} breaks rule {rule}"),
+        )?,
+        None => add_note(text, &format_args!("{table} breaks rule {rule}"))?,
     }
+    match rule_text(rule) {
+        Some(asked) if rule != told => add_note(text, &format_args!("rule {rule}: {asked}")),
+        _ => Ok(()),
+    }
+}
+
+/// Whether a command is to open a block.
+fn opens_block(command: &Command) -> bool {
+    if let Command::Txn { .. } | Command::Procedures(ProcLine::Calls { .. }) = command {
+        return true;
+    }
+    false
 }
 
 /// The line of a refusal.

@@ -6,7 +6,8 @@ use page_tables::PageTables;
 use rep_calls::{Call, Part};
 use rep_lists::NoMemory;
 use rep_schema::{
-    Column, Kind, RowStore, SHADOW, TableEntry, has_place, is_grouped, is_in_range, named_columns,
+    Column, Kind, Method, RowStore, SHADOW, TableEntry, has_place, is_grouped, is_in_range,
+    named_columns,
 };
 use rep_values::{ApplyError, Key, Row, SiteName, Value};
 use schema_advice::method_word;
@@ -38,18 +39,40 @@ fn key_values(alloc: Global, table: &TableEntry, row: &Row) -> Result<Vec<Value>
     Ok(values)
 }
 
-/// What the sum of both changes would be, where all three are numbers and it is in their range.
+/// What the sum of both changes would be, where all three are numbers.
 fn added(old: &Value, new: &Value, here: &Value) -> Option<i64> {
     let (Value::Num(old), Value::Num(new), Value::Num(here)) = (old, new, here) else {
         return None;
     };
-    let sum = new.checked_sub(*old)?.checked_add(*here)?;
-    if is_in_range(sum) { Some(sum) } else { None }
+    new.checked_sub(*old)?.checked_add(*here)
+}
+
+/// Whether sums are of interest: the group's method adds, or a method that adds could settle the conflict.
+#[derive(Clone, Copy)]
+enum Adding {
+    Did,
+    Could,
+    No,
+}
+
+/// Whether sums are of interest for a part of a table where this error stands.
+fn adding_of(table: &TableEntry, part: &Part, error: &ApplyError) -> Adding {
+    if let ApplyError::UpdateConflict(_) = error {
+        return Adding::Could;
+    }
+    let Some(group) = table.groups.as_slice().get(part.group as usize) else {
+        return Adding::No;
+    };
+    match group.methods.as_slice() {
+        [Method::Additive] => Adding::Did,
+        _ => Adding::No,
+    }
 }
 
 /// One column of a part that was refused.
 #[derive(Clone, Copy)]
 struct Cell<'a> {
+    adding: Adding,
     column: &'a Column,
     old: &'a Value,
     new: &'a Value,
@@ -61,6 +84,23 @@ fn sum_of(cell: &Cell<'_>, here: &Value) -> Option<i64> {
     match cell.column.kind {
         Kind::Number => added(cell.old, cell.new, here),
         Kind::Words | Kind::Date | Kind::Stamp | Kind::Site => None,
+    }
+}
+
+/// Tells what `additive` makes of a column, or would.
+fn add_sum(text: &mut String, cell: &Cell<'_>, here: &Value) -> Result<(), AllocError> {
+    let Some(sum) = sum_of(cell, here) else {
+        return Ok(());
+    };
+    match cell.adding {
+        Adding::Did => writeln!(text, "            `additive` makes {sum} of it"),
+        Adding::Could if is_in_range(sum) => writeln!(
+            text,
+            "            `additive` would make {sum} of it, `overwrite` {}, `discard` {}",
+            ValueText(cell.new),
+            ValueText(here)
+        ),
+        Adding::Could | Adding::No => Ok(()),
     }
 }
 
@@ -81,13 +121,7 @@ fn add_cell(
                 text,
                 "        {column}: {origin} saw {old} and wrote {new}; {here} has {present} now"
             )?;
-            match sum_of(cell, value) {
-                Some(sum) => writeln!(
-                    text,
-                    "            `additive` would make {sum} of it, `overwrite` {new}, `discard` {present}"
-                ),
-                None => Ok(()),
-            }
+            add_sum(text, cell, value)
         }
         None => writeln!(
             text,
@@ -99,12 +133,14 @@ fn add_cell(
 /// Tells of each column of a part.
 fn add_part(
     text: &mut String,
-    origin: &SiteName,
+    entry: &ErrorEntry,
     here: &SiteName,
     table: &TableEntry,
     part: &Part,
     row: Option<&Row>,
 ) -> Result<(), AllocError> {
+    let origin = &entry.origin;
+    let adding = adding_of(table, part, &entry.error);
     let mut at = 0usize;
     for (place, column) in table.columns.iter().enumerate() {
         if !is_in_group(table, part.group, place, column) {
@@ -116,6 +152,7 @@ fn add_part(
                 None => None,
             };
             let cell = Cell {
+                adding,
                 column,
                 old,
                 new,
@@ -185,7 +222,7 @@ fn add_update(
         if !is_meant(named, part, &entry.error) {
             continue;
         }
-        add_part(text, &entry.origin, here.name, named, part, row)?;
+        add_part(text, entry, here.name, named, part, row)?;
         if let ApplyError::UpdateConflict(_) = entry.error {
             add_methods(text, named, part.group)?;
         }

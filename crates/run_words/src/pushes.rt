@@ -206,9 +206,13 @@ impl Pushed {
     /// Tells of each transaction that the receiver did in this push, and the push didn't send.
     fn add_others(&self, site: &Site<PageTables>, text: &mut String) -> Result<(), AllocError> {
         for place in self.plan.seen..site.journal_len() {
-            if let Some(Entry::Done {
-                origin, position, ..
-            }) = site.journal(place)
+            if let Some(
+                Entry::Done {
+                    origin,
+                    position,
+                    ..
+                },
+            ) = site.journal(place)
             {
                 if !self.plan.sends(origin, *position) {
                     add_late(text, &self.plan.from, origin, *position)?;

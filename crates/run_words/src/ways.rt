@@ -38,9 +38,7 @@ impl Ways {
     }
 
     fn place_of(&self, from: &SiteName, to: &SiteName) -> Option<usize> {
-        self.ways
-            .iter()
-            .position(|way| way.is_between(from, to))
+        self.ways.iter().position(|way| way.is_between(from, to))
     }
 
     /// The place of a direction, which is added where no line has told of it.
