@@ -3,10 +3,43 @@ ghost use Rattle.std.specs.Prelude.{◌≡◌, map, IfOk};
 ghost use Rattle.script_lint.specs.Checking.{script_checked};
 ghost use Rattle.script_lint.specs.Adding.{answer_of};
 
-use crate::Findings;
 use crate::linter::Linter;
+use crate::{AdviceFound, Findings};
 use rep_lists::{Copies, NoMemory};
+use rep_schema::Schema;
 use std::alloc::Global;
+
+impl Linter {
+    /// What is left at the end of the script: what may be meant otherwise, and what is declared.
+    fn left(&self, alloc: Global) -> Result<(Vec<AdviceFound>, Schema), NoMemory> {
+        let advice = self.advice(alloc)?;
+        let schema = self.steps.schema().copy(alloc)?;
+        Ok((advice, schema))
+    }
+
+    /// All that is found, with what is left.
+    fn into_findings(self, advice: Vec<AdviceFound>, schema: Schema) -> Findings
+        ensures errors { map answer_of result.errors.items ≡ self.answers }
+        ensures parts { result.parts.items ≡ self.parts }
+    {
+        let Linter {
+            steps: _steps,
+            trail,
+            errors,
+            parts,
+        } = self;
+        Findings::make(errors, parts, advice, trail.into_parts(), schema)
+    }
+
+    /// All that is found, at the end of the script.
+    fn finish(self, alloc: Global) -> Result<Findings, NoMemory>
+        ensures errors { IfOk result (λ found. map answer_of found.errors.items ≡ self.answers) }
+        ensures parts { IfOk result (λ found. found.parts.items ≡ self.parts) }
+    {
+        let (advice, schema) = self.left(alloc)?;
+        Ok(self.into_findings(advice, schema))
+    }
+}
 
 /// Looks at each line of a script, at one that is malformed or refused too, and at what is left at its end.
 ///
@@ -18,13 +51,5 @@ pub fn lint(alloc: Global, script: &[u8]) -> Result<Findings, NoMemory>
 {
     let mut linter = Linter::make(alloc)?;
     linter.take_script(alloc, script)?;
-    let advice = linter.advice(alloc)?;
-    let schema = linter.steps.schema().copy(alloc)?;
-    let Linter {
-        steps: _steps,
-        trail,
-        errors,
-        parts,
-    } = linter;
-    Ok(Findings::make(errors, parts, advice, trail.into_parts(), schema))
+    linter.finish(alloc)
 }
