@@ -145,16 +145,32 @@ impl Explainer {
         let plan = self.planned(&command);
         match self.steps.take_command(alloc, number, command)? {
             Came::Done(command, lines) => {
-                self.flow.done(number, &command)?;
-                self.ways.done(alloc, &command)?;
-                let pushed = self.fared(alloc, plan)?;
-                self.tell_done(alloc, &command, &pushed, lines.bytes(), told)
+                self.note_done(alloc, number, &command, plan, lines.bytes(), told)
             }
             Came::Refused(command, refused) => {
                 self.tell_refused(alloc, script, number, &command, &refused, told)
             }
             Came::Malformed(_) => unreachable!(),
         }
+    }
+
+    /// Notes that a command was done, and tells what it printed, with words.
+    fn note_done(
+        &mut self,
+        alloc: Global,
+        number: u32,
+        command: &Command,
+        plan: Option<Plan>,
+        bytes: &[u8],
+        told: &mut Told,
+    ) -> Result<(), NoMemory>
+        ensures world { self.new ≡ self.old }
+        ensures told { OnOk result (told.new ≡ told.old ++ bytes.now) }
+    {
+        self.flow.done(number, command)?;
+        self.ways.done(alloc, command)?;
+        let pushed = self.fared(alloc, plan)?;
+        self.tell_done(alloc, command, &pushed, bytes, told)
     }
 
     /// What a push is about to send.

@@ -16,13 +16,18 @@ use std::alloc::Global;
 /// The greatest number of lines of a script.
 const MOST_LINES: u32 = 200_000;
 
-/// Runs a script, and tells what the run prints, with words behind what wants some; and answers whether a line ended the run.
+/// Runs the lines of a script, of which none was run yet, as `explain` does.
 #[tactic(auto, using(crate::proofs::RunLemmas::run_facts))]
-pub fn explain(alloc: Global, script: &[u8], told: &mut Told) -> Result<Next, NoMemory>
+fn explain_lines(
+    explainer: &mut Explainer,
+    alloc: Global,
+    script: &[u8],
+    told: &mut Told,
+) -> Result<Next, NoMemory>
+    requires { explainer.old ≡ first_world }
     ensures told { OnOk result (told.new ≡ told.old ++ script_report script.now) }
     ensures next { IfOk result (λ next. is_end next ≡ is_ended_early (line_step script_step) first_world script.now) }
 {
-    let mut explainer = Explainer::make(alloc)?;
     let mut left = script;
     let mut number = 1u32;
     while !left.is_empty() {
@@ -38,4 +43,13 @@ pub fn explain(alloc: Global, script: &[u8], told: &mut Told) -> Result<Next, No
         left = behind;
     }
     Ok(Next::GoesOn)
+}
+
+/// Runs a script, and tells what the run prints, with words behind what wants some; and answers whether a line ended the run.
+pub fn explain(alloc: Global, script: &[u8], told: &mut Told) -> Result<Next, NoMemory>
+    ensures told { OnOk result (told.new ≡ told.old ++ script_report script.now) }
+    ensures next { IfOk result (λ next. is_end next ≡ is_ended_early (line_step script_step) first_world script.now) }
+{
+    let mut explainer = Explainer::make(alloc)?;
+    explain_lines(&mut explainer, alloc, script, told)
 }

@@ -5,7 +5,7 @@ use Rattle.script_drive.specs.LineBytes.{line_step}
 use Rattle.world_state.specs.World.{first_world}
 use Rattle.world_run.specs.Scripts.{script_step, script_report}
 use Rattle.run_words.proofs.RunLemmas.{to_print, to_stop}
-use Rattle.run_words.proofs.script.explain.Given as goal
+use Rattle.run_words.proofs.script.explain_lines.Given as goal
 
 abbrev pub invariant-loop-left : goal.invariant-loop-left
 invariant-loop-left l = record {
