@@ -1,3 +1,3 @@
 -- The lemmas of this crate.
-mod Reading
+mod Pieces
 mod Ends

@@ -11,7 +11,7 @@ use std::alloc::Global;
 const PIECE: usize = 4_096;
 
 /// All bytes of a source, or why they can't be had: it failed, or there is no memory.
-#[tactic(auto, using(crate::proofs::Reading::reading_facts))]
+#[tactic(auto, using(crate::proofs::Pieces::reading_facts))]
 pub fn read_whole<S: Source>(alloc: Global, source: &mut S) -> Result<Vec<u8>, Status>
     ensures whole { IfOk result (λ bytes. ReadsAll (S.left source.old) (S.left source.new) bytes.items) }
     ensures read { IfErr result (λ why. why ≡ Status.ReadFault → Rose (S.faults source.old) (S.faults source.new)) }
