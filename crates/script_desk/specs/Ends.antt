@@ -1,5 +1,5 @@
 -- How a run of the program ends.
-use Rattle.std.specs.Prelude.{◌≡◌, ◌≢◌, ◌⊎◌, ⊥, ℕ, List, [], Option, true, false}
+use Rattle.std.specs.Prelude.{◌≡◌, ◌≢◌, ◌⊎◌, ℕ, List, [], Option, true, false}
 use Rattle.std.specs.Io.KnownBytes.{Consumes, IsAtEnd}
 use Rattle.script_drive.specs.declared.status.Status.{Status}
 use Rattle.script_drive.specs.declared.status.Status.TheVariants as status
@@ -11,7 +11,7 @@ use Rattle.script_lint.specs.Checking.{script_checked}
 
 -- where they are told, these bytes are all that were left, and no more are
 pub record ReadsAll (before after : Option (List ℕ)) (bytes : List ℕ) : Type 0 where
-  pub bytes : Consumes before after bytes
+  pub front : Consumes before after bytes
   pub end : IsAtEnd after
 
 -- the status of a run that wasn't hindered from outside
