@@ -129,7 +129,6 @@ impl Explainer {
     }
 
     /// Does a command, and tells what that prints, with words.
-    #[tactic(auto, using(crate::proofs::RunLemmas::no_rule))]
     fn step(
         &mut self,
         alloc: Global,
