@@ -8,4 +8,4 @@ use Rattle.run_words.proofs.explainer.Explainer.step.Goals as goal
 pub unreachable-requires : goal.unreachable-requires
 unreachable-requires c =
     no_rule c.args.number c.in-Malformed.field-0.rule (step_refused c.args.number c.args.command c.self.inside.steps)
-      (sym (ap (said_of c.args.number) c.in-Malformed.is) ∙ c.in_ok-command.ensures.said)
+    (sym (ap (said_of c.args.number) c.in-Malformed.is) ∙ c.in_ok-command.ensures.said)
