@@ -30,6 +30,8 @@ where
 {
     // A job that nobody has taken yet.
     offered: Option<Job<R>>,
+    // The worker waits for a job.
+    waits: bool,
     // The worker is at a job.
     at_work: bool,
     // No job comes any more.
@@ -51,6 +53,7 @@ impl<R: RowStore> Seat<R> {
     pub(crate) fn new() -> Seat<R> {
         let desk = Desk {
             offered: None,
+            waits: false,
             at_work: false,
             closed: false,
         };
@@ -60,14 +63,24 @@ impl<R: RowStore> Seat<R> {
         }
     }
 
-    /// Offers a job to the worker. Where another one lies there, the worker is at one, or the seat is closed, it is let go.
+    /// Lays a job on the desk, for a worker who is called later. Where another one lies there, the worker is at one, or the seat is
+    /// closed, it is let go.
     pub(crate) fn offer<X: Wait>(&self, rt: &X, job: Job<R>) {
         let mut desk = self.desk.lock(rt);
         if desk.offered.is_none() && !desk.at_work && !desk.closed {
             desk.offered = Some(job);
         }
+    }
+
+    /// Calls the worker, where it waits and a job lies there, and answers whether it does.
+    pub(crate) fn call<X: Wait>(&self, rt: &X) -> bool {
+        let desk = self.desk.lock(rt);
+        let comes = desk.waits && desk.offered.is_some();
         drop(desk);
-        self.changed.notify_all();
+        if comes {
+            self.changed.notify_all();
+        }
+        comes
     }
 
     /// Waits for a job. None once the seat is closed.
@@ -75,12 +88,14 @@ impl<R: RowStore> Seat<R> {
         let mut desk = self.desk.lock(rt);
         for _ in rt.forever() {
             if let Some(job) = desk.offered.take() {
+                desk.waits = false;
                 desk.at_work = true;
                 return Some(job);
             }
             if desk.closed {
                 return None;
             }
+            desk.waits = true;
             desk = self.changed.wait(rt, desk);
         }
         unreachable!()

@@ -39,13 +39,19 @@ where
 }
 
 /// Waits at a seat, and works as the applier that each job names, until the seat is closed.
-fn serve<R: RowStore, X: Wait, W: Watch>(rt: &X, alloc: Global, seat: &Seat<R>, watch: &W) {
+fn serve<R: RowStore, X: Wait, W: Watch>(
+    rt: &X,
+    alloc: Global,
+    workers: &Workers<R>,
+    seat: &Seat<R>,
+    watch: &W,
+) {
     for _ in rt.forever() {
         let Some(job) = seat.take(rt) else {
             return;
         };
         let Job { gate, applier } = job;
-        let pass = work(rt, alloc, &*gate, watch, applier);
+        let pass = work(rt, alloc, workers, &*gate, watch, applier);
         drop(pass);
         drop(gate);
         seat.leave(rt);
@@ -112,6 +118,15 @@ impl<R: RowStore> Workers<R> {
         }
     }
 
+    /// Calls the next worker behind an applier who waits where a job lies.
+    pub(crate) fn call_next<X: Wait>(&self, rt: &X, applier: u32) {
+        for place in applier as usize..self.seats.len() {
+            if self.seats[place].call(rt) {
+                return;
+            }
+        }
+    }
+
     // Waits until no worker is at a job, and takes back what wasn't taken.
     fn clear<X: Wait>(&self, rt: &X) {
         for seat in &self.seats {
@@ -157,7 +172,7 @@ impl<R: RowStore> Workers<R> {
             number: 0,
             pass: gate.split(&mut pass),
         };
-        drop(work(rt, alloc, &*gate, watch, applier));
+        drop(work(rt, alloc, self, &*gate, watch, applier));
         self.clear(rt);
         let Turn { value: crew, .. } = gate.enter(rt, pass);
         crew.into_site()
@@ -210,7 +225,7 @@ fn serve_all<R: RowStore, X: Threads + Wait + Sync, W: Watch>(
     let seats = workers.seats.as_slice();
     let one = |place: usize|
         requires { place < length seats.now }
-    { serve(rt, alloc, &seats[place], watch) };
+    { serve(rt, alloc, workers, &seats[place], watch) };
     drop(thread::map_indices(rt, alloc, seats.len(), &one));
 }
 
