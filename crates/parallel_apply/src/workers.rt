@@ -38,14 +38,17 @@ where
     ghost few: { vec_len seats < 8 },
 }
 
-/// Waits at a seat, and works as the applier that each job names, until the seat is closed.
+/// Waits at the seat of a place, and works as the applier that each job names, until the seat is closed.
 fn serve<R: RowStore, X: Wait, W: Watch>(
     rt: &X,
     alloc: Global,
     workers: &Workers<R>,
-    seat: &Seat<R>,
+    place: usize,
     watch: &W,
 ) {
+    let Some(seat) = workers.seats.get(place) else {
+        return;
+    };
     for _ in rt.forever() {
         let Some(job) = seat.take(rt) else {
             return;
@@ -121,7 +124,10 @@ impl<R: RowStore> Workers<R> {
     /// Calls the next worker behind an applier who waits where a job lies.
     pub(crate) fn call_next<X: Wait>(&self, rt: &X, applier: u32) {
         for place in applier as usize..self.seats.len() {
-            if self.seats[place].call(rt) {
+            let Some(seat) = self.seats.get(place) else {
+                return;
+            };
+            if seat.call(rt) {
                 return;
             }
         }
@@ -222,11 +228,10 @@ fn serve_all<R: RowStore, X: Threads + Wait + Sync, W: Watch>(
     workers: &Workers<R>,
     watch: &W,
 ) {
-    let seats = workers.seats.as_slice();
-    let one = |place: usize|
-        requires { place < length seats.now }
-    { serve(rt, alloc, workers, &seats[place], watch) };
-    drop(thread::map_indices(rt, alloc, seats.len(), &one));
+    let one = |place: usize| {
+        serve(rt, alloc, workers, place, watch)
+    };
+    drop(thread::map_indices(rt, alloc, workers.seats.len(), &one));
 }
 
 /// Makes a call while a thread serves at each seat of workers. The threads end behind the call, and the seats are closed then: a
