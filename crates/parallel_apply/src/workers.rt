@@ -228,9 +228,7 @@ fn serve_all<R: RowStore, X: Threads + Wait + Sync, W: Watch>(
     workers: &Workers<R>,
     watch: &W,
 ) {
-    let one = |place: usize| {
-        serve(rt, alloc, workers, place, watch)
-    };
+    let one = |place: usize| { serve(rt, alloc, workers, place, watch) };
     drop(thread::map_indices(rt, alloc, workers.seats.len(), &one));
 }
 
