@@ -1,6 +1,7 @@
 -- One statement after another.
-use Rattle.std.proofs.Common.{◌≡◌, ◌⊎◌, ℕ, ◌+◌, ◌<◌, ◌≤◌, List, [], ◌∷◌, ◌++◌, length, drop, Ok, Err, refl, sym, ap, ◌∙◌, subst, inl, inr, arith, append_assoc, append-nil}
+use Rattle.std.proofs.Common.{◌≡◌, ◌⊎◌, ℕ, ◌+◌, ◌≤◌, List, [], ◌∷◌, ◌++◌, length, drop, Ok, Err, refl, sym, ap, ◌∙◌, subst, inl, inr, arith, append_assoc, append-nil}
 use Rattle.std.specs.Prelude.{None, Result}
+use Rattle.rep_values.specs.declared.refusal.Refusal.{Refusal}
 use Rattle.rep_schema.specs.declared.schema.Schema.{Schema}
 use Rattle.rep_schema.specs.declared.change.Change.{Change}
 use Rattle.rep_schema.specs.Shape.{HasShape}
@@ -16,11 +17,9 @@ use Rattle.txn_effects.specs.Laws.{IsApplied}
 use Rattle.txn_effects.proofs.TransactionEffects.{IsApplied-then}
 use Rattle.txn_effects.specs.declared.local.Here.{Here}
 use Rattle.txn_effects.specs.declared.local.LocalStop.{LocalStop}
-use Rattle.local_txn.specs.declared.stop.Stop.{Stop}
-use Rattle.local_txn.specs.declared.stop.Stop.TheVariants.{Refused, Memory}
 use Rattle.txn_effects.specs.Statements.{BlockState, statement_refusal, statement_changes, block_state_after}
 use Rattle.txn_effects.specs.Locals.{BlockEffect, block_effect_behind, statements_effect}
-use Rattle.local_txn.specs.Running.{StatementStopsAs, EndsAs, local_stop_of}
+use Rattle.local_txn.specs.Running.{StatementStopsAs, StopsAt, EndsAs}
 use Rattle.txn_effects.proofs.StatementEffects.{effect_with}
 use Rattle.txn_effects.proofs.StatementsApplied.{IsApplied-one}
 
@@ -70,9 +69,11 @@ module _ (schema : Schema) (here : Here) where
           so_far ∙ rw (at, none) (behind-behind done (statement_changes schema here now statement) (statements_effect schema here (i + 1 + 1) (drop (i + 1) statements) (block_state_after schema here now statement)))
 
       -- one that is
-      pub so_far-Err : (stop : Stop) → StatementStopsAs (statement_refusal schema here now statement) stop → EndsAs (statements_effect schema here 1 statements first) (local_stop_of (i + 1) stop)
-      so_far-Err (Refused why) refuses = inr (so_far ∙ rw (at, refuses) refl)
-      so_far-Err Memory free = inl refl
+      pub so_far-Err : (why : Refusal) (stop : LocalStop) → StatementStopsAs (statement_refusal schema here now statement) why → StopsAt (i + 1) why stop
+          → EndsAs (statements_effect schema here 1 statements first) stop
+      so_far-Err why stop stops (inl memory) = inl memory
+      so_far-Err why stop (inl free) (inr refused) = absurd (refused.0 free)
+      so_far-Err why stop (inr refuses) (inr refused) = inr (so_far ∙ rw (at, refuses, refused.1) refl)
 
     -- no more
     pub so_far-all : drop i statements ≡ [] → statements_effect schema here 1 statements first ≡ Ok (record { changes = done; stamps = now.stamps })

@@ -26,8 +26,6 @@ use Rattle.rep_calls.specs.declared.statement.Set.{Set}
 use Rattle.txn_effects.specs.Calls.{KeysStandAlone}
 use Rattle.local_txn.specs.declared.progress.BlockProgress.{BlockProgress}
 use Rattle.txn_effects.specs.declared.local.Here.{Here}
-use Rattle.local_txn.specs.declared.stop.Stop.{Stop}
-use Rattle.local_txn.specs.declared.stop.Stop.TheVariants.{Refused, Memory}
 use Rattle.txn_effects.specs.Literals.{literal_fits, literals_fit, key_literals_fit, values_of}
 use Rattle.txn_effects.specs.Sets.{names_columns, names_one_twice, takes_set, is_about, sets_fit, sets_filled, value_by, row_with}
 use Rattle.txn_effects.specs.ByColumn.{AreSets, names_refusal, takes_each, fills_some, row_by, row_where_in_range}
@@ -301,11 +299,11 @@ module _ (schema : Schema) (footing : BlockProgress) (tables : List Rows) (table
       update_changed = update_there ∙ rw is_there refl
 
       -- a step up to the ranges of what is set refuses
-      pub update_refused : (stop : Stop) → StatementStopsAs (first_refusal (change_steps schema footing.side table before (row_by found before))) stop
-          → StatementStopsAs (first_refusal (update_steps schema footing.here standing table key sets)) stop
-      update_refused Memory free = tt
-      update_refused (Refused why) refuses =
-          update_changed ∙ go (barred schema footing.side table false) (rule_step schema table before (row_with sets columns before)) (row_in_range (row_with sets columns before)) refl (rw by_sets at refuses)
+      pub update_refused : (why : Refusal) → StatementStopsAs (first_refusal (change_steps schema footing.side table before (row_by found before))) why
+          → StatementStopsAs (first_refusal (update_steps schema footing.here standing table key sets)) why
+      update_refused why (inl memory) = inl memory
+      update_refused why (inr refuses) =
+          inr (update_changed ∙ go (barred schema footing.side table false) (rule_step schema table before (row_with sets columns before)) (row_in_range (row_with sets columns before)) refl (rw by_sets at refuses))
         where
           out : row_in_range (row_with sets columns before) ≡ false → first_refusal (row_steps schema tables table made_by.row) ≡ Some refusal.ValueRange
           out beyond =

@@ -1,5 +1,5 @@
 -- What the steps of running a statement take and tell.
-use Rattle.std.specs.Prelude.{◌≡◌, ◌⊎◌, ℕ, ◌<◌, true, false, not, ◌&&◌, List, [], ◌∷◌, Option, Some, None, Result, Err}
+use Rattle.std.specs.Prelude.{◌≡◌, ◌≢◌, ◌⊎◌, ℕ, true, false, not, ◌&&◌, List, [], ◌∷◌, Option, Some, None, Result, Err}
 use Rattle.rep_values.specs.declared.refusal.Refusal.{Refusal}
 use Rattle.rep_values.specs.declared.refusal.Refusal.TheVariants as refusal
 use Rattle.rep_values.specs.declared.name.SiteName.{SiteName}
@@ -10,8 +10,6 @@ use Rattle.rep_schema.specs.declared.schema.Column.{Column}
 use Rattle.rep_schema.specs.declared.change.Change.{Change}
 use Rattle.rep_schema.specs.Tables.{Cells, Rows, columns_of}
 use Rattle.rep_schema.specs.Kinds.{row_in_range}
-use Rattle.local_txn.specs.declared.stop.Stop.{Stop}
-use Rattle.local_txn.specs.declared.stop.Stop.TheVariants.{Refused, Memory}
 use Rattle.txn_effects.specs.declared.local.LocalStop.{LocalStop}
 use Rattle.local_txn.specs.declared.progress.BlockProgress.{BlockProgress}
 use Rattle.rep_calls.specs.declared.statement.Set.{Set}
@@ -86,19 +84,12 @@ pub record StatementGoesOn (schema : Schema) (statement : Statement) (tables lat
   pub standing : block_state_of new later ≡ block_state_after schema old.here (block_state_of old tables) statement
 
 -- with the refusal that there is; want of memory needs no cause
-abbrev pub StatementStopsAs : Option Refusal → Stop → Type 0
-StatementStopsAs refused (Refused why) = refused ≡ Some why
-StatementStopsAs refused Memory = Unit {0}
+abbrev pub StatementStopsAs : Option Refusal → Refusal → Type 0
+StatementStopsAs refused why = (why ≡ refusal.Memory) ⊎ (refused ≡ Some why)
 
--- the refusal that this is answered as
-abbrev pub stop_refusal : Stop → Refusal
-stop_refusal (Refused why) = why
-stop_refusal Memory = refusal.Memory
-
--- why the block stops at this statement
-abbrev pub local_stop_of : ℕ → Stop → LocalStop
-local_stop_of statement (Refused why) = record { statement = statement; refusal = why }
-local_stop_of statement Memory = record { statement = 0; refusal = refusal.Memory }
+-- a block that stops at this statement ends with it and why it is refused, or for want of memory, with 0
+abbrev pub StopsAt : ℕ → Refusal → LocalStop → Type 0
+StopsAt statement why stop = (stop ≡ record { statement = 0; refusal = refusal.Memory }) ⊎ ((why ≢ refusal.Memory) × (stop ≡ record { statement = statement; refusal = why }))
 
 -- with the statement that is refused, and why; want of memory has statement 0 and needs no cause
 abbrev pub EndsAs : Result BlockEffect LocalStop → LocalStop → Type 0

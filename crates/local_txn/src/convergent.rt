@@ -1,5 +1,5 @@
 //! What convergent tables bar.
-ghost use Rattle.std.specs.Prelude.{◌≡◌, ◌<◌, ◌&&◌, not, cond, length, slice_get, option_copied};
+ghost use Rattle.std.specs.Prelude.{◌≡◌, ◌<◌, ◌&&◌, true, false, not, cond, length, slice_get, option_copied};
 ghost use Rattle.std.specs.Ordering.{is_lt};
 ghost use Rattle.std.specs.List.{find};
 ghost use Rattle.rep_values.specs.declared.value.Value.TheVariants.{Words};
@@ -11,6 +11,7 @@ ghost use Rattle.schema_rules.specs.Forms.{form_of};
 ghost use Rattle.txn_effects.specs.Convergent.{is_convergent, side_of, is_other, mixes, barred, begins_with, breaks, broken_group, rule_step};
 ghost use Rattle.txn_effects.specs.ByColumn.{row_by};
 
+use crate::progress::BlockProgress;
 use crate::sets::{SetsByColumn, order_after};
 use rep_schema::{Column, Group, Schema, columns_of, groups_of, value_at};
 use rep_values::{Refusal, SiteName, Value};
@@ -57,21 +58,43 @@ fn mixes(before: Option<Side>, side: Side) -> bool
     }
 }
 
-/// Why a statement on a table is barred, if it is: by the table, where it is convergent and bars such a statement, or by
-/// the tables of the statements before.
-pub(crate) fn bar_refusal(
-    schema: &Schema,
-    side: Option<Side>,
-    table: u32,
-    bars: bool,
-) -> Option<Refusal>
+/// Why a statement that convergent tables don't bar is barred on a table, if it is: by the tables of the statements before.
+pub(crate) fn mix_refusal(schema: &Schema, side: Option<Side>, table: u32) -> Option<Refusal>
     requires { table < length schema.now.tables }
-    ensures { result ≡ barred schema.now side table bars }
+    ensures { result ≡ barred schema.now side table false }
 {
-    if is_convergent(schema, table) && bars || mixes(side, side_of(schema, table)) {
+    if mixes(side, side_of(schema, table)) {
         return Some(Refusal::Barred);
     }
     None
+}
+
+/// Why a statement that convergent tables bar is barred on a table, if it is: by the table, or by the tables of the
+/// statements before.
+pub(crate) fn bar_refusal(schema: &Schema, side: Option<Side>, table: u32) -> Option<Refusal>
+    requires { table < length schema.now.tables }
+    ensures { result ≡ barred schema.now side table true }
+{
+    if is_convergent(schema, table) {
+        return Some(Refusal::Barred);
+    }
+    mix_refusal(schema, side, table)
+}
+
+/// Why a new row is barred in a table, if it is. Convergent tables bar new rows where the site is no master.
+pub(crate) fn insert_refusal(
+    schema: &Schema,
+    footing: &BlockProgress,
+    table: u32,
+) -> Option<Refusal>
+    requires { table < length schema.now.tables }
+    ensures { result ≡ barred schema.now footing.now.side table (not footing.now.here.is_master) }
+{
+    if footing.here.is_master {
+        mix_refusal(schema, footing.side, table)
+    } else {
+        bar_refusal(schema, footing.side, table)
+    }
 }
 
 /// Whether a key begins with a site's name.

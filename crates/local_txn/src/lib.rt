@@ -12,7 +12,6 @@ mod rows;
 mod run;
 mod sets;
 mod statement;
-mod stop;
 
 pub use base::{fill_base_rows, put_base_row};
 pub use laws::{sound_schemas_fill_freely, stamps_of_a_block_rise};

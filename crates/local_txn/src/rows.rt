@@ -9,6 +9,7 @@ ghost use Rattle.txn_effects.specs.NewRows.{CanRun, FitsButForRange};
 ghost use Rattle.txn_effects.specs.Literals.{values_of};
 ghost use Rattle.rep_values.specs.Number.{IsKeyLen};
 
+use crate::literals::key_of_literals;
 use rep_schema::{
     Constraint, RowStore, Schema, columns_of, constraint_count, failed_check, key_of, row_in_range,
 };
@@ -32,7 +33,7 @@ pub(crate) fn has_row<R: RowStore>(store: &R, table: u32, key: &Key) -> bool
     store.get(table, key).is_some()
 }
 
-/// The row with the key of literals, which is built where it is used, since a key is large.
+/// The row with the key of literals.
 #[inline(always)]
 pub(crate) fn row_of_literals<'a, R: RowStore>(
     store: &'a R,
@@ -43,11 +44,7 @@ pub(crate) fn row_of_literals<'a, R: RowStore>(
     requires key { IsKeyLen (length literals.now) }
     ensures { option_copied result ≡ row_at (R.schema store.now) (R.tables store.now) table (values_of literals.now) }
 {
-    let mut key = Key::first(literals[0].value());
-    for i in 1..literals.len() {
-        key.push(literals[i].value());
-    }
-    store.get(table, &key)
+    store.get(table, &key_of_literals(literals))
 }
 
 fn constraint_at(schema: &Schema, at: ConstraintPlace) -> &Constraint

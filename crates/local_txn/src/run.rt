@@ -15,12 +15,11 @@ ghost use Rattle.txn_effects.specs.Transactions.{txn_effect};
 ghost use Rattle.txn_effects.specs.Laws.{IsChecked};
 ghost use Rattle.txn_effects.specs.Statements.{statement_refusal};
 ghost use Rattle.txn_effects.specs.Locals.{statements_effect, local_effect, BlockEffect};
-ghost use Rattle.local_txn.specs.Running.{StatementGoesOn, block_state_of, StatementStopsAs, EndsAs};
+ghost use Rattle.local_txn.specs.Running.{StatementGoesOn, block_state_of, StatementStopsAs, StopsAt, EndsAs};
 
 use crate::held::held_table;
 use crate::progress::BlockProgress;
 use crate::statement::run_in;
-use crate::stop::{Stop, stop_at};
 use conflict_detect::txn_of;
 use rep_calls::Statement;
 use rep_lists::Items;
@@ -29,6 +28,19 @@ use rep_values::{Limit, Refusal};
 use std::alloc::Global;
 use txn_effects::{Here, Local, LocalStop, Stamps};
 
+/// A block has at most so many statements.
+const MOST_STATEMENTS: usize = 1_000;
+
+/// Why the block stops at this statement. Want of memory is no statement's.
+fn stop_at(statement: u32, refusal: Refusal) -> LocalStop
+    ensures { StopsAt statement refusal result }
+{
+    if refusal == Refusal::Memory {
+        return LocalStop::memory();
+    }
+    LocalStop { statement, refusal }
+}
+
 /// Runs one statement, after it took room for so many further rows of its table.
 fn run_in_room<R: RowStore>(
     alloc: Global,
@@ -36,7 +48,7 @@ fn run_in_room<R: RowStore>(
     footing: &mut BlockProgress,
     statement: &Statement,
     rows: usize,
-) -> Result<Option<Change>, Stop>
+) -> Result<Option<Change>, Refusal>
     requires shape { HasShape (R.schema store.old) }
     requires keys { HasKeys (R.schema store.old) }
     requires apart { KeysStandAlone (R.schema store.old) }
@@ -52,7 +64,7 @@ fn run_in_room<R: RowStore>(
     ensures kept { OnErr result ((t : ℕ) → slice_index (R.spare store.old) t ≤ slice_index (R.spare store.new) t) }
 {
     let Some(table) = held_table(store.schema(), &footing.here, statement) else {
-        return Err(Stop::Refused(Refusal::UnknownName));
+        return Err(Refusal::UnknownName);
     };
     store.reserve(table, rows as u64 + 1)?;
     let change = run_in(alloc, store, footing, table, statement)?;
@@ -85,15 +97,15 @@ fn run_statements<R: RowStore>(
 {
     holds_tables(store);
     let Ok(mut done) = Vec::with_capacity(alloc, statements.len()) else {
-        return Err(stop_at(0, Stop::Memory));
+        return Err(LocalStop::memory());
     };
     for i in 0..statements.len() {
         match run_in_room(alloc, store, footing, &statements[i], statements.len()) {
             Ok(change) => push_change(&mut done, change),
-            Err(stop) => {
+            Err(refusal) => {
                 let rows = Items::from_vec(done);
                 undo(store, Changes { rows });
-                return Err(stop_at(i as u32 + 1, stop));
+                return Err(stop_at(i as u32 + 1, refusal));
             }
         }
     }
@@ -136,9 +148,9 @@ pub fn run_local<R: RowStore>(
     ensures schema { R.schema store.new ≡ R.schema store.old }
 {
     holds_tables(store);
-    if statements.len() > 1_000 {
+    if statements.len() > MOST_STATEMENTS {
         return Err(LocalStop {
-            statement: 1_001,
+            statement: MOST_STATEMENTS as u32 + 1,
             refusal: Refusal::LimitReached(Limit::Statements),
         });
     }
@@ -155,7 +167,7 @@ pub fn run_local<R: RowStore>(
         }
         Err(_) => {
             undo(store, changes);
-            Err(stop_at(0, Stop::Memory))
+            Err(LocalStop::memory())
         }
     }
 }

@@ -10,13 +10,12 @@ ghost use Rattle.txn_effects.specs.Statements.{insert_in, update_in, delete_in, 
 ghost use Rattle.local_txn.specs.Running.{ChangesTo, AreInOrder, change_steps, order_steps, block_state_of, RunsAs, StatementStopsAs};
 ghost use Rattle.txn_effects.specs.NewRows.{CanRun, FitsButForRange};
 
-use crate::convergent::{bar_refusal, own_key_refusal, rule_refusal};
+use crate::convergent::{bar_refusal, insert_refusal, mix_refusal, own_key_refusal, rule_refusal};
 use crate::filled::{inserted, updated};
 use crate::literals::{key_literals_fit, key_of_literals, row_written, written_fit};
 use crate::progress::BlockProgress;
 use crate::rows::{has_row, key_in, row_of_literals, row_refusal};
 use crate::sets::{SetsByColumn, fills_some, set_row, takes_each};
-use crate::stop::Stop;
 use rep_calls::{Set, Statement};
 use rep_lists::Copies;
 use rep_schema::{Change, RowStore, Schema, columns_of, put_with_change};
@@ -39,12 +38,7 @@ fn new_row_refusal<R: RowStore>(
     if has_row(store, table, &key) {
         return Some(Refusal::KeyTaken);
     }
-    if let Some(refusal) = bar_refusal(
-        store.schema(),
-        footing.side,
-        table,
-        !footing.here.is_master,
-    ) {
+    if let Some(refusal) = insert_refusal(store.schema(), footing, table) {
         return Some(refusal);
     }
     if let Some(refusal) = own_key_refusal(
@@ -64,7 +58,7 @@ fn insert_row<R: RowStore>(
     footing: &mut BlockProgress,
     table: u32,
     values: &[Literal],
-) -> Result<Option<Change>, Stop>
+) -> Result<Option<Change>, Refusal>
     requires able { CanRun (R.schema store.old) (R.tables store.old) table }
     requires room { 1 ≤ slice_index (R.spare store.old) table }
     ensures ok { IfOk result (λ change. RunsAs (R.schema store.old) table
@@ -77,12 +71,12 @@ fn insert_row<R: RowStore>(
 {
     let columns = columns_of(store.schema(), table);
     if !written_fit(store.schema(), columns, values) {
-        return Err(Stop::Refused(Refusal::RowShape));
+        return Err(Refusal::RowShape);
     }
     let row = row_written(alloc, columns, values)?;
     let made = inserted(columns, &footing.stamps, &footing.here.site, row);
     if let Some(refusal) = new_row_refusal(store, footing, table, &made.row) {
-        return Err(Stop::Refused(refusal));
+        return Err(refusal);
     }
     footing.go_on(store.schema(), table, made.last);
     let change = put_with_change(alloc, store, table, made.row)?;
@@ -120,21 +114,21 @@ fn changed_row(
     table: u32,
     before: &Row,
     sets: &SetsByColumn,
-) -> Result<RowMade, Stop>
+) -> Result<RowMade, Refusal>
     requires table { table < length schema.now.tables }
     requires shape { HasShape schema.now }
     requires fits { RowFits (columns_of schema.now table) before.now }
     ensures ok { IfOk result (ChangesTo schema.now footing.now table before.now (row_by sets.now before.now)) }
     ensures err { IfErr result (StatementStopsAs (first_refusal (change_steps schema.now footing.now.side table before.now (row_by sets.now before.now)))) }
 {
-    if let Some(refusal) = bar_refusal(schema, footing.side, table, false) {
-        return Err(Stop::Refused(refusal));
+    if let Some(refusal) = mix_refusal(schema, footing.side, table) {
+        return Err(refusal);
     }
     if let Some(refusal) = rule_refusal(schema, table, before.values(), sets) {
-        return Err(Stop::Refused(refusal));
+        return Err(refusal);
     }
     let Some(row) = set_row(sets, before.copy(alloc)?) else {
-        return Err(Stop::Refused(Refusal::ValueRange));
+        return Err(Refusal::ValueRange);
     };
     let site = &footing.here.site;
     Ok(updated(schema, table, &footing.stamps, site, before.values(), row))
@@ -147,7 +141,7 @@ fn update_row<R: RowStore>(
     table: u32,
     key: &[Literal],
     sets: &[Set],
-) -> Result<Option<Change>, Stop>
+) -> Result<Option<Change>, Refusal>
     requires able { CanRun (R.schema store.old) (R.tables store.old) table }
     requires apart { KeysStandAlone (R.schema store.old) }
     requires room { 1 ≤ slice_index (R.spare store.old) table }
@@ -162,11 +156,11 @@ fn update_row<R: RowStore>(
 {
     let found = sets_in_order(store.schema(), table, key, sets)?;
     let Some(before) = row_of_literals(store, table, key) else {
-        return Err(Stop::Refused(Refusal::NoRow));
+        return Err(Refusal::NoRow);
     };
     let made = changed_row(alloc, store.schema(), footing, table, before, &found)?;
     if let Some(refusal) = row_refusal(store, table, Some(before), &made.row) {
-        return Err(Stop::Refused(refusal));
+        return Err(refusal);
     }
     footing.go_on(store.schema(), table, made.last);
     if same_values(before.values(), made.row.values()) {
@@ -181,7 +175,7 @@ fn delete_row<R: RowStore>(
     footing: &mut BlockProgress,
     table: u32,
     key: &[Literal],
-) -> Result<Option<Change>, Stop>
+) -> Result<Option<Change>, Refusal>
     requires able { CanRun (R.schema store.old) (R.tables store.old) table }
     ensures ok { IfOk result (λ change. RunsAs (R.schema store.old) table
         (first_refusal (delete_steps (R.schema store.old) (block_state_of footing.old (R.tables store.old)) table key.now))
@@ -191,14 +185,14 @@ fn delete_row<R: RowStore>(
         (record { schema = R.schema store.new; tables = R.tables store.new; spare = R.spare store.new }) result }
 {
     if !key_literals_fit(store.schema(), columns_of(store.schema(), table), key) {
-        return Err(Stop::Refused(Refusal::RowShape));
+        return Err(Refusal::RowShape);
     }
     let key = key_of_literals(key);
     if !has_row(store, table, &key) {
-        return Err(Stop::Refused(Refusal::NoRow));
+        return Err(Refusal::NoRow);
     }
-    if let Some(refusal) = bar_refusal(store.schema(), footing.side, table, true) {
-        return Err(Stop::Refused(refusal));
+    if let Some(refusal) = bar_refusal(store.schema(), footing.side, table) {
+        return Err(refusal);
     }
     footing.go_on(store.schema(), table, footing.stamps.last);
     let before = store.take(table, &key);
@@ -217,7 +211,7 @@ pub(crate) fn run_in<R: RowStore>(
     footing: &mut BlockProgress,
     table: u32,
     statement: &Statement,
-) -> Result<Option<Change>, Stop>
+) -> Result<Option<Change>, Refusal>
     requires able { CanRun (R.schema store.old) (R.tables store.old) table }
     requires apart { KeysStandAlone (R.schema store.old) }
     requires room { 1 ≤ slice_index (R.spare store.old) table }

@@ -1,6 +1,7 @@
 -- The lemmas of this crate.
 pub mod NamedColumns
 mod Changed
+mod ChangedTables
 mod PriorityNames
 mod ListNames
 mod SiteShapes

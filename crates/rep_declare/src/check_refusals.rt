@@ -5,6 +5,7 @@ ghost use Rattle.rep_values.specs.RefusalSteps.{first_refusal};
 ghost use Rattle.rep_declare.specs.declared.declaration.Declare.{Declare};
 ghost use Rattle.rep_declare.specs.Refusals.{declare_refusal};
 
+use crate::limits::MOST_CHECKS;
 use crate::refusals::value_is_in_range;
 use rep_schema::{Schema, is_of_kind};
 use rep_values::{Limit, Literal, Name, Refusal, TableName};
@@ -29,7 +30,7 @@ pub fn check_refusal(
     let Some(column) = find_column(table.columns.as_slice(), column) else {
         return Some(Refusal::UnknownName);
     };
-    if table.checks.len() >= 8 {
+    if table.checks.len() >= MOST_CHECKS {
         return Some(Refusal::LimitReached(Limit::Checks));
     }
     if !is_of_kind(column.kind, value) {

@@ -2,16 +2,14 @@
 #![tactic(auto)]
 
 mod additions;
-mod changes;
 mod check_refusals;
 mod declaration;
 mod laws;
-mod method_changes;
+mod limits;
 mod places;
 mod priority_changes;
 mod refusals;
 mod shaping;
-mod site_changes;
 mod table_changes;
 
 pub use additions::add_declaration;

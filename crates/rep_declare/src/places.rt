@@ -12,7 +12,7 @@ use rep_values::Name;
 use schema_names::{column_place, priority_place};
 use std::alloc::Global;
 
-// A place that was found, or 0. One that 32 bits can't name finds no memory: no schema has so many things.
+/// A place that was found, or 0. One that 32 bits can't name finds no memory: no schema has so many things.
 fn place(found: Option<usize>) -> Result<u32, NoMemory>
     ensures ok { IfOk result (λ place. place ≡ place_or_zero found) }
     ensures err { OnErr result (4294967295 < place_or_zero found) }
@@ -20,7 +20,7 @@ fn place(found: Option<usize>) -> Result<u32, NoMemory>
     match found {
         None => Ok(0),
         Some(place) => {
-            if place > 4_294_967_295 {
+            if place > u32::MAX as usize {
                 return Err(NoMemory);
             }
             Ok(place as u32)
@@ -33,8 +33,7 @@ pub fn column_number(columns: &[Column], name: &Name) -> Result<u32, NoMemory>
     ensures ok { IfOk result (λ number. number ≡ column_number columns.now name.now) }
     ensures err { OnErr result (4294967295 < column_number columns.now name.now) }
 {
-    let number = place(column_place(columns, name))?;
-    Ok(number)
+    place(column_place(columns, name))
 }
 
 /// The place of the priority group of a name, or 0.
@@ -42,8 +41,7 @@ fn priority_number(groups: &[PriorityGroup], name: &Name) -> Result<u32, NoMemor
     ensures ok { IfOk result (λ number. number ≡ priority_number groups.now name.now) }
     ensures err { OnErr result (4294967295 < priority_number groups.now name.now) }
 {
-    let number = place(priority_place(groups, name))?;
-    Ok(number)
+    place(priority_place(groups, name))
 }
 
 /// Whether a name is one of these.

@@ -12,6 +12,10 @@ ghost use Rattle.rep_schema.specs.Groups.{is_grouped};
 ghost use Rattle.rep_schema.specs.Named.{column_place, is_column, is_constrained};
 
 use crate::check_refusals::check_refusal;
+use crate::limits::{
+    MOST_COLUMNS, MOST_CONSTRAINTS, MOST_KEYS, MOST_LEVELS, MOST_MASTERS, MOST_METHODS,
+    MOST_SNAPSHOTS, MOST_TABLES,
+};
 use crate::places::is_among;
 use crate::{Declare, MethodWords, UniqueWords};
 use rep_schema::{
@@ -54,7 +58,7 @@ fn site_refusal(schema: &Schema, name: &SiteName) -> Option<Refusal>
     if find_site(schema.sites.as_slice(), name).is_some() {
         return Some(Refusal::NameTaken);
     }
-    if master_count(schema.sites.as_slice()) >= 8 {
+    if master_count(schema.sites.as_slice()) >= MOST_MASTERS {
         return Some(Refusal::LimitReached(Limit::Masters));
     }
     None
@@ -69,7 +73,7 @@ fn snapshot_site_refusal(schema: &Schema, name: &SiteName, master: &SiteName) ->
     if !has_master(schema.sites.as_slice(), master) {
         return Some(Refusal::UnknownName);
     }
-    if snapshot_count(schema.sites.as_slice()) >= 8 {
+    if snapshot_count(schema.sites.as_slice()) >= MOST_SNAPSHOTS {
         return Some(Refusal::LimitReached(Limit::Snapshots));
     }
     None
@@ -96,13 +100,13 @@ fn table_refusal(schema: &Schema, name: &TableName, columns: &[Column]) -> Optio
     if share_a_name(columns) {
         return Some(Refusal::NameTaken);
     }
-    if schema.tables.len() >= 32 {
+    if schema.tables.len() >= MOST_TABLES {
         return Some(Refusal::LimitReached(Limit::Tables));
     }
-    if columns.len() > 32 {
+    if columns.len() > MOST_COLUMNS {
         return Some(Refusal::LimitReached(Limit::Columns));
     }
-    if key_count(columns) > 4 {
+    if key_count(columns) > MOST_KEYS {
         return Some(Refusal::LimitReached(Limit::Keys));
     }
     None
@@ -198,10 +202,7 @@ fn group_refusal(
     if find_group(table.groups.as_slice(), group).is_some() {
         return Some(Refusal::NameTaken);
     }
-    if let Some(refusal) = group_columns_refusal(table, columns) {
-        return Some(refusal);
-    }
-    None
+    group_columns_refusal(table, columns)
 }
 
 fn unique_refusal(
@@ -224,7 +225,7 @@ fn unique_refusal(
     if let Some(refusal) = constraint_columns_refusal(table, columns) {
         return Some(refusal);
     }
-    if table.constraints.len() >= 8 {
+    if table.constraints.len() >= MOST_CONSTRAINTS {
         return Some(Refusal::LimitReached(Limit::Constraints));
     }
     None
@@ -265,7 +266,7 @@ fn method_refusal(columns: &[Column], column: Option<Name>, methods: usize) -> O
     if let Some(refusal) = unknown_column(columns, column) {
         return Some(refusal);
     }
-    if methods >= 16 {
+    if methods >= MOST_METHODS {
         return Some(Refusal::LimitReached(Limit::Methods));
     }
     None
@@ -330,7 +331,7 @@ fn priority_refusal(schema: &Schema, group: &Name, value: &Literal, level: i64) 
         if has_level(group.levels.as_slice(), &value.value()) {
             return Some(Refusal::NameTaken);
         }
-        if group.levels.len() >= 1_000 {
+        if group.levels.len() >= MOST_LEVELS {
             return Some(Refusal::LimitReached(Limit::Levels));
         }
     }

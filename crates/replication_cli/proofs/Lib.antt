@@ -1,6 +1,9 @@
 -- The lemmas of this crate, from the bottom up.
 mod TotalLemmas
 mod SameRows
+mod WordsOfLines
+mod NamedBlocks
+mod TextsTell
 mod Room
 mod Fronts
 mod Stepping

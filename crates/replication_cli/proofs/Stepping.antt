@@ -8,6 +8,7 @@ use Rattle.world_state.specs.declared.refused.Refused.{Refused}
 use Rattle.world_state.specs.World.{WorldState}
 use Rattle.world_state.specs.Refusals.{world_refusal}
 use Rattle.world_state.specs.Steps.{world_step, step_by, told_by}
+use Rattle.world.specs.declared.answer.Answer.{Answer}
 use Rattle.world.specs.Texts.{line_text, told_text}
 use Rattle.world.specs.Doing.{IsDone, IsOutOfMemory, IsRefused}
 use Rattle.replication_cli.specs.declared.tally.Tally.{Tally}
@@ -28,9 +29,9 @@ step_refused-step number c w w' why refused = go (world_refusal c w) refused.tol
     go (Some known) met = (sym refused.world, ap (λ (o : Option Refused). told_text o c w) met)
 
 -- a command that was done, and what it printed is counted
-pub with_command-done : (r : Running) (w : WorldState) (t : Tally) (out : List ℕ) (c : Command) → IsDone r.number c r.world w out → t ≡ with_text r.tally out
+pub with_command-done : (r : Running) (w : WorldState) (t : Tally) (answer : Answer) (c : Command) → IsDone r.number c r.world w answer → t ≡ with_text r.tally answer.lines.bytes
     → record { world = w; number = r.number + 1; tally = t } ≡ with_command r c
-with_command-done r w t out c done counted = rw (counted, done.world, done.text, add-one, done.passes) refl
+with_command-done r w t answer c done counted = rw (counted, done.world, done.text, add-one, done.passes) refl
 
 -- a command that was refused, and not for want of memory, is counted as refused
 pub with_command-refused : (r : Running) (w : WorldState) (t : Tally) (c : Command) (why : Refused) → is_memory why.refusal ≡ false → IsRefused r.number c r.world w why

@@ -1,6 +1,8 @@
 -- A storm that is being run.
-use Rattle.std.specs.Prelude.{ℕ, suc, ◌*◌, ◌^◌, ◌≤◌, List, [], fold}
+use Rattle.std.specs.Prelude.{◌≡◌, ℕ, suc, ◌*◌, ◌^◌, ◌≤◌, true, List, [], fold, Option, Some, None}
+use Rattle.rep_values.specs.Name.{is_name}
 use Rattle.script_parse.specs.declared.command.Command.{Command}
+use Rattle.world_state.specs.declared.block.Block.{Block}
 use Rattle.world_state.specs.World.{WorldState, first_world}
 use Rattle.world_state.specs.Steps.{world_step}
 use Rattle.world.specs.Texts.{line_text}
@@ -19,6 +21,11 @@ pub record IsCounted (number : ℕ) (t : Tally) : Type 0 where
   pub refused : t.refused ≤ number
   pub pushes : t.pushes ≤ number
   pub errors : t.errors ≤ number * 2 ^ 64
+
+-- the site of the open block has a name, where one is open
+abbrev pub IsNamedBlock : Option Block → Type 0
+IsNamedBlock None = Unit {0}
+IsNamedBlock (Some block) = is_name block.site.0 ≡ true
 
 -- nothing was run yet
 abbrev pub storm_beginning : Running

@@ -1,6 +1,8 @@
--- What the texts of commands tell, counted.
+-- What the texts of commands tell, counted, and what comes of commands.
 use Rattle.std.specs.Prelude.{ℕ, ◌+◌, ◌^◌, ◌<◌, ◌≤◌, Bool, ◌&&◌, not, cond, List, codes, count_by, sum_by}
 use Rattle.rep_values.specs.Name.{same_bytes}
+use Rattle.world.specs.declared.answer.Outcome.{Outcome}
+use Rattle.world.specs.declared.answer.Outcome.TheVariants as outcome
 use Rattle.replication_cli.specs.declared.tally.Tally.{Tally}
 use Rattle.replication_cli.specs.Words.{word_at, digits_number}
 
@@ -52,3 +54,19 @@ with_text t text = record {
   pushes = t.pushes + cond (is_push text) 1 0;
   errors = t.errors + errors_of text;
 }
+
+-- ---- outcomes
+
+-- the numbers of an outcome have 64 bits
+abbrev pub NumbersFit : Outcome → Type 0
+NumbersFit (outcome.Committed number) = number < 2 ^ 64
+NumbersFit (outcome.Pushed count) = (count.sent < 2 ^ 64) × (count.done < 2 ^ 64) × (count.errors < 2 ^ 64) × (count.low < 2 ^ 64)
+NumbersFit outcome.NothingCommitted = Unit {0}
+NumbersFit outcome.Done = Unit {0}
+
+-- the counts with what came of one line more: they are those with its text
+abbrev pub with_outcome : Tally → Outcome → Tally
+with_outcome t (outcome.Committed number) = record { commits = t.commits + 1; refused = t.refused; pushes = t.pushes; errors = t.errors }
+with_outcome t (outcome.Pushed count) = record { commits = t.commits; refused = t.refused; pushes = t.pushes + 1; errors = t.errors + count.errors }
+with_outcome t outcome.NothingCommitted = t
+with_outcome t outcome.Done = t

@@ -12,7 +12,6 @@ mod stocks;
 mod summary;
 mod tally;
 mod whole;
-mod words;
 
 pub use program::{run_program, run_program_through};
 use rep_io::{StdSink, StdSource, Still};

@@ -12,13 +12,13 @@ use parallel_apply::{Workers, beside_workers};
 use rep_io::Watch;
 use rep_lists::NoMemory;
 use rep_values::Refusal;
-use report_text::Lines;
 use script_parse::Command;
 use std::alloc::Global;
 use std::marker::Model;
 use std::sync::Wait;
 use std::thread::Threads;
 use storm_script::{Draws, closing, opening};
+use world::Answer;
 use world_run::World;
 use world_state::Refused;
 
@@ -31,7 +31,7 @@ fn step<X: Wait, W: Watch>(
     number: u32,
     command: &Command,
     watch: &W,
-) -> Result<Lines, Refused>
+) -> Result<Answer, Refused>
     requires free { world.old.lent ≡ None }
     requires line { IsLine command.now }
     ensures free { world.new.lent ≡ None }
@@ -43,7 +43,7 @@ fn step<X: Wait, W: Watch>(
     world.step_crew(rt, alloc, workers, number, command, watch)
 }
 
-/// A world, the number of the command that comes, and what those before it told. No master of the world is lent out.
+/// A world, the number of the command that comes, and what came of those before it, counted. No master of the world is lent out.
 #[derive(Drop)]
 pub struct Run {
     world: World,
@@ -53,13 +53,13 @@ pub struct Run {
 
 impl Model for Run {
     ghost use Rattle.std.specs.Prelude.{◌≡◌, None};
-    ghost use Rattle.replication_cli.specs.Runs.{Running, IsCounted};
+    ghost use Rattle.replication_cli.specs.Runs.{Running, IsCounted, IsNamedBlock};
 
     ghost Value = { Running };
 
     ghost view = { λ r. record { world = r.world.world; number = r.number; tally = r.tally } };
 
-    ghost invariant = { λ r. IsCounted r.number r.tally × (r.world.lent ≡ None) };
+    ghost invariant = { λ r. IsCounted r.number r.tally × (r.world.lent ≡ None) × IsNamedBlock r.world.world.block };
 }
 
 impl Run {
@@ -82,14 +82,14 @@ impl Run {
         &self.world
     }
 
-    /// What the commands so far told.
+    /// What came of the commands so far.
     pub fn tally(&self) -> Tally
         ensures { result ≡ self.now.tally }
     {
         self.tally
     }
 
-    // Runs a command, and counts what it tells.
+    // Runs a command, and counts what came of it.
     fn run<X: Wait, W: Watch>(
         &mut self,
         rt: &X,
@@ -105,8 +105,8 @@ impl Run {
         let number = self.number;
         self.number += 1;
         match step(rt, alloc, workers, &mut self.world, number, command, watch) {
-            Ok(lines) => {
-                self.tally.add(lines.bytes());
+            Ok(answer) => {
+                self.tally.add(answer.outcome);
                 Ok(())
             }
             Err(refused) => {

@@ -1,6 +1,5 @@
 -- What contracts see of a store whose tables are sorted vectors.
 use Rattle.std.specs.Prelude.{ℕ, List, map}
-use Rattle.rep_schema.specs.declared.schema.Schema.{Schema}
 use Rattle.rep_schema.specs.Tables.{Rows}
 
 -- the rows of one table, and how many more there is room for
@@ -15,9 +14,3 @@ rows_in stored = map (λ t. t.rows) stored
 -- the room in each table
 abbrev pub spare_in : List StoredTable → List ℕ
 spare_in stored = map (λ t. t.spare) stored
-
--- a schema, the rows of each of its tables, and the room in each
-pub record Stored : Type 0 where
-  pub schema : Schema
-  pub tables : List Rows
-  pub spare : List ℕ

@@ -20,9 +20,10 @@ pub struct ListTables {
 
 impl Model for ListTables {
     ghost use Rattle.rep_schema.specs.Tables.{AreTables};
-    ghost use Rattle.row_tables.specs.Stored.{Stored, rows_in, spare_in};
+    ghost use Rattle.rep_schema.specs.Putting.{StoreState};
+    ghost use Rattle.row_tables.specs.Stored.{rows_in, spare_in};
 
-    ghost Value = { Stored };
+    ghost Value = { StoreState };
 
     ghost view = { λ s. record { schema = s.schema; tables = rows_in s.stored.items; spare = spare_in s.stored.items } };
 
@@ -36,8 +37,7 @@ impl ListTables {
         ensures tables { IfOk result (λ s. s.tables ≡ replicate (length schema.tables) []) }
     {
         let schema = SharedSchema::new(alloc, schema)?;
-        let tables = ListTables::sharing(alloc, schema)?;
-        Ok(tables)
+        ListTables::sharing(alloc, schema)
     }
 
     /// A store with every table empty, of a schema that has other owners too.

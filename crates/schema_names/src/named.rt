@@ -54,7 +54,7 @@ impl OnColumns for Constraint {
     }
 }
 
-// What has the name, of groups or of constraints.
+/// What has the name, of groups or of constraints.
 fn find_named<'a, X: OnColumns>(all: &'a [X], name: &Name) -> Option<&'a X>
     ensures { option_copied result ≡ find (λ x. same_bytes (X.name x) name.now) all.now }
 {
@@ -75,6 +75,22 @@ pub fn find_constraint<'a>(constraints: &'a [Constraint], name: &Name) -> Option
     find_named(constraints, name)
 }
 
+/// The place of the group of a name.
+pub fn group_place(groups: &[Group], name: &Name) -> Option<usize>
+    ensures { result ≡ position (is_group name.now) groups.now }
+{
+    groups.iter().position(|group| group.name.is_same(name))
+}
+
+/// The place of the secondary constraint of a name.
+pub fn constraint_place(constraints: &[Constraint], name: &Name) -> Option<usize>
+    ensures { result ≡ position (is_constraint name.now) constraints.now }
+{
+    constraints
+        .iter()
+        .position(|constraint| constraint.name.is_same(name))
+}
+
 /// The check of a name.
 pub fn find_check<'a>(checks: &'a [Check], name: &Name) -> Option<&'a Check>
     ensures { option_copied result ≡ find (is_check name.now) checks.now }
@@ -93,30 +109,37 @@ pub fn is_taken<X: OnColumns>(all: &[X], place: usize) -> bool
 pub fn find_site<'a>(sites: &'a [SiteEntry], name: &SiteName) -> Option<&'a SiteEntry>
     ensures { option_copied result ≡ find (is_site name.now) sites.now }
 {
-    sites.iter().find(|site| site.name.0.is_same(&name.0))
+    sites.iter().find(|site| site.name.is_same(name))
+}
+
+/// The place of the site of a name.
+pub fn site_place(sites: &[SiteEntry], name: &SiteName) -> Option<usize>
+    ensures { result ≡ position (is_site name.now) sites.now }
+{
+    sites.iter().position(|site| site.name.is_same(name))
 }
 
 /// Whether a master site that is there from the start has the name.
 pub fn has_master(sites: &[SiteEntry], name: &SiteName) -> bool
     ensures { result ≡ list_any (λ site. is_site name.now site && is_early_master site) sites.now }
 {
-    sites.iter().any(|site| site.name.0.is_same(&name.0) && site.is_early_master())
+    sites
+        .iter()
+        .any(|site| site.name.is_same(name) && site.is_early_master())
 }
 
 /// The table of a name.
 pub fn find_table<'a>(tables: &'a [TableEntry], name: &TableName) -> Option<&'a TableEntry>
     ensures { option_copied result ≡ find (is_table name.now) tables.now }
 {
-    tables.iter().find(|table| table.name.0.is_same(&name.0))
+    tables.iter().find(|table| table.name.is_same(name))
 }
 
 /// The number of the table of a name.
 pub fn table_place(tables: &[TableEntry], name: &TableName) -> Option<usize>
     ensures { result ≡ position (is_table name.now) tables.now }
 {
-    tables
-        .iter()
-        .position(|table| table.name.0.is_same(&name.0))
+    tables.iter().position(|table| table.name.is_same(name))
 }
 
 /// The priority group of a name.

@@ -16,8 +16,8 @@ pub fn sends_to(from: &SiteEntry, to: &SiteEntry) -> bool
         return false;
     }
     match &from.master {
-        None => !to.name.0.is_same(&from.name.0),
-        Some(master) => to.name.0.is_same(&master.0),
+        None => !to.name.is_same(&from.name),
+        Some(master) => to.name.is_same(master),
     }
 }
 

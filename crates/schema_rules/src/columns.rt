@@ -7,65 +7,44 @@ use rep_schema::{Column, kind_at};
 pub(crate) fn is_number_at(columns: &[Column], place: u32) -> bool
     ensures { result ≡ has_kind is_number columns.now place }
 {
-    match kind_at(columns, place) {
-        Some(kind) => kind.is_number(),
-        None => false,
-    }
+    kind_at(columns, place).is_some_and(|kind| kind.is_number())
 }
 
 pub(crate) fn is_text_at(columns: &[Column], place: u32) -> bool
     ensures { result ≡ has_kind is_text columns.now place }
 {
-    match kind_at(columns, place) {
-        Some(kind) => kind.is_text(),
-        None => false,
-    }
+    kind_at(columns, place).is_some_and(|kind| kind.is_text())
 }
 
 pub(crate) fn is_stamp_at(columns: &[Column], place: u32) -> bool
     ensures { result ≡ has_kind is_stamp columns.now place }
 {
-    match kind_at(columns, place) {
-        Some(kind) => kind.is_stamp(),
-        None => false,
-    }
+    kind_at(columns, place).is_some_and(|kind| kind.is_stamp())
 }
 
 pub(crate) fn is_site_at(columns: &[Column], place: u32) -> bool
     ensures { result ≡ has_kind is_site_kind columns.now place }
 {
-    match kind_at(columns, place) {
-        Some(kind) => kind.is_site_kind(),
-        None => false,
-    }
+    kind_at(columns, place).is_some_and(|kind| kind.is_site_kind())
 }
 
 /// Whether the column at a place is a DATE or a STAMP.
 pub(crate) fn is_time_at(columns: &[Column], place: u32) -> bool
     ensures { result ≡ has_kind is_time columns.now place }
 {
-    match kind_at(columns, place) {
-        Some(kind) => kind.is_time(),
-        None => false,
-    }
+    kind_at(columns, place).is_some_and(|kind| kind.is_time())
 }
 
 /// Whether the column at a place is a NUMBER or a DATE.
 pub(crate) fn is_amount_at(columns: &[Column], place: u32) -> bool
     ensures { result ≡ has_kind takes_amounts columns.now place }
 {
-    match kind_at(columns, place) {
-        Some(kind) => kind.takes_amounts(),
-        None => false,
-    }
+    kind_at(columns, place).is_some_and(|kind| kind.takes_amounts())
 }
 
 /// Whether the column at a place is a NUMBER, TEXT or DATE.
 pub(crate) fn is_plain_at(columns: &[Column], place: u32) -> bool
     ensures { result ≡ has_kind is_plain columns.now place }
 {
-    match kind_at(columns, place) {
-        Some(kind) => kind.is_plain(),
-        None => false,
-    }
+    kind_at(columns, place).is_some_and(|kind| kind.is_plain())
 }

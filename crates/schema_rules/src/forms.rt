@@ -23,35 +23,13 @@ pub enum Form {
 fn is_additive(method: &Method) -> bool
     ensures { result ≡ is_additive method.now }
 {
-    match method {
-        Method::Additive => true,
-        Method::Latest(_)
-        | Method::Earliest(_)
-        | Method::Overwrite
-        | Method::Discard
-        | Method::Average
-        | Method::Maximum(_)
-        | Method::Minimum(_)
-        | Method::Priority { .. }
-        | Method::SitePriority(_) => false,
-    }
+    *method == Method::Additive
 }
 
 fn is_discard(method: &Method) -> bool
     ensures { result ≡ is_discard method.now }
 {
-    match method {
-        Method::Discard => true,
-        Method::Latest(_)
-        | Method::Earliest(_)
-        | Method::Overwrite
-        | Method::Additive
-        | Method::Average
-        | Method::Maximum(_)
-        | Method::Minimum(_)
-        | Method::Priority { .. }
-        | Method::SitePriority(_) => false,
-    }
+    *method == Method::Discard
 }
 
 fn latest_column(method: &Method) -> Option<u32>

@@ -1,4 +1,6 @@
 //! What a local transaction is given, and what comes of it.
+ghost use Rattle.std.specs.Prelude.{◌≡◌};
+ghost use Rattle.rep_values.specs.declared.refusal.Refusal.TheVariants.{Memory};
 
 use rep_calls::Txn;
 use rep_schema::{Changes, TableSet};
@@ -33,4 +35,16 @@ pub struct Local {
 pub struct LocalStop {
     pub statement: u32,
     pub refusal: Refusal,
+}
+
+impl LocalStop {
+    /// Want of memory.
+    pub fn memory() -> LocalStop
+        ensures { result ≡ record { statement = 0; refusal = Memory } }
+    {
+        LocalStop {
+            statement: 0,
+            refusal: Refusal::Memory,
+        }
+    }
 }

@@ -4,12 +4,9 @@ use Rattle.rep_schema.specs.declared.schema.Schema.{Schema}
 use Rattle.rep_schema.specs.Shape.{HasShape}
 use Rattle.rep_schema.specs.Tables.{Cells, Rows, columns_of, constraints_of, rows_of, IsKeyed, RowFits, AreTables}
 use Rattle.rep_schema.specs.Changes.{row_like}
-use Rattle.unique_resolve.specs.declared.settled.Settled.{Settled}
-use Rattle.unique_resolve.specs.declared.settled.Settled.TheVariants.{Fits, Dropped, Conflict}
+use Rattle.unique_resolve.specs.declared.settled.Settled.TheVariants.{Fits, Dropped}
 use Rattle.unique_resolve.specs.declared.trying.Tried.{Tried}
 use Rattle.unique_resolve.specs.declared.trying.Tried.TheVariants.{Helps, GivesUp, Fails}
-use Rattle.unique_resolve.specs.declared.trying.Ruling.{Ruling}
-use Rattle.unique_resolve.specs.declared.trying.Ruling.TheVariants as ruling
 use Rattle.unique_resolve.specs.Settling.{ConstraintOutcome}
 
 -- a row that is to be put into a table of a schema
@@ -41,9 +38,3 @@ abbrev pub followed : Tried → Cells → ℕ → ConstraintOutcome → Constrai
 followed Helps row number following = record { settled = Fits row; number = number }
 followed GivesUp row number following = record { settled = Dropped; number = number }
 followed Fails row number following = following
-
--- a ruling, and the row as it is then
-abbrev pub settled_as : Ruling → Cells → Settled
-settled_as ruling.Fits row = Fits row
-settled_as ruling.Dropped row = Dropped
-settled_as (ruling.Conflict name) row = Conflict name

@@ -4,9 +4,10 @@ ghost use Rattle.rep_schema.specs.Shape.{HasShape};
 ghost use Rattle.rep_schema.specs.Tables.{columns_of, constraints_of, rows_of};
 ghost use Rattle.unique_resolve.specs.Numbers.{AreCounters, first_numbers, is_sequence, has_sequence, has_sequence_in, has_sequences, kept_numbers, put_back};
 ghost use Rattle.unique_resolve.specs.Settling.{settled_each, with_numbers};
-ghost use Rattle.unique_resolve.specs.Trying.{IsAsked, HasBefore, settled_as};
+ghost use Rattle.unique_resolve.specs.Trying.{IsAsked, HasBefore};
 
-use crate::trying::{Ruling, settle_each};
+use crate::Settled;
+use crate::trying::settle_each;
 use rep_lists::{Copies, NoMemory};
 use rep_schema::{Constraint, RowStore, Schema, TableEntry, UniqueMethod};
 use rep_values::{Row, SiteName};
@@ -93,15 +94,15 @@ impl Counters {
         store: &R,
         table: u32,
         before: Option<&Row>,
-        row: &mut Row,
+        row: Row,
         origin: &SiteName,
-    ) -> Ruling
-        requires asked { IsAsked (R.schema store.now) table row.old }
-        requires before { HasBefore (R.schema store.now) (R.tables store.now) table (option_copied before) row.old }
+    ) -> Settled
+        requires asked { IsAsked (R.schema store.now) table row }
+        requires before { HasBefore (R.schema store.now) (R.tables store.now) table (option_copied before) row }
         requires counters { AreCounters (R.schema store.now) self.old }
         ensures { with_numbers table self.old (settled_each (columns_of (R.schema store.now) table) (rows_of (R.tables store.now) table) origin.now
-            (constraints_of (R.schema store.now) table) (slice_index_or self.old table []) row.old)
-            ≡ record { settled = settled_as result row.new; numbers = self.new } }
+            (constraints_of (R.schema store.now) table) (slice_index_or self.old table []) row)
+            ≡ record { settled = result; numbers = self.new } }
     {
         settle_each(
             store,

@@ -6,10 +6,8 @@ ghost use Rattle.rep_schema.specs.Shape.{HasShape};
 ghost use Rattle.rep_schema.specs.Tables.{columns_of, key_of, find_row, rows_of, IsKeyed, RowFits};
 ghost use Rattle.unique_resolve.specs.Numbers.{AreCounters};
 ghost use Rattle.unique_resolve.specs.Settling.{is_discard, key_methods_in, key_taken, settlement_of};
-ghost use Rattle.unique_resolve.specs.Trying.{settled_as};
 
 use crate::Counters;
-use crate::trying::Ruling;
 use rep_schema::{RowStore, Schema, UniqueMethod, columns_of, key_name, key_of};
 use rep_values::{Name, Row, SiteName};
 
@@ -69,17 +67,6 @@ fn has_key_of<R: RowStore>(store: &R, table: u32, row: &Row) -> bool
     store.get(table, &key).is_some()
 }
 
-/// The ruling with the row.
-fn ruled(ruling: Ruling, row: Row) -> Settled
-    ensures { result ≡ settled_as ruling row }
-{
-    match ruling {
-        Ruling::Fits => Settled::Fits(row),
-        Ruling::Dropped => Settled::Dropped,
-        Ruling::Conflict(name) => Settled::Conflict(name),
-    }
-}
-
 /// What becomes of a row that is to be put into a table from an origin, as a new one or in the place of the row
 /// before. For a new one the primary key comes first, then the secondary constraints in declared order, each against
 /// rows with another key. The methods of a violated constraint are tried in sequence, and append-sequence raises the
@@ -89,7 +76,7 @@ pub fn settle_unique<R: RowStore>(
     store: &R,
     table: u32,
     before: Option<&Row>,
-    mut row: Row,
+    row: Row,
     origin: &SiteName,
     counters: &mut Counters,
 ) -> Settled
@@ -105,6 +92,5 @@ pub fn settle_unique<R: RowStore>(
     if before.is_none() && has_key_of(store, table, &row) {
         return key_taken(key_methods(store.schema(), table));
     }
-    let ruling = counters.settle(store, table, before, &mut row, origin);
-    ruled(ruling, row)
+    counters.settle(store, table, before, row, origin)
 }

@@ -6,5 +6,6 @@ pub mod Following
 pub mod Calling
 pub mod Precheck
 pub mod Texts
+pub mod Outcomes
 pub mod Doing
 pub mod BuiltWorlds

@@ -1,24 +1,11 @@
-//! Room for what a line prints, and want of memory.
+//! Room for what a line prints.
 ghost use Rattle.std.specs.Prelude.{◌≡◌, ◌≤◌, ◌-◌, [], take, length, IfOk};
-ghost use Rattle.rep_values.specs.declared.refusal.Refusal.TheVariants as refusal;
 ghost use Rattle.report_text.specs.Sheet.{most_line};
 
 use rep_lists::{Items, NoMemory};
-use rep_values::Refusal;
 use report_text::{Lines, MOST_LINE};
 use std::alloc::Global;
 use std::mem;
-use world_state::Refused;
-
-/// There is no memory for a line.
-pub fn no_memory(line: u32) -> Refused
-    ensures { result ≡ record { line = line; refusal = refusal.Memory } }
-{
-    Refused {
-        line,
-        refusal: Refusal::Memory,
-    }
-}
 
 /// No bytes, and room for one line.
 pub fn room_for_line(alloc: Global) -> Result<Lines, NoMemory>

@@ -2,15 +2,14 @@
 ghost use Rattle.std.specs.Prelude.{◌≡◌, None, OnOk, OnErr};
 ghost use Rattle.world_state.specs.CallBlocks.{calls_opened, called_more, with_call};
 ghost use Rattle.world.specs.Precheck.{precheck_refusal};
-ghost use Rattle.world.specs.Doing.{Does};
+ghost use Rattle.world.specs.Doing.{Does, at_line, DoesAnywhere};
 
 use rep_lists::{Copies, Items, NoMemory};
 use rep_values::SiteName;
-use report_text::Lines;
 use script_parse::{CallWords, Command, ProcLine};
 use std::alloc::Global;
-use world::{Procs, WorldParts, drop_last, no_memory};
-use world_state::{CallBlock, Refused};
+use world::{Answer, CommandStop, Procs, WorldParts, drop_last};
+use world_state::CallBlock;
 
 /// So many calls, and one more, are kept.
 const MOST_CALLS: usize = 1_000;
@@ -30,14 +29,13 @@ fn open(procs: &mut Procs, alloc: Global, site: &SiteName)
 pub(crate) fn open_calls(
     parts: &mut WorldParts,
     alloc: Global,
-    line: u32,
     site: &SiteName,
-) -> Result<Lines, Refused>
+) -> Result<Answer, CommandStop>
     requires { precheck_refusal (Command.Procedures (ProcLine.Calls site.now)) parts.old ≡ None }
-    ensures { Does line (Command.Procedures (ProcLine.Calls site.now)) parts.old parts.new result }
+    ensures { DoesAnywhere (Command.Procedures (ProcLine.Calls site.now)) parts.old parts.new result }
 {
     open(&mut parts.procs, alloc, site);
-    Ok(Lines::make(alloc))
+    Ok(Answer::nothing(alloc))
 }
 
 /// Keeps a call and its line, or neither where there is no memory.
@@ -80,12 +78,12 @@ pub(crate) fn add_call(
     alloc: Global,
     line: u32,
     call: &CallWords,
-) -> Result<Lines, Refused>
+) -> Result<Answer, CommandStop>
     requires { precheck_refusal (Command.Procedures (ProcLine.Call call.now)) parts.old ≡ None }
-    ensures { Does line (Command.Procedures (ProcLine.Call call.now)) parts.old parts.new result }
+    ensures { Does line (Command.Procedures (ProcLine.Call call.now)) parts.old parts.new (at_line line result) }
 {
     let Ok(()) = put_call(&mut parts.procs, alloc, line, call) else {
-        return Err(no_memory(line));
+        return Err(CommandStop::Memory);
     };
-    Ok(Lines::make(alloc))
+    Ok(Answer::nothing(alloc))
 }

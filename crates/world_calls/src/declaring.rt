@@ -5,19 +5,17 @@ ghost use Rattle.world_state.specs.ProcDeclaring.{proc_table_named, with_proc_ta
 ghost use Rattle.world_laws.specs.Built.{AreProcsDeclared};
 ghost use Rattle.world.specs.Following.{IsBuilt};
 ghost use Rattle.world.specs.Precheck.{precheck_refusal};
-ghost use Rattle.world.specs.Doing.{Does};
+ghost use Rattle.world.specs.Doing.{DoesAnywhere};
 
 use proc_state::{Action, Procedure};
 use rep_lists::{Copies, Items, NoMemory};
 use rep_schema::{Column, TableEntry};
 use rep_values::{Name, TableName};
-use report_text::Lines;
 use schema_names::{find_table, table_place};
 use script_parse::{ActionWords, Command, ProcLine, TestWords};
 use snapshot_query::Query;
 use std::alloc::Global;
-use world::{Procs, WorldParts, column_number, no_memory, tests_in, tests_of};
-use world_state::Refused;
+use world::{Answer, CommandStop, Procs, WorldParts, column_number, tests_in, tests_of};
 
 /// A table that procedures write, behind those that are declared.
 fn put_table(
@@ -38,17 +36,16 @@ fn put_table(
 pub(crate) fn add_proc_table(
     parts: &mut WorldParts,
     alloc: Global,
-    line: u32,
     name: &TableName,
     columns: &Items<Column>,
-) -> Result<Lines, Refused>
+) -> Result<Answer, CommandStop>
     requires { precheck_refusal (Command.Procedures (ProcLine.Table name.now columns.now)) parts.old ≡ None }
-    ensures { Does line (Command.Procedures (ProcLine.Table name.now columns.now)) parts.old parts.new result }
+    ensures { DoesAnywhere (Command.Procedures (ProcLine.Table name.now columns.now)) parts.old parts.new result }
 {
     let Ok(()) = put_table(&mut parts.procs, alloc, name, columns) else {
-        return Err(no_memory(line));
+        return Err(CommandStop::Memory);
     };
-    Ok(Lines::make(alloc))
+    Ok(Answer::nothing(alloc))
 }
 
 /// The columns of the table of a name; none where it isn't there.
@@ -120,17 +117,16 @@ fn put_procedure(
 pub(crate) fn add_procedure(
     parts: &mut WorldParts,
     alloc: Global,
-    line: u32,
     name: &Name,
     table: &TableName,
     action: &ActionWords,
-) -> Result<Lines, Refused>
+) -> Result<Answer, CommandStop>
     requires built { IsBuilt parts.old }
     requires passes { precheck_refusal (Command.Procedures (ProcLine.Procedure name.now table.now action.now)) parts.old ≡ None }
-    ensures { Does line (Command.Procedures (ProcLine.Procedure name.now table.now action.now)) parts.old parts.new result }
+    ensures { DoesAnywhere (Command.Procedures (ProcLine.Procedure name.now table.now action.now)) parts.old parts.new result }
 {
     let Ok(()) = put_procedure(&mut parts.procs, alloc, name, table, action) else {
-        return Err(no_memory(line));
+        return Err(CommandStop::Memory);
     };
-    Ok(Lines::make(alloc))
+    Ok(Answer::nothing(alloc))
 }

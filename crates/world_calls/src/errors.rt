@@ -4,15 +4,14 @@ ghost use Rattle.rep_values.specs.declared.refusal.Refusal.TheVariants as refusa
 ghost use Rattle.proc_state.specs.Errors.{proc_execute};
 ghost use Rattle.world_state.specs.Procs.{proc_of, at_proc};
 ghost use Rattle.world.specs.Precheck.{precheck_refusal};
-ghost use Rattle.world.specs.Doing.{Does};
+ghost use Rattle.world.specs.Doing.{DoesAnywhere};
 ghost use Rattle.world_calls.specs.Sending.{execute_stop};
 
 use rep_values::{Refusal, SiteName};
-use report_text::{Lines, execute_calls_line};
+use report_text::execute_calls_line;
 use script_parse::{Command, ProcLine};
 use std::alloc::Global;
-use world::{Procs, WorldParts, no_memory, proc_place_of, room_for_line};
-use world_state::Refused;
+use world::{Answer, CommandStop, Outcome, Procs, WorldParts, proc_place_of, room_for_line};
 
 /// Executes an error at a site again. Where the site isn't there nothing happens.
 fn execute_at(
@@ -37,22 +36,24 @@ fn execute_at(
 pub(crate) fn execute_calls(
     parts: &mut WorldParts,
     alloc: Global,
-    line: u32,
     site: &SiteName,
     origin: &SiteName,
     position: u64,
-) -> Result<Lines, Refused>
+) -> Result<Answer, CommandStop>
     requires { precheck_refusal (Command.Procedures (ProcLine.Execute site.now origin.now position)) parts.old ≡ None }
-    ensures { Does line (Command.Procedures (ProcLine.Execute site.now origin.now position)) parts.old parts.new result }
+    ensures { DoesAnywhere (Command.Procedures (ProcLine.Execute site.now origin.now position)) parts.old parts.new result }
 {
     let Ok(mut lines) = room_for_line(alloc) else {
-        return Err(no_memory(line));
+        return Err(CommandStop::Memory);
     };
     match execute_at(&mut parts.procs, alloc, site, origin, position) {
         Ok(()) => {
             execute_calls_line(&mut lines, *site, *origin, position);
-            Ok(lines)
+            Ok(Answer {
+                lines,
+                outcome: Outcome::Done,
+            })
         }
-        Err(refusal) => Err(Refused { line, refusal }),
+        Err(refusal) => Err(CommandStop::Refused(refusal)),
     }
 }

@@ -3,16 +3,14 @@ ghost use Rattle.std.specs.Prelude.{◌≡◌, None, OnOk, OnErr};
 ghost use Rattle.net_plan.specs.Directions.{HasDirection, at_direction, with_fates};
 ghost use Rattle.world.specs.Following.{IsBuilt};
 ghost use Rattle.world.specs.Precheck.{precheck_refusal};
-ghost use Rattle.world.specs.Doing.{Does};
+ghost use Rattle.world.specs.Doing.{DoesAnywhere};
 
 use net_plan::Fate;
 use rep_lists::{Items, NoMemory};
 use rep_values::SiteName;
-use report_text::Lines;
 use script_parse::{Command, ProcLine};
 use std::alloc::Global;
-use world::{Procs, WorldParts, no_memory};
-use world_state::Refused;
+use world::{Answer, CommandStop, Procs, WorldParts};
 
 /// These fates come behind those that are left between two sites.
 fn put_fates(
@@ -33,17 +31,16 @@ fn put_fates(
 pub(crate) fn add_call_fates(
     parts: &mut WorldParts,
     alloc: Global,
-    line: u32,
     from: &SiteName,
     to: &SiteName,
     fates: &Items<Fate>,
-) -> Result<Lines, Refused>
+) -> Result<Answer, CommandStop>
     requires built { IsBuilt parts.old }
     requires passes { precheck_refusal (Command.Procedures (ProcLine.Fates from.now to.now fates.now)) parts.old ≡ None }
-    ensures { Does line (Command.Procedures (ProcLine.Fates from.now to.now fates.now)) parts.old parts.new result }
+    ensures { DoesAnywhere (Command.Procedures (ProcLine.Fates from.now to.now fates.now)) parts.old parts.new result }
 {
     let Ok(()) = put_fates(&mut parts.procs, from, to, fates.as_slice()) else {
-        return Err(no_memory(line));
+        return Err(CommandStop::Memory);
     };
-    Ok(Lines::make(alloc))
+    Ok(Answer::nothing(alloc))
 }

@@ -8,7 +8,7 @@ ghost use Rattle.world.specs.Following.{IsBuilt};
 ghost use Rattle.world.specs.Calling.{CallsPushInPart};
 ghost use Rattle.world.specs.Precheck.{precheck_refusal};
 ghost use Rattle.world.specs.Texts.{calls_pushed_text};
-ghost use Rattle.world.specs.Doing.{Does};
+ghost use Rattle.world.specs.Doing.{DoesAnywhere};
 
 use crate::applying::{Pushed, apply_and_tell};
 use crate::deliver::deliver_all;
@@ -19,8 +19,7 @@ use rep_values::SiteName;
 use report_text::Lines;
 use script_parse::{Command, ProcLine};
 use std::alloc::Global;
-use world::{Procs, WorldParts, no_memory, room_for_line};
-use world_state::Refused;
+use world::{Answer, CommandStop, Outcome, Procs, WorldParts, room_for_line};
 
 /// What is held is released, what isn't acknowledged is sent, and all is taken in. It answers how many positions were sent.
 fn send_and_deliver(
@@ -95,17 +94,19 @@ fn push_linked(
 pub(crate) fn push_calls(
     parts: &mut WorldParts,
     alloc: Global,
-    line: u32,
     from: &SiteName,
     to: &SiteName,
-) -> Result<Lines, Refused>
+) -> Result<Answer, CommandStop>
     requires built { IsBuilt parts.old }
     requires passes { precheck_refusal (Command.Procedures (ProcLine.Push from.now to.now)) parts.old ≡ None }
-    ensures { Does line (Command.Procedures (ProcLine.Push from.now to.now)) parts.old parts.new result }
+    ensures { DoesAnywhere (Command.Procedures (ProcLine.Push from.now to.now)) parts.old parts.new result }
 {
     let is_up = parts.net.is_up(to, from);
     match push_linked(&mut parts.procs, alloc, is_up, from, to) {
-        Ok(lines) => Ok(lines),
-        Err(NoMemory) => Err(no_memory(line)),
+        Ok(lines) => Ok(Answer {
+            lines,
+            outcome: Outcome::Done,
+        }),
+        Err(NoMemory) => Err(CommandStop::Memory),
     }
 }

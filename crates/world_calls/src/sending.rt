@@ -8,7 +8,7 @@ ghost use Rattle.world_state.specs.Procs.{proc_of, at_proc};
 ghost use Rattle.world_state.specs.CallBlocks.{masters_named, words_sent, words_number, calls_sent, sent_number, failed_stop, calls_stop, stop_at_proc, send_stop};
 ghost use Rattle.world.specs.Precheck.{precheck_refusal};
 ghost use Rattle.world.specs.Texts.{calls_sent_text, call_block_text};
-ghost use Rattle.world.specs.Doing.{Does};
+ghost use Rattle.world.specs.Doing.{Does, at_line};
 ghost use Rattle.world_calls.specs.Sending.{call_stop_of, StopsSend, EndsSend};
 
 use crate::words::{calls_of, words_stop};
@@ -19,7 +19,7 @@ use rep_values::{Refusal, SiteName};
 use report_text::{Lines, nothing_sent_line, sent_line};
 use script_parse::{CallWords, Command, ProcLine};
 use std::alloc::Global;
-use world::{Procs, WorldParts, no_memory, proc_place_of, room_for_line};
+use world::{Answer, CommandStop, Outcome, Procs, WorldParts, proc_place_of, room_for_line};
 use world_state::{CallBlock, CallStop, Refused};
 
 /// Why the calls of a block aren't made.
@@ -216,19 +216,22 @@ pub(crate) fn send(
     alloc: Global,
     line: u32,
     to: &Items<SiteName>,
-) -> Result<Lines, Refused>
+) -> Result<Answer, CommandStop>
     requires passes { precheck_refusal (Command.Procedures (ProcLine.Send to.now)) parts.old ≡ None }
-    ensures { Does line (Command.Procedures (ProcLine.Send to.now)) parts.old parts.new result }
+    ensures { Does line (Command.Procedures (ProcLine.Send to.now)) parts.old parts.new (at_line line result) }
 {
     let Ok(mut lines) = room_for_line(alloc) else {
-        return Err(no_memory(line));
+        return Err(CommandStop::Memory);
     };
     match send_open(&mut parts.procs, alloc, line, to.as_slice()) {
         Ok(sent) => {
             put_sent(&mut lines, sent);
-            Ok(lines)
+            Ok(Answer {
+                lines,
+                outcome: Outcome::Done,
+            })
         }
-        Err(SendEnd::Refused(refused)) => Err(refused),
-        Err(SendEnd::Memory) => Err(no_memory(line)),
+        Err(SendEnd::Refused(refused)) => Err(CommandStop::RefusedAt(refused)),
+        Err(SendEnd::Memory) => Err(CommandStop::Memory),
     }
 }

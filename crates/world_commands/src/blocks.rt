@@ -7,8 +7,9 @@ ghost use Rattle.world_state.specs.Blocks.{stated_more, stop_at_site, line_in};
 ghost use Rattle.world_state.specs.Answers.{number_there, answered_number};
 ghost use Rattle.report_text.specs.Sheet.{Appends, most_line};
 ghost use Rattle.world.specs.Precheck.{precheck_refusal};
+ghost use Rattle.world.specs.Outcomes.{committed};
 ghost use Rattle.world.specs.Texts.{committed_text};
-ghost use Rattle.world.specs.Doing.{Does};
+ghost use Rattle.world.specs.Doing.{Does, at_line, DoesAnywhere};
 
 use page_tables::PageTables;
 use rep_calls::Statement;
@@ -19,7 +20,7 @@ use script_parse::Command;
 use site_engine::Site;
 use std::alloc::Global;
 use txn_effects::LocalStop;
-use world::{WorldParts, drop_last, no_memory, place_of, room_for_line};
+use world::{Answer, CommandStop, Outcome, WorldParts, drop_last, place_of, room_for_line};
 use world_state::{Block, Refused};
 
 /// So many statements, and one more, are kept.
@@ -29,18 +30,17 @@ const MOST_STATEMENTS: usize = 1_000;
 pub fn open_block(
     parts: &mut WorldParts,
     alloc: Global,
-    line: u32,
     site: &SiteName,
-) -> Result<Lines, Refused>
+) -> Result<Answer, CommandStop>
     requires passes { precheck_refusal (Command.Txn site.now) parts.old ≡ None }
-    ensures { Does line (Command.Txn site.now) parts.old parts.new result }
+    ensures { DoesAnywhere (Command.Txn site.now) parts.old parts.new result }
 {
     parts.block = Some(Block {
         site: *site,
         lines: Items::new(alloc),
         statements: Items::new(alloc),
     });
-    Ok(Lines::make(alloc))
+    Ok(Answer::nothing(alloc))
 }
 
 /// Keeps a statement and its line, or neither where there is no memory.
@@ -71,26 +71,26 @@ pub fn add_statement(
     alloc: Global,
     line: u32,
     statement: &Statement,
-) -> Result<Lines, Refused>
+) -> Result<Answer, CommandStop>
     requires passes { precheck_refusal (Command.Statement statement.now) parts.old ≡ None }
-    ensures { Does line (Command.Statement statement.now) parts.old parts.new result }
+    ensures { Does line (Command.Statement statement.now) parts.old parts.new (at_line line result) }
 {
     let Some(block) = &mut parts.block else {
         unreachable!()
     };
     let Ok(()) = keep_statement(block, alloc, line, statement) else {
-        return Err(no_memory(line));
+        return Err(CommandStop::Memory);
     };
-    Ok(Lines::make(alloc))
+    Ok(Answer::nothing(alloc))
 }
 
 /// `abandon`
-pub fn abandon(parts: &mut WorldParts, alloc: Global, line: u32) -> Result<Lines, Refused>
+pub fn abandon(parts: &mut WorldParts, alloc: Global) -> Result<Answer, CommandStop>
     requires passes { precheck_refusal Command.Abandon parts.old ≡ None }
-    ensures { Does line Command.Abandon parts.old parts.new result }
+    ensures { DoesAnywhere Command.Abandon parts.old parts.new result }
 {
     parts.block = None;
-    Ok(Lines::make(alloc))
+    Ok(Answer::nothing(alloc))
 }
 
 /// There is no memory for a block.
@@ -139,6 +139,17 @@ fn put_committed(lines: &mut Lines, site: SiteName, number: u64)
     }
 }
 
+/// A commit under a number, or one that changes no row.
+fn committed(number: u64) -> Outcome
+    ensures { result ≡ committed number }
+{
+    if number == 0 {
+        Outcome::NothingCommitted
+    } else {
+        Outcome::Committed { number }
+    }
+}
+
 /// The line of a statement of a block, from 1; the commit's where it has none.
 fn line_of(block: &Block, line: u32, statement: u32) -> u32
     ensures { result ≡ line_in line (slice_get block.now.lines (statement - 1)) }
@@ -154,12 +165,12 @@ fn line_of(block: &Block, line: u32, statement: u32) -> u32
 }
 
 /// `commit`. Where a statement is refused, the block is closed too.
-pub fn commit(parts: &mut WorldParts, alloc: Global, line: u32) -> Result<Lines, Refused>
+pub fn commit(parts: &mut WorldParts, alloc: Global, line: u32) -> Result<Answer, CommandStop>
     requires passes { precheck_refusal Command.Commit parts.old ≡ None }
-    ensures { Does line Command.Commit parts.old parts.new result }
+    ensures { Does line Command.Commit parts.old parts.new (at_line line result) }
 {
     let Ok(mut lines) = room_for_line(alloc) else {
-        return Err(no_memory(line));
+        return Err(CommandStop::Memory);
     };
     let Some(block) = &parts.block else {
         unreachable!()
@@ -168,17 +179,20 @@ pub fn commit(parts: &mut WorldParts, alloc: Global, line: u32) -> Result<Lines,
         Ok(number) => number,
         Err(stop) => {
             if stop.statement == 0 {
-                return Err(no_memory(line));
+                return Err(CommandStop::Memory);
             }
             let told = line_of(block, line, stop.statement);
             parts.block = None;
-            return Err(Refused {
+            return Err(CommandStop::RefusedAt(Refused {
                 line: told,
                 refusal: stop.refusal,
-            });
+            }));
         }
     };
     put_committed(&mut lines, block.site, number);
     parts.block = None;
-    Ok(lines)
+    Ok(Answer {
+        lines,
+        outcome: committed(number),
+    })
 }

@@ -7,7 +7,7 @@ ghost use Rattle.site_events.specs.Joins.{count_at, queue_counts, open_to_each, 
 ghost use Rattle.world_state.specs.Answers.{row_count, join_count};
 ghost use Rattle.world.specs.Following.{IsBuilt};
 ghost use Rattle.world.specs.Precheck.{precheck_refusal};
-ghost use Rattle.world.specs.Doing.{Does};
+ghost use Rattle.world.specs.Doing.{DoesAnywhere};
 ghost use Rattle.world_commands.specs.Joining.{world_join};
 
 use master_join::copy_site;
@@ -16,14 +16,13 @@ use rep_calls::PastEntry;
 use rep_lists::{Copies, Items, NoMemory};
 use rep_schema::RowStore;
 use rep_values::SiteName;
-use report_text::{Lines, join_line};
+use report_text::join_line;
 use schema_names::{destinations_of, senders_of};
 use script_parse::Command;
 use site_engine::Site;
 use site_making::master_here;
 use std::alloc::Global;
-use world::{WorldParts, no_memory, place_of, room_for_line};
-use world_state::Refused;
+use world::{Answer, CommandStop, Outcome, WorldParts, place_of, room_for_line};
 
 /// A sum. One that its type can't hold, which so many rows never make, is answered as want of memory.
 fn added(rows: u64, more: u64) -> Result<u64, NoMemory>
@@ -173,20 +172,22 @@ fn join_site(
 pub fn join(
     parts: &mut WorldParts,
     alloc: Global,
-    line: u32,
     site: &SiteName,
     source: &SiteName,
-) -> Result<Lines, Refused>
+) -> Result<Answer, CommandStop>
     requires built { IsBuilt parts.old }
     requires passes { precheck_refusal (Command.Join site.now source.now) parts.old ≡ None }
-    ensures { Does line (Command.Join site.now source.now) parts.old parts.new result }
+    ensures { DoesAnywhere (Command.Join site.now source.now) parts.old parts.new result }
 {
     let Ok(mut lines) = room_for_line(alloc) else {
-        return Err(no_memory(line));
+        return Err(CommandStop::Memory);
     };
     let Ok(rows) = join_site(parts, alloc, site, source) else {
-        return Err(no_memory(line));
+        return Err(CommandStop::Memory);
     };
     join_line(&mut lines, *site, *source, rows);
-    Ok(lines)
+    Ok(Answer {
+        lines,
+        outcome: Outcome::Done,
+    })
 }

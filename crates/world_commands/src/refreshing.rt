@@ -11,7 +11,7 @@ ghost use Rattle.world_laws.specs.Sites.{CanRefreshFrom};
 ghost use Rattle.world.specs.Following.{IsBuilt};
 ghost use Rattle.world.specs.Precheck.{precheck_refusal};
 ghost use Rattle.world.specs.Texts.{refreshed_text};
-ghost use Rattle.world.specs.Doing.{Does};
+ghost use Rattle.world.specs.Doing.{DoesAnywhere};
 ghost use Rattle.world_commands.specs.Refreshing.{CanRefreshAt, refreshed_by, refreshed_at, refresh_told_at, told_of};
 
 use crate::ruled::{have_parents, rows_of_each, rows_of_each_by_logs};
@@ -28,8 +28,9 @@ use script_parse::{Command, Refresh};
 use site_engine::Site;
 use site_state::RefreshCount;
 use std::alloc::Global;
-use world::{WorldParts, master_of, no_memory, place_of, room_for_line, young_step};
-use world_state::Refused;
+use world::{
+    Answer, CommandStop, Outcome, WorldParts, master_of, place_of, room_for_line, young_step,
+};
 
 /// What a refresh tells: whether it went by the logs, how many keys it looked up, and how many rows the snapshots have.
 #[derive(Drop)]
@@ -252,38 +253,39 @@ fn put_told(lines: &mut Lines, site: SiteName, told: &Told)
 pub fn refresh(
     parts: &mut WorldParts,
     alloc: Global,
-    line: u32,
     site: &SiteName,
     how: Refresh,
-) -> Result<Lines, Refused>
+) -> Result<Answer, CommandStop>
     requires built { IsBuilt parts.old }
     requires passes { precheck_refusal (Command.Refresh site.now how) parts.old ≡ None }
-    ensures { Does line (Command.Refresh site.now how) parts.old parts.new result }
+    ensures { DoesAnywhere (Command.Refresh site.now how) parts.old parts.new result }
 {
     let Ok(mut lines) = room_for_line(alloc) else {
-        return Err(no_memory(line));
+        return Err(CommandStop::Memory);
     };
     let Ok(told) = refresh_site(parts, alloc, site, how) else {
-        return Err(no_memory(line));
+        return Err(CommandStop::Memory);
     };
     put_told(&mut lines, *site, &told);
-    Ok(lines)
+    Ok(Answer {
+        lines,
+        outcome: Outcome::Done,
+    })
 }
 
 /// `purge-log`
 pub fn purge_log(
     parts: &mut WorldParts,
     alloc: Global,
-    line: u32,
     master: &SiteName,
     table: &TableName,
-) -> Result<Lines, Refused>
+) -> Result<Answer, CommandStop>
     requires built { IsBuilt parts.old }
     requires passes { precheck_refusal (Command.PurgeLog master.now table.now) parts.old ≡ None }
-    ensures { Does line (Command.PurgeLog master.now table.now) parts.old parts.new result }
+    ensures { DoesAnywhere (Command.PurgeLog master.now table.now) parts.old parts.new result }
 {
     let Ok(mut lines) = room_for_line(alloc) else {
-        return Err(no_memory(line));
+        return Err(CommandStop::Memory);
     };
     let Some(place) = place_of(&parts.sites, master) else {
         unreachable!()
@@ -294,5 +296,8 @@ pub fn purge_log(
     };
     let count = parts.sites[place].purge_log(number as u32);
     purge_log_line(&mut lines, *master, *table, count);
-    Ok(lines)
+    Ok(Answer {
+        lines,
+        outcome: Outcome::Done,
+    })
 }

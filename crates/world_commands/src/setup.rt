@@ -9,35 +9,33 @@ ghost use Rattle.world_state.specs.Phases.{is_setup, broken_by};
 ghost use Rattle.world_state.specs.Procs.{proc_schema, procs_made};
 ghost use Rattle.world.specs.Following.{IsBuilt};
 ghost use Rattle.world.specs.Precheck.{precheck_refusal};
-ghost use Rattle.world.specs.Doing.{Does};
+ghost use Rattle.world.specs.Doing.{DoesAnywhere};
 
 use local_txn::put_base_row;
 use rep_declare::Declare;
 use rep_lists::{Items, NoMemory};
 use rep_schema::{RowStore, Schema};
 use rep_values::{Literal, TableName};
-use report_text::Lines;
 use script_parse::Command;
 use site_making::{make_net, make_proc_sites, make_sites};
 use std::alloc::Global;
-use world::{Procs, WorldParts, no_memory};
-use world_state::{Phase, Refused};
+use world::{Answer, CommandStop, Procs, WorldParts};
+use world_state::Phase;
 
 /// A line that declares something.
 pub fn declare(
     parts: &mut WorldParts,
     alloc: Global,
-    line: u32,
     declaration: &Declare,
-) -> Result<Lines, Refused>
+) -> Result<Answer, CommandStop>
     requires built { IsBuilt parts.old }
     requires named { NamesColumn (Command.Declare declaration.now) }
     requires passes { precheck_refusal (Command.Declare declaration.now) parts.old ≡ None }
-    ensures { Does line (Command.Declare declaration.now) parts.old parts.new result }
+    ensures { DoesAnywhere (Command.Declare declaration.now) parts.old parts.new result }
 {
     match parts.store.declare(alloc, declaration) {
-        Ok(()) => Ok(Lines::make(alloc)),
-        Err(refusal) => Err(Refused { line, refusal }),
+        Ok(()) => Ok(Answer::nothing(alloc)),
+        Err(refusal) => Err(CommandStop::Refused(refusal)),
     }
 }
 
@@ -45,17 +43,16 @@ pub fn declare(
 pub fn add_row(
     parts: &mut WorldParts,
     alloc: Global,
-    line: u32,
     table: &TableName,
     values: &Items<Literal>,
-) -> Result<Lines, Refused>
+) -> Result<Answer, CommandStop>
     requires built { IsBuilt parts.old }
     requires passes { precheck_refusal (Command.Row table.now values.now) parts.old ≡ None }
-    ensures { Does line (Command.Row table.now values.now) parts.old parts.new result }
+    ensures { DoesAnywhere (Command.Row table.now values.now) parts.old parts.new result }
 {
     match put_base_row(alloc, &mut parts.store, table, values.as_slice()) {
-        Ok(()) => Ok(Lines::make(alloc)),
-        Err(refusal) => Err(Refused { line, refusal }),
+        Ok(()) => Ok(Answer::nothing(alloc)),
+        Err(refusal) => Err(CommandStop::Refused(refusal)),
     }
 }
 
@@ -93,28 +90,28 @@ fn end_setup(parts: &mut WorldParts, alloc: Global) -> Result<(), NoMemory>
 }
 
 /// `resume`
-pub fn resume(parts: &mut WorldParts, alloc: Global, line: u32) -> Result<Lines, Refused>
+pub fn resume(parts: &mut WorldParts, alloc: Global) -> Result<Answer, CommandStop>
     requires built { IsBuilt parts.old }
     requires passes { precheck_refusal Command.Resume parts.old ≡ None }
-    ensures { Does line Command.Resume parts.old parts.new result }
+    ensures { DoesAnywhere Command.Resume parts.old parts.new result }
 {
     match parts.phase {
         Phase::Setup => {
             let Ok(()) = end_setup(parts, alloc) else {
-                return Err(no_memory(line));
+                return Err(CommandStop::Memory);
             };
         }
         Phase::Running => {}
         Phase::Suspended => parts.phase = Phase::Running,
     }
-    Ok(Lines::make(alloc))
+    Ok(Answer::nothing(alloc))
 }
 
 /// `suspend`
-pub fn suspend(parts: &mut WorldParts, alloc: Global, line: u32) -> Result<Lines, Refused>
+pub fn suspend(parts: &mut WorldParts, alloc: Global) -> Result<Answer, CommandStop>
     requires passes { precheck_refusal Command.Suspend parts.old ≡ None }
-    ensures { Does line Command.Suspend parts.old parts.new result }
+    ensures { DoesAnywhere Command.Suspend parts.old parts.new result }
 {
     parts.phase = Phase::Suspended;
-    Ok(Lines::make(alloc))
+    Ok(Answer::nothing(alloc))
 }

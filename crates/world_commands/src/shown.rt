@@ -5,7 +5,7 @@ ghost use Rattle.world_state.specs.World.{is_there};
 ghost use Rattle.world_state.specs.Procs.{proc_of};
 ghost use Rattle.world.specs.Precheck.{precheck_refusal};
 ghost use Rattle.world.specs.Texts.{senders_there, destinations_there, shown_text, shown_found, shown_calls, show_text};
-ghost use Rattle.world.specs.Doing.{Does};
+ghost use Rattle.world.specs.Doing.{DoesAnywhere};
 
 use page_tables::PageTables;
 use proc_calls::ProcSite;
@@ -18,8 +18,7 @@ use script_parse::{Command, Shown};
 use site_engine::Site;
 use site_report::{add_errors, add_journal, add_log, add_marks, add_queue};
 use std::alloc::Global;
-use world::{WorldParts, no_memory, place_of, proc_place_of};
-use world_state::Refused;
+use world::{Answer, CommandStop, Outcome, WorldParts, place_of, proc_place_of};
 
 /// Those of some sites that are there.
 fn those_there(
@@ -174,16 +173,18 @@ fn add_line(
 pub fn show(
     parts: &WorldParts,
     alloc: Global,
-    line: u32,
     what: Shown,
     site: &SiteName,
-) -> Result<Lines, Refused>
+) -> Result<Answer, CommandStop>
     requires { precheck_refusal (Command.Show what site.now) parts.now ≡ None }
-    ensures { Does line (Command.Show what site.now) parts.now parts.now result }
+    ensures { DoesAnywhere (Command.Show what site.now) parts.now parts.now result }
 {
     let mut lines = Lines::make(alloc);
     let Ok(()) = add_line(&mut lines, alloc, parts, what, site) else {
-        return Err(no_memory(line));
+        return Err(CommandStop::Memory);
     };
-    Ok(lines)
+    Ok(Answer {
+        lines,
+        outcome: Outcome::Done,
+    })
 }

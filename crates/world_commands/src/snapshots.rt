@@ -6,19 +6,18 @@ ghost use Rattle.rep_declare.specs.Additions.{column_number};
 ghost use Rattle.world_state.specs.Declaring.{query_of, declared_snapshot};
 ghost use Rattle.world.specs.Following.{IsBuilt};
 ghost use Rattle.world.specs.Precheck.{precheck_refusal};
-ghost use Rattle.world.specs.Doing.{Does};
+ghost use Rattle.world.specs.Doing.{DoesAnywhere};
 ghost use Rattle.world_commands.specs.Declaring.{IsParentThere};
 
 use rep_lists::{Items, NoMemory};
 use rep_schema::{Column, RowStore, Schema, columns_of};
 use rep_values::{Name, SiteName, TableName};
-use report_text::Lines;
 use schema_names::table_place;
 use script_parse::{Command, ParentWords, TestWords};
 use snapshot_query::{Parent, Query};
 use std::alloc::Global;
-use world::{WorldParts, column_number, no_memory, tests_in, tests_of};
-use world_state::{DeclaredSnapshot, Refused};
+use world::{Answer, CommandStop, WorldParts, column_number, tests_in, tests_of};
+use world_state::DeclaredSnapshot;
 
 /// The places of columns of these names.
 fn columns_at(alloc: Global, columns: &[Column], names: &[Name]) -> Result<Items<u32>, NoMemory>
@@ -119,15 +118,14 @@ fn declared_snapshot(
 pub fn add_snapshot(
     parts: &mut WorldParts,
     alloc: Global,
-    line: u32,
     site: &SiteName,
     table: &TableName,
     parent: &Option<ParentWords>,
     tests: &Option<Items<TestWords>>,
-) -> Result<Lines, Refused>
+) -> Result<Answer, CommandStop>
     requires built { IsBuilt parts.old }
     requires passes { precheck_refusal (Command.Snapshot site.now table.now parent.now tests.now) parts.old ≡ None }
-    ensures { Does line (Command.Snapshot site.now table.now parent.now tests.now) parts.old parts.new result }
+    ensures { DoesAnywhere (Command.Snapshot site.now table.now parent.now tests.now) parts.old parts.new result }
 {
     let schema = parts.store.schema();
     let Some(place) = table_place(schema.tables.as_slice(), table) else {
@@ -135,10 +133,10 @@ pub fn add_snapshot(
     };
     let words = tests_in(tests);
     let Ok(snapshot) = declared_snapshot(alloc, schema, *site, place as u32, parent, words) else {
-        return Err(no_memory(line));
+        return Err(CommandStop::Memory);
     };
     let Ok(()) = parts.snapshots.push(snapshot) else {
-        return Err(no_memory(line));
+        return Err(CommandStop::Memory);
     };
-    Ok(Lines::make(alloc))
+    Ok(Answer::nothing(alloc))
 }

@@ -4,6 +4,7 @@ use Rattle.std.specs.Prelude.{flat_map}
 use Rattle.std.specs.List.{insert, remove}
 use Rattle.rep_values.specs.declared.name.SiteName.{SiteName}
 use Rattle.error_queue.specs.declared.entry.ErrorEntry.{ErrorEntry}
+use Rattle.report_text.specs.declared.printed.PushCount.{PushCount}
 use Rattle.report_text.specs.Texts.{push_text}
 use Rattle.site_state.specs.State.{SiteState}
 use Rattle.site_state.specs.Journal.{low_water}
@@ -33,6 +34,18 @@ errors_in-none origin x none = no_new_errors x (site_until_quiet origin x) (unti
 
 -- ---- what is told
 
+abbrev counts_of : ℕ → ℕ → ℕ → ℕ → PushCount
+counts_of sent done errors low = record { sent = sent; done = done; errors = errors; low = low }
+
+-- what is counted of a push that sent so many positions
+pub count_is : (origin : SiteName) (sent done errors low : ℕ) (x y : SiteState) → y ≡ site_until_quiet origin x → done ≡ added_count is_done x y → errors ≡ added_count is_error x y → low ≡ low_water origin y.journal
+    → counts_of sent done errors low ≡ count_in sent origin (Some x)
+count_is origin sent done errors low x y applied done_is errors_is low_is =
+    ap (λ (d : ℕ). counts_of sent d errors low) (done_is ∙ ap (added_count is_done x) applied)
+    ∙ ap (λ (e : ℕ). counts_of sent (added_count is_done x (site_until_quiet origin x)) e low) (errors_is ∙ ap (added_count is_error x) applied)
+    ∙ ap (λ (l : ℕ). counts_of sent (added_count is_done x (site_until_quiet origin x)) (added_count is_error x (site_until_quiet origin x)) l)
+    (low_is ∙ ap (λ (z : SiteState). low_water origin z.journal) applied)
+
 module _ (origin to : SiteName) (sent done errors low before : ℕ) (x y : SiteState) (old lined : List ℕ) (applied : y ≡ site_until_quiet origin x) (begins : before ≡ length x.journal)
     (done_is : done ≡ added_count is_done x y) (errors_is : errors ≡ added_count is_error x y) (low_is : low ≡ low_water origin y.journal)
     (line : lined ≡ old ++ push_text origin.0 to.0 (record { sent = sent; done = done; errors = errors; low = low })) where
@@ -40,11 +53,7 @@ module _ (origin to : SiteName) (sent done errors low before : ℕ) (x y : SiteS
   all = push_text origin.0 to.0 (count_in sent origin (Some x))
 
   counted : push_text origin.0 to.0 (record { sent = sent; done = done; errors = errors; low = low }) ≡ all
-  counted =
-      ap (λ (d : ℕ). push_text origin.0 to.0 (record { sent = sent; done = d; errors = errors; low = low })) (done_is ∙ ap (added_count is_done x) applied)
-      ∙ ap (λ (e : ℕ). push_text origin.0 to.0 (record { sent = sent; done = added_count is_done x (site_until_quiet origin x); errors = e; low = low })) (errors_is ∙ ap (added_count is_error x) applied)
-      ∙ ap (λ (l : ℕ). push_text origin.0 to.0 (record { sent = sent; done = added_count is_done x (site_until_quiet origin x); errors = added_count is_error x (site_until_quiet origin x); low = l }))
-      (low_is ∙ ap (λ (z : SiteState). low_water origin z.journal) applied)
+  counted = ap (push_text origin.0 to.0) (count_is origin sent done errors low x y applied done_is errors_is low_is)
 
   lined_is : lined ≡ old ++ all
   lined_is = line ∙ ap (λ (text : List ℕ). old ++ text) counted
@@ -78,6 +87,11 @@ pub told-there : (origin name : SiteName) (sites : List SiteState) (place : ℕ)
     → (to : SiteName) (sent : ℕ) (old told : List ℕ) → told ≡ old ++ told_text origin to sent (Some x) → told ≡ old ++ told_text origin to sent (site_of name sites)
 told-there origin name sites place found x read to sent old told is =
     is ∙ ap (λ (there : Option SiteState). old ++ told_text origin to sent there) (sym (site_of-read name sites sites place x refl found read))
+
+-- and so is what is counted
+pub counted-there : (origin name : SiteName) (sites : List SiteState) (place : ℕ) → IsAt name sites place → (x : SiteState) → x ≡ get_or sites place x
+    → (sent : ℕ) (count : PushCount) → count ≡ count_in sent origin (Some x) → count ≡ count_in sent origin (site_of name sites)
+counted-there origin name sites place found x read sent count is = is ∙ ap (count_in sent origin) (sym (site_of-read name sites sites place x refl found read))
 
 module _ (origin name : SiteName) (w : WorldState) (place : ℕ) (found : IsAt name w.sites place) (x : SiteState) (read : x ≡ get_or w.sites place x) where
   -- it is taken out, and put in again as it is then

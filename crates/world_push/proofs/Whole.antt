@@ -6,12 +6,16 @@ use Rattle.rep_values.specs.declared.refusal.Refusal.TheVariants as refusal
 use Rattle.rep_values.specs.RefusalSteps.{refused, first_refusal}
 use Rattle.rep_values.proofs.RefusalSteps.{or_then-None, refused-None, refused_not-None}
 use Rattle.net_plan.specs.Directions.{HasDirection}
+use Rattle.report_text.specs.declared.printed.PushCount.{PushCount}
 use Rattle.script_parse.specs.declared.command.Command.TheVariants as command
 use Rattle.site_events.specs.Cluster.{site_of}
 use Rattle.world_state.specs.World.{WorldState, is_there, gets_from}
 use Rattle.world_state.specs.Phases.{is_setup, has_block, behind_setup_step}
 use Rattle.world_state.specs.Refusals.{are_there, has_sender, further_steps}
 use Rattle.world_state.specs.Pushes.{positions_above, pushed_in, world_push}
+use Rattle.world_state.specs.PushAnswers.{count_in, push_count}
+use Rattle.world.specs.declared.answer.Answer.{Answer}
+use Rattle.world.specs.declared.answer.Outcome.TheVariants.{Pushed}
 use Rattle.world.specs.Following.{PushesInPart, IsBuilt}
 use Rattle.world.specs.Precheck.{precheck_refusal}
 use Rattle.world.specs.Texts.{pushed_text}
@@ -54,8 +58,9 @@ module _ (from to : SiteName) (count : Option ℕ) (w : WorldState) where
     linked_back built = (directions built).0
 
     -- a push that was done
-    pub push_done : (number : ℕ) (new : WorldState) (bytes : List ℕ) → new ≡ world_push from to count w → bytes ≡ pushed_text from to count w → IsDone number (command.Push from to count) w new bytes
-    push_done number new bytes world text = record { passes = passes; world = world; text = text }
+    pub push_done : (number : ℕ) (new : WorldState) (answer : Answer) → new ≡ world_push from to count w → answer.lines.bytes ≡ pushed_text from to count w
+        → answer.outcome ≡ Pushed (push_count from to count w) → IsDone number (command.Push from to count) w new answer
+    push_done number new answer world text outcome = record { passes = passes; world = world; text = text; outcome = outcome }
 
     -- what is pushed is what the line says
     pushed_so : (new : WorldState) → PushesInPart from to w new → (a b : SiteName) (n : Option ℕ) → command.Push from to count ≡ command.Push a b n → PushesInPart a b w new
@@ -73,3 +78,9 @@ module _ (from to : SiteName) (count : Option ℕ) (w : WorldState) where
       → bytes ≡ old ++ told_text from to sent (site_of to y.sites) → bytes ≡ old ++ pushed_text from to count w
   told-pushed sent old bytes y come is text = text ∙ ap (λ (z : WorldState). old ++ told_text from to sent (site_of to z.sites)) come
       ∙ ap (λ (n : ℕ). old ++ told_text from to n (site_of to (pushed_in from to count w).sites)) is
+
+  -- and what is counted
+  pub told_count : (sent : ℕ) (told : PushCount) (y : WorldState) → y ≡ pushed_in from to count w → sent ≡ length (positions_above from to count w)
+      → told ≡ count_in sent from (site_of to y.sites) → told ≡ push_count from to count w
+  told_count sent told y come is counted = counted ∙ ap (λ (z : WorldState). count_in sent from (site_of to z.sites)) come
+      ∙ ap (λ (n : ℕ). count_in n from (site_of to (pushed_in from to count w).sites)) is

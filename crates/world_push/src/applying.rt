@@ -1,11 +1,12 @@
 //! What the receiver does with what came, and what it tells of it.
-ghost use Rattle.std.specs.Prelude.{◌≡◌, ◌++◌, ◌<◌, ◌≤◌, true, length, OnOk, vec_capacity};
+ghost use Rattle.std.specs.Prelude.{◌≡◌, ◌++◌, ◌<◌, ◌≤◌, true, length, IfOk, OnOk, vec_capacity};
 ghost use Rattle.std.specs.List.{insert};
 ghost use Rattle.report_text.specs.Sheet.{most_line};
 ghost use Rattle.site_events.specs.Cluster.{site_of};
 ghost use Rattle.world_state.specs.World.{is_there};
 ghost use Rattle.site_state.specs.Rounds.{site_until_quiet};
 ghost use Rattle.world_state.specs.Pushes.{world_until_quiet};
+ghost use Rattle.world_state.specs.PushAnswers.{count_in};
 ghost use Rattle.world.specs.Following.{PushesInPart};
 ghost use Rattle.site_rounds.specs.Parts.{MastersCanPass};
 ghost use Rattle.world_push.specs.Applying.{told_text, IsApplying, CanApplyThere};
@@ -34,12 +35,13 @@ fn apply_at_site<P: Passing>(
     passing: &P,
     lines: &mut Lines,
     pushed: Pushed,
-) -> (Site<PageTables>, Result<(), NoMemory>)
+) -> (Site<PageTables>, Result<PushCount, NoMemory>)
     requires room { most_line ≤ lines.old.room }
     requires able { P.able passing.now }
     requires masters { MastersCanPass site }
     ensures ok { OnOk result.1 (result.0 ≡ site_until_quiet pushed.from site) }
     ensures text { OnOk result.1 (lines.new.bytes ≡ lines.old.bytes ++ told_text pushed.from pushed.to pushed.sent (Some site)) }
+    ensures count { IfOk result.1 (λ count. count ≡ count_in pushed.sent pushed.from (Some site)) }
     ensures applying { IsApplying pushed.from site result.0 }
 {
     let before = site.journal_len();
@@ -55,10 +57,12 @@ fn apply_at_site<P: Passing>(
     };
     push_line(lines, pushed.from, pushed.to, count);
     if count.errors == 0 {
-        return (site, Ok(()));
+        return (site, Ok(count));
     }
-    let told = add_new_errors(lines, alloc, &site, before);
-    (site, told)
+    match add_new_errors(lines, alloc, &site, before) {
+        Ok(()) => (site, Ok(count)),
+        Err(NoMemory) => (site, Err(NoMemory)),
+    }
 }
 
 /// A site is put back at the place from which it was taken. There is room for it.
@@ -77,13 +81,14 @@ pub(crate) fn apply_and_tell<P: Passing>(
     passing: &P,
     lines: &mut Lines,
     pushed: Pushed,
-) -> Result<(), NoMemory>
+) -> Result<PushCount, NoMemory>
     requires room { most_line ≤ lines.old.room }
     requires able { P.able passing.now }
     requires there { is_there parts.old pushed.to ≡ true }
     requires masters { CanApplyThere pushed.to parts.old }
     ensures ok { OnOk result (parts.new ≡ world_until_quiet pushed.from pushed.to parts.old) }
     ensures text { OnOk result (lines.new.bytes ≡ lines.old.bytes ++ told_text pushed.from pushed.to pushed.sent (site_of pushed.to parts.old.sites)) }
+    ensures count { IfOk result (λ count. count ≡ count_in pushed.sent pushed.from (site_of pushed.to parts.old.sites)) }
     ensures part { PushesInPart pushed.from pushed.to parts.old parts.new }
 {
     let Some(place) = place_of(&parts.sites, &pushed.to) else {

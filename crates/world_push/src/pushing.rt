@@ -6,22 +6,22 @@ ghost use Rattle.script_parse.specs.declared.command.Command.TheVariants as Comm
 ghost use Rattle.world_state.specs.World.{is_there};
 ghost use Rattle.world_state.specs.Phases.{is_setup};
 ghost use Rattle.world_state.specs.Pushes.{positions_above, pushed_in, world_push};
+ghost use Rattle.world_state.specs.PushAnswers.{push_count};
 ghost use Rattle.world.specs.Following.{PushesInPart, IsBuilt};
 ghost use Rattle.world.specs.Precheck.{precheck_refusal};
 ghost use Rattle.world.specs.Texts.{pushed_text};
-ghost use Rattle.world.specs.Doing.{Does};
+ghost use Rattle.world.specs.Doing.{DoesAnywhere};
 
 use crate::applying::{Pushed, apply_and_tell};
 use crate::deliver::deliver_all;
 use crate::marks::return_mark;
 use crate::send::{release, send_above};
 use rep_lists::NoMemory;
-use rep_values::{Refusal, SiteName};
-use report_text::{Lines, MOST_LINE};
+use rep_values::SiteName;
+use report_text::{Lines, MOST_LINE, PushCount};
 use site_rounds::Passing;
 use std::alloc::Global;
-use world::WorldParts;
-use world_state::Refused;
+use world::{Answer, CommandStop, Outcome, WorldParts};
 
 /// What is held is released, what isn't acknowledged is sent, and all is taken in. It answers how many positions were sent.
 pub(crate) fn send_and_deliver(
@@ -51,7 +51,7 @@ fn push_in_room<P: Passing>(
     from: &SiteName,
     to: &SiteName,
     count: Option<u64>,
-) -> Result<(), NoMemory>
+) -> Result<PushCount, NoMemory>
     requires room { most_line ≤ lines.old.room }
     requires able { P.able passing.now }
     requires built { IsBuilt parts.old }
@@ -61,6 +61,7 @@ fn push_in_room<P: Passing>(
     requires back { HasDirection parts.old.net to.now from.now }
     ensures ok { OnOk result (parts.new ≡ world_push from.now to.now count parts.old) }
     ensures text { OnOk result (lines.new.bytes ≡ lines.old.bytes ++ pushed_text from.now to.now count parts.old) }
+    ensures told { IfOk result (λ told. told ≡ push_count from.now to.now count parts.old) }
     ensures part { PushesInPart from.now to.now parts.old parts.new }
 {
     let sent = send_and_deliver(parts, alloc, from, to, count)?;
@@ -69,9 +70,9 @@ fn push_in_room<P: Passing>(
         to: *to,
         sent,
     };
-    apply_and_tell(parts, alloc, passing, lines, pushed)?;
+    let told = apply_and_tell(parts, alloc, passing, lines, pushed)?;
     return_mark(parts, alloc, to, from)?;
-    Ok(())
+    Ok(told)
 }
 
 /// A push between sites that are there, with a direction each way.
@@ -82,7 +83,7 @@ fn push_linked<P: Passing>(
     from: &SiteName,
     to: &SiteName,
     count: Option<u64>,
-) -> Result<Lines, NoMemory>
+) -> Result<Answer, NoMemory>
     requires able { P.able passing.now }
     requires built { IsBuilt parts.old }
     requires behind { is_setup parts.old.phase ≡ false }
@@ -90,14 +91,18 @@ fn push_linked<P: Passing>(
     requires linked { HasDirection parts.old.net from.now to.now }
     requires back { HasDirection parts.old.net to.now from.now }
     ensures ok { OnOk result (parts.new ≡ world_push from.now to.now count parts.old) }
-    ensures text { IfOk result (λ lines. lines.bytes ≡ pushed_text from.now to.now count parts.old) }
+    ensures text { IfOk result (λ answer. answer.lines.bytes ≡ pushed_text from.now to.now count parts.old) }
+    ensures outcome { IfOk result (λ answer. answer.outcome ≡ Outcome.Pushed (push_count from.now to.now count parts.old)) }
     ensures part { PushesInPart from.now to.now parts.old parts.new }
 {
     // The room for the push's own line comes before anything changes.
     let mut lines = Lines::make(alloc);
     lines.reserve(MOST_LINE)?;
-    push_in_room(parts, alloc, passing, &mut lines, from, to, count)?;
-    Ok(lines)
+    let told = push_in_room(parts, alloc, passing, &mut lines, from, to, count)?;
+    Ok(Answer {
+        lines,
+        outcome: Outcome::Pushed { count: told },
+    })
 }
 
 /// Does the line of a push that isn't refused: what is held between the sites goes on the way, what the receiver hasn't
@@ -108,21 +113,17 @@ pub fn push<P: Passing>(
     parts: &mut WorldParts,
     alloc: Global,
     passing: &P,
-    line: u32,
     from: &SiteName,
     to: &SiteName,
     count: Option<u64>,
-) -> Result<Lines, Refused>
+) -> Result<Answer, CommandStop>
     requires able { P.able passing.now }
     requires built { IsBuilt parts.old }
     requires passes { precheck_refusal (Command.Push from.now to.now count) parts.old ≡ None }
-    ensures { Does line (Command.Push from.now to.now count) parts.old parts.new result }
+    ensures { DoesAnywhere (Command.Push from.now to.now count) parts.old parts.new result }
 {
     match push_linked(parts, alloc, passing, from, to, count) {
-        Ok(lines) => Ok(lines),
-        Err(NoMemory) => Err(Refused {
-            line,
-            refusal: Refusal::Memory,
-        }),
+        Ok(answer) => Ok(answer),
+        Err(NoMemory) => Err(CommandStop::Memory),
     }
 }

@@ -2,7 +2,6 @@
 use Rattle.std.proofs.Common.{◌≡◌, ℕ, Some, None, sym, ap, subst, inr, ◌∙◌}
 use Rattle.std.specs.Prelude.{Option, Result, Ok, Err}
 use Rattle.rep_values.specs.declared.refusal.Refusal.{Refusal}
-use Rattle.report_text.specs.Sheet.{Sheet}
 use Rattle.script_parse.specs.declared.command.Command.{Command}
 use Rattle.script_parse.specs.declared.command.Command.TheVariants as command
 use Rattle.script_parse.specs.declared.proc_line.ProcLine.TheVariants as proc_line
@@ -15,6 +14,7 @@ use Rattle.world_state.specs.Refusals.{world_refusal}
 use Rattle.world_state.specs.Steps.{world_done, world_refused, step_by, world_step}
 use Rattle.world_laws.proofs.QuietPushes.{push_leaves_none_ready}
 use Rattle.world_laws.proofs.Scripts.{reported_pushes_leave_nothing_ready}
+use Rattle.world.specs.declared.answer.Answer.{Answer}
 use Rattle.world.specs.Following.{IsBuilt}
 use Rattle.world.specs.Precheck.{precheck_refusal}
 use Rattle.world.specs.Doing.{IsRefused, Does, AnswersPrecheck}
@@ -28,7 +28,7 @@ use Rattle.world_commands.proofs.TakenOver.{takes_over}
 use Rattle.world_run.specs.Reporting.{PushLeavesNothingReady, PushLeavesNoCallsReady, RefreshShowsTheQuery, JoinTakesOver}
 
 -- no refusal is known
-pub known-None : (number : ℕ) (c : Command) (w : WorldState) (result : Result Sheet Refused) → precheck_refusal c w ≡ None → AnswersPrecheck number c w result
+pub known-None : (number : ℕ) (c : Command) (w : WorldState) (result : Result Answer Refused) → precheck_refusal c w ≡ None → AnswersPrecheck number c w result
 known-None number c w result none why is = absurd (cc (none, is))
 
 -- one is known, and answered
@@ -49,36 +49,36 @@ module _ (number : ℕ) (c : Command) (w y seen : WorldState) (why : Refusal) (s
       (lines_keep_built number c seen (world_refused c seen) (Err (record { line = number; refusal = why })) named (inr (precheck_refused number c seen why is)) built)
 
 -- a line that was tried
-pub ready-done : (number : ℕ) (c : Command) (old new : WorldState) (result : Result Sheet Refused) → IsBuilt old → Does number c old new result → PushLeavesNothingReady c new result
+pub ready-done : (number : ℕ) (c : Command) (old new : WorldState) (result : Result Answer Refused) → IsBuilt old → Does number c old new result → PushLeavesNothingReady c new result
 ready-done number c old new (Err r) built does from to count x is ok there = absurd (cc ok)
-ready-done number c old new (Ok sheet) built done from to count x is ok there =
+ready-done number c old new (Ok answer) built done from to count x is ok there =
     let passes : world_refusal (command.Push from to count) old ≡ None = subst (λ (k : Command). world_refusal k old ≡ None) is done.passes in
     let stepped : world_step number (command.Push from to count) old ≡ new =
     ap (λ (o : Option Refusal). step_by o number (command.Push from to count) old) passes ∙ sym (subst (λ (k : Command). new ≡ world_done number k old) is done.world) in
     reported_pushes_leave_nothing_ready number from to count old x built.shape passes (subst (λ (y : WorldState). site_of to y.sites ≡ Some x) (sym stepped) there)
 
 -- a push of calls that was tried
-pub called-done : (number : ℕ) (c : Command) (old new : WorldState) (result : Result Sheet Refused) → IsBuilt old → Does number c old new result → PushLeavesNoCallsReady c new result
+pub called-done : (number : ℕ) (c : Command) (old new : WorldState) (result : Result Answer Refused) → IsBuilt old → Does number c old new result → PushLeavesNoCallsReady c new result
 called-done number c old new (Err r) built does from to x is ok there = absurd (cc ok)
-called-done number c old new (Ok sheet) built done from to x is ok there =
+called-done number c old new (Ok answer) built done from to x is ok there =
     let passes : world_refusal (command.Procedures (proc_line.Push from to)) old ≡ None = subst (λ (k : Command). world_refusal k old ≡ None) is done.passes in
     let stepped : world_step number (command.Procedures (proc_line.Push from to)) old ≡ new =
     ap (λ (o : Option Refusal). step_by o number (command.Procedures (proc_line.Push from to)) old) passes ∙ sym (subst (λ (k : Command). new ≡ world_done number k old) is done.world) in
     push_leaves_none_ready old built.procs number from to x passes (subst (λ (y : WorldState). proc_of to y.procs.sites ≡ Some x) (sym stepped) there)
 
 -- a refresh that was tried
-pub refreshed-done : (number : ℕ) (c : Command) (old new : WorldState) (result : Result Sheet Refused) → IsBuilt old → Does number c old new result → RefreshShowsTheQuery c old new result
+pub refreshed-done : (number : ℕ) (c : Command) (old new : WorldState) (result : Result Answer Refused) → IsBuilt old → Does number c old new result → RefreshShowsTheQuery c old new result
 refreshed-done number c old new (Err r) built does site how is ok = absurd (cc ok)
-refreshed-done number c old new (Ok sheet) built done site how is ok =
+refreshed-done number c old new (Ok answer) built done site how is ok =
     let passes : world_refusal (command.Refresh site how) old ≡ None = subst (λ (k : Command). world_refusal k old ≡ None) is done.passes in
     let stepped : world_step number (command.Refresh site how) old ≡ new =
     ap (λ (o : Option Refusal). step_by o number (command.Refresh site how) old) passes ∙ sym (subst (λ (k : Command). new ≡ world_done number k old) is done.world) in
     subst (λ (y : WorldState). ShowsItsMaster site old y) stepped (refreshes_show_of old (of_snapshots old built.of_convergence) number site how passes)
 
 -- a join that was tried
-pub joined-done : (number : ℕ) (c : Command) (old new : WorldState) (result : Result Sheet Refused) → IsBuilt old → Does number c old new result → JoinTakesOver c old new result
+pub joined-done : (number : ℕ) (c : Command) (old new : WorldState) (result : Result Answer Refused) → IsBuilt old → Does number c old new result → JoinTakesOver c old new result
 joined-done number c old new (Err r) built does site source is ok = absurd (cc ok)
-joined-done number c old new (Ok sheet) built done site source is ok =
+joined-done number c old new (Ok answer) built done site source is ok =
     let passes : world_refusal (command.Join site source) old ≡ None = subst (λ (k : Command). world_refusal k old ≡ None) is done.passes in
     let made : new ≡ world_done number (command.Join site source) old = subst (λ (k : Command). new ≡ world_done number k old) is done.world in
     subst (TakesOver site source old) (sym made) (takes_over old built site source passes)

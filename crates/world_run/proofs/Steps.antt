@@ -10,6 +10,7 @@ use Rattle.script_lex.specs.Stop.{Fails}
 use Rattle.script_parse.specs.declared.command.Command.{Command}
 use Rattle.script_parse.specs.Parsed.{parsed}
 use Rattle.world_state.specs.declared.refused.Refused.{Refused}
+use Rattle.world.specs.declared.answer.Answer.{Answer}
 use Rattle.world.specs.Texts.{told_text}
 use Rattle.world_state.specs.World.{WorldState}
 use Rattle.world_state.specs.Refusals.{world_refusal}
@@ -19,9 +20,9 @@ use Rattle.script_drive.specs.LineBytes.{StopsBy}
 use Rattle.world_run.specs.Scripts.{script_step}
 
 -- a line that was done
-pub script_step-done : (w w' : WorldState) (number : ℕ) (line out : List ℕ) (c : Command) → parsed line ≡ Ok c → IsDone number c w w' out → script_step w number line ≡ goes w' out
+pub script_step-done : (w w' : WorldState) (number : ℕ) (line : List ℕ) (answer : Answer) (c : Command) → parsed line ≡ Ok c → IsDone number c w w' answer → script_step w number line ≡ goes w' answer.lines.bytes
 unfolding script_step
-script_step-done w w' number line out c read done = rw (read, done.passes, done.world, done.text) refl
+script_step-done w w' number line answer c read done = rw (read, done.passes, done.world, done.text) refl
 
 -- a line that was refused
 pub script_step-refused : (w w' : WorldState) (number : ℕ) (line : List ℕ) (c : Command) (r : Refused) → parsed line ≡ Ok c → IsRefused number c w w' r

@@ -25,7 +25,6 @@ use proc_calls::ProcSite;
 use rep_io::Watch;
 use rep_lists::NoMemory;
 use rep_values::{Refusal, SiteName};
-use report_text::Lines;
 use script_parse::Command;
 use site_engine::Site;
 use site_rounds::{By, Passing, Serial};
@@ -35,7 +34,7 @@ use std::marker::Model;
 use std::mem;
 use std::snapshot::Snapshot;
 use std::sync::Wait;
-use world::{WorldParts, place_of, proc_place_of};
+use world::{Answer, WorldParts, place_of, proc_place_of};
 use world_push::{live_close, live_open, live_refusal};
 use world_state::Refused;
 
@@ -86,7 +85,7 @@ impl World {
         })
     }
 
-    /// What the line of a number does, and what it prints. A line that is refused leaves the world, but that a refused commit
+    /// What the line of a number does, what it prints, and what came of it. A line that is refused leaves the world, but that a refused commit
     /// and a refused send close their block. Where there is no memory a push may be done in part, and any other line leaves the
     /// world; a refusal that is known before the line is tried is answered all the same. Once a push is reported, no position of
     /// any sender is ready at the receiver, and so it is with a push of calls; once a refresh is, each snapshot of the site is its
@@ -98,7 +97,7 @@ impl World {
     /// that call on one table the earlier first, and each error that stands holds its whole transaction and changed nothing.
     ///
     /// A group or constraint that the line declares names a column, as `parse_line` says.
-    pub fn step(&mut self, alloc: Global, line: u32, command: &Command) -> Result<Lines, Refused>
+    pub fn step(&mut self, alloc: Global, line: u32, command: &Command) -> Result<Answer, Refused>
         requires free { self.old.lent ≡ None }
         requires named { NamesColumn command.now }
         ensures free { self.new.lent ≡ None }
@@ -126,7 +125,7 @@ impl World {
         line: u32,
         command: &Command,
         watch: &W,
-    ) -> Result<Lines, Refused>
+    ) -> Result<Answer, Refused>
         requires free { self.old.lent ≡ None }
         requires named { NamesColumn command.now }
         ensures free { self.new.lent ≡ None }
@@ -158,7 +157,7 @@ impl World {
         passing: &P,
         line: u32,
         command: &Command,
-    ) -> Result<Lines, Refused>
+    ) -> Result<Answer, Refused>
         requires able { P.able passing.now }
         requires free { self.old.lent ≡ None }
         requires named { NamesColumn command.now }

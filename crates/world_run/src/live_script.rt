@@ -115,7 +115,7 @@ fn run_around(
     ensures steps { IfOk result (λ lines. stepped_by world.old.world number (Ok command.now) ≡ goes world.new.world lines.bytes) }
 {
     match world.step(alloc, number, command) {
-        Ok(lines) => Ok(lines),
+        Ok(answer) => Ok(answer.lines),
         Err(refused) => told(alloc, &refused),
     }
 }

@@ -75,7 +75,7 @@ impl<P: Passing + Drop> LineRunner for Runner<P> {
     fn run_line(&mut self, alloc: Global, number: u32, line: &[u8]) -> Result<Lines, LineStop> {
         let command = parse_line(alloc, line)?;
         match self.world.step_by(alloc, &self.passing, number, &command) {
-            Ok(lines) => Ok(lines),
+            Ok(answer) => Ok(answer.lines),
             Err(refused) => {
                 let lines = told(alloc, &refused)?;
                 Ok(lines)

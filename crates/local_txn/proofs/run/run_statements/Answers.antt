@@ -35,8 +35,8 @@ returns-in-Err-clause-err g c =
     let statements = c.args.statements.now in
     let statement = c.index-statements-i.result in
     let at : drop c.loop-i.i statements ≡ statement ∷ drop (c.loop-i.i + 1) statements = drop_from_place statements c.loop-i.i statement c.loop-i-test.true c.index-statements-i.is in
-    let stops : StatementStopsAs (statement_refusal schema here now statement) c.in-Err.stop = rw (c.loop-i.invariant.same, c.loop-i.invariant.stands) at c.in-Err.ensures.err in
-    rw c.stop_at-in-Err.ensures (so_far-Err schema here statements (block_state_of c.args.footing.now before) now c.loop-i.done.items c.loop-i.i c.loop-i.invariant.outcome statement at c.in-Err.stop stops)
+    let stops : StatementStopsAs (statement_refusal schema here now statement) c.in-Err.refusal = rw (c.loop-i.invariant.same, c.loop-i.invariant.stands) at c.in-Err.ensures.err in
+    so_far-Err schema here statements (block_state_of c.args.footing.now before) now c.loop-i.done.items c.loop-i.i c.loop-i.invariant.outcome statement at c.in-Err.refusal c.stop_at.result stops c.stop_at.ensures
 
 pub loop-i-preserved : goal.loop-i-preserved
 loop-i-preserved g c =

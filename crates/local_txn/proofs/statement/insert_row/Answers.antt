@@ -1,5 +1,5 @@
 -- Inserting a row.
-use Rattle.std.proofs.Common.{◌≡◌, true, sym, ap, ◌∙◌, subst}
+use Rattle.std.proofs.Common.{◌≡◌, true, inr, sym, ap, ◌∙◌, subst}
 use Rattle.std.specs.Prelude.{None, Some}
 use Rattle.rep_values.specs.RefusalSteps.{first_refusal}
 use Rattle.rep_schema.specs.Tables.{columns_of, rows_of, RowFits, IsUniqueRow}
@@ -51,8 +51,8 @@ returns-in-Some-clause-err g c =
     let fits : literals_fit schema (written_columns (columns_of schema c.args.table)) c.args.values.now ≡ true = sym (rw (c.schema-2.ensures.value, c.columns_of-columns.ensures, c.schema.ensures.value) at c.written_fit.ensures) ∙ c.if-not-written_fit.false in
     let made : c.inserted-made.result ≡ inserted_capped (columns_of schema c.args.table) c.args.footing.now.here.site c.args.footing.now.stamps (row_written (columns_of schema c.args.table) (values_of c.args.values.now)) =
     rw (c.in_ok-row.ensures, c.columns_of-columns.ensures, c.schema.ensures.value) at c.inserted-made.ensures in
-    sym (insert_refusal schema footing tables c.args.table c.requires.able c.args.values.now fits)
-    ∙ subst (λ (one : RowMade). first_refusal (new_row_steps schema footing.here (block_state_of footing tables) c.args.table one.row) ≡ Some c.in-Some.refusal) made (sym c.new_row_refusal.ensures ∙ c.in-Some.is)
+    inr (sym (insert_refusal schema footing tables c.args.table c.requires.able c.args.values.now fits)
+    ∙ subst (λ (one : RowMade). first_refusal (new_row_steps schema footing.here (block_state_of footing tables) c.args.table one.row) ≡ Some c.in-Some.refusal) made (sym c.new_row_refusal.ensures ∙ c.in-Some.is))
 
 pub put_with_change-requires-clause-fits : goal.put_with_change-requires-clause-fits
 put_with_change-requires-clause-fits g c κs within =

@@ -1,5 +1,5 @@
 -- Changing a row by what an update sets.
-use Rattle.std.proofs.Common.{◌≡◌, true, false, [], ◌∷◌, refl, sym, ap, ◌∙◌}
+use Rattle.std.proofs.Common.{◌≡◌, true, false, [], ◌∷◌, inr, refl, sym, ap, ◌∙◌}
 use Rattle.std.specs.Prelude.{Some, None}
 use Rattle.std.proofs.lemmas.Result.{err_from_is_err_and}
 use Rattle.rep_values.specs.RefusalSteps.{first_refusal}
@@ -18,8 +18,8 @@ use Rattle.local_txn.proofs.statement.update_row.Goals as goal
 pub returns-in_err-found-clause-err : goal.returns-in_err-found-clause-err
 returns-in_err-found-clause-err g c =
     let p = err_from_is_err_and c.from_residual.result c.from_residual.ensures.1 in
-    rw (p.1, p.2) (update_order (g.R.RowStore.schema c.args.store.now) c.args.footing.now.here (block_state_of c.args.footing.now (g.R.RowStore.tables c.args.store.now)) c.args.table c.args.key.now c.args.sets.now
-    c.in_err-found.field-0.0 (rw c.schema.ensures.value at c.in_err-found.ensures.err))
+    rw (p.1, p.2) (inr (update_order (g.R.RowStore.schema c.args.store.now) c.args.footing.now.here (block_state_of c.args.footing.now (g.R.RowStore.tables c.args.store.now)) c.args.table c.args.key.now c.args.sets.now
+    c.in_err-found.field-0.0 (rw c.schema.ensures.value at c.in_err-found.ensures.err)))
 
 pub row_of_literals-requires-clause-key : goal.row_of_literals-requires-clause-key
 row_of_literals-requires-clause-key g c κs within =
@@ -66,7 +66,7 @@ returns-in-Some-row_refusal-clause-err g c =
     let order : AreInOrder schema c.args.table c.args.key.now c.args.sets.now c.in_ok-found.found = rw c.schema.ensures.value at c.in_ok-found.ensures.ok in
     let there : row_at schema tables c.args.table (values_of c.args.key.now) ≡ Some c.in-Some.before.now = sym c.in-Some.ensures in
     let change_to : ChangesTo schema c.args.footing.now c.args.table c.in-Some.before.now (row_by c.in_ok-found.found c.in-Some.before.now) c.in_ok-made.made = rw c.schema-2.ensures.value at c.in_ok-made.ensures.ok in
-    update_row_refused schema footing tables c.args.table c.requires.able c.args.key.now c.args.sets.now found order before there made change_to c.in-Some-row_refusal.refusal (sym c.row_refusal.ensures ∙ c.in-Some-row_refusal.is)
+    inr (update_row_refused schema footing tables c.args.table c.requires.able c.args.key.now c.args.sets.now found order before there made change_to c.in-Some-row_refusal.refusal (sym c.row_refusal.ensures ∙ c.in-Some-row_refusal.is))
 
 pub returns-then-same_values-clause-ok : goal.returns-then-same_values-clause-ok
 returns-then-same_values-clause-ok g c =

@@ -15,6 +15,6 @@ invariant-loop-place g l =
     record {
       fits : RowFits (columns_of schema l.table) l.row;
       before : HasBefore schema tables l.table (option_copied l.before) l.row;
-      rest : settled_each (columns_of schema l.table) (rows_of tables l.table) l.origin (constraints_of schema l.table) l.initial.numbers l.initial.row
+      rest : settled_each (columns_of schema l.table) (rows_of tables l.table) l.origin (constraints_of schema l.table) l.initial.numbers l.fn.row
           ≡ outcome_behind (take l.place l.numbers) (settled_each (columns_of schema l.table) (rows_of tables l.table) l.origin (drop l.place (constraints_of schema l.table)) (drop l.place l.numbers) l.row);
     }

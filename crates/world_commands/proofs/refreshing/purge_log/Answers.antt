@@ -1,5 +1,5 @@
 -- The log of the table at its place is purged at its site.
-use Rattle.std.proofs.Common.{◌≡◌, Some, ap, sym, ◌∙◌}
+use Rattle.std.proofs.Common.{◌≡◌, Some, refl, ap, sym, ◌∙◌}
 use Rattle.report_text.specs.Texts.{purge_log_text}
 use Rattle.rep_schema.specs.declared.schema.Schema.{Schema}
 use Rattle.rep_schema.specs.Named.{table_place}
@@ -13,7 +13,7 @@ use Rattle.world_commands.proofs.Printing.{printed_alone}
 use Rattle.world_commands.proofs.refreshing.purge_log.Goals as goal
 
 pub returns : goal.returns
-returns c =
+returns c number =
     let number = c.in-Some-table_place.number in
     let there = site_of-world _ _ _ _ _ _ c.parts.view_is c.deref.ensures.value c.in-Some.ensures c.index_mut.ensures.value in
     let schema : c.schema-schema.result.now ≡ c.args.parts.now.schema = c.schema-schema.ensures.value ∙ ap (λ (w : WorldState). w.schema) c.parts.view_is in
@@ -26,4 +26,5 @@ returns c =
       text = printed_alone _ _ _ _ c.in-Ok.ensures.bytes c.purge_log_line.ensures.bytes
           (ap (purge_log_text c.args.master.now.0 c.args.table.now.0) (c.purge_log-count.ensures.count ∙ sym (ap (number_there (purge_log_answer number)) there))
           ∙ sym (ap (λ o. log_purged_text c.args.master.now c.args.table.now o c.args.parts.now) place));
+      outcome = refl;
     }

@@ -18,7 +18,7 @@ push_linked-requires g c =
     }
 
 pub returns-in-Ok : goal.returns-in-Ok
-returns-in-Ok g c = push_done c.args.from.now c.args.to.now c.args.count c.args.parts.now c.requires.passes c.args.line _ _ c.in-Ok.ensures.ok c.in-Ok.ensures.text
+returns-in-Ok g c number = push_done c.args.from.now c.args.to.now c.args.count c.args.parts.now c.requires.passes number _ _ c.in-Ok.ensures.ok c.in-Ok.ensures.text c.in-Ok.ensures.outcome
 
 pub returns-in-Err : goal.returns-in-Err
-returns-in-Err g c = inl (push_short c.args.from.now c.args.to.now c.args.count c.args.parts.now c.requires.passes c.args.line _ c.push_linked.ensures.part)
+returns-in-Err g c number = inl (push_short c.args.from.now c.args.to.now c.args.count c.args.parts.now c.requires.passes number _ c.push_linked.ensures.part)

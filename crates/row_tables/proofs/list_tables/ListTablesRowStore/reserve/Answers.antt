@@ -1,28 +1,28 @@
 use Rattle.std.proofs.Common.{◌<◌, length, sym, subst}
-use Rattle.row_tables.specs.Stored.{Stored}
+use Rattle.rep_schema.specs.Putting.{StoreState}
 use Rattle.row_tables.proofs.OneTable.{stored_is_table, in_stored, spare-stored, spare-set, spare-set_other, rows_in-set_same, AreTables-stored}
 use Rattle.row_tables.proofs.list_tables.ListTablesRowStore.reserve.Goals as goal
 
 pub invariant_of-self : goal.invariant_of-self
 invariant_of-self c =
-    let below = subst (λ (s : Stored). c.args.table < length s.schema.tables) (sym c.self.view_is) c.requires in
+    let below = subst (λ (s : StoreState). c.args.table < length s.schema.tables) (sym c.self.view_is) c.requires in
     let is = stored_is_table _ _ _ _ below c.self.invariant c.index_mut-stored.ensures.value in
     AreTables-stored _ _ _ _ c.self.invariant (rw c.reserve.ensures.rows is)
 
 pub returns-clause-ok : goal.returns-clause-ok
 returns-clause-ok c =
-    let below = subst (λ (s : Stored). c.args.table < length s.schema.tables) (sym c.self.view_is) c.requires in
+    let below = subst (λ (s : StoreState). c.args.table < length s.schema.tables) (sym c.self.view_is) c.requires in
     rw (spare-set _ _ (in_stored _ _ _ below c.self.invariant) _) c.reserve.ensures.ok
 
 pub returns-clause-succeeds : goal.returns-clause-succeeds
 returns-clause-succeeds c =
-    let below = subst (λ (s : Stored). c.args.table < length s.schema.tables) (sym c.self.view_is) c.requires in
+    let below = subst (λ (s : StoreState). c.args.table < length s.schema.tables) (sym c.self.view_is) c.requires in
     let in_range = in_stored _ _ _ below c.self.invariant in
     rw (← c.self.view_is, spare-stored _ _ in_range _ c.index_mut-stored.ensures.value) c.reserve.ensures.succeeds
 
 pub returns-clause-kept : goal.returns-clause-kept
 returns-clause-kept c =
-    let below = subst (λ (s : Stored). c.args.table < length s.schema.tables) (sym c.self.view_is) c.requires in
+    let below = subst (λ (s : StoreState). c.args.table < length s.schema.tables) (sym c.self.view_is) c.requires in
     let in_range = in_stored _ _ _ below c.self.invariant in
     rw (← c.self.view_is, spare-stored _ _ in_range _ c.index_mut-stored.ensures.value, spare-set _ _ in_range _) c.reserve.ensures.kept
 

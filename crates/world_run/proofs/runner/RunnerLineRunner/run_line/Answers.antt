@@ -18,7 +18,7 @@ step_by-requires-clause-named g c = parsed-Ok c.args.line.now c.in_ok-command.co
 
 pub returns-in-Ok-clause-ok : goal.returns-in-Ok-clause-ok
 returns-in-Ok-clause-ok g c =
-    rw (← c.self.view_is) (λ choices may. (tt, script_step-done c.self.inside.world.world c.step_by.new.self.world c.args.number c.args.line.now c.in-Ok.lines.bytes c.in_ok-command.command c.in_ok-command.ensures.read c.in-Ok.ensures.does))
+    rw (← c.self.view_is) (λ choices may. (tt, script_step-done c.self.inside.world.world c.step_by.new.self.world c.args.number c.args.line.now c.in-Ok.answer c.in_ok-command.command c.in_ok-command.ensures.read c.in-Ok.ensures.does))
 
 pub returns-clause-ok : goal.returns-clause-ok
 returns-clause-ok g c =

@@ -1,9 +1,0 @@
--- The numbers of parts and rows that fit lie within ±10^15.
-use Rattle.resolve_methods.proofs.InRange.{IsInRange-only, IsInRange-only_group}
-use Rattle.resolve_methods.proofs.methods.by_mean.Goals as goal
-
-pub averaged-requires-clause-new : goal.averaged-requires-clause-new
-averaged-requires-clause-new c = rw (c.number_of-new.ensures, c.only.ensures, c.as_slice.ensures) (IsInRange-only _ _ c.requires.part.new)
-
-pub averaged-requires-clause-current : goal.averaged-requires-clause-current
-averaged-requires-clause-current c = rw (c.number_of-now.ensures, c.current_in.ensures) (IsInRange-only_group c.args.schema.now c.args.table c.args.part.now.group c.args.current.now c.requires.row)

@@ -1,5 +1,0 @@
-use Rattle.unique_resolve.proofs.TextBytes.{name_bytes}
-use Rattle.unique_resolve.proofs.trying.append_name.Goals as goal
-
-pub append_helps-requires-clause-bytes : goal.append_helps-requires-clause-bytes
-append_helps-requires-clause-bytes g c κs within = rw c.bytes.ensures.value (name_bytes c.args.origin.now.0 c.bytes.ensures.form)
