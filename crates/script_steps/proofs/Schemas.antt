@@ -23,6 +23,7 @@ use Rattle.world_state.specs.Phases.{declare_step}
 use Rattle.world_state.specs.ProcRefusals.{declaring_step}
 use Rattle.world_state.specs.Steps.{resumed, world_done}
 use Rattle.world_laws.proofs.DeclaredStays.{IsPlain, plain_stays, refused_stays}
+use Rattle.world.specs.declared.answer.Answer.{Answer}
 use Rattle.world.specs.Doing.{IsDone, IsOutOfMemory, IsRefused}
 use Rattle.script_steps.specs.Coming.{schema_with, declared_unless, renewed}
 use Rattle.script_steps.proofs.Worlds.{world_step-done, step_refused-done, world_step-told, step_refused-told, line_text-done, line_text-told}
@@ -48,44 +49,44 @@ module _ (number : ℕ) (w w' : WorldState) where
   along y made kept = sym (ap (λ (z : WorldState). z.schema) made ∙ kept)
 
 -- a declaration that was done is taken into the schema
-declared_lands : (number : ℕ) (d : Declare) (w w' : WorldState) (out : List ℕ) → IsDone number (command.Declare d) w w' out → renewed (schema_with (command.Declare d) w.schema) w.schema ≡ w'.schema
-declared_lands number d w w' out done =
+declared_lands : (number : ℕ) (d : Declare) (w w' : WorldState) (answer : Answer) → IsDone number (command.Declare d) w w' answer → renewed (schema_with (command.Declare d) w.schema) w.schema ≡ w'.schema
+declared_lands number d w w' answer done =
     let takes : declare_refusal w.schema d ≡ None =
     (or_then-None (declare_refusal w.schema d) None (or_then-None (declaring_step d w) _ (or_then-None (declare_step d w) _ done.passes).1).1).0 in
     subst (λ (o : Option Refusal). renewed (declared_unless o d w.schema) w.schema ≡ w'.schema) (sym takes) (sym (ap (λ (y : WorldState). y.schema) done.world))
 
 -- the schema behind a command that was done
-pub lands : (number : ℕ) (c : Command) (w w' : WorldState) (out : List ℕ) → IsDone number c w w' out → renewed (schema_with c w.schema) w.schema ≡ w'.schema
-lands number command.Nothing w w' out done = plain number w w' command.Nothing tt done.world
-lands number (command.Declare d) w w' out done = declared_lands number d w w' out done
-lands number (command.Snapshot site table parent tests) w w' out done =
+pub lands : (number : ℕ) (c : Command) (w w' : WorldState) (answer : Answer) → IsDone number c w w' answer → renewed (schema_with c w.schema) w.schema ≡ w'.schema
+lands number command.Nothing w w' answer done = plain number w w' command.Nothing tt done.world
+lands number (command.Declare d) w w' answer done = declared_lands number d w w' answer done
+lands number (command.Snapshot site table parent tests) w w' answer done =
     along number w w' (with_snapshot_at site (table_place w.schema table) parent (tests_in tests) w) done.world (snapshot number w w' site (table_place w.schema table) parent (tests_in tests))
-lands number (command.Row table values) w w' out done = along number w w' (world_done number (command.Row table values) w) done.world refl
-lands number command.Resume w w' out done = along number w w' (resumed w.phase w) done.world (resume number w w' w.phase)
-lands number (command.Statement statement) w w' out done = plain number w w' (command.Statement statement) tt done.world
-lands number (command.Txn site) w w' out done = plain number w w' (command.Txn site) tt done.world
-lands number command.Commit w w' out done = plain number w w' command.Commit tt done.world
-lands number command.Abandon w w' out done = plain number w w' command.Abandon tt done.world
-lands number (command.Push from to count) w w' out done = plain number w w' (command.Push from to count) tt done.world
-lands number (command.Fates from to fates) w w' out done = plain number w w' (command.Fates from to fates) tt done.world
-lands number (command.ClearFates from to) w w' out done = plain number w w' (command.ClearFates from to) tt done.world
-lands number (command.Link from to word) w w' out done = plain number w w' (command.Link from to word) tt done.world
-lands number (command.Clock site time) w w' out done = plain number w w' (command.Clock site time) tt done.world
-lands number (command.Purge site) w w' out done = plain number w w' (command.Purge site) tt done.world
-lands number (command.Execute site origin position) w w' out done = plain number w w' (command.Execute site origin position) tt done.world
-lands number (command.DropError site origin position) w w' out done = plain number w w' (command.DropError site origin position) tt done.world
-lands number (command.Refresh site how) w w' out done = plain number w w' (command.Refresh site how) tt done.world
-lands number (command.PurgeLog master table) w w' out done = plain number w w' (command.PurgeLog master table) tt done.world
-lands number command.Suspend w w' out done = along number w w' (world_done number command.Suspend w) done.world refl
-lands number (command.Join site source) w w' out done = plain number w w' (command.Join site source) tt done.world
-lands number (command.Show what site) w w' out done = plain number w w' (command.Show what site) tt done.world
-lands number (command.Procedures line) w w' out done = plain number w w' (command.Procedures line) tt done.world
+lands number (command.Row table values) w w' answer done = along number w w' (world_done number (command.Row table values) w) done.world refl
+lands number command.Resume w w' answer done = along number w w' (resumed w.phase w) done.world (resume number w w' w.phase)
+lands number (command.Statement statement) w w' answer done = plain number w w' (command.Statement statement) tt done.world
+lands number (command.Txn site) w w' answer done = plain number w w' (command.Txn site) tt done.world
+lands number command.Commit w w' answer done = plain number w w' command.Commit tt done.world
+lands number command.Abandon w w' answer done = plain number w w' command.Abandon tt done.world
+lands number (command.Push from to count) w w' answer done = plain number w w' (command.Push from to count) tt done.world
+lands number (command.Fates from to fates) w w' answer done = plain number w w' (command.Fates from to fates) tt done.world
+lands number (command.ClearFates from to) w w' answer done = plain number w w' (command.ClearFates from to) tt done.world
+lands number (command.Link from to word) w w' answer done = plain number w w' (command.Link from to word) tt done.world
+lands number (command.Clock site time) w w' answer done = plain number w w' (command.Clock site time) tt done.world
+lands number (command.Purge site) w w' answer done = plain number w w' (command.Purge site) tt done.world
+lands number (command.Execute site origin position) w w' answer done = plain number w w' (command.Execute site origin position) tt done.world
+lands number (command.DropError site origin position) w w' answer done = plain number w w' (command.DropError site origin position) tt done.world
+lands number (command.Refresh site how) w w' answer done = plain number w w' (command.Refresh site how) tt done.world
+lands number (command.PurgeLog master table) w w' answer done = plain number w w' (command.PurgeLog master table) tt done.world
+lands number command.Suspend w w' answer done = along number w w' (world_done number command.Suspend w) done.world refl
+lands number (command.Join site source) w w' answer done = plain number w w' (command.Join site source) tt done.world
+lands number (command.Show what site) w w' answer done = plain number w w' (command.Show what site) tt done.world
+lands number (command.Procedures line) w w' answer done = plain number w w' (command.Procedures line) tt done.world
 
 -- the same, by what was found of it
-pub schema-done : (number : ℕ) (c : Command) (w w' : WorldState) (out : List ℕ) (schema : Schema) (next : Option Schema) → IsDone number c w w' out → schema ≡ w.schema → next ≡ schema_with c schema
+pub schema-done : (number : ℕ) (c : Command) (w w' : WorldState) (answer : Answer) (schema : Schema) (next : Option Schema) → IsDone number c w w' answer → schema ≡ w.schema → next ≡ schema_with c schema
     → renewed next schema ≡ w'.schema
-schema-done number c w w' out schema next done same is =
-    ap (λ (o : Option Schema). renewed o schema) (is ∙ ap (schema_with c) same) ∙ (ap (renewed (schema_with c w.schema)) same ∙ lands number c w w' out done)
+schema-done number c w w' answer schema next done same is =
+    ap (λ (o : Option Schema). renewed o schema) (is ∙ ap (schema_with c) same) ∙ (ap (renewed (schema_with c w.schema)) same ∙ lands number c w w' answer done)
 
 -- a refused line leaves it
 pub schema-refused : (number : ℕ) (c : Command) (w w' : WorldState) (r : Refused) → IsRefused number c w w' r → w.schema ≡ w'.schema

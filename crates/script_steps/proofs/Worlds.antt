@@ -11,16 +11,17 @@ use Rattle.world_state.specs.World.{WorldState}
 use Rattle.world_state.specs.Refusals.{world_refusal}
 use Rattle.world_state.specs.Steps.{world_refused, world_step, step_by, step_refused, told_by}
 use Rattle.world_run.specs.Scripts.{script_step, stepped_by}
+use Rattle.world.specs.declared.answer.Answer.{Answer}
 use Rattle.world.specs.Doing.{IsDone, IsOutOfMemory, IsRefused}
 use Rattle.world.specs.Texts.{told_text, line_text}
 use Rattle.script_steps.specs.Saying.{world_past, prints_at}
 
 -- a line that was done
-pub world_step-done : (number : ℕ) (c : Command) (w w' : WorldState) (out : List ℕ) → IsDone number c w w' out → w' ≡ world_step number c w
-world_step-done number c w w' out done = done.world ∙ sym (ap (λ (o : Option Refusal). step_by o number c w) done.passes)
+pub world_step-done : (number : ℕ) (c : Command) (w w' : WorldState) (answer : Answer) → IsDone number c w w' answer → w' ≡ world_step number c w
+world_step-done number c w w' answer done = done.world ∙ sym (ap (λ (o : Option Refusal). step_by o number c w) done.passes)
 
-pub step_refused-done : (number : ℕ) (c : Command) (w w' : WorldState) (out : List ℕ) → IsDone number c w w' out → None ≡ step_refused number c w
-step_refused-done number c w w' out done = sym (ap (λ (o : Option Refusal). told_by o number c w) done.passes)
+pub step_refused-done : (number : ℕ) (c : Command) (w w' : WorldState) (answer : Answer) → IsDone number c w w' answer → None ≡ step_refused number c w
+step_refused-done number c w w' answer done = sym (ap (λ (o : Option Refusal). told_by o number c w) done.passes)
 
 -- a line that was refused
 pub world_step-refused : (number : ℕ) (c : Command) (w w' : WorldState) (r : Refused) → IsRefused number c w w' r → w' ≡ world_step number c w
@@ -40,8 +41,8 @@ step_refused-told number c w w' r told (inl short) = let memory = rw short.memor
 step_refused-told number c w w' r told (inr refused) = sym refused.told
 
 -- what each of them prints
-pub line_text-done : (number : ℕ) (c : Command) (w w' : WorldState) (out : List ℕ) → IsDone number c w w' out → out ≡ line_text number c w
-line_text-done number c w w' out done = done.text ∙ sym (ap (λ (o : Option Refusal). told_text (told_by o number c w) c w) done.passes)
+pub line_text-done : (number : ℕ) (c : Command) (w w' : WorldState) (answer : Answer) → IsDone number c w w' answer → answer.lines.bytes ≡ line_text number c w
+line_text-done number c w w' answer done = done.text ∙ sym (ap (λ (o : Option Refusal). told_text (told_by o number c w) c w) done.passes)
 
 pub line_text-told : (number : ℕ) (c : Command) (w w' : WorldState) (r : Refused) → is_memory r.refusal ≡ false → IsOutOfMemory number c w w' r ⊎ IsRefused number c w w' r → refused_text r.line r.refusal ≡ line_text number c w
 line_text-told number c w w' r told (inl short) = let memory = rw short.memory at told in absurd (cc memory)

@@ -132,9 +132,9 @@ impl Steps {
     {
         let next = schema_with(alloc, &self.schema, command)?;
         match self.world.step(alloc, number, command) {
-            Ok(lines) => {
+            Ok(answer) => {
                 renew(&mut self.schema, next);
-                Ok(Ok(lines))
+                Ok(Ok(answer.lines))
             }
             Err(refused) => {
                 if is_memory(&refused.refusal) {
