@@ -304,7 +304,7 @@ impl Directory {
         if number > MOST_PAGES {
             return Err(NoMemory);
         }
-        if number <= self.pages.len() + self.waiting.len() {
+        if number <= self.count() {
             return Ok(());
         }
         self.pages.reserve(number - self.pages.len())?;
