@@ -56,6 +56,11 @@ impl<T: Turns> SiteGate<T> {
         Pass { seat }
     }
 
+    /// Whether nobody is inside or waits for a turn. Others may come before the answer is read.
+    pub fn is_free(&self) -> bool {
+        self.table.shared.peek(0) == self.table.shared.peek(1)
+    }
+
     /// Waits for the pass's turn. At 2^64 - 1 turns it waits for ever.
     pub fn enter<R: Wait>(&self, rt: &R, pass: Pass<T>) -> Turn<T>
         requires gate { IsPassOf self.now pass }
