@@ -11,8 +11,8 @@ use std::alloc::Global;
 use std::sync::{Arc, Condvar, Mutex, Wait};
 use std::time::Duration;
 
-// How long a worker sleeps where the gate of its job isn't free.
-const MOMENT: Duration = Duration::from_micros(50);
+// How many microseconds a worker sleeps where the gate of its job isn't free.
+const MOMENT: u64 = 50;
 
 /// What a worker is handed: an applier of a crew, and the crew's gate.
 #[derive(Drop)]
@@ -107,7 +107,8 @@ impl<R: RowStore> Seat<R> {
             desk.offered = Some(job);
             let changes = self.changed.notifications();
             drop(desk);
-            self.changed.sleep(rt, changes, MOMENT);
+            self.changed
+                .sleep(rt, changes, Duration::from_micros(MOMENT));
             desk = self.desk.lock(rt);
         }
         unreachable!()
