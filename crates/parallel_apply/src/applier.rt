@@ -21,8 +21,8 @@ where
     pub pass: Pass<Crew<R>>,
 }
 
-/// Claims one position after the other, each in a turn, evaluates it outside the lock, and puts it in, in a turn of its own,
-/// until nothing is free or there is no memory.
+/// Claims one position after the other, evaluates each outside the lock, and puts it in, in the turn that claims the next, until
+/// nothing is free or there is no memory. Once it has claimed a first one, it calls the next worker.
 pub(crate) fn work<R: RowStore, X: Wait, W: Watch>(
     rt: &X,
     alloc: Global,
