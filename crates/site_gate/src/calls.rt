@@ -56,7 +56,8 @@ impl<T: Turns> SiteGate<T> {
         Pass { seat }
     }
 
-    /// Whether nobody is inside or waits for a turn. Others may come before the answer is read.
+    /// Whether nobody is inside or waits for a turn, at some moment of the call. What it answers may be old when it is answered, and
+    /// no clause says anything of it.
     pub fn is_free(&self) -> bool {
         self.table.shared.peek(0) == self.table.shared.peek(1)
     }
