@@ -1,0 +1,10 @@
+-- The lemmas of this crate.
+mod Ranges
+mod Spans
+pub mod Stories
+mod Scripts
+mod Steps
+mod LineSteps
+mod Runs
+mod PartEnds
+mod Sound
