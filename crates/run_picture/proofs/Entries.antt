@@ -1,7 +1,13 @@
 -- A piece of a list, read from a place on.
-use Rattle.std.proofs.Common.{◌≡◌, ℕ, zero, suc, ◌+◌, ◌-◌, ◌<◌, min, List, [], ◌∷◌, length, take, drop, refl, sym, ◌∙◌, arith, length-take, length-drop}
-use Rattle.std.specs.Prelude.{slice_get, Option, Some}
+use Rattle.std.proofs.Common.{◌≡◌, ℕ, zero, suc, ◌+◌, ◌-◌, ◌<◌, min, List, [], ◌∷◌, ◌++◌, length, map, take, drop, refl, sym, ap, ◌∙◌, arith, length-take, length-drop, append-nil}
+use Rattle.std.specs.Prelude.{slice_get, ◌≤◌, Option, Some, None}
+use Rattle.std.proofs.lemmas.Option.{slice_get_past}
 use Rattle.rep_lists.proofs.Places.{drop_from_found}
+use Rattle.run_story.specs.declared.happening.Span.{Span}
+use Rattle.run_story.specs.declared.lane.Lane.{Lane}
+use Rattle.run_story.specs.Telling.{StoryView}
+use Rattle.lane_drawing.specs.Marks.{Mark}
+use Rattle.run_picture.specs.Marks.{number_of, mark_of_entry, entries_at, span_marks}
 
 get_behind : {X : Type 0} (xs : List X) (first place : ℕ) → slice_get (drop first xs) place ≡ slice_get xs (first + place)
 get_behind xs zero place = let same : 0 + place ≡ place = omega arith in rw same refl
@@ -30,4 +36,10 @@ piece_from xs first count place x within found = drop_from_found (take count (dr
     front : place < count
     front = omega (arith, within, length-take count (drop first xs))
 
-pub ruleset piece_facts = (piece_within, piece_from, piece_length)
+-- of no lane there are no marks
+pub no_lane_marks : (story : StoryView) (s : Span) (marks : List Mark) → length story.lanes ≤ s.lane → marks ≡ marks ++ span_marks story s
+no_lane_marks story s marks past =
+    sym (append-nil marks) ∙ ap (λ (ms : List Mark). marks ++ ms) (sym none)
+  where
+    none : span_marks story s ≡ []
+    none = ap (λ (o : Option Lane). map (mark_of_entry (number_of s.lane s.traffic)) (entries_at o story s)) (slice_get_past story.lanes s.lane past)

@@ -4,12 +4,13 @@ ghost use Rattle.run_story.specs.Telling.{journal_of};
 ghost use Rattle.lane_drawing.specs.Marks.{mark_of_badge};
 ghost use Rattle.run_picture.specs.Marks.{look_of, number_of, mark_of_entry, entries_at, entries_in, span_marks};
 
-use crate::words::{error_words, short_name};
+use crate::words::short_name;
 use lane_drawing::{BADGE_ROW, Layout, Pen};
 use packet_fates::Traffic;
 use page_text::{Badge, Look, Point, text_of};
 use rep_lists::{Items, NoMemory};
 use rep_values::SiteName;
+use run_ending::error_words;
 use run_story::{Lane, Span, Story};
 use site_state::Entry;
 use std::alloc::Global;
@@ -115,11 +116,13 @@ fn width_of(letters: usize) -> u32 {
     12 + 7 * letters
 }
 
-/// The number by which a page tells whose journal a badge is of: twice the lane's place, and one more for calls.
-pub fn number_of(lane: u32, traffic: Traffic) -> u64
-    ensures { result ≡ number_of lane traffic }
+/// The number by which a page tells whose journal a badge is of: twice the lane's place among all, and one more for calls.
+fn number_of(lanes: &[Lane], place: usize, traffic: Traffic) -> u64
+    requires { place < length lanes.now }
+    ensures { result ≡ number_of place traffic }
 {
-    let twice = 2 * u64::from(lane);
+    // Lanes take memory, so there are fewer than 2^63.
+    let twice = 2 * place as u64;
     match traffic {
         Traffic::Rows => twice,
         Traffic::Calls => twice + 1,
@@ -299,7 +302,29 @@ fn draw_badges(
     Ok(())
 }
 
-/// Draws the badges of some entries below a height, as many side by side as there is room for. It gives the height below them.
+/// Draws the badges of some entries of a lane below a height, as many side by side as there is room for. It gives the height below
+/// them.
+fn draw_on_lane(
+    alloc: Global,
+    pen: &mut Pen,
+    layout: &Layout,
+    story: &Story,
+    span: &Span,
+    top: u32,
+) -> Result<u32, NoMemory>
+    requires { span.now.lane < length story.now.lanes }
+    ensures { OnOk result (pen.new ≡ pen.old ++ span_marks story.now span.now) }
+{
+    let number = number_of(story.lanes(), span.lane, span.traffic);
+    let count = entry_count(story, span);
+    let width = widest(alloc, story, span)?;
+    let rank = Rank::of(layout, span.lane, width, count, top);
+    draw_badges(alloc, pen, story, span, number, &rank)?;
+    Ok(rank.below(count))
+}
+
+/// Draws the badges of some entries below a height; of no lane there are none. It gives the height below them.
+#[tactic(auto, using(crate::proofs::Entries::no_lane_marks))]
 pub fn draw_entries(
     alloc: Global,
     pen: &mut Pen,
@@ -310,14 +335,8 @@ pub fn draw_entries(
 ) -> Result<u32, NoMemory>
     ensures { OnOk result (pen.new ≡ pen.old ++ span_marks story.now span.now) }
 {
-    // There is no memory for more lanes than these.
-    let Ok(lane) = u32::try_from(span.lane) else {
-        return Err(NoMemory);
-    };
-    let number = number_of(lane, span.traffic);
-    let count = entry_count(story, span);
-    let width = widest(alloc, story, span)?;
-    let rank = Rank::of(layout, span.lane, width, count, top);
-    draw_badges(alloc, pen, story, span, number, &rank)?;
-    Ok(rank.below(count))
+    if span.lane >= story.lanes().len() {
+        return Ok(top);
+    }
+    draw_on_lane(alloc, pen, layout, story, span, top)
 }

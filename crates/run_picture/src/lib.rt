@@ -3,14 +3,11 @@
 
 mod badges;
 mod chart;
-mod ending;
 mod folding;
 mod heads;
 mod laws;
-mod marks;
 mod page;
 mod rows;
-mod standing;
 mod words;
 
 pub use laws::whole_stories_are_drawn;

@@ -3,15 +3,14 @@ ghost use Rattle.std.specs.Prelude.{IfOk};
 ghost use Rattle.run_picture.specs.Drawn.{HasChart, IsDrawnIn};
 
 use crate::chart::chart;
-use crate::ending::add_ending;
 use crate::folding::is_folded;
 use crate::heads::heads;
-use crate::marks::add_marks;
-use crate::standing::add_standing;
 use lane_drawing::{Layout, key};
 use page_text::{Heading, Look, Page, Part, text_of, words_of};
 use rep_lists::{Items, NoMemory};
-use run_story::Story;
+use rep_values::SiteName;
+use run_ending::ending_of;
+use run_story::{Lane, Story};
 use std::alloc::Global;
 
 /// What is said of a run above its picture.
@@ -53,13 +52,13 @@ fn front(alloc: Global, title: &[u8], story: &Story) -> Result<Vec<Part>, NoMemo
     Ok(parts)
 }
 
-/// What stands below the drawing.
-fn behind(alloc: Global, story: &Story) -> Result<Vec<Part>, NoMemory> {
-    let mut parts = Vec::new(alloc);
-    add_standing(alloc, story, &mut parts)?;
-    add_marks(alloc, story, &mut parts)?;
-    add_ending(alloc, story, &mut parts)?;
-    Ok(parts)
+/// The sites of lanes.
+fn sites_of(alloc: Global, lanes: &[Lane]) -> Result<Vec<SiteName>, NoMemory> {
+    let mut sites = Vec::new(alloc);
+    for lane in lanes {
+        sites.push(lane.site)?;
+    }
+    Ok(sites)
 }
 
 /// The picture of a run, as a page of this title: a lane for each site with what happened there and between them, from the top
@@ -69,10 +68,11 @@ fn behind(alloc: Global, story: &Story) -> Result<Vec<Part>, NoMemory> {
 pub fn picture(alloc: Global, title: &[u8], story: &Story) -> Result<Page, NoMemory>
     ensures { IfOk result (λ page. IsDrawnIn story.now page.parts) }
 {
-    // A story tells the journals of its world.
-    let _ = story.world();
     let mut parts = front(alloc, title, story)?;
-    let mut rest = behind(alloc, story)?;
+    let sites = sites_of(alloc, story.lanes())?;
+    // A story tells the journals of its world.
+    let world = story.world();
+    let mut rest = ending_of(alloc, world, &sites)?;
     parts.append(&mut rest)?;
     Ok(Page {
         title: words_of(alloc, title)?,

@@ -3,7 +3,7 @@ ghost use Rattle.std.specs.Prelude.{◌≡◌, ◌++◌, flat_map, OnOk};
 ghost use Rattle.run_picture.specs.Marks.{span_marks, line_marks};
 
 use crate::badges::{draw_entries, entry_at, entry_count};
-use crate::words::{cut_to, error_words};
+use crate::words::cut_to;
 use lane_drawing::{
     Arrow, Bundle, Ends, Layout, NUMBER_AT, Pen, ROW, WIDTH, WORDS_AT, draw_bundle,
 };
@@ -12,6 +12,7 @@ use packet_fates::Packet;
 use page_text::{Anchor, Look, Point, text_of};
 use rep_lists::{Items, NoMemory};
 use rep_values::SiteName;
+use run_ending::error_words;
 use run_story::{Event, Line, Outcome, Span, Story};
 use script_parse::Link;
 use site_state::Entry;

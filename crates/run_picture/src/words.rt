@@ -2,8 +2,7 @@
 
 use page_text::words_of;
 use rep_lists::{Items, NoMemory};
-use rep_values::{ApplyError, Name, SiteName};
-use report_text::{Lines, MOST_LINE, error_line};
+use rep_values::Name;
 use std::alloc::Global;
 
 /// Bytes, or as many of them as there is room for, with two dots behind.
@@ -31,19 +30,4 @@ pub fn short_name(alloc: Global, name: &Name) -> Result<String, NoMemory> {
     }
     short.push_str("..")?;
     Ok(short)
-}
-
-/// `error ORIGIN POSITION call C KIND`
-pub fn error_words(
-    alloc: Global,
-    origin: &SiteName,
-    position: u64,
-    call: u32,
-    error: &ApplyError,
-) -> Result<Items<u8>, NoMemory> {
-    let mut lines = Lines::make(alloc);
-    lines.reserve(MOST_LINE)?;
-    error_line(&mut lines, origin, position, call, error);
-    let bytes = lines.bytes();
-    words_of(alloc, &bytes[..bytes.len().saturating_sub(1)])
 }

@@ -1,5 +1,6 @@
 -- The lemmas of this crate.
 mod Ranges
+mod Lanes
 mod Spans
 pub mod Stories
 mod Scripts

@@ -7,6 +7,7 @@ use Rattle.run_story.specs.declared.happening.Span.{Span}
 use Rattle.run_story.specs.declared.happening.Line.{Line}
 use Rattle.run_story.specs.declared.happening.Outcome.{Outcome}
 use Rattle.run_story.specs.declared.lane.Lane.{Lane}
+use Rattle.run_story.specs.Lanes.{HasLanes}
 use Rattle.run_story.specs.Telling.{StoryView, Followed, words_of, ends_run_in, KeepsTold, TellsJournals, AreLinesOf}
 use Rattle.run_story.specs.Running.{stand_of, story_view, LineGoes, IsSound, RunsAsEngine}
 use Rattle.run_story.proofs.Stories.{nothing_is_told, told_on, told_stories_tell}
@@ -15,7 +16,7 @@ use Rattle.run_story.proofs.Runs.{nothing_is_run, run_on, runs_as_engine}
 -- of a script of which nothing was read
 pub sound_at_start : (f : Followed) (lines : List Line) → f.lanes ≡ [] → f.world.lent ≡ None → stand_of f ≡ live_start false → lines ≡ [] → IsSound (story_view f lines)
 sound_at_start f lines lanes free starts none = record {
-  told = nothing_is_told (story_view f lines) lanes none;
+  told = nothing_is_told (story_view f lines) (ap (λ (s : LiveState). s.world) starts) lanes none;
   run = nothing_is_run (story_view f lines) starts none;
   free = free;
 }
@@ -33,7 +34,10 @@ sound_behind old new lines lines' line words outcome entries is going goes knows
   free = free;
 }
 
--- what it tells, and where it ends
+-- its lanes, what it tells, and where it ends
+pub sound_lanes : (story : StoryView) → IsSound story → HasLanes story.world.world story.lanes
+sound_lanes story is = is.told.lanes
+
 pub sound_tells : (story : StoryView) → IsSound story → TellsJournals story
 sound_tells story is = told_stories_tell story is.told
 

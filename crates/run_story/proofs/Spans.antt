@@ -12,7 +12,7 @@ use Rattle.packet_fates.specs.declared.packet.Traffic.{Traffic}
 use Rattle.packet_fates.specs.declared.packet.Traffic.TheVariants.{Rows, Calls}
 use Rattle.run_story.specs.declared.happening.Span.{Span}
 use Rattle.run_story.specs.declared.lane.Lane.{Lane}
-use Rattle.run_story.specs.Telling.{journal_of, is_kind, places_in, told_places, count_in, new_span, lane_at, spans_at, spans_from, AddsLanes, Counts}
+use Rattle.run_story.specs.Telling.{Followed, journal_of, is_kind, places_in, told_places, count_in, new_span, lane_at, spans_at, spans_from, AddsLanes, Counts}
 use Rattle.run_story.proofs.Ranges.{range_from_0-append}
 
 pub told_places-append : (place : ℕ) (traffic : Traffic) (xs ys : List Span) → told_places place traffic (xs ++ ys) ≡ told_places place traffic xs ++ told_places place traffic ys
@@ -135,10 +135,10 @@ same_counts traffic (lane ∷ lanes) more fresh zero = refl
 same_counts traffic (lane ∷ lanes) more fresh (suc place) = same_counts traffic lanes more fresh place
 
 -- lanes that are added count nothing
-pub added_count : (old new : List Lane) (spans : List Span) → AddsLanes old new → Counts old spans → Counts new spans
+pub added_count : (old new : Followed) (spans : List Span) → AddsLanes old new → Counts old.lanes spans → Counts new.lanes spans
 added_count old new spans adds counts =
     record {
       each = λ place traffic. counts.each place traffic
-          ∙ ap (λ n. range_with_len 0 n) (same_counts traffic old adds.more adds.fresh place)
+          ∙ ap (λ n. range_with_len 0 n) (same_counts traffic old.lanes adds.more adds.fresh place)
           ∙ ap (λ (lanes : List Lane). range_with_len 0 (count_in traffic (slice_get lanes place))) (sym adds.all);
     }

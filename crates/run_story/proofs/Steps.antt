@@ -16,6 +16,7 @@ use Rattle.world_state.specs.declared.refused.Refused.{Refused}
 use Rattle.world_state.specs.World.{WorldState}
 use Rattle.world_state.specs.Refusals.{world_refusal}
 use Rattle.world_state.specs.Steps.{world_step, world_refused, step_by, told_by, step_refused}
+use Rattle.world.specs.declared.answer.Answer.{Answer}
 use Rattle.world.specs.Doing.{IsDone, IsOutOfMemory, IsRefused}
 use Rattle.world_push.specs.Lending.{live_refusal}
 use Rattle.world_run.specs.Lent.{LentWorld}
@@ -36,8 +37,8 @@ use Rattle.run_story.specs.Running.{engine_part, stand_in, stand_of, hindrance_o
 -- ---- the world of a line
 
 -- a line that was done
-pub done_steps : (number : ℕ) (c : Command) (w w' : WorldState) (out : List ℕ) → IsDone number c w w' out → w' ≡ world_step number c w
-done_steps number c w w' out done = rw (done.passes, done.world) refl
+pub done_steps : (number : ℕ) (c : Command) (w w' : WorldState) (answer : Answer) → IsDone number c w w' answer → w' ≡ world_step number c w
+done_steps number c w w' answer done = rw (done.passes, done.world) refl
 
 -- a line that was refused, not for want of memory
 pub refused_steps : (number : ℕ) (c : Command) (w w' : WorldState) (r : Refused) → is_memory r.refusal ≡ false → IsOutOfMemory number c w w' r ⊎ IsRefused number c w w' r → w' ≡ world_step number c w
@@ -59,8 +60,8 @@ nothing_steps number w = go (world_refusal command.Nothing w)
 -- ---- what is said of a line
 
 -- a line that was done met no refusal
-pub done_said : (number : ℕ) (c : Command) (w w' : WorldState) (out : List ℕ) → IsDone number c w w' out → step_refused number c w ≡ None
-done_said number c w w' out done = rw done.passes refl
+pub done_said : (number : ℕ) (c : Command) (w w' : WorldState) (answer : Answer) → IsDone number c w w' answer → step_refused number c w ≡ None
+done_said number c w w' answer done = rw done.passes refl
 
 pub refused_said : (number : ℕ) (c : Command) (w w' : WorldState) (r : Refused) → is_memory r.refusal ≡ false → IsOutOfMemory number c w w' r ⊎ IsRefused number c w w' r → step_refused number c w ≡ Some r
 refused_said number c w w' r told (inl short) = let memory = rw short.memory at told in absurd (cc memory)

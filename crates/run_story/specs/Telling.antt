@@ -16,6 +16,7 @@ use Rattle.run_story.specs.declared.happening.Outcome.{Outcome}
 use Rattle.run_story.specs.declared.happening.Outcome.TheVariants.{PassedOver, Declared, Shown, Done, Refused, Malformed}
 use Rattle.run_story.specs.declared.happening.Line.{Line}
 use Rattle.run_story.specs.declared.lane.Lane.{Lane}
+use Rattle.run_story.specs.Lanes.{HasLanes}
 
 -- what a contract sees of a story: its world, its live part, its sites, and its lines
 pub record StoryView : Type 0 where
@@ -115,11 +116,12 @@ abbrev pub spans_from : LentWorld → ℕ → List Lane → List Span
 spans_from v place [] = []
 spans_from v place (lane ∷ lanes) = spans_at v place lane ++ spans_from v (place + 1) lanes
 
--- lanes were added of whose sites nothing was told
-pub record AddsLanes (old new : List Lane) : Type 0 where
+-- lanes were added of whose sites nothing was told, and if each declared site had a lane, each has one
+pub record AddsLanes (old new : Followed) : Type 0 where
   pub more : List Lane
-  pub all : new ≡ old ++ more
+  pub all : new.lanes ≡ old.lanes ++ more
   pub fresh : AllByRecursion (λ (lane : Lane). (lane.told ≡ 0) × (lane.told_calls ≡ 0)) more
+  pub keeps : HasLanes old.world.world old.lanes → HasLanes new.world.world new.lanes
 
 -- ---- the promise
 
@@ -136,11 +138,13 @@ pub record TellsJournals (story : StoryView) : Type 0 where
 pub record IsTold (story : StoryView) : Type 0 where
   pub counts : Counts story.lanes (spans_of story.lines)
   pub reach : AllReach story.world story.lanes
+  pub lanes : HasLanes story.world.world story.lanes
 
 -- the entries that a line tells keep this, whatever was told before
 pub record KeepsTold (old new : Followed) (entries : List Span) : Type 0 where
   pub counts : (spans : List Span) → Counts old.lanes spans → Counts new.lanes (spans ++ entries)
   pub reach : AllReach old.world old.lanes → AllReach new.world new.lanes
+  pub lanes : HasLanes old.world.world old.lanes → HasLanes new.world.world new.lanes
 
 -- ---- lines
 

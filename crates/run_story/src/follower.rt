@@ -1,5 +1,5 @@
 //! A world that is followed.
-ghost use Rattle.std.specs.Prelude.{◌≡◌, ◌+◌, ◌≤◌, [], false, None, Some, Ok, map, IfOk, OnOk};
+ghost use Rattle.std.specs.Prelude.{◌≡◌, ◌+◌, ◌++◌, ◌≤◌, [], false, None, Some, Ok, map, IfOk, OnOk};
 ghost use Rattle.script_parse.specs.Named.{NamesColumn};
 ghost use Rattle.script_parse.specs.LiveLines.{LiveNamesColumn};
 ghost use Rattle.report_text.specs.Refusals.{is_memory};
@@ -7,6 +7,7 @@ ghost use Rattle.world_state.specs.Steps.{world_step, step_refused};
 ghost use Rattle.world_run.specs.LiveParts.{taken};
 ghost use Rattle.world_run.specs.LiveScripts.{live_start, known};
 ghost use Rattle.world_run.specs.LiveAnswers.{IsAnswered};
+ghost use Rattle.run_story.specs.Lanes.{lanes_declared};
 ghost use Rattle.run_story.specs.Telling.{lane_at, spans_from, AddsLanes, KeepsTold};
 ghost use Rattle.run_story.specs.Running.{engine_part, stand_of, refusal_in, said_in, refused_at, hindrance_of, command_refused, GoesOn, LineGoes};
 
@@ -152,11 +153,11 @@ impl Follower {
     }
 
     /// Follows a command that was done.
-    #[tactic(auto, using(crate::proofs::Stories::adds_none))]
+    #[tactic(auto, using(crate::proofs::Lanes::declares_none))]
     fn follow(&mut self, alloc: Global, command: &Command) -> Result<(), NoMemory>
         ensures world { self.new.world ≡ self.old.world }
         ensures part { self.new.part ≡ self.old.part }
-        ensures lanes { OnOk result (AddsLanes self.old.lanes self.new.lanes) }
+        ensures lanes { OnOk result (self.new.lanes ≡ self.old.lanes ++ lanes_declared command.now) }
     {
         self.roads.follow(alloc, command)?;
         if let Command::Declare(declaration) = command {
@@ -175,7 +176,7 @@ impl Follower {
     ) -> Result<Outcome, NoMemory>
         ensures world { self.new.world ≡ self.old.world }
         ensures part { self.new.part ≡ self.old.part }
-        ensures lanes { OnOk result (AddsLanes self.old.lanes self.new.lanes) }
+        ensures lanes { OnOk result (self.new.lanes ≡ self.old.lanes ++ lanes_declared command.now) }
         ensures said { IfOk result (λ outcome. said_in outcome ≡ Ok None) }
     {
         tell(alloc, &self.world, &mut self.roads, command, seen, told)?;
@@ -184,7 +185,6 @@ impl Follower {
     }
 
     /// Follows a command that was refused.
-    #[tactic(auto, using(crate::proofs::Stories::adds_none))]
     fn follow_refused(&mut self, command: &Command, refused: Refused) -> Result<Outcome, NoMemory>
         ensures world { self.new.world ≡ self.old.world }
         ensures part { self.new.part ≡ self.old.part }
@@ -202,7 +202,7 @@ impl Follower {
     }
 
     /// Runs a command that every script may have, and tells what came of it, beside what came to journals.
-    #[tactic(auto, using(crate::proofs::Stories::adds_none, crate::proofs::Steps::done_steps, crate::proofs::Steps::refused_steps, crate::proofs::Steps::done_said, crate::proofs::Steps::refused_said))]
+    #[tactic(auto, using(crate::proofs::Lanes::adds_done, crate::proofs::Lanes::adds_refused, crate::proofs::Steps::done_steps, crate::proofs::Steps::refused_steps, crate::proofs::Steps::done_said, crate::proofs::Steps::refused_said))]
     fn step(
         &mut self,
         alloc: Global,
@@ -215,18 +215,21 @@ impl Follower {
         ensures free { OnOk result (self.new.world.lent ≡ None) }
         ensures world { OnOk result (self.new.world.world ≡ world_step number command.now self.old.world.world) }
         ensures part { OnOk result (self.new.part ≡ self.old.part) }
-        ensures lanes { OnOk result (AddsLanes self.old.lanes self.new.lanes) }
+        ensures lanes { OnOk result (AddsLanes self.old self.new) }
         ensures said { IfOk result (λ outcome. said_in outcome ≡ Ok (step_refused number command.now self.old.world.world)) }
     {
         let seen = seen_before(alloc, &self.world, &self.lanes, &self.roads, command)?;
         match self.world.step(alloc, number, command) {
             Ok(_) => self.follow_done(alloc, command, seen, told),
-            Err(refused) => self.follow_refused(command, refused),
+            Err(refused) => match self.follow_refused(command, refused) {
+                Ok(outcome) => Ok(outcome),
+                Err(NoMemory) => Err(NoMemory),
+            },
         }
     }
 
     /// Runs a command that every script may have, or takes it into the open part.
-    #[tactic(auto, using(crate::proofs::Stories::adds_none, crate::proofs::Steps::goes_taken, crate::proofs::Steps::goes_around, crate::proofs::Steps::known_taken, crate::proofs::Steps::known_around))]
+    #[tactic(auto, using(crate::proofs::Lanes::adds_none, crate::proofs::Steps::goes_taken, crate::proofs::Steps::goes_around, crate::proofs::Steps::known_taken, crate::proofs::Steps::known_around))]
     fn run_plain(
         &mut self,
         alloc: Global,
@@ -240,7 +243,7 @@ impl Follower {
         ensures free { OnOk result (self.new.world.lent ≡ None) }
         ensures known { OnOk result (known (stand_of self.new)) }
         ensures goes { OnOk result (GoesOn number (LiveCommand.Plain command.now) (stand_of self.old) (stand_of self.new)) }
-        ensures lanes { OnOk result (AddsLanes self.old.lanes self.new.lanes) }
+        ensures lanes { OnOk result (AddsLanes self.old self.new) }
         ensures said { IfOk result (λ outcome. said_in outcome ≡ Ok (command_refused (stand_of self.old) number (LiveCommand.Plain command.now))) }
     {
         if let Part::Open(part) = &mut self.part {
@@ -290,7 +293,7 @@ impl Follower {
     }
 
     /// `end`
-    #[tactic(auto, using(crate::proofs::Steps::known_end, crate::proofs::Steps::free_end, crate::proofs::Steps::goes_no_end, crate::proofs::Steps::open_passes, crate::proofs::Steps::open_few))]
+    #[tactic(auto, using(crate::proofs::Lanes::adds_none, crate::proofs::Lanes::adds_ran, crate::proofs::Steps::known_end, crate::proofs::Steps::free_end, crate::proofs::Steps::goes_no_end, crate::proofs::Steps::open_passes, crate::proofs::Steps::open_few))]
     fn end_part<X: Threads + Wait + Sync>(
         &mut self,
         rt: &X,
@@ -301,7 +304,7 @@ impl Follower {
         requires free { self.old.world.lent ≡ None }
         requires known { known (stand_of self.old) }
         ensures free { OnOk result (self.new.world.lent ≡ None) }
-        ensures lanes { self.new.lanes ≡ self.old.lanes }
+        ensures lanes { OnOk result (AddsLanes self.old self.new) }
         ensures known { OnOk result (known (stand_of self.new)) }
         ensures goes { OnOk result (GoesOn number LiveCommand.End (stand_of self.old) (stand_of self.new)) }
         ensures said { IfOk result (λ outcome. said_in outcome ≡ Ok (command_refused (stand_of self.old) number LiveCommand.End)) }
@@ -322,7 +325,7 @@ impl Follower {
     }
 
     /// Runs a command, and tells what came of it, beside what came to journals.
-    #[tactic(auto, using(crate::proofs::Stories::adds_none))]
+    #[tactic(auto, using(crate::proofs::Lanes::adds_none))]
     fn run_command<X: Threads + Wait + Sync>(
         &mut self,
         rt: &X,
@@ -337,7 +340,7 @@ impl Follower {
         ensures free { OnOk result (self.new.world.lent ≡ None) }
         ensures known { OnOk result (known (stand_of self.new)) }
         ensures goes { OnOk result (GoesOn number command (stand_of self.old) (stand_of self.new)) }
-        ensures lanes { OnOk result (AddsLanes self.old.lanes self.new.lanes) }
+        ensures lanes { OnOk result (AddsLanes self.old self.new) }
         ensures said { IfOk result (λ outcome. said_in outcome ≡ Ok (command_refused (stand_of self.old) number command)) }
     {
         match command {

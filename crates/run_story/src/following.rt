@@ -2,7 +2,8 @@
 ghost use Rattle.std.specs.Prelude.{◌≡◌, [], ◌++◌, map, length, is_some, IfOk, OnOk};
 ghost use Rattle.world_run.specs.Lent.{site_here};
 ghost use Rattle.packet_fates.specs.declared.packet.Traffic.TheVariants.{Rows, Calls};
-ghost use Rattle.run_story.specs.Telling.{journal_of, new_span, since_at, lane_at, spans_at, spans_from, AddsLanes};
+ghost use Rattle.run_story.specs.Lanes.{lanes_in};
+ghost use Rattle.run_story.specs.Telling.{journal_of, new_span, since_at, lane_at, spans_at, spans_from};
 
 use crate::happening::Span;
 use crate::lane::{Lane, LaneKind};
@@ -120,18 +121,26 @@ pub fn lanes_at(
     Ok(after)
 }
 
-/// A site is declared.
-#[tactic(auto, using(crate::proofs::Stories::adds_none, crate::proofs::Stories::adds_one))]
+/// A declaration was done: where it adds a site, that has a lane.
 pub fn declare(lanes: &mut Vec<Lane>, declaration: &Declare) -> Result<(), NoMemory>
-    ensures { OnOk result (AddsLanes lanes.old.items lanes.new.items) }
+    ensures { OnOk result (lanes.new.items ≡ lanes.old.items ++ lanes_in declaration.now) }
 {
-    let lane = match declaration {
-        Declare::Site { name } => Lane::of(*name, LaneKind::Master),
-        Declare::LateSite { name } => Lane::of(*name, LaneKind::Late),
-        Declare::SnapSite { name, master } => Lane::of(*name, LaneKind::Snapshot(*master)),
-        _ => return Ok(()),
-    };
-    lanes.push(lane)?;
+    match declaration {
+        Declare::Site { name } => lanes.push(Lane::of(*name, LaneKind::Master))?,
+        Declare::LateSite { name } => lanes.push(Lane::of(*name, LaneKind::Late))?,
+        Declare::SnapSite { name, master } => {
+            lanes.push(Lane::of(*name, LaneKind::Snapshot(*master)))?;
+        }
+        Declare::Table { .. }
+        | Declare::Group { .. }
+        | Declare::Method { .. }
+        | Declare::Priority { .. }
+        | Declare::SiteLevel { .. }
+        | Declare::Unique { .. }
+        | Declare::UniqueMethod { .. }
+        | Declare::Check { .. }
+        | Declare::Convergent { .. } => {}
+    }
     Ok(())
 }
 

@@ -1,5 +1,6 @@
 //! The sites of a run.
-ghost use Rattle.std.specs.Prelude.{◌≡◌, None};
+ghost use Rattle.std.specs.Prelude.{◌≡◌};
+ghost use Rattle.run_story.specs.Lanes.{new_lane};
 
 use rep_values::SiteName;
 
@@ -28,7 +29,7 @@ pub struct Lane {
 impl Lane {
     /// A declared site that isn't there yet.
     pub fn of(site: SiteName, kind: LaneKind) -> Lane
-        ensures { result ≡ record { site = site; kind = kind; since = None; told = 0; told_calls = 0 } }
+        ensures { result ≡ new_lane site kind }
     {
         Lane {
             site,

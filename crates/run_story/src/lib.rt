@@ -8,6 +8,7 @@ mod happening;
 mod lane;
 mod living;
 mod looking;
+mod open_story;
 mod part;
 mod refreshing;
 mod story;

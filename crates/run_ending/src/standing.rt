@@ -5,8 +5,8 @@ use error_queue::Errors;
 use page_text::{Heading, Look, Part, words_of};
 use rep_lists::{Items, NoMemory};
 use rep_values::SiteName;
-use run_story::Story;
 use std::alloc::Global;
+use world_run::World;
 
 /// `SITE: error ORIGIN POSITION call C KIND` for each error that stands at a site.
 fn add_errors(
@@ -34,26 +34,31 @@ fn add_errors(
 }
 
 /// The errors that stand at all sites.
-fn standing(alloc: Global, story: &Story) -> Result<Vec<Items<u8>>, NoMemory> {
+fn standing(alloc: Global, world: &World, sites: &[SiteName]) -> Result<Vec<Items<u8>>, NoMemory> {
     let mut lines = Vec::new(alloc);
-    for lane in story.lanes() {
-        if let Some(site) = story.world().site(&lane.site) {
-            add_errors(alloc, &lane.site, site.errors(), &mut lines)?;
+    for name in sites {
+        if let Some(site) = world.site(name) {
+            add_errors(alloc, name, site.errors(), &mut lines)?;
         }
-        if let Some(site) = story.world().proc_site(&lane.site) {
-            add_errors(alloc, &lane.site, site.errors(), &mut lines)?;
+        if let Some(site) = world.proc_site(name) {
+            add_errors(alloc, name, site.errors(), &mut lines)?;
         }
     }
     Ok(lines)
 }
 
 /// The part of a page that tells the errors that stand.
-pub fn add_standing(alloc: Global, story: &Story, parts: &mut Vec<Part>) -> Result<(), NoMemory> {
+pub fn add_standing(
+    alloc: Global,
+    world: &World,
+    sites: &[SiteName],
+    parts: &mut Vec<Part>,
+) -> Result<(), NoMemory> {
     parts.push(Part::Heading {
         level: Heading::Chapter,
         words: words_of(alloc, b"Errors that stand")?,
     })?;
-    let lines = standing(alloc, story)?;
+    let lines = standing(alloc, world, sites)?;
     if lines.is_empty() {
         parts.push(Part::Paragraph {
             look: Look::Plain,

@@ -4,9 +4,9 @@ use page_tables::PageTables;
 use page_text::{Cell, Heading, Look, Part, Table, text_of, words_of};
 use rep_lists::{Items, NoMemory};
 use rep_values::SiteName;
-use run_story::Story;
 use site_engine::Site;
 use std::alloc::Global;
+use world_run::World;
 
 /// A cell with a text.
 fn cell(words: Items<u8>) -> Cell {
@@ -48,11 +48,11 @@ fn columns(alloc: Global) -> Result<Items<Items<u8>>, NoMemory> {
 }
 
 /// The marks of a site with each site that sends to it and is there.
-fn table_of(alloc: Global, story: &Story, site: &Site<PageTables>) -> Result<Table, NoMemory> {
+fn table_of(alloc: Global, world: &World, site: &Site<PageTables>) -> Result<Table, NoMemory> {
     let mut rows = Vec::new(alloc);
     for place in 0..site.sender_count() {
         if let Some(other) = site.sender(place) {
-            if story.world().site(other).is_some() {
+            if world.site(other).is_some() {
                 rows.push(row_of(alloc, site, other)?)?;
             }
         }
@@ -65,11 +65,16 @@ fn table_of(alloc: Global, story: &Story, site: &Site<PageTables>) -> Result<Tab
 }
 
 /// The part of a page that tells how far the streams are.
-pub fn add_marks(alloc: Global, story: &Story, parts: &mut Vec<Part>) -> Result<(), NoMemory> {
+pub fn add_marks(
+    alloc: Global,
+    world: &World,
+    sites: &[SiteName],
+    parts: &mut Vec<Part>,
+) -> Result<(), NoMemory> {
     let mut tables = Vec::new(alloc);
-    for lane in story.lanes() {
-        if let Some(site) = story.world().site(&lane.site) {
-            tables.push(table_of(alloc, story, site)?)?;
+    for name in sites {
+        if let Some(site) = world.site(name) {
+            tables.push(table_of(alloc, world, site)?)?;
         }
     }
     parts.push(Part::Heading {

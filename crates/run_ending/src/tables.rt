@@ -4,14 +4,15 @@ use page_tables::PageTables;
 use page_text::{Heading, Look, Part, Table, text_of, words_of};
 use rep_lists::{Items, NoMemory};
 use rep_schema::{RowStore, TableEntry};
-use run_story::{Lane, Story};
+use rep_values::SiteName;
 use std::alloc::Global;
 use table_cells::{is_same, table_at};
+use world_run::World;
 
 /// The rows of a site, under its name.
 #[derive(Drop)]
 struct Held<'a> {
-    lane: &'a Lane,
+    name: &'a SiteName,
     store: &'a PageTables,
     /// Whether it holds a table; a snapshot site holds those of its snapshots alone.
     tables: Vec<bool>,
@@ -34,7 +35,7 @@ impl Held<'_> {
         place: usize,
         entry: &TableEntry,
     ) -> Result<Table, NoMemory> {
-        let caption = self.lane.site.0.bytes();
+        let caption = self.name.0.bytes();
         match u32::try_from(place) {
             Ok(table) if place < self.store.schema().tables.len() => {
                 table_at(alloc, caption, masters, self.store, table, entry)
@@ -54,10 +55,14 @@ fn no_table(alloc: Global, caption: &[u8]) -> Result<Table, NoMemory> {
 }
 
 /// The sites with rows that `push` carries.
-fn row_holders<'a>(alloc: Global, story: &'a Story) -> Result<Vec<Held<'a>>, NoMemory> {
+fn row_holders<'a>(
+    alloc: Global,
+    world: &'a World,
+    sites: &'a [SiteName],
+) -> Result<Vec<Held<'a>>, NoMemory> {
     let mut holders = Vec::new(alloc);
-    for lane in story.lanes() {
-        if let Some(site) = story.world().site(&lane.site) {
+    for name in sites {
+        if let Some(site) = world.site(name) {
             let mut tables = Vec::new(alloc);
             for place in 0..site.store().schema().tables.len() {
                 tables.push(match u32::try_from(place) {
@@ -66,7 +71,7 @@ fn row_holders<'a>(alloc: Global, story: &'a Story) -> Result<Vec<Held<'a>>, NoM
                 })?;
             }
             holders.push(Held {
-                lane,
+                name,
                 store: site.store(),
                 tables,
                 is_master: site.is_master(),
@@ -77,16 +82,20 @@ fn row_holders<'a>(alloc: Global, story: &'a Story) -> Result<Vec<Held<'a>>, NoM
 }
 
 /// The sites with rows that calls write.
-fn call_holders<'a>(alloc: Global, story: &'a Story) -> Result<Vec<Held<'a>>, NoMemory> {
+fn call_holders<'a>(
+    alloc: Global,
+    world: &'a World,
+    sites: &'a [SiteName],
+) -> Result<Vec<Held<'a>>, NoMemory> {
     let mut holders = Vec::new(alloc);
-    for lane in story.lanes() {
-        if let Some(site) = story.world().proc_site(&lane.site) {
+    for name in sites {
+        if let Some(site) = world.proc_site(name) {
             let mut tables = Vec::new(alloc);
             for _ in 0..site.store().schema().tables.len() {
                 tables.push(true)?;
             }
             holders.push(Held {
-                lane,
+                name,
                 store: site.store(),
                 tables,
                 is_master: true,
@@ -164,8 +173,8 @@ fn add_table(
     Ok(())
 }
 
-/// Adds the tables of some sites.
-fn add_tables(alloc: Global, holders: &[Held<'_>], parts: &mut Vec<Part>) -> Result<(), NoMemory> {
+/// Adds the tables of those that hold them.
+fn add_held(alloc: Global, holders: &[Held<'_>], parts: &mut Vec<Part>) -> Result<(), NoMemory> {
     let masters = masters_of(alloc, holders)?;
     let Some(first) = holders.first() else {
         return Ok(());
@@ -178,11 +187,16 @@ fn add_tables(alloc: Global, holders: &[Held<'_>], parts: &mut Vec<Part>) -> Res
 }
 
 /// The part of a page that shows the tables.
-pub fn add_ending(alloc: Global, story: &Story, parts: &mut Vec<Part>) -> Result<(), NoMemory> {
+pub fn add_tables(
+    alloc: Global,
+    world: &World,
+    sites: &[SiteName],
+    parts: &mut Vec<Part>,
+) -> Result<(), NoMemory> {
     parts.push(Part::Heading {
         level: Heading::Chapter,
         words: words_of(alloc, b"Tables")?,
     })?;
-    add_tables(alloc, &row_holders(alloc, story)?, parts)?;
-    add_tables(alloc, &call_holders(alloc, story)?, parts)
+    add_held(alloc, &row_holders(alloc, world, sites)?, parts)?;
+    add_held(alloc, &call_holders(alloc, world, sites)?, parts)
 }
