@@ -17,10 +17,11 @@ use Rattle.script_parse.specs.declared.command.ParentWords.{ParentWords}
 use Rattle.script_parse.specs.declared.command.TestWords.{TestWords}
 use Rattle.live_laws.specs.declared.turn.LiveTurn.{LiveTurn}
 use Rattle.live_laws.specs.declared.turn.Session.{Session}
+use Rattle.live_laws.specs.Turns.{site_after}
 use Rattle.world_state.specs.declared.phase.Phase.{Phase}
 use Rattle.world_state.specs.declared.phase.Phase.TheVariants as phase
 use Rattle.world_state.specs.declared.refused.Refused.{Refused}
-use Rattle.world_state.specs.World.{WorldState}
+use Rattle.world_state.specs.World.{WorldState, with_site}
 use Rattle.world_state.specs.Declaring.{with_snapshot_at, tests_in}
 use Rattle.world_state.specs.Pushes.{world_release, world_send, world_send_each, positions_above, world_deliver_mark, world_return_mark, pushed_in}
 use Rattle.world_state.specs.Steps.{resumed, world_done}
@@ -31,7 +32,7 @@ use Rattle.world_push.specs.Lending.{reaching, brought_from, answered_to, live_o
 use Rattle.world_run.specs.Lent.{LentWorld}
 use Rattle.world_run.specs.Ended.{RanPart}
 use Rattle.world_run.specs.declared.live_part.OpenPart.{OpenPart}
-use Rattle.world_run.specs.LiveParts.{world_behind_part}
+use Rattle.world_run.specs.LiveParts.{sessions_of, world_behind_part}
 use Rattle.run_story.specs.declared.lane.Lane.{Lane}
 use Rattle.run_story.specs.Lanes.{lane_of, bare, lanes_in, lanes_declared, HasLanes}
 use Rattle.run_story.specs.Telling.{Followed, lane_at, AddsLanes}
@@ -215,8 +216,11 @@ answered_schema [] name w = refl
 answered_schema (to ∷ more) name w = answered_schema more name (world_return_mark name to w) ∙ returned_schema name to w
 
 behind_schema : (site : SiteName) (sessions : List Session) (turns : List LiveTurn) (w : WorldState) → (world_behind_part site sessions turns w).schema ≡ w.schema
-behind_schema site sessions turns w = answered_schema _ site _ ∙ brought_schema (reaching site w) site w
+behind_schema site sessions turns w =
+    let run = with_site site (site_after sessions turns) (live_opened site w) in
+    answered_schema (reaching site run) site run ∙ brought_schema (reaching site w) site w
 
 -- behind a part that was run
 pub adds_ran : (old new : Followed) (p : OpenPart) (e : RanPart) → PartRan old.world.world p new.world e → new.lanes ≡ old.lanes → AddsLanes old new
-adds_ran old new p e ran lanes = adds_same old new (ap (λ (y : WorldState). y.schema) ran.runs.behind ∙ behind_schema p.site _ ran.turns old.world.world) lanes
+adds_ran old new p e ran lanes =
+    adds_same old new (ap (λ (y : WorldState). y.schema) ran.runs.behind ∙ behind_schema p.site (sessions_of p) ran.turns old.world.world) lanes

@@ -19,36 +19,56 @@ lines_after-more front bytes b other = let goes_on : (b == 10) ≡ false = ne_eq
 pub record IsAtByte (script : List ℕ) (words : List (List ℕ)) (front rest : List ℕ) : Type 0 where
   pub all : words ++ lines_after front rest ≡ lines_after [] script
 
-pub at_start : (script : List ℕ) → IsAtByte script [] [] script
-at_start script = record { all = refl }
+-- nothing was read
+pub at_start : (script : List ℕ) (lines : List Line) → lines ≡ [] → IsAtByte script (words_of lines) [] script
+at_start script lines none = record { all = ap (λ (ls : List Line). words_of ls ++ lines_after [] script) none }
 
+pub goes_at_start : (lines : List Line) → lines ≡ [] → ends_run_in (slice_get lines (length lines - 1)) ≡ false
+goes_at_start lines none = ap (λ (ls : List Line). ends_run_in (slice_get ls (length ls - 1))) none
+
+-- a byte more of a line
 pub past_byte : (script : List ℕ) (words : List (List ℕ)) (front rest bytes : List ℕ) (b : ℕ) → IsAtByte script words front rest → rest ≡ b ∷ bytes → b ≢ 10
     → IsAtByte script words (front ++ b ∷ []) bytes
 past_byte script words front rest bytes b at next other =
     record { all = ap (λ (ls : List (List ℕ)). words ++ ls) (sym (lines_after-more front bytes b other) ∙ ap (λ (bs : List ℕ). lines_after front bs) (sym next)) ∙ at.all }
 
-pub past_end : (script : List ℕ) (words : List (List ℕ)) (front rest bytes : List ℕ) (b : ℕ) → IsAtByte script words front rest → rest ≡ b ∷ bytes → b ≡ 10
-    → IsAtByte script (words ++ front ∷ []) [] bytes
-past_end script words front rest bytes b at next ends =
+-- the end of a line
+pub past_end : (script : List ℕ) (words words' : List (List ℕ)) (front rest bytes : List ℕ) (b : ℕ) → IsAtByte script words front rest → rest ≡ b ∷ bytes → b ≡ 10
+    → words' ≡ words ++ front ∷ [] → IsAtByte script words' [] bytes
+past_end script words words' front rest bytes b at next ends more =
     record {
-      all = append_assoc words (front ∷ []) (lines_after [] bytes)
+      all = ap (λ (ls : List (List ℕ)). ls ++ lines_after [] bytes) more
+          ∙ append_assoc words (front ∷ []) (lines_after [] bytes)
           ∙ ap (λ (ls : List (List ℕ)). words ++ ls) (sym (lines_after-end front bytes b ends) ∙ ap (λ (bs : List ℕ). lines_after front bs) (sym next)) ∙ at.all;
     }
 
 -- a run that ended early
-pub stopped_early : (script : List ℕ) (lines : List Line) (front rest : List ℕ) → IsAtByte script (words_of lines) front rest
-    → ends_run_in (slice_get lines (length lines - 1)) ≡ true → AreLinesOf script lines
-stopped_early script lines front rest at ended =
-    record { rest = lines_after front rest; all = at.all; whole = λ not. absurd (cc (ended, not)) }
+pub stopped_early : (script : List ℕ) (lines : List Line) (words : List (List ℕ)) (front rest bytes : List ℕ) (b : ℕ) → IsAtByte script words front rest → rest ≡ b ∷ bytes → b ≡ 10
+    → words_of lines ≡ words ++ front ∷ [] → ends_run_in (slice_get lines (length lines - 1)) ≡ true → AreLinesOf script lines
+stopped_early script lines words front rest bytes b at next ends more ended =
+    let behind = past_end script words (words_of lines) front rest bytes b at next ends more in
+    record { rest = lines_after [] bytes; all = behind.all; whole = λ not. absurd (cc (ended, not)) }
 
 -- a run to the end of a script that ends with the end of a line
-pub read_whole : (script : List ℕ) (lines : List Line) (front : List ℕ) → IsAtByte script (words_of lines) front [] → front ≡ [] → AreLinesOf script lines
-read_whole script lines front at none =
-    record { rest = []; all = ap (λ (f : List ℕ). words_of lines ++ lines_after f []) (sym none) ∙ at.all; whole = λ going. refl }
+pub read_whole : (script : List ℕ) (lines : List Line) (front rest : List ℕ) → IsAtByte script (words_of lines) front rest → rest ≡ [] → front ≡ [] → AreLinesOf script lines
+read_whole script lines front rest at end none =
+    record {
+      rest = [];
+      all = ap (λ (f : List ℕ). words_of lines ++ lines_after f []) (sym none) ∙ ap (λ (r : List ℕ). words_of lines ++ lines_after front r) (sym end) ∙ at.all;
+      whole = λ going. refl;
+    }
+
+-- what follows a line that has no end
+last_line_is : (front : List ℕ) → front ≢ [] → lines_after front [] ≡ front ∷ []
+last_line_is [] some = absurd (some refl)
+last_line_is (b ∷ front) some = refl
 
 -- and to that of one whose last line has no end
-pub read_last : (script : List ℕ) (lines : List Line) (words : List (List ℕ)) (front : List ℕ) → IsAtByte script words front [] → front ≢ []
+pub read_last : (script : List ℕ) (lines : List Line) (words : List (List ℕ)) (front rest : List ℕ) → IsAtByte script words front rest → rest ≡ [] → front ≢ []
     → words_of lines ≡ words ++ front ∷ [] → AreLinesOf script lines
-read_last script lines words [] at some taken = absurd (some refl)
-read_last script lines words (b ∷ front) at some taken =
-    record { rest = []; all = append-nil (words_of lines) ∙ taken ∙ at.all; whole = λ going. refl }
+read_last script lines words front rest at end some taken =
+    record {
+      rest = [];
+      all = append-nil (words_of lines) ∙ taken ∙ ap (λ (ls : List (List ℕ)). words ++ ls) (sym (last_line_is front some) ∙ ap (λ (r : List ℕ). lines_after front r) (sym end)) ∙ at.all;
+      whole = λ going. refl;
+    }

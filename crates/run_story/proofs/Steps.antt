@@ -10,6 +10,7 @@ use Rattle.rep_calls.specs.declared.statement.Statement.{Statement}
 use Rattle.report_text.specs.Refusals.{is_memory}
 use Rattle.script_parse.specs.declared.command.Command.{Command}
 use Rattle.script_parse.specs.declared.command.Command.TheVariants as command
+use Rattle.script_parse.specs.declared.live_lines.LiveCommand.{LiveCommand}
 use Rattle.script_parse.specs.declared.live_lines.LiveCommand.TheVariants as live_command
 use Rattle.live_laws.specs.declared.turn.LiveTurn.{LiveTurn}
 use Rattle.world_state.specs.declared.refused.Refused.{Refused}
@@ -32,7 +33,7 @@ use Rattle.run_story.specs.declared.lane.Lane.{Lane}
 use Rattle.run_story.specs.declared.part.Part.{Part}
 use Rattle.run_story.specs.declared.part.Part.TheVariants as kept
 use Rattle.run_story.specs.Telling.{Followed}
-use Rattle.run_story.specs.Running.{engine_part, stand_in, stand_of, hindrance_of, GoesOn, PartRan}
+use Rattle.run_story.specs.Running.{engine_part, stand_in, stand_of, hindrance_of, plain_refused, GoesOn, PartRan}
 
 -- ---- the world of a line
 
@@ -193,6 +194,36 @@ known_end w w' p v e ran = rw ran.part ran.runs.full
 pub free_end : (w : WorldState) (p : OpenPart) (v : LentWorld) (e : RanPart) → PartRan w p v e → v.lent ≡ None
 free_end w p v e ran = ran.runs.free
 
+-- ---- where no part is open
+
+module _ (k : Part) (other : (p : OpenPart) → k ≡ kept.Open p → ⊥) where
+  -- a line that every script may have goes to the world
+  pub around_goes : (w w' : WorldState) (n : ℕ) (c : Command) → w' ≡ world_step n c w → GoesOn n (live_command.Plain c) (at w (engine_part k)) (at w' (engine_part k))
+  around_goes w w' n c step = go k other
+    where
+      go : (k : Part) → ((p : OpenPart) → k ≡ kept.Open p → ⊥) → GoesOn n (live_command.Plain c) (at w (engine_part k)) (at w' (engine_part k))
+      go kept.NotYet other turns may = (tt, rw step refl)
+      go (kept.Open p) other turns may = absurd (other p refl)
+      go (kept.Ended e) other turns may = (may, rw step refl)
+
+  -- what is said of it
+  pub around_said : (w : WorldState) (n : ℕ) (c : Command) → plain_refused (engine_part k) w n c ≡ step_refused n c w
+  around_said w n c = go k other
+    where
+      go : (k : Part) → ((p : OpenPart) → k ≡ kept.Open p → ⊥) → plain_refused (engine_part k) w n c ≡ step_refused n c w
+      go kept.NotYet other = refl
+      go (kept.Open p) other = absurd (other p refl)
+      go (kept.Ended e) other = refl
+
+  -- what is known of the part stays so
+  pub around_known : (w w' : WorldState) → known_by (engine_part k) w → known_by (engine_part k) w'
+  around_known w w' = go k other
+    where
+      go : (k : Part) → ((p : OpenPart) → k ≡ kept.Open p → ⊥) → known_by (engine_part k) w → known_by (engine_part k) w'
+      go kept.NotYet other known = tt
+      go (kept.Open p) other known = absurd (other p refl)
+      go (kept.Ended e) other known = known
+
 -- ---- a script that is followed
 
 -- its open part is one of a master that may be lent out
@@ -207,3 +238,14 @@ open_few f p knows is = (subst (λ (q : LivePart). known_by q f.world.world) is 
 pub followed_end : (f : Followed) (w : LentWorld) (k : Part) (lanes : List Lane) (n : ℕ) (p : OpenPart) (v : LentWorld) (e : RanPart) → f ≡ record { world = w; part = engine_part k; lanes = lanes }
     → k ≡ kept.Open p → PartRan w.world p v e → GoesOn n live_command.End (stand_of f) (stand_in v (part.Ended e))
 followed_end f w k lanes n p v e stands is_open ran = rw (stands, is_open) (goes_end w.world n p v e ran)
+
+-- where world and part are the same
+stands_alike : (mid new : Followed) → new.world ≡ mid.world → new.part ≡ mid.part → stand_of new ≡ stand_of mid
+stands_alike mid new world part = rw (world, part) refl
+
+-- a look leaves where it stands
+pub looked_goes : (n : ℕ) (c : LiveCommand) (s : LiveState) (mid new : Followed) → GoesOn n c s (stand_of mid) → new.world ≡ mid.world → new.part ≡ mid.part → GoesOn n c s (stand_of new)
+looked_goes n c s mid new goes world part = subst (λ (x : LiveState). GoesOn n c s x) (sym (stands_alike mid new world part)) goes
+
+pub looked_known : (mid new : Followed) → known (stand_of mid) → new.world ≡ mid.world → new.part ≡ mid.part → known (stand_of new)
+looked_known mid new knows world part = subst (λ (x : LiveState). known x) (sym (stands_alike mid new world part)) knows

@@ -229,7 +229,7 @@ impl Follower {
     }
 
     /// Runs a command that every script may have, or takes it into the open part.
-    #[tactic(auto, using(crate::proofs::Lanes::adds_none, crate::proofs::Steps::goes_taken, crate::proofs::Steps::goes_around, crate::proofs::Steps::known_taken, crate::proofs::Steps::known_around))]
+    #[tactic(auto, using(crate::proofs::Lanes::adds_none, crate::proofs::Steps::goes_taken, crate::proofs::Steps::known_taken, crate::proofs::Steps::around_goes, crate::proofs::Steps::around_said, crate::proofs::Steps::around_known))]
     fn run_plain(
         &mut self,
         alloc: Global,
@@ -276,11 +276,12 @@ impl Follower {
     }
 
     /// `session`
-    #[tactic(auto, using(crate::proofs::Steps::goes_session, crate::proofs::Steps::known_session))]
+    #[tactic(auto, using(crate::proofs::Lanes::adds_none, crate::proofs::Steps::goes_session, crate::proofs::Steps::known_session))]
     fn begin_session(&mut self, alloc: Global, number: u32) -> Result<Outcome, NoMemory>
+        requires free { self.old.world.lent ≡ None }
         requires known { known (stand_of self.old) }
-        ensures world { self.new.world ≡ self.old.world }
-        ensures lanes { self.new.lanes ≡ self.old.lanes }
+        ensures free { OnOk result (self.new.world.lent ≡ None) }
+        ensures lanes { OnOk result (AddsLanes self.old self.new) }
         ensures known { OnOk result (known (stand_of self.new)) }
         ensures goes { OnOk result (GoesOn number LiveCommand.Session (stand_of self.old) (stand_of self.new)) }
         ensures said { IfOk result (λ outcome. said_in outcome ≡ Ok (command_refused (stand_of self.old) number LiveCommand.Session)) }
@@ -364,7 +365,7 @@ impl Follower {
     }
 
     /// Runs a command, and tells what came of it and to journals.
-    #[tactic(auto, using(crate::proofs::Stories::keeps_by_look))]
+    #[tactic(auto, using(crate::proofs::Stories::keeps_by_look, crate::proofs::Steps::looked_goes, crate::proofs::Steps::looked_known))]
     fn run<X: Threads + Wait + Sync>(
         &mut self,
         rt: &X,

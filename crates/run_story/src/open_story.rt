@@ -135,7 +135,7 @@ impl OpenStory {
     }
 
     /// Reads a script from its first line to its last, or to the first that is malformed.
-    #[tactic(auto, using(crate::proofs::Scripts::at_start, crate::proofs::Scripts::past_byte, crate::proofs::Scripts::past_end, crate::proofs::Scripts::stopped_early, crate::proofs::Scripts::read_whole, crate::proofs::Scripts::read_last))]
+    #[tactic(auto, using(crate::proofs::Scripts::at_start, crate::proofs::Scripts::goes_at_start, crate::proofs::Scripts::past_byte, crate::proofs::Scripts::past_end, crate::proofs::Scripts::stopped_early, crate::proofs::Scripts::read_whole, crate::proofs::Scripts::read_last))]
     pub fn read<X: Threads + Wait + Sync>(
         &mut self,
         rt: &X,
@@ -162,6 +162,7 @@ impl OpenStory {
         if line.is_empty() {
             return Ok(());
         }
-        self.take(rt, alloc, &line)
+        self.take(rt, alloc, &line)?;
+        Ok(())
     }
 }
