@@ -30,6 +30,7 @@ fn put_place<W: fmt::Write>(
 }
 
 /// A line that the engine doesn't do, with the column, why, and how many further lines have the same cause.
+#[derive(Clone, Copy)]
 pub struct ErrorLine<'a> {
     pub line: u32,
     pub column: Option<usize>,
@@ -45,6 +46,7 @@ impl<'a> fmt::Display for ErrorLine<'a> {
 }
 
 /// A table or a group that breaks a rule, and the line that declares it.
+#[derive(Clone, Copy)]
 pub struct PartLine<'a> {
     pub line: Option<u32>,
     pub part: &'a BrokenPart,
@@ -71,6 +73,7 @@ impl<'a> fmt::Display for PartLine<'a> {
 }
 
 /// What may be meant otherwise in a script of this schema.
+#[derive(Clone, Copy)]
 pub struct AdviceLine<'a> {
     pub found: &'a AdviceFound,
     pub schema: &'a Schema,

@@ -15,8 +15,8 @@ pub struct Further {
 
 impl fmt::Display for Further {
     fn fmt<W: fmt::Write>(&self, f: &mut fmt::Formatter<W>) -> fmt::Result {
-        let Further { count, last } = *self;
-        match count {
+        let Further { count, last } = self;
+        match *count {
             0 => Ok(()),
             1 => write!(f, "; line {last} is refused for the same cause"),
             _ => write!(
@@ -79,7 +79,8 @@ impl Tally {
 
     /// Counts an error of its own that was found at a line.
     pub(crate) fn count_own(&mut self, line: u32) -> Result<(), NoMemory> {
-        self.add(line, self.lines.len())
+        let first = self.lines.len();
+        self.add(line, first)
     }
 
     /// Counts an error that was found at a line, a consequence of the one at a place, which may be a consequence too.

@@ -20,7 +20,8 @@ fn add_nothing_done(bytes: &[u8], text: &mut String) -> Result<(), AllocError> {
 
 /// The third word of a line.
 fn third_word(bytes: &[u8]) -> Option<&[u8]> {
-    bytes.split(|byte| *byte == b' ').skip(2).next()
+    let mut words = bytes.split(|byte| *byte == b' ').skip(2);
+    words.next()
 }
 
 /// Appends why a refresh was made by all rows.
@@ -66,5 +67,6 @@ pub fn tell_done(
     ensures { OnOk result (told.new ≡ told.old ++ bytes.now) }
 {
     told.add_report(alloc, bytes)?;
-    told.add_words(done_words(alloc, command, bytes)?)
+    let words = done_words(alloc, command, bytes)?;
+    told.add_words(words)
 }

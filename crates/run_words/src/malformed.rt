@@ -55,7 +55,8 @@ pub fn tell_malformed(
     ensures { OnOk result (told.new ≡ told.old ++ malformed_text number mistake.now.rule) }
 {
     tell_rule(alloc, number, mistake.rule, told)?;
-    told.add_words(mistake_words(alloc, line, mistake)?)
+    let words = mistake_words(alloc, line, mistake)?;
+    told.add_words(words)
 }
 
 /// The words of a line that is one too many.
@@ -73,5 +74,6 @@ pub fn tell_too_many(alloc: Global, number: u32, told: &mut Told) -> Result<(), 
     ensures { OnOk result (told.new ≡ told.old ++ malformed_text number 2) }
 {
     tell_rule(alloc, number, LINES_RULE, told)?;
-    told.add_words(limit_words(alloc)?)
+    let words = limit_words(alloc)?;
+    told.add_words(words)
 }

@@ -121,7 +121,8 @@ impl Explainer {
         ensures { OnOk result (told.new ≡ told.old ++ line.now) }
     {
         told.add_report(alloc, line)?;
-        told.add_words(self.push_words(alloc, made, line)?)
+        let words = self.push_words(alloc, made, line)?;
+        told.add_words(words)
     }
 
     /// The words behind a line of a push.

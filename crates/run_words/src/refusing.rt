@@ -74,7 +74,8 @@ impl Explainer {
         ensures told { OnOk result (told.new ≡ told.old ++ refused_text refused.now.line refused.now.refusal) }
     {
         tell_line(alloc, refused, told)?;
-        told.add_words(self.refused_words(alloc, script, number, command, refused)?)
+        let words = self.refused_words(alloc, script, number, command, refused)?;
+        told.add_words(words)
     }
 
     /// The words of a refusal.
@@ -159,9 +160,13 @@ impl Explainer {
 
     /// The line of the refusal that was told last, where it was for the same cause.
     fn same_cause(&self, cause: &Cause, first: Option<u32>) -> Option<u32> {
-        match &self.told {
-            Some(told) if told.is_for(cause, first) => Some(told.line),
-            _ => None,
+        let Some(told) = &self.told else {
+            return None;
+        };
+        if told.is_for(cause, first) {
+            Some(told.line)
+        } else {
+            None
         }
     }
 
