@@ -5,16 +5,34 @@ use rep_schema::{Schema, TableEntry};
 use schema_advice::{BrokenPart, RemarkText, rule_text};
 use std::fmt;
 
+/// The column of a finding behind its line.
+fn put_column<W: fmt::Write>(f: &mut fmt::Formatter<W>, column: usize) -> fmt::Result {
+    f.write_char(':')?;
+    fmt::Display::fmt(&column, f)
+}
+
+/// The line and the column of a finding in a line.
+fn put_line<W: fmt::Write>(
+    f: &mut fmt::Formatter<W>,
+    line: u32,
+    column: Option<usize>,
+) -> fmt::Result {
+    fmt::Display::fmt(&line, f)?;
+    match column {
+        Some(column) => put_column(f, column),
+        None => Ok(()),
+    }
+}
+
 /// The line and the column of a finding.
 fn put_spot<W: fmt::Write>(
     f: &mut fmt::Formatter<W>,
     line: Option<u32>,
     column: Option<usize>,
 ) -> fmt::Result {
-    match (line, column) {
-        (Some(line), Some(column)) => write!(f, "{line}:{column}"),
-        (Some(line), None) => write!(f, "{line}"),
-        (None, _) => f.write_char('-'),
+    match line {
+        Some(line) => put_line(f, line, column),
+        None => f.write_char('-'),
     }
 }
 

@@ -13,17 +13,32 @@ pub struct Further {
     pub last: u32,
 }
 
+impl Further {
+    /// Several further lines.
+    fn put_several<W: fmt::Write>(&self, f: &mut fmt::Formatter<W>) -> fmt::Result {
+        write!(
+            f,
+            "; {} further lines, up to line {}, are refused for the same cause",
+            self.count,
+            self.last
+        )
+    }
+
+    /// One further line.
+    fn put_one<W: fmt::Write>(&self, f: &mut fmt::Formatter<W>) -> fmt::Result {
+        write!(f, "; line {} is refused for the same cause", self.last)
+    }
+}
+
 impl fmt::Display for Further {
     fn fmt<W: fmt::Write>(&self, f: &mut fmt::Formatter<W>) -> fmt::Result {
-        let Further { count, last } = self;
-        match *count {
-            0 => Ok(()),
-            1 => write!(f, "; line {last} is refused for the same cause"),
-            _ => write!(
-                f,
-                "; {count} further lines, up to line {last}, are refused for the same cause"
-            ),
+        if self.count == 0 {
+            return Ok(());
         }
+        if self.count == 1 {
+            return self.put_one(f);
+        }
+        self.put_several(f)
     }
 }
 
