@@ -7,7 +7,7 @@ use std::fmt;
 
 /// How many further lines are refused for the same cause as an error, and the last of them. Its `Display` goes on with the error's
 /// sentence.
-#[derive(Clone, Copy, Debug)]
+#[derive(Clone, Copy)]
 pub struct Further {
     pub count: u32,
     pub last: u32,
@@ -19,8 +19,7 @@ impl Further {
         write!(
             f,
             "; {} further lines, up to line {}, are refused for the same cause",
-            self.count,
-            self.last
+            self.count, self.last
         )
     }
 

@@ -52,9 +52,20 @@ fn closes_block(command: &Command) -> bool {
     false
 }
 
+/// Whether a line about procedures is a call of a block.
+fn is_call(line: &ProcLine) -> bool {
+    if let ProcLine::Call(_) = line {
+        return true;
+    }
+    false
+}
+
 /// Whether a command is a statement or a call of a block.
 fn is_of_block(command: &Command) -> bool {
-    if let Command::Statement(_) | Command::Procedures(ProcLine::Call(_)) = command {
+    if let Command::Procedures(line) = command {
+        return is_call(line);
+    }
+    if let Command::Statement(_) = command {
         return true;
     }
     false
@@ -170,13 +181,19 @@ impl Trail {
         Ok(())
     }
 
+    /// Keeps that a push between two sites was done.
+    fn keep_push(&mut self, from: &SiteName, to: &SiteName) -> Result<(), NoMemory> {
+        self.pushes.push(Push {
+            from: *from,
+            to: *to,
+        })?;
+        Ok(())
+    }
+
     /// Keeps that a push or something to show was done.
     fn keep_use(&mut self, command: &Command) -> Result<(), NoMemory> {
         if let Command::Push { from, to, .. } = command {
-            self.pushes.push(Push {
-                from: *from,
-                to: *to,
-            })?;
+            return self.keep_push(from, to);
         }
         if let Command::Show { .. } = command {
             self.shows = true;
@@ -233,17 +250,19 @@ impl Trail {
     }
 
     /// What is told of a command that isn't for now.
-    fn not_now(&mut self, cause: Option<Cause>, command: Command) -> Result<Note, NoMemory> {
+    fn not_now(&mut self, cause: &Option<Cause>, command: Command) -> Result<Note, NoMemory> {
         match cause {
-            Some(cause) => self.hindered(&cause),
+            Some(cause) => self.hindered(cause),
             None => Ok(Note::refused(command, &Refusal::WrongPhase)),
         }
     }
 
     /// The place of the error that kept a name from being declared, if there is one.
     fn undeclared(&self, named: &Named) -> Option<usize> {
-        let line = self.spots.failed_line_of(named.of, &named.name)?;
-        self.tally.error_at(line)
+        match self.spots.failed_line_of(named.of, &named.name) {
+            Some(line) => self.tally.error_at(line),
+            None => None,
+        }
     }
 
     /// What is told of a name of a line that stands for nothing.
@@ -269,7 +288,7 @@ impl Trail {
         schema: &Schema,
         line: &[u8],
         command: Command,
-        cause: Option<Cause>,
+        cause: &Option<Cause>,
         refusal: &Refusal,
     ) -> Result<Note, NoMemory> {
         match refusal {
@@ -306,7 +325,7 @@ impl Trail {
         let cause = self.flow.cause(&command);
         self.follow_refused(number, &command)?;
         let command = self.blamed(told, command);
-        let note = self.told(schema, line, command, cause, refusal)?;
+        let note = self.told(schema, line, command, &cause, refusal)?;
         self.count(number, note.cause)?;
         Ok(note)
     }
