@@ -1,7 +1,6 @@
 -- What contracts see of a store whose rows stand in slots, in the order of pages.
 use Rattle.std.specs.Prelude.{◌≡◌, ℕ, ◌+◌, ◌≤◌, List, [], ◌∷◌, length, map, min, IsSome}
 use Rattle.std.specs.List.{AllByRecursion}
-use Rattle.rep_schema.specs.declared.schema.Schema.{Schema}
 use Rattle.rep_schema.specs.declared.schema.TableEntry.{TableEntry}
 use Rattle.rep_schema.specs.declared.schema.Constraint.{Constraint}
 use Rattle.rep_schema.specs.Tables.{Rows}
@@ -59,9 +58,3 @@ columns_of_each constraints = map (λ constraint. constraint.columns) constraint
 -- each table has an index for each of its constraints
 abbrev pub AreIndexed : List TableEntry → List StoredTable → Type 0
 AreIndexed entries stored = map (λ t. t.uniques) stored ≡ map (λ (entry : TableEntry). columns_of_each entry.constraints) entries
-
--- a schema, the rows of each of its tables, and the room in each
-pub record Stored : Type 0 where
-  pub schema : Schema
-  pub tables : List Rows
-  pub spare : List ℕ

@@ -2,8 +2,10 @@
 #![tactic(auto)]
 
 mod change;
+mod directory;
 mod indexed_rows;
 mod page;
+mod page_search;
 mod paged_rows;
 mod pages;
 mod slots;

@@ -8,7 +8,7 @@ use std::alloc::Global;
 use std::marker::Model;
 use std::mem;
 
-// A slot is named by 32 bits.
+/// A slot is named by 32 bits.
 const MOST_ROWS: usize = 4_294_967_295;
 
 /// The same row once more, where there is one.

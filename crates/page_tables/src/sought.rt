@@ -13,7 +13,7 @@ use rep_schema::{Column, compare_rows};
 use rep_values::{Row, Value, compare_values};
 use std::cmp::Ordering;
 
-// Texts of at most so many bytes are compared byte by byte.
+/// Texts of at most so many bytes are compared byte by byte.
 const FEW_BYTES: usize = 8;
 
 /// A place in an order of rows, which are named by their slots.
@@ -45,7 +45,7 @@ pub(crate) fn row_in(rows: &[Option<Row>], slot: u32) -> &[Value]
     }
 }
 
-// Long texts are compared out of line, which keeps a search small.
+/// Long texts are compared out of line, which keeps a search small.
 #[inline(never)]
 fn compare_with_text(a: &Value, b: &Value) -> Ordering
     ensures { result ≡ value_cmp a.now b.now }

@@ -28,9 +28,10 @@ pub struct PageTables {
 
 impl Model for PageTables {
     ghost use Rattle.rep_schema.specs.Tables.{AreTables};
-    ghost use Rattle.page_tables.specs.Stored.{Stored, rows_in, spare_in, AreIndexed};
+    ghost use Rattle.rep_schema.specs.Putting.{StoreState};
+    ghost use Rattle.page_tables.specs.Stored.{rows_in, spare_in, AreIndexed};
 
-    ghost Value = { Stored };
+    ghost Value = { StoreState };
 
     ghost view = { λ s. record { schema = s.schema; tables = rows_in s.stored.items; spare = spare_in s.stored.items } };
 

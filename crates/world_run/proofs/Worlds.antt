@@ -30,7 +30,9 @@ use Rattle.world_laws.proofs.Scripts.{of_script_holds, reported_pushes_leave_not
 use Rattle.world_laws.proofs.SnapshotScripts.{snapshots_hold_of, refreshes_show_of}
 use Rattle.convergent_worlds.specs.Convergence.{HoldsOfConvergence}
 use Rattle.world_laws.proofs.AlikeWorlds.{of_snapshots}
+use Rattle.world.specs.declared.answer.Answer.{Answer}
 use Rattle.world.specs.Following.{IsBuilt}
+use Rattle.world.specs.Outcomes.{world_outcome}
 use Rattle.world.specs.Texts.{world_text}
 use Rattle.world_laws.specs.Refreshes.{ShowsItsMaster}
 use Rattle.world.proofs.BuiltWorlds.{lines_keep_built, first_built}
@@ -44,7 +46,9 @@ pub step_built : (number : ℕ) (c : Command) (w : WorldState) → NamesColumn c
 step_built number c w named built = go (world_refusal c w) refl
   where
     go : (o : Option Refusal) → world_refusal c w ≡ o → IsBuilt (step_by o number c w)
-    go None passes = lines_keep_built number c w (world_done number c w) (Ok (record { bytes = world_text c w; room = 0 })) named (record { passes = passes; world = refl; text = refl }) built
+    go None passes =
+        let answer : Answer = record { lines = record { bytes = world_text c w; room = 0 }; outcome = world_outcome c w } in
+        lines_keep_built number c w (world_done number c w) (Ok answer) named (record { passes = passes; world = refl; text = refl; outcome = refl }) built
     go (Some why) met =
         let told : Refused = record { line = told_line number c w; refusal = why } in
         lines_keep_built number c w (world_refused c w) (Err told) named (inr (record { told = ap (λ (o : Option Refusal). told_by o number c w) met; world = refl })) built

@@ -85,16 +85,16 @@ impl World {
         })
     }
 
-    /// What the line of a number does, what it prints, and what came of it. A line that is refused leaves the world, but that a refused commit
-    /// and a refused send close their block. Where there is no memory a push may be done in part, and any other line leaves the
-    /// world; a refusal that is known before the line is tried is answered all the same. Once a push is reported, no position of
-    /// any sender is ready at the receiver, and so it is with a push of calls; once a refresh is, each snapshot of the site is its
-    /// query of its master's table; once a join is, the late master is there as a copy of the master that the line names, and each
-    /// master that was there has opened its stream to it behind all that it had queued. Whatever came of the line, the laws over
-    /// events hold of the world, and so do those of snapshots and of convergence: at each master each group of a row of a
-    /// convergent table is the join of what was applied, each error there is excused, and masters that are quiet agree. At each
-    /// site of procedures tables are what its journal leads to, each position of a sender is finished at most once and of those
-    /// that call on one table the earlier first, and each error that stands holds its whole transaction and changed nothing.
+    /// What the line of a number does, what it prints, and what came of it. A line that is refused leaves the world, but that a
+    /// refused commit and a refused send close their block. Where there is no memory a push may be done in part, and any other line
+    /// leaves the world; a refusal that is known before the line is tried is answered all the same. Once a push is reported, no
+    /// position of any sender is ready at the receiver, and so it is with a push of calls; once a refresh is, each snapshot of the
+    /// site is its query of its master's table; once a join is, the late master is there as a copy of the master that the line
+    /// names, and each master that was there has opened its stream to it behind all that it had queued. Whatever came of the line,
+    /// the laws over events hold of the world, and so do those of snapshots and of convergence: at each master each group of a row
+    /// of a convergent table is the join of what was applied, each error there is excused, and masters that are quiet agree. At
+    /// each site of procedures tables are what its journal leads to, each position of a sender is finished at most once and of
+    /// those that call on one table the earlier first, and each error that stands holds its whole transaction and changed nothing.
     ///
     /// A group or constraint that the line declares names a column, as `parse_line` says.
     pub fn step(&mut self, alloc: Global, line: u32, command: &Command) -> Result<Answer, Refused>

@@ -1,7 +1,7 @@
 -- Making empty pages.
 use Rattle.std.proofs.Common.{◌≡◌, ◌≤◌, ◌⊎◌, [], vec_len, vec_capacity}
 use Rattle.std.specs.List.{AllByRecursion}
-use Rattle.page_tables.proofs.pages.fill_up.Given as goal
+use Rattle.page_tables.proofs.directory.fill_up.Given as goal
 
 abbrev pub invariant-loop : goal.invariant-loop
 invariant-loop l = record {

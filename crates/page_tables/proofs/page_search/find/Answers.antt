@@ -5,7 +5,7 @@ use Rattle.rep_lists.specs.Rising.{find_at}
 use Rattle.rep_lists.proofs.Rising.{find_there, find_gap}
 use Rattle.page_tables.specs.Pages.{IsParted}
 use Rattle.page_tables.proofs.InPages.{find_paged, page_parted}
-use Rattle.page_tables.proofs.pages.find.Goals as goal
+use Rattle.page_tables.proofs.page_search.find.Goals as goal
 
 pub search-requires : goal.search-requires
 search-requires g c =

@@ -4,7 +4,7 @@ use Rattle.std.specs.declared.cmp.Ordering.TheVariants.{Greater}
 use Rattle.std.proofs.lemmas.List.{get_or_read}
 use Rattle.page_tables.specs.Pages.{at_first}
 use Rattle.page_tables.proofs.InPages.{pages_before, pages_from}
-use Rattle.page_tables.proofs.pages.page_for.Goals as goal
+use Rattle.page_tables.proofs.page_search.page_for.Goals as goal
 
 pub loop-high-preserved-then-begins_behind : goal.loop-high-preserved-then-begins_behind
 loop-high-preserved-then-begins_behind g c =

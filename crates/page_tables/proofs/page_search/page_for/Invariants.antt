@@ -3,7 +3,7 @@ use Rattle.std.proofs.Common.{◌≡◌, ◌-◌, ◌<◌, ◌≤◌, length, ta
 use Rattle.std.specs.List.{AllByRecursion}
 use Rattle.std.specs.declared.cmp.Ordering.TheVariants.{Less, Greater}
 use Rattle.page_tables.specs.Pages.{page_values}
-use Rattle.page_tables.proofs.pages.page_for.Given as goal
+use Rattle.page_tables.proofs.page_search.page_for.Given as goal
 
 -- the slots of the pages before the part that is left stand before the place, and those of the pages behind it stand behind the place
 abbrev pub invariant-loop-high : goal.invariant-loop-high

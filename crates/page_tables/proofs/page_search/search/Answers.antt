@@ -1,6 +1,6 @@
 use Rattle.std.proofs.Common.{sym, ◌∙◌, arith}
 use Rattle.page_tables.proofs.Parted.{upto_less, stands_there, from_greater}
-use Rattle.page_tables.proofs.pages.search.Goals as goal
+use Rattle.page_tables.proofs.page_search.search.Goals as goal
 
 pub loop-low-preserved-in-Less : goal.loop-low-preserved-in-Less
 loop-low-preserved-in-Less g c = record {

@@ -2,7 +2,7 @@
 use Rattle.std.proofs.Common.{◌≡◌, ◌-◌, ◌≤◌, length}
 use Rattle.std.specs.List.{AllWithin}
 use Rattle.std.specs.declared.cmp.Ordering.TheVariants.{Less, Greater}
-use Rattle.page_tables.proofs.pages.search.Given as goal
+use Rattle.page_tables.proofs.page_search.search.Given as goal
 
 -- the slots before the part that is left stand before the place, and those behind it stand behind the place
 abbrev pub invariant-loop-low : goal.invariant-loop-low

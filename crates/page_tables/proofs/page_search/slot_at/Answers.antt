@@ -3,7 +3,7 @@ use Rattle.std.specs.List.Sorted.{IsNonDecreasingBy, IsPartitionPoint}
 use Rattle.std.specs.Prelude.{slice_get}
 use Rattle.page_tables.specs.Pages.{page_values}
 use Rattle.page_tables.proofs.InStarts.{length-sums, starts_rise, none_started, slot_there}
-use Rattle.page_tables.proofs.pages.slot_at.Goals as goal
+use Rattle.page_tables.proofs.page_search.slot_at.Goals as goal
 
 pub started-requires : goal.started-requires
 started-requires c = subst (IsNonDecreasingBy (λ start. start)) (sym c.requires) (starts_rise c.args.pages.now)

@@ -6,7 +6,7 @@ use Rattle.rep_lists.proofs.Rising.{find_there, find_gap, put_gap}
 use Rattle.page_tables.specs.Pages.{page_values, IsParted}
 use Rattle.page_tables.proofs.InPages.{find_paged, put_paged, page_parted}
 use Rattle.page_tables.proofs.Close.{page_waits}
-use Rattle.page_tables.proofs.pages.enter_in.Goals as goal
+use Rattle.page_tables.proofs.directory.Directory.enter.Goals as goal
 
 pub search-requires : goal.search-requires
 search-requires g c =
@@ -32,21 +32,21 @@ insert_into-requires-clause-waits g c =
     let none = find_paged _ _ _ for ∙ (ap (find_at (g.S.Sought.at c.args.sought.now)) (sym page) ∙ find_gap _ _ _ c.in-Err.ensures.absent) in
     elim c.requires.room [
       | inl there ↦ absurd (false≢true (rw none at there))
-      | inr room ↦ (let waits = page_waits c.args.pages.now.items c.args.waiting.now.items c.requires.are.close room in omega (arith, waits))
+      | inr room ↦ (let waits = page_waits c.args.self.now.pages.items c.args.self.now.waiting.items c.requires.whole.are.close room in omega (arith, waits))
     ]
 
 -- nothing is found where there is no page
 pub start-requires-clause-waits : goal.start-requires-clause-waits
 start-requires-clause-waits g c =
-    let empty = nil_from_length c.args.pages.now.items (search rules) in
+    let empty = nil_from_length c.args.self.now.pages.items (search rules) in
     elim c.requires.room [
       | inl there ↦ absurd (false≢true (rw empty at there))
-      | inr room ↦ (let waits = page_waits c.args.pages.now.items c.args.waiting.now.items c.requires.are.close room in omega (arith, waits))
+      | inr room ↦ (let waits = page_waits c.args.self.now.pages.items c.args.self.now.waiting.items c.requires.whole.are.close room in omega (arith, waits))
     ]
 
 pub start-requires-clause-room : goal.start-requires-clause-room
 start-requires-clause-room g c =
-    let empty = nil_from_length c.args.pages.now.items (search rules) in
+    let empty = nil_from_length c.args.self.now.pages.items (search rules) in
     elim c.requires.room [
       | inl there ↦ absurd (false≢true (rw empty at there))
       | inr room ↦ room
@@ -70,7 +70,7 @@ returns-in-Err-clause-slots g c =
     let for = rw c.deref-2.ensures.value at c.page_for-at.ensures in
     let page = c.slots-slots.ensures.value ∙ get_or_read _ _ _ for.in_range c.index.ensures [] in
     let put = ap (put_at (g.S.Sought.at c.args.sought.now) c.args.slot) (sym page) ∙ (put_gap _ c.args.slot _ _ c.in-Err.ensures.absent ∙ ap (λ t. insert t c.in-Err.place c.args.slot) page) in
-    c.insert_into.ensures.slots ∙ sym (put_paged _ _ _ for c.args.slot ∙ ap (λ t. page_values (set c.args.pages.now.items c.page_for-at.result t)) put)
+    c.insert_into.ensures.slots ∙ sym (put_paged _ _ _ for c.args.slot ∙ ap (λ t. page_values (set c.args.self.now.pages.items c.page_for-at.result t)) put)
 
 pub slot-requires : goal.slot-requires
 slot-requires g c =

@@ -5,6 +5,6 @@ use Rattle.page_tables.proofs.pages.Pages.enter.Goals as goal
 
 pub invariant_of-self : goal.invariant_of-self
 invariant_of-self g c =
-    let longer = length-entered (g.S.Sought.at c.args.sought.now) c.args.slot (page_values c.self.inside.pages.items) c.enter_in-found.result c.enter_in-found.ensures.found c.if-is_none.ensures in
-    let slots = ap length c.enter_in-found.ensures.slots in
-    (c.enter_in-found.ensures.are, (omega (arith, longer, slots, c.self.invariant.1.0), c.enter_in-found.ensures.starts))
+    let longer = length-entered (g.S.Sought.at c.args.sought.now) c.args.slot (page_values c.self.inside.directory.pages.items) c.enter-found.result c.enter-found.ensures.found c.if-is_none.ensures in
+    let slots = ap length c.enter-found.ensures.slots in
+    (c.enter-found.ensures.whole, omega (arith, longer, slots, c.self.invariant.1))
