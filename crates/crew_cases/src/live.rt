@@ -132,28 +132,47 @@ fn tell_of_all<X: Threads + Sync, W: Watch>(
     Ok(())
 }
 
+fn commit_behind_calls<R: RowStore, X: Threads + Sync>(
+    rt: &X,
+    alloc: Global,
+    site: &mut Site<R>,
+    sessions: &[Session],
+    order: &SessionOrder,
+) -> Result<(), CaseStop>
+    requires { length sessions.now ≤ 8 }
+{
+    tell_of_all(rt, alloc, sessions, order)?;
+    commit_sessions(alloc, site, sessions, false, &Still)
+}
+
+fn commit_before_calls<R: RowStore, X: Threads + Sync>(
+    rt: &X,
+    alloc: Global,
+    site: &mut Site<R>,
+    sessions: &[Session],
+    order: &SessionOrder,
+) -> Result<(), CaseStop>
+    requires { length sessions.now ≤ 8 }
+{
+    commit_sessions(alloc, site, sessions, false, &Still)?;
+    tell_of_all(rt, alloc, sessions, order)
+}
+
 /// Makes a live part of a site as a wrong body does.
 pub fn make_wrongly<R: RowStore, X: Threads + Sync>(
     rt: &X,
     alloc: Global,
-    site: Site<R>,
+    site: &mut Site<R>,
     sessions: &[Session],
     body: WrongBody,
     order: &SessionOrder,
 ) -> Result<(), CaseStop>
     requires { length sessions.now ≤ 8 }
 {
-    let mut site = site;
     match body {
-        WrongBody::FirstOnward => commit_sessions(alloc, &mut site, sessions, false, order),
-        WrongBody::LastBackward => commit_sessions(alloc, &mut site, sessions, true, order),
-        WrongBody::CallsBefore => {
-            tell_of_all(rt, alloc, sessions, order)?;
-            commit_sessions(alloc, &mut site, sessions, false, &Still)
-        }
-        WrongBody::CallsBehind => {
-            commit_sessions(alloc, &mut site, sessions, false, &Still)?;
-            tell_of_all(rt, alloc, sessions, order)
-        }
+        WrongBody::FirstOnward => commit_sessions(alloc, site, sessions, false, order),
+        WrongBody::LastBackward => commit_sessions(alloc, site, sessions, true, order),
+        WrongBody::CallsBefore => commit_behind_calls(rt, alloc, site, sessions, order),
+        WrongBody::CallsBehind => commit_before_calls(rt, alloc, site, sessions, order),
     }
 }

@@ -47,6 +47,7 @@ mod session_order;
 mod sessions;
 mod sums;
 mod tally;
+mod texts;
 mod told;
 mod turn_lines;
 
@@ -55,7 +56,7 @@ use held::Held;
 use live::{WrongBody, live_outcome, make_wrongly};
 use noting::{NotingTables, Puts};
 use order::Order;
-use pass::{Maker, mark_after_pass};
+use pass::{Calls, Maker, mark_after_pass, mark_beside_calls};
 use rep_values::SiteName;
 use session_order::SessionOrder;
 use site_engine::Site;
@@ -63,45 +64,51 @@ use std::alloc::{AllocError, Global};
 use std::sync::{Arc, Wait};
 use std::thread::Threads;
 use sums::sum_line;
+use texts::text;
 use told::Told;
 
 /// What a line is.
-#[derive(Drop)]
+#[derive(Clone, Copy)]
 enum Form<'a> {
     Remark,
     Add(&'a str),
+    Made(Making),
+    Told,
+}
+
+/// What is made of what was told.
+#[derive(Clone, Copy)]
+enum Making {
     Run(Held),
     Fake(Held),
     Sessions(u64),
     Streams(u64),
     FakeSessions(u64),
-    Told,
 }
 
-fn run_of(words: &str) -> Option<Form<'_>> {
-    Some(Form::Run(Held::read(words)?))
+fn run_of(words: &str) -> Option<Making> {
+    Some(Making::Run(Held::read(words)?))
 }
 
-fn fake_of(words: &str) -> Option<Form<'_>> {
-    Some(Form::Fake(Held::read(words)?))
+fn fake_of(words: &str) -> Option<Making> {
+    Some(Making::Fake(Held::read(words)?))
 }
 
-fn sessions_of(words: &str) -> Option<Form<'_>> {
-    Some(Form::Sessions(words.parse::<u64>().ok()?))
+fn sessions_of(words: &str) -> Option<Making> {
+    Some(Making::Sessions(words.parse::<u64>().ok()?))
 }
 
-fn streams_of(words: &str) -> Option<Form<'_>> {
-    Some(Form::Streams(words.parse::<u64>().ok()?))
+fn streams_of(words: &str) -> Option<Making> {
+    Some(Making::Streams(words.parse::<u64>().ok()?))
 }
 
-fn fake_sessions_of(words: &str) -> Option<Form<'_>> {
-    Some(Form::FakeSessions(words.parse::<u64>().ok()?))
+fn fake_sessions_of(words: &str) -> Option<Making> {
+    Some(Making::FakeSessions(words.parse::<u64>().ok()?))
 }
 
-/// The form of a line by its first word.
-fn form_by<'a>(kind: &[u8], words: &'a str) -> Option<Form<'a>> {
+/// What is made by a line of this first word.
+fn making_by(kind: &[u8], words: &str) -> Option<Making> {
     match kind {
-        b"add" => Some(Form::Add(words)),
         b"run" => run_of(words),
         b"fake" => fake_of(words),
         b"sessions" => sessions_of(words),
@@ -111,12 +118,23 @@ fn form_by<'a>(kind: &[u8], words: &'a str) -> Option<Form<'a>> {
     }
 }
 
+/// The form of a line by its first word.
+fn form_by<'a>(kind: &[u8], words: &'a str) -> Form<'a> {
+    match kind {
+        b"add" => Form::Add(words),
+        _ => match making_by(kind, words) {
+            Some(making) => Form::Made(making),
+            None => Form::Told,
+        },
+    }
+}
+
 fn form_of(line: &str) -> Form<'_> {
     if line.is_empty() || line.starts_with('#') {
         return Form::Remark;
     }
     match line.split_once(' ') {
-        Some((kind, words)) => form_by(kind.as_bytes(), words).unwrap_or(Form::Told),
+        Some((kind, words)) => form_by(kind.as_bytes(), words),
         None => Form::Told,
     }
 }
@@ -134,6 +152,31 @@ fn receiver(
     pair.into_receiver()
 }
 
+fn low_behind_crew<R: Threads + Wait + Sync>(
+    rt: &R,
+    alloc: Global,
+    told: &Told,
+    held: Held,
+    order: &Order,
+) -> Result<u64, CaseStop> {
+    let receiver = receiver(alloc, told, order.puts()?)?;
+    order.begin();
+    mark_after_pass(rt, alloc, receiver, held, order)
+}
+
+fn low_beside_calls<R: Threads + Sync>(
+    rt: &R,
+    alloc: Global,
+    told: &Told,
+    held: Held,
+    calls: Calls,
+    order: &Order,
+) -> Result<u64, CaseStop> {
+    let (mut site, origin) = receiver(alloc, told, order.puts()?)?;
+    order.begin();
+    mark_beside_calls(rt, alloc, calls, &mut site, &origin, held, order)
+}
+
 /// The low-water mark behind a pass.
 fn low_behind<R: Threads + Wait + Sync>(
     rt: &R,
@@ -143,9 +186,10 @@ fn low_behind<R: Threads + Wait + Sync>(
     maker: Maker,
     order: &Order,
 ) -> Result<u64, CaseStop> {
-    let receiver = receiver(alloc, told, order.puts()?)?;
-    order.begin();
-    mark_after_pass(rt, alloc, maker, receiver, held, order)
+    match maker {
+        Maker::Crew => low_behind_crew(rt, alloc, told, held, order),
+        Maker::Caller(calls) => low_beside_calls(rt, alloc, told, held, calls, order),
+    }
 }
 
 /// A low-water mark, and how a pass went.
@@ -170,7 +214,7 @@ fn outcome<R: Threads + Wait + Sync>(
 fn report(alloc: Global, told: Result<String, CaseStop>) -> Result<String, AllocError> {
     match told {
         Ok(told) => Ok(told),
-        Err(CaseStop::NoCase) => format!(in alloc; "no case"),
+        Err(CaseStop::NoCase) => text(alloc, "no case"),
         Err(CaseStop::Memory) => Err(AllocError),
     }
 }
@@ -192,9 +236,35 @@ fn fake_outcomes<R: Threads + Wait + Sync>(
     told: &Told,
     held: Held,
 ) -> Result<String, CaseStop> {
-    let before = outcome(rt, alloc, told, held, Maker::CallsBefore)?;
-    let behind = outcome(rt, alloc, told, held, Maker::CallsBehind)?;
+    let before = outcome(rt, alloc, told, held, Maker::Caller(Calls::BeforePass))?;
+    let behind = outcome(rt, alloc, told, held, Maker::Caller(Calls::BehindPass))?;
     Ok(format!(in alloc; "pass behind the calls\n{before}\npass before the calls\n{behind}")?)
+}
+
+/// All origins, or none.
+fn origins_if(applies: bool, origins: &[SiteName]) -> &[SiteName] {
+    if applies { origins } else { &[] }
+}
+
+/// What is printed of a live part in which an order holds sessions.
+fn live_part_by<R: Threads + Wait + Sync>(
+    rt: &R,
+    alloc: Global,
+    told: &Told,
+    applies: bool,
+    order: &SessionOrder,
+) -> Result<String, CaseStop> {
+    let sessions = told.sessions(alloc)?;
+    let (site, origin) = receiver(alloc, told, order.puts()?)?;
+    order.begin();
+    live_outcome(
+        rt,
+        alloc,
+        site,
+        origins_if(applies, &[origin]),
+        sessions,
+        order,
+    )
 }
 
 /// What is printed of a live part, which applies what the first site sent or doesn't.
@@ -206,12 +276,21 @@ fn live_part<R: Threads + Wait + Sync>(
     applies: bool,
 ) -> Result<String, CaseStop> {
     let order = SessionOrder::new(Arc::new(alloc, Puts::new())?, turns);
-    let (site, origin) = receiver(alloc, told, order.puts()?)?;
+    live_part_by(rt, alloc, told, applies, &order)
+}
+
+/// Makes a live part by a wrong body, in which an order holds sessions.
+fn make_wrong_part<R: Threads + Wait + Sync>(
+    rt: &R,
+    alloc: Global,
+    told: &Told,
+    body: WrongBody,
+    order: &SessionOrder,
+) -> Result<(), CaseStop> {
     let sessions = told.sessions(alloc)?;
-    let origins = [origin];
-    let origins: &[SiteName] = if applies { &origins } else { &[] };
+    let (mut site, _) = receiver(alloc, told, order.puts()?)?;
     order.begin();
-    live_outcome(rt, alloc, site, origins, sessions, &order)
+    make_wrongly(rt, alloc, &mut site, sessions.as_slice(), body, order)
 }
 
 /// How a live part by a wrong body goes.
@@ -223,11 +302,32 @@ fn wrong_word<R: Threads + Wait + Sync>(
     body: WrongBody,
 ) -> Result<&'static str, CaseStop> {
     let order = SessionOrder::new(Arc::new(alloc, Puts::new())?, turns);
-    let (site, _) = receiver(alloc, told, order.puts()?)?;
-    let sessions = told.sessions(alloc)?;
-    order.begin();
-    make_wrongly(rt, alloc, site, sessions.as_slice(), body, &order)?;
+    make_wrong_part(rt, alloc, told, body, &order)?;
     Ok(order.word())
+}
+
+/// What is printed of live parts that commit one session after another.
+fn in_turn_outcomes<R: Threads + Wait + Sync>(
+    rt: &R,
+    alloc: Global,
+    told: &Told,
+    turns: u64,
+) -> Result<String, CaseStop> {
+    let onward = wrong_word(rt, alloc, told, turns, WrongBody::FirstOnward)?;
+    let backward = wrong_word(rt, alloc, told, turns, WrongBody::LastBackward)?;
+    Ok(format!(in alloc; "first session first\n{onward}\nlast session first\n{backward}")?)
+}
+
+/// What is printed of those whose threads only tell of blocks.
+fn calls_outcomes<R: Threads + Wait + Sync>(
+    rt: &R,
+    alloc: Global,
+    told: &Told,
+    turns: u64,
+) -> Result<String, CaseStop> {
+    let before = wrong_word(rt, alloc, told, turns, WrongBody::CallsBefore)?;
+    let behind = wrong_word(rt, alloc, told, turns, WrongBody::CallsBehind)?;
+    Ok(format!(in alloc; "commits behind the calls\n{before}\ncommits before the calls\n{behind}")?)
 }
 
 /// What is printed of live parts by wrong bodies.
@@ -237,22 +337,30 @@ fn wrong_outcomes<R: Threads + Wait + Sync>(
     told: &Told,
     turns: u64,
 ) -> Result<String, CaseStop> {
-    let onward = wrong_word(rt, alloc, told, turns, WrongBody::FirstOnward)?;
-    let backward = wrong_word(rt, alloc, told, turns, WrongBody::LastBackward)?;
-    let before = wrong_word(rt, alloc, told, turns, WrongBody::CallsBefore)?;
-    let behind = wrong_word(rt, alloc, told, turns, WrongBody::CallsBehind)?;
-    let in_turn = format!(in alloc;
-        "first session first\n{onward}\nlast session first\n{backward}"
-    )?;
-    let calls = format!(in alloc;
-        "commits behind the calls\n{before}\ncommits before the calls\n{behind}"
-    )?;
+    let in_turn = in_turn_outcomes(rt, alloc, told, turns)?;
+    let calls = calls_outcomes(rt, alloc, told, turns)?;
     Ok(format!(in alloc; "{in_turn}\n{calls}")?)
+}
+
+/// What is printed of what is made.
+fn made<R: Threads + Wait + Sync>(
+    rt: &R,
+    alloc: Global,
+    told: &Told,
+    making: Making,
+) -> Result<String, CaseStop> {
+    match making {
+        Making::Run(held) => outcome(rt, alloc, told, held, Maker::Crew),
+        Making::Fake(held) => fake_outcomes(rt, alloc, told, held),
+        Making::Sessions(turns) => live_part(rt, alloc, told, turns, false),
+        Making::Streams(turns) => live_part(rt, alloc, told, turns, true),
+        Making::FakeSessions(turns) => wrong_outcomes(rt, alloc, told, turns),
+    }
 }
 
 /// These words are printed.
 fn printed(alloc: Global, words: &str) -> Result<Option<String>, AllocError> {
-    Ok(Some(format!(in alloc; "{words}")?))
+    Ok(Some(text(alloc, words)?))
 }
 
 fn take_told(alloc: Global, told: &mut Told, line: &str) -> Result<Option<String>, AllocError> {
@@ -263,31 +371,20 @@ fn take_told(alloc: Global, told: &mut Told, line: &str) -> Result<Option<String
     }
 }
 
-/// What comes of a line; None where it tells nothing.
+/// What comes of a line of this form; None where it tells nothing.
 fn answer<R: Threads + Wait + Sync>(
     rt: &R,
     alloc: Global,
     told: &mut Told,
+    form: Form,
     line: &str,
 ) -> Result<Option<String>, AllocError> {
-    match form_of(line) {
+    match form {
         Form::Remark => printed(alloc, line),
         Form::Add(parts) => answered(alloc, line, sum_line(rt, alloc, parts)),
-        Form::Run(held) => answered(alloc, line, outcome(rt, alloc, told, held, Maker::Crew)),
-        Form::Fake(held) => answered(alloc, line, fake_outcomes(rt, alloc, told, held)),
-        Form::Sessions(turns) => answered(alloc, line, live_part(rt, alloc, told, turns, false)),
-        Form::Streams(turns) => answered(alloc, line, live_part(rt, alloc, told, turns, true)),
-        Form::FakeSessions(turns) => answered(alloc, line, wrong_outcomes(rt, alloc, told, turns)),
+        Form::Made(making) => answered(alloc, line, made(rt, alloc, told, making)),
         Form::Told => take_told(alloc, told, line),
     }
-}
-
-/// Whether another case begins behind a line.
-fn ends_case(line: &str) -> bool {
-    matches!(
-        form_of(line),
-        Form::Run(_) | Form::Fake(_) | Form::Sessions(_) | Form::Streams(_) | Form::FakeSessions(_)
-    )
 }
 
 fn tell<R: Print>(rt: &R, answer: Option<String>) -> anyhow::Result<()> {
@@ -304,8 +401,9 @@ fn answer_line<R: Print + Threads + Wait + Sync>(
     told: &mut Told,
     line: &str,
 ) -> anyhow::Result<()> {
-    tell(rt, answer(rt, alloc, told, line)?)?;
-    if ends_case(line) {
+    let form = form_of(line);
+    tell(rt, answer(rt, alloc, told, form, line)?)?;
+    if let Form::Made(_) = form {
         *told = Told::new(alloc);
     }
     Ok(())

@@ -19,10 +19,15 @@ use std::thread::Threads;
 #[derive(Clone, Copy)]
 pub enum Maker {
     Crew,
-    /// The caller alone, behind the calls of appliers that work on nothing.
-    CallsBefore,
-    /// The caller alone, before such calls.
-    CallsBehind,
+    /// The caller alone, beside the calls of appliers that work on nothing.
+    Caller(Calls),
+}
+
+/// When appliers call that work on nothing.
+#[derive(Clone, Copy)]
+pub enum Calls {
+    BeforePass,
+    BehindPass,
 }
 
 /// A pass of a site for a sender by a crew, and the low-water mark behind it.
@@ -47,12 +52,11 @@ fn mark_after_crew<R: RowStore, X: Threads + Wait + Sync, W: Watch>(
 /// The same by the caller alone.
 fn mark_after_own<R: RowStore>(
     alloc: Global,
-    site: Site<R>,
+    site: &mut Site<R>,
     origin: &SiteName,
 ) -> Result<u64, CaseStop>
-    requires few { site.moment + 1 < 2 ^ 64 }
+    requires few { site.old.moment + 1 < 2 ^ 64 }
 {
-    let mut site = site;
     site.apply_pass(alloc, origin)?;
     Ok(site.mark(origin))
 }
@@ -60,12 +64,12 @@ fn mark_after_own<R: RowStore>(
 fn mark_behind_calls<R: RowStore, X: Threads + Sync>(
     rt: &X,
     alloc: Global,
-    site: Site<R>,
+    site: &mut Site<R>,
     origin: &SiteName,
     held: Held,
     order: &Order,
 ) -> Result<u64, CaseStop>
-    requires few { site.moment + 1 < 2 ^ 64 }
+    requires few { site.old.moment + 1 < 2 ^ 64 }
 {
     pretend(rt, alloc, order.first(), held.appliers, order)?;
     mark_after_own(alloc, site, origin)
@@ -74,23 +78,22 @@ fn mark_behind_calls<R: RowStore, X: Threads + Sync>(
 fn mark_before_calls<R: RowStore, X: Threads + Sync>(
     rt: &X,
     alloc: Global,
-    site: Site<R>,
+    site: &mut Site<R>,
     origin: &SiteName,
     held: Held,
     order: &Order,
 ) -> Result<u64, CaseStop>
-    requires few { site.moment + 1 < 2 ^ 64 }
+    requires few { site.old.moment + 1 < 2 ^ 64 }
 {
     let low = mark_after_own(alloc, site, origin)?;
     pretend(rt, alloc, order.first(), held.appliers, order)?;
     Ok(low)
 }
 
-/// A pass of a site for a sender, and the low-water mark behind it.
+/// A pass of a site for a sender by a crew, and the low-water mark behind it.
 pub fn mark_after_pass<R: RowStore, X: Threads + Wait + Sync>(
     rt: &X,
     alloc: Global,
-    maker: Maker,
     receiver: (Site<R>, SiteName),
     held: Held,
     order: &Order,
@@ -99,9 +102,23 @@ pub fn mark_after_pass<R: RowStore, X: Threads + Wait + Sync>(
     requires few { receiver.0.moment + 1 < 2 ^ 64 }
 {
     let (site, origin) = receiver;
-    match maker {
-        Maker::Crew => mark_after_crew(rt, alloc, site, &origin, held.appliers, order),
-        Maker::CallsBefore => mark_behind_calls(rt, alloc, site, &origin, held, order),
-        Maker::CallsBehind => mark_before_calls(rt, alloc, site, &origin, held, order),
+    mark_after_crew(rt, alloc, site, &origin, held.appliers, order)
+}
+
+/// The same by the caller alone, beside calls of appliers that work on nothing.
+pub fn mark_beside_calls<R: RowStore, X: Threads + Sync>(
+    rt: &X,
+    alloc: Global,
+    calls: Calls,
+    site: &mut Site<R>,
+    origin: &SiteName,
+    held: Held,
+    order: &Order,
+) -> Result<u64, CaseStop>
+    requires few { site.old.moment + 1 < 2 ^ 64 }
+{
+    match calls {
+        Calls::BeforePass => mark_behind_calls(rt, alloc, site, origin, held, order),
+        Calls::BehindPass => mark_before_calls(rt, alloc, site, origin, held, order),
     }
 }

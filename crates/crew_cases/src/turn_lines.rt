@@ -1,19 +1,25 @@
 //! What a live part leaves, as lines that are the same in whatever order its turns came.
+ghost use Rattle.std.specs.Prelude.{◌<◌, length};
 
+use crate::texts::text;
 use case_reader::{CaseStop, push_name, push_row};
 use live_laws::{LiveTurn, Reply};
 use live_streams::Live;
 use rep_lists::NoMemory;
 use rep_schema::RowStore;
-use rep_values::{ApplyError, SiteName};
+use rep_values::{ApplyError, Refusal, SiteName};
 use std::alloc::{AllocError, Global};
 
+fn refused_text(alloc: Global, line: u32, refusal: &Refusal) -> Result<String, AllocError> {
+    format!(in alloc; "! {line} {refusal}")
+}
+
 /// A reply without the number of a commit.
-fn reply_text(alloc: Global, reply: Reply) -> Result<String, AllocError> {
+fn reply_text(alloc: Global, reply: &Reply) -> Result<String, AllocError> {
     match reply {
-        Reply::Commit(_) => format!(in alloc; "commit"),
-        Reply::Nothing => format!(in alloc; "none"),
-        Reply::Refused { line, refusal } => format!(in alloc; "! {line} {refusal}"),
+        Reply::Commit(_) => text(alloc, "commit"),
+        Reply::Nothing => text(alloc, "none"),
+        Reply::Refused { line, refusal } => refused_text(alloc, *line, refusal),
     }
 }
 
@@ -22,11 +28,28 @@ fn push_committed(
     alloc: Global,
     session: u32,
     block: u32,
-    reply: Reply,
+    reply: &Reply,
 ) -> Result<(), NoMemory> {
     let reply = reply_text(alloc, reply)?;
     out.push_str(&format!(in alloc; "\nsession {session} block {block} {reply}")?)?;
     Ok(())
+}
+
+/// A turn, where it is one of this session.
+fn push_turn_of(
+    out: &mut String,
+    alloc: Global,
+    wanted: u32,
+    turn: &LiveTurn,
+) -> Result<(), NoMemory> {
+    match turn {
+        LiveTurn::Committed {
+            session,
+            block,
+            reply,
+        } if *session == wanted => push_committed(out, alloc, wanted, *block, reply),
+        LiveTurn::Committed { .. } | LiveTurn::Applied { .. } => Ok(()),
+    }
 }
 
 /// The turns of a session in their order.
@@ -37,28 +60,36 @@ fn push_session(
     turns: &[LiveTurn],
 ) -> Result<(), NoMemory> {
     for turn in turns {
-        if let LiveTurn::Committed {
-            session,
-            block,
-            reply,
-        } = turn
-            && *session == wanted
-        {
-            push_committed(out, alloc, *session, *block, *reply)?;
-        }
+        push_turn_of(out, alloc, wanted, turn)?;
     }
     Ok(())
 }
 
+/// The turns of each session.
+fn push_sessions(out: &mut String, alloc: Global, turns: &[LiveTurn]) -> Result<(), NoMemory> {
+    for session in 1..9 {
+        push_session(out, alloc, session, turns)?;
+    }
+    Ok(())
+}
+
+fn error_text(alloc: Global, error: &ApplyError, call: u32) -> Result<String, AllocError> {
+    format!(in alloc; "error in call {call}, {error}")
+}
+
 /// How a position was applied.
-fn applied_text(alloc: Global, error: Option<ApplyError>, call: u32) -> Result<String, AllocError> {
+fn applied_text(
+    alloc: Global,
+    error: &Option<ApplyError>,
+    call: u32,
+) -> Result<String, AllocError> {
     match error {
-        None => format!(in alloc; "done"),
-        Some(error) => format!(in alloc; "error in call {call}, {error}"),
+        None => text(alloc, "done"),
+        Some(error) => error_text(alloc, error, call),
     }
 }
 
-fn push_position(
+fn push_applied(
     out: &mut String,
     alloc: Global,
     origin: &SiteName,
@@ -71,34 +102,76 @@ fn push_position(
     Ok(())
 }
 
-/// The turns of origins in their order.
-fn push_positions(out: &mut String, alloc: Global, turns: &[LiveTurn]) -> Result<(), NoMemory> {
-    for turn in turns {
-        if let LiveTurn::Applied {
+fn push_position(
+    out: &mut String,
+    alloc: Global,
+    origin: &SiteName,
+    position: u64,
+    call: u32,
+    error: &Option<ApplyError>,
+) -> Result<(), NoMemory> {
+    let how = applied_text(alloc, error, call)?;
+    push_applied(out, alloc, origin, position, how.as_str())
+}
+
+/// A turn, where it is one of an origin.
+fn push_turn_of_origin(out: &mut String, alloc: Global, turn: &LiveTurn) -> Result<(), NoMemory> {
+    match turn {
+        LiveTurn::Applied {
             origin,
             position,
             call,
             error,
-        } = turn
-        {
-            let how = applied_text(alloc, *error, *call)?;
-            push_position(out, alloc, origin, *position, how.as_str())?;
-        }
+        } => push_position(out, alloc, origin, *position, *call, error),
+        LiveTurn::Committed { .. } => Ok(()),
+    }
+}
+
+/// The turns of origins in their order.
+fn push_positions(out: &mut String, alloc: Global, turns: &[LiveTurn]) -> Result<(), NoMemory> {
+    for turn in turns {
+        push_turn_of_origin(out, alloc, turn)?;
     }
     Ok(())
+}
+
+fn push_number(out: &mut String, alloc: Global, number: u64) -> Result<(), NoMemory> {
+    out.push_str(&format!(in alloc; " {number}")?)?;
+    Ok(())
+}
+
+/// The number of a turn, where it is a commit.
+fn push_number_of(out: &mut String, alloc: Global, turn: &LiveTurn) -> Result<(), NoMemory> {
+    match turn {
+        LiveTurn::Committed {
+            reply: Reply::Commit(number),
+            ..
+        } => push_number(out, alloc, *number),
+        LiveTurn::Committed { .. } | LiveTurn::Applied { .. } => Ok(()),
+    }
 }
 
 /// The numbers of the commits in the order of their turns.
 fn push_numbers(out: &mut String, alloc: Global, turns: &[LiveTurn]) -> Result<(), NoMemory> {
     out.push_str("\nnumbers")?;
     for turn in turns {
-        if let LiveTurn::Committed {
-            reply: Reply::Commit(number),
-            ..
-        } = turn
-        {
-            out.push_str(&format!(in alloc; " {number}")?)?;
-        }
+        push_number_of(out, alloc, turn)?;
+    }
+    Ok(())
+}
+
+/// The row at a place of the first table.
+fn push_row_at<R: RowStore>(
+    out: &mut String,
+    alloc: Global,
+    store: &R,
+    place: u64,
+) -> Result<(), NoMemory>
+    requires { 0 < length (R.schema store.now).tables }
+{
+    if let Some(row) = store.row_in_order(0, place) {
+        out.push_str("\nrow")?;
+        push_row(out, alloc, row)?;
     }
     Ok(())
 }
@@ -109,12 +182,16 @@ fn push_rows<R: RowStore>(out: &mut String, alloc: Global, store: &R) -> Result<
         return Ok(());
     }
     for place in 0..store.count(0) {
-        if let Some(row) = store.row_in_order(0, place) {
-            out.push_str("\nrow")?;
-            push_row(out, alloc, row)?;
-        }
+        push_row_at(out, alloc, store, place)?;
     }
     Ok(())
+}
+
+/// The turns of each session, those of the origins, and the numbers of the commits.
+fn push_turns(out: &mut String, alloc: Global, turns: &[LiveTurn]) -> Result<(), NoMemory> {
+    push_sessions(out, alloc, turns)?;
+    push_positions(out, alloc, turns)?;
+    push_numbers(out, alloc, turns)
 }
 
 /// How its sessions met, the turns of each session, those of the origins, the numbers of the commits, and the first table's rows.
@@ -123,13 +200,8 @@ pub fn live_lines<R: RowStore>(
     live: &Live<R>,
     how: &str,
 ) -> Result<String, CaseStop> {
-    let turns = live.turns.as_slice();
     let mut out = format!(in alloc; "{how}")?;
-    for session in 1..9 {
-        push_session(&mut out, alloc, session, turns)?;
-    }
-    push_positions(&mut out, alloc, turns)?;
-    push_numbers(&mut out, alloc, turns)?;
+    push_turns(&mut out, alloc, live.turns.as_slice())?;
     push_rows(&mut out, alloc, live.site.store())?;
     Ok(out)
 }
