@@ -24,6 +24,14 @@ fn read_txn(alloc: Global, words: &mut Words) -> Result<Txn, CaseStop> {
     Ok(Txn::of(alloc, calls)?)
 }
 
+fn changes_text(alloc: Global, count: usize) -> Result<String, CaseStop> {
+    Ok(format!(in alloc; "changes {count}")?)
+}
+
+fn failed_text(alloc: Global, call: u32) -> Result<String, CaseStop> {
+    Ok(format!(in alloc; "call {call} fails")?)
+}
+
 /// What a transaction from an origin does to the schema's tables, which have no row.
 fn applied_anew(
     alloc: Global,
@@ -43,8 +51,8 @@ fn applied_anew(
     let mut counters = Counters::make(alloc, schema)?;
     let mut store = ListTables::make(alloc, schema.copy(alloc)?)?;
     match apply_txn(alloc, &mut store, &mut counters, origin, txn) {
-        Ok(applied) => Ok(format!(in alloc; "changes {}", applied.changes.rows.len())?),
-        Err(ApplyStop::Failed { call, .. }) => Ok(format!(in alloc; "call {call} fails")?),
+        Ok(applied) => changes_text(alloc, applied.changes.rows.len()),
+        Err(ApplyStop::Failed { call, .. }) => failed_text(alloc, call),
         Err(ApplyStop::Memory) => Err(CaseStop::Memory),
     }
 }

@@ -21,6 +21,10 @@ fn read_log(alloc: Global, words: &mut Words) -> Result<Log, CaseStop> {
     Ok(log)
 }
 
+fn moment_text(alloc: Global, moment: u64) -> Result<String, CaseStop> {
+    Ok(format!(in alloc; "last at {moment}")?)
+}
+
 /// The last moment of a key in a log that is purged up to a mark.
 pub fn last_moment(alloc: Global, words: &mut Words) -> Result<String, CaseStop> {
     let mark = words.whole()?;
@@ -29,7 +33,7 @@ pub fn last_moment(alloc: Global, words: &mut Words) -> Result<String, CaseStop>
     let mut log = read_log(alloc, words)?;
     log.purge(mark);
     match log.moment_of(&key) {
-        Some(moment) => Ok(format!(in alloc; "last at {moment}")?),
+        Some(moment) => moment_text(alloc, moment),
         None => text(alloc, "not logged"),
     }
 }

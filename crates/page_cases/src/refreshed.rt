@@ -87,6 +87,14 @@ pub fn read_master<R: RowStore>(
     Ok(master)
 }
 
+fn fast_text(alloc: Global, lookups: u64, changes: usize) -> Result<String, CaseStop> {
+    Ok(format!(in alloc; "lookups {lookups} changes {changes}")?)
+}
+
+fn back_text(alloc: Global, changes: usize) -> Result<String, CaseStop> {
+    Ok(format!(in alloc; "changes {changes} taken back")?)
+}
+
 /// Refreshes a table by keys, where it shows the master's rows under all others.
 fn by_keys<R: RowStore>(
     alloc: Global,
@@ -106,8 +114,7 @@ fn by_keys<R: RowStore>(
     holds_tables(master);
     let mut view = CountedView::of(master);
     let changes = refresh_fast(alloc, &mut snap, store, &mut view, keys, 1)?;
-    let (lookups, count) = (view.lookups(), changes.rows.len());
-    Ok(format!(in alloc; "lookups {lookups} changes {count}")?)
+    fast_text(alloc, view.lookups(), changes.rows.len())
 }
 
 /// Refreshes a table to the rows that it shows of the master's, and takes it all back.
@@ -128,7 +135,7 @@ fn and_back<R: RowStore>(
     let changes = refresh_complete(alloc, &mut snap, store, rows.as_slice(), 1)?;
     let count = changes.rows.len();
     undo(store, changes);
-    Ok(format!(in alloc; "changes {count} taken back")?)
+    back_text(alloc, count)
 }
 
 /// A refresh of a table by one key alone, from a master with the rows that the line ends with.
