@@ -18,8 +18,7 @@ use Rattle.txn_apply.specs.Laws.{SupportOutlastsIndependentTransactions}
 use Rattle.site_engine.specs.Working.{IsWorkOf, EndsHere, HoldsWhereAlike}
 use Rattle.site_engine.proofs.Beginning.{outcomes_hold}
 use Rattle.parallel_apply.specs.Turns.{positions_of, site_after_crew}
-use Rattle.parallel_apply.specs.Crews.{is_stale, CrewState, IsCrew, IsClaimAt, IsOutcomeOf, IsOfEarlierClaim, IsPartlyApplied}
-use Rattle.parallel_apply.specs.declared.claim.Claim.{Claim}
+use Rattle.parallel_apply.specs.Crews.{is_stale, CrewState, IsCrew, IsOutcomeOf, IsOfEarlierClaim, IsPartlyApplied}
 use Rattle.parallel_apply.specs.declared.claim.Evaluated.{Evaluated}
 use Rattle.parallel_apply.proofs.TurnLogs.{positions-append}
 use Rattle.parallel_apply.proofs.InTurn.{Stays, applied-append, ready-append, ready-behind, stays_itself, stays_in_turn}
@@ -71,16 +70,6 @@ first_is_ready origin above x (a ∷ arrived) p is = go (nat_lt above a.position
     go true None fresh is later = let same : a.position ≡ p = cc is in rw (← same) fresh
     go true (Some why) fresh is later = later is
     go false why fresh is later = later is
-
-pub told_alike : {X : Type 0} (x y : X) → Some x ≡ Some y → x ≡ y
-told_alike x y same = cc
-
--- what was claimed in one turn and evaluated is put in in a later one
-pub earlier_claim : (then now : CrewState) (later : List (Option ℕ)) → now.turns ≡ then.turns ++ later → now.opened ≡ then.opened → now.origin ≡ then.origin
-    → (claim : Claim) → IsClaimAt then.origin (site_after_crew then.origin then.turns then.opened) claim
-    → (done : Evaluated) → done.position ≡ claim.position → IsOutcomeOf claim.work done.outcome → IsOfEarlierClaim now done
-earlier_claim then now later more opened origin claim is done position outcome =
-    record { turns = then.turns; later = later; began = more; claim = claim; is = rw (opened, origin) is; position = position; outcome = outcome }
 
 -- a crew's site is partly applied
 pub crew_applied : (c : CrewState) → IsCrew c → IsPartlyApplied c.origin c.opened c.site

@@ -4,6 +4,7 @@ ghost use Rattle.site_gate.specs.Passes.{IsPassOf};
 
 use crate::claim::evaluate;
 use crate::crew::Crew;
+use crate::workers::Workers;
 use rep_io::Watch;
 use rep_schema::RowStore;
 use site_gate::{Pass, SiteGate, Turns};
@@ -20,11 +21,12 @@ where
     pub pass: Pass<Crew<R>>,
 }
 
-/// Claims one position after the other, each in a turn, evaluates it outside the lock, and puts it in, in a turn of its own,
-/// until nothing is free or there is no memory.
+/// Claims one position after the other, evaluates each outside the lock, and puts it in, in the turn that claims the next, until
+/// nothing is free or there is no memory. Once it has claimed a first one, it calls the next worker.
 pub(crate) fn work<R: RowStore, X: Wait, W: Watch>(
     rt: &X,
     alloc: Global,
+    workers: &Workers<R>,
     gate: &SiteGate<Crew<R>>,
     watch: &W,
     applier: Applier<R>,
@@ -34,23 +36,23 @@ pub(crate) fn work<R: RowStore, X: Wait, W: Watch>(
     ensures { IsPassOf gate.now result }
 {
     let Applier { number, mut pass } = applier;
+    let mut turn = gate.enter(rt, pass);
+    let mut claim = turn.value.claim(alloc, number);
+    pass = gate.leave(turn);
+    if claim.is_some() {
+        workers.call_next(rt, number);
+    }
     for _ in rt.forever() {
-        let mut turn = gate.enter(rt, pass);
-        let claim = turn.value.claim(alloc, number);
-        pass = gate.leave(turn);
-        let Some(claim) = claim else {
+        let Some(claimed) = claim else {
             break;
         };
-        let Ok(done) = evaluate(alloc, claim) else {
+        let Ok(done) = evaluate(alloc, claimed) else {
             break;
         };
         watch.working(number, done.position);
         let mut turn = gate.enter(rt, pass);
-        let went = turn.value.install(alloc, number, done);
+        claim = turn.value.go_on(alloc, number, done);
         pass = gate.leave(turn);
-        if !went {
-            break;
-        }
     }
     pass
 }

@@ -136,6 +136,18 @@ impl<R: RowStore> Crew<R> {
         })
     }
 
+    // Claims a position for an applier; None where nothing is free, or where there is no memory.
+    fn next(&mut self, alloc: Global, applier: u32) -> Option<Claim>
+        requires applier { applier < 8 }
+        ensures opened { self.new.opened ≡ self.old.opened }
+        ensures origin { self.new.origin ≡ self.old.origin }
+        ensures turns { self.new.turns ≡ self.old.turns }
+        ensures claim { IfSome result (IsClaimAt self.new.origin (site_after_crew self.new.origin self.new.turns self.new.opened)) }
+    {
+        let position = self.claims.next(&self.site, &self.origin, applier)?;
+        claimed(&self.site, alloc, &self.schema, &self.origin, position)
+    }
+
     /// Claims a position for an applier, in a turn that applies nothing; None where nothing is free, or where there is no
     /// memory.
     pub(crate) fn claim(&mut self, alloc: Global, applier: u32) -> Option<Claim>
@@ -147,13 +159,12 @@ impl<R: RowStore> Crew<R> {
         ensures claim { IfSome result (IsClaimAt self.new.origin (site_after_crew self.new.origin self.new.turns self.new.opened)) }
     {
         self.turns.pass();
-        let position = self.claims.next(&self.site, &self.origin, applier)?;
-        claimed(&self.site, alloc, &self.schema, &self.origin, position)
+        self.next(alloc, applier)
     }
 
-    /// Puts in what an applier evaluated, in one turn, and answers whether there was memory. A position that isn't ready any
-    /// more is let go.
-    pub(crate) fn install(&mut self, alloc: Global, applier: u32, done: Evaluated) -> bool
+    // Puts in what an applier evaluated, in one turn, and answers whether there was memory. A position that isn't ready any
+    // more is let go.
+    fn install(&mut self, alloc: Global, applier: u32, done: Evaluated) -> bool
         requires few { length self.old.turns + 1 < 2 ^ 64 }
         requires applier { applier < 8 }
         requires earlier { IsOfEarlierClaim self.old done }
@@ -181,6 +192,24 @@ impl<R: RowStore> Crew<R> {
                 self.turns.pass();
                 false
             }
+        }
+    }
+
+    /// Puts in what an applier evaluated, and claims the next position for it in the same turn; None where nothing is free, or
+    /// where there is no memory.
+    pub(crate) fn go_on(&mut self, alloc: Global, applier: u32, done: Evaluated) -> Option<Claim>
+        requires few { length self.old.turns + 1 < 2 ^ 64 }
+        requires applier { applier < 8 }
+        requires earlier { IsOfEarlierClaim self.old done }
+        ensures opened { self.new.opened ≡ self.old.opened }
+        ensures origin { self.new.origin ≡ self.old.origin }
+        ensures turn { (turn : Option ℕ) × (self.new.turns ≡ self.old.turns ++ turn ∷ []) }
+        ensures claim { IfSome result (IsClaimAt self.new.origin (site_after_crew self.new.origin self.new.turns self.new.opened)) }
+    {
+        if self.install(alloc, applier, done) {
+            self.next(alloc, applier)
+        } else {
+            None
         }
     }
 

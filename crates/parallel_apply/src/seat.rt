@@ -9,6 +9,10 @@ use rep_schema::RowStore;
 use site_gate::{SiteGate, Turns};
 use std::alloc::Global;
 use std::sync::{Arc, Condvar, Mutex, Wait};
+use std::time::Duration;
+
+// How many microseconds a worker sleeps where the gate of its job isn't free.
+const MOMENT: u64 = 50;
 
 /// What a worker is handed: an applier of a crew, and the crew's gate.
 #[derive(Drop)]
@@ -30,6 +34,8 @@ where
 {
     // A job that nobody has taken yet.
     offered: Option<Job<R>>,
+    // The worker waits for a job.
+    waits: bool,
     // The worker is at a job.
     at_work: bool,
     // No job comes any more.
@@ -51,6 +57,7 @@ impl<R: RowStore> Seat<R> {
     pub(crate) fn new() -> Seat<R> {
         let desk = Desk {
             offered: None,
+            waits: false,
             at_work: false,
             closed: false,
         };
@@ -60,28 +67,49 @@ impl<R: RowStore> Seat<R> {
         }
     }
 
-    /// Offers a job to the worker. Where another one lies there, the worker is at one, or the seat is closed, it is let go.
+    /// Lays a job on the desk, for a worker who is called later. Where another one lies there, the worker is at one, or the seat is
+    /// closed, it is let go.
     pub(crate) fn offer<X: Wait>(&self, rt: &X, job: Job<R>) {
         let mut desk = self.desk.lock(rt);
         if desk.offered.is_none() && !desk.at_work && !desk.closed {
             desk.offered = Some(job);
         }
-        drop(desk);
-        self.changed.notify_all();
     }
 
-    /// Waits for a job. None once the seat is closed.
+    /// Calls the worker, where it waits and a job lies there, and answers whether it does.
+    pub(crate) fn call<X: Wait>(&self, rt: &X) -> bool {
+        let desk = self.desk.lock(rt);
+        let comes = desk.waits && desk.offered.is_some();
+        drop(desk);
+        if comes {
+            self.changed.notify_all();
+        }
+        comes
+    }
+
+    /// Waits for a job, and until its gate is free: it sleeps for a moment, and looks again. None once the seat is closed.
     pub(crate) fn take<X: Wait>(&self, rt: &X) -> Option<Job<R>> {
         let mut desk = self.desk.lock(rt);
         for _ in rt.forever() {
-            if let Some(job) = desk.offered.take() {
-                desk.at_work = true;
-                return Some(job);
-            }
             if desk.closed {
                 return None;
             }
-            desk = self.changed.wait(rt, desk);
+            desk.waits = true;
+            let Some(job) = desk.offered.take() else {
+                desk = self.changed.wait(rt, desk);
+                continue;
+            };
+            if job.gate.is_free() {
+                desk.waits = false;
+                desk.at_work = true;
+                return Some(job);
+            }
+            desk.offered = Some(job);
+            let changes = self.changed.notifications();
+            drop(desk);
+            self.changed
+                .sleep(rt, changes, Duration::from_micros(MOMENT));
+            desk = self.desk.lock(rt);
         }
         unreachable!()
     }

@@ -38,14 +38,23 @@ where
     ghost few: { vec_len seats < 8 },
 }
 
-/// Waits at a seat, and works as the applier that each job names, until the seat is closed.
-fn serve<R: RowStore, X: Wait, W: Watch>(rt: &X, alloc: Global, seat: &Seat<R>, watch: &W) {
+/// Waits at the seat of a place, and works as the applier that each job names, until the seat is closed.
+fn serve<R: RowStore, X: Wait, W: Watch>(
+    rt: &X,
+    alloc: Global,
+    workers: &Workers<R>,
+    place: usize,
+    watch: &W,
+) {
+    let Some(seat) = workers.seats.get(place) else {
+        return;
+    };
     for _ in rt.forever() {
         let Some(job) = seat.take(rt) else {
             return;
         };
         let Job { gate, applier } = job;
-        let pass = work(rt, alloc, &*gate, watch, applier);
+        let pass = work(rt, alloc, workers, &*gate, watch, applier);
         drop(pass);
         drop(gate);
         seat.leave(rt);
@@ -112,6 +121,18 @@ impl<R: RowStore> Workers<R> {
         }
     }
 
+    /// Calls the next worker behind an applier who waits where a job lies.
+    pub(crate) fn call_next<X: Wait>(&self, rt: &X, applier: u32) {
+        for place in applier as usize..self.seats.len() {
+            let Some(seat) = self.seats.get(place) else {
+                return;
+            };
+            if seat.call(rt) {
+                return;
+            }
+        }
+    }
+
     // Waits until no worker is at a job, and takes back what wasn't taken.
     fn clear<X: Wait>(&self, rt: &X) {
         for seat in &self.seats {
@@ -157,7 +178,7 @@ impl<R: RowStore> Workers<R> {
             number: 0,
             pass: gate.split(&mut pass),
         };
-        drop(work(rt, alloc, &*gate, watch, applier));
+        drop(work(rt, alloc, self, &*gate, watch, applier));
         self.clear(rt);
         let Turn { value: crew, .. } = gate.enter(rt, pass);
         crew.into_site()
@@ -207,11 +228,8 @@ fn serve_all<R: RowStore, X: Threads + Wait + Sync, W: Watch>(
     workers: &Workers<R>,
     watch: &W,
 ) {
-    let seats = workers.seats.as_slice();
-    let one = |place: usize|
-        requires { place < length seats.now }
-    { serve(rt, alloc, &seats[place], watch) };
-    drop(thread::map_indices(rt, alloc, seats.len(), &one));
+    let one = |place: usize| { serve(rt, alloc, workers, place, watch) };
+    drop(thread::map_indices(rt, alloc, workers.seats.len(), &one));
 }
 
 /// Makes a call while a thread serves at each seat of workers. The threads end behind the call, and the seats are closed then: a

@@ -56,6 +56,12 @@ impl<T: Turns> SiteGate<T> {
         Pass { seat }
     }
 
+    /// Whether nobody is inside or waits for a turn, at some moment of the call. What it answers may be old when it is answered, and
+    /// no clause says anything of it.
+    pub fn is_free(&self) -> bool {
+        self.table.shared.peek(0) == self.table.shared.peek(1)
+    }
+
     /// Waits for the pass's turn. At 2^64 - 1 turns it waits for ever.
     pub fn enter<R: Wait>(&self, rt: &R, pass: Pass<T>) -> Turn<T>
         requires gate { IsPassOf self.now pass }

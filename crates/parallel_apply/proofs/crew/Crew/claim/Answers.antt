@@ -1,21 +1,6 @@
-use Rattle.std.proofs.Common.{refl, sym, subst, ◌∙◌}
-use Rattle.std.specs.Prelude.{IfSome}
-use Rattle.parallel_apply.specs.Crews.{IsClaimAt}
-use Rattle.parallel_apply.proofs.Crews.{with_quiet, schema_here, sound_here}
+use Rattle.std.proofs.Common.{refl}
+use Rattle.parallel_apply.proofs.Crews.{with_quiet}
 use Rattle.parallel_apply.proofs.crew.Crew.claim.Goals as goal
 
 pub invariant_of-self : goal.invariant_of-self
 invariant_of-self g c = (with_quiet _ _ _ _ c.self.invariant.0 _ _ c.pass.ensures refl, c.self.invariant.1)
-
-pub claimed-requires-clause-schema : goal.claimed-requires-clause-schema
-claimed-requires-clause-schema g c κs within = rw c.deref-2.ensures (c.self.invariant.1 ∙ sym (schema_here _ _ _ _ c.self.invariant.0))
-
-pub claimed-requires-clause-sound : goal.claimed-requires-clause-sound
-claimed-requires-clause-sound g c κs within = rw c.deref-2.ensures (sound_here _ _ _ _ c.self.invariant.0)
-
-pub invariant_of-self-2 : goal.invariant_of-self-2
-invariant_of-self-2 g c = (with_quiet _ _ _ _ c.self.invariant.0 _ _ c.pass.ensures refl, c.self.invariant.1)
-
-pub returns-clause-claim : goal.returns-clause-claim
-returns-clause-claim g c =
-    subst (λ x. IfSome c.claimed.result (IsClaimAt c.self.inside.origin x)) (with_quiet _ _ _ _ c.self.invariant.0 _ _ c.pass.ensures refl).led (rw (← c.deref-2.ensures) c.claimed.ensures)
