@@ -6,7 +6,7 @@ use Rattle.script_desk.specs.declared.words.Asked.TheVariants as asked
 
 -- what one word asks for
 abbrev pub asked_of : List ℕ → Option Asked
-asked_of word = cond (pointwise nat_eq word (codes "lint")) (Some asked.Lint) (cond (pointwise nat_eq word (codes "explain")) (Some asked.Explain) None)
+asked_of word = cond (pointwise nat_eq word (codes "lint")) (Some asked.Lint) (cond (pointwise nat_eq word (codes "picture")) (Some asked.Picture) (cond (pointwise nat_eq word (codes "explain")) (Some asked.Explain) None))
 
 -- what words ask for: one of the words that the program knows, and nothing behind it
 abbrev pub asked_by : List (List ℕ) → Option Asked

@@ -1,4 +1,5 @@
-//! The program for people who write scripts: `lint` tells what is wrong with one, and `explain` runs it with words behind what it prints.
+//! The program for people who write scripts: `lint` tells what is wrong with one, `picture` draws what it does, and `explain` runs it
+//! with words behind what it prints.
 #![tactic(auto)]
 
 ghost use Rattle.std.specs.Prelude.{◌≡◌, ◌≢◌, map, string_bytes, IfOk};
@@ -6,6 +7,7 @@ ghost use Rattle.std.specs.IoError.{error_kind};
 ghost use Rattle.std.specs.Process.{exit_status};
 ghost use Rattle.script_drive.specs.Codes.{code_of};
 
+mod drawing;
 mod explaining;
 mod linting;
 mod program;
@@ -69,5 +71,5 @@ fn main(rt: HostRuntime) -> ExitCode {
     };
     let mut source = StdSource::make(rt.reader());
     let mut sink = StdSink::make(io::writer(&rt));
-    exit_code(run_desk(alloc, &words, &mut source, &mut sink))
+    exit_code(run_desk(&rt, alloc, &words, &mut source, &mut sink))
 }

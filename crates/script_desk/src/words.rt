@@ -7,6 +7,8 @@ ghost use Rattle.script_desk.specs.Words.{asked_by, asked_of};
 pub enum Asked {
     /// `lint`
     Lint,
+    /// `picture`
+    Picture,
     /// `explain`
     Explain,
 }
@@ -18,6 +20,9 @@ fn asked_of(word: &str) -> Option<Asked>
     let word = word.as_bytes();
     if word == b"lint".as_slice() {
         return Some(Asked::Lint);
+    }
+    if word == b"picture".as_slice() {
+        return Some(Asked::Picture);
     }
     if word == b"explain".as_slice() {
         return Some(Asked::Explain);

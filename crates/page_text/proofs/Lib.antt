@@ -1,0 +1,4 @@
+-- The lemmas of this crate.
+pub mod Putting
+mod Texts
+mod Pages

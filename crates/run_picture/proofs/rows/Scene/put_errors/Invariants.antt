@@ -1,0 +1,7 @@
+-- Telling errors one by one.
+use Rattle.std.proofs.Common.{◌≡◌}
+use Rattle.run_picture.proofs.rows.Scene.put_errors.Given as goal
+
+-- nothing is marked
+abbrev pub invariant-loop-place : goal.invariant-loop-place
+invariant-loop-place l = l.pen ≡ l.fn.pen

@@ -1,0 +1,4 @@
+-- The definitions of this crate.
+pub mod Lanes
+pub mod Telling
+pub mod Running
