@@ -1,5 +1,4 @@
 -- What the run by workers' passes tells, put together.
-use Rattle.world_run.specs.RunOf.{RunOf}
 use Rattle.world_run.proofs.run.run_beside.Goals as goal
 
 pub returns : goal.returns
