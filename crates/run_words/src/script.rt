@@ -6,7 +6,7 @@ ghost use Rattle.world_state.specs.World.{first_world};
 ghost use Rattle.world_run.specs.Scripts.{script_step, script_report};
 ghost use Rattle.run_words.specs.Telling.{is_end};
 
-use crate::explainer::tell_too_many;
+use crate::malformed::tell_too_many;
 use crate::told::Told;
 use crate::{Explainer, Next};
 use rep_lists::NoMemory;

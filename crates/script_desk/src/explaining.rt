@@ -31,15 +31,26 @@ fn status_of(next: Next) -> Status
     }
 }
 
-/// What a script's run prints, with words, and how it ends.
+/// What a script's run prints, with words, and how it ends. It is told behind what is told already.
 #[tactic(auto, using(crate::proofs::Ends::end_facts))]
+fn explained_in(
+    alloc: Global,
+    script: &[u8],
+    told: &mut Told,
+) -> Result<(String, Status), NoMemory>
+    ensures { IfOk result (λ ended. RunEnds script.now ended.1) }
+{
+    let next = explain(alloc, script, told)?;
+    let text = text_of(alloc, told)?;
+    Ok((text, status_of(next)))
+}
+
+/// What a script's run prints, with words, and how it ends.
 fn explained(alloc: Global, script: &[u8]) -> Result<(String, Status), NoMemory>
-    ensures { IfOk result (λ told. RunEnds script.now told.1) }
+    ensures { IfOk result (λ ended. RunEnds script.now ended.1) }
 {
     let mut told = Told::new(alloc);
-    let next = explain(alloc, script, &mut told)?;
-    let text = text_of(alloc, &told)?;
-    Ok((text, status_of(next)))
+    explained_in(alloc, script, &mut told)
 }
 
 /// Reads a script to its end, runs it, and writes what that prints, with words behind what wants some. Malformed where a line ends the

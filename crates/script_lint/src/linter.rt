@@ -6,9 +6,9 @@ ghost use Rattle.script_lint.specs.Checking.{is_for_rule, parts_beside, with_sai
 ghost use Rattle.script_steps.specs.Coming.{said_of};
 ghost use Rattle.script_lint.specs.Adding.{with_answer, with_parts};
 
-use crate::trail::Trail;
 use crate::{ErrorFound, Why};
 use line_advice::Mistake;
+use lint_words::{Note, Trail};
 use rep_lists::NoMemory;
 use rep_values::Refusal;
 use schema_advice::{BrokenPart, broken_parts};
@@ -91,7 +91,6 @@ impl Linter {
         ensures { OnOk result (self.new ≡ with_said (Some (malformed_at number mistake.now.rule)) self.old) }
     {
         self.trail.malformed(number, line)?;
-        self.trail.count(number, None)?;
         self.add_error(ErrorFound {
             answer: Answer {
                 line: number,
@@ -101,6 +100,41 @@ impl Linter {
             why: Why::Malformed(mistake.hint),
             cause: None,
         })
+    }
+
+    /// Keeps what is told of a refused command.
+    fn add_note(&mut self, refused: &Refused, note: Note) -> Result<(), NoMemory>
+        ensures { OnOk result (self.new ≡ with_answer (record { line = refused.now.line; verdict = Verdict.Refused refused.now.refusal }) self.old) }
+    {
+        self.add_error(ErrorFound {
+            answer: Answer {
+                line: refused.line,
+                verdict: Verdict::Refused(refused.refusal),
+            },
+            column: note.column,
+            why: note.why,
+            cause: note.cause,
+        })
+    }
+
+    /// What is told of a refused command.
+    fn note(
+        &mut self,
+        number: u32,
+        line: &[u8],
+        command: Command,
+        refused: &Refused,
+    ) -> Result<Note, NoMemory>
+        ensures { self.new ≡ self.old }
+    {
+        self.trail.refused(
+            number,
+            line,
+            self.steps.schema(),
+            command,
+            refused.line,
+            &refused.refusal,
+        )
     }
 
     /// Keeps why a command was refused.
@@ -115,19 +149,8 @@ impl Linter {
     ) -> Result<(), NoMemory>
         ensures { OnOk result (self.new ≡ with_said (refused_so (Some refused.now)) self.old) }
     {
-        let note = self
-            .trail
-            .refused(alloc, number, line, self.steps.schema(), command, refused)?;
-        self.trail.count(number, note.cause)?;
-        self.add_error(ErrorFound {
-            answer: Answer {
-                line: refused.line,
-                verdict: Verdict::Refused(refused.refusal),
-            },
-            column: note.column,
-            why: note.why,
-            cause: note.cause,
-        })?;
+        let note = self.note(number, line, command, refused)?;
+        self.add_note(refused, note)?;
         self.add_parts(alloc, &refused.refusal)
     }
 
@@ -157,7 +180,7 @@ impl Linter {
     fn too_many(&mut self, number: u32) -> Result<(), NoMemory>
         ensures { OnOk result (self.new ≡ with_said (Some (malformed_at number 2)) self.old) }
     {
-        self.trail.count(number, None)?;
+        self.trail.too_many(number)?;
         self.add_error(ErrorFound {
             answer: Answer {
                 line: number,

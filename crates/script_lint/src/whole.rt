@@ -1,13 +1,16 @@
 //! A whole script, looked at to its end.
 ghost use Rattle.std.specs.Prelude.{◌≡◌, map, IfOk};
-ghost use Rattle.script_lint.specs.Checking.{script_checked};
+ghost use Rattle.script_steps.specs.Lines.{lines_of};
+ghost use Rattle.script_lint.specs.Checking.{checked_from, script_checked};
 ghost use Rattle.script_lint.specs.Adding.{answer_of};
 
 use crate::linter::Linter;
 use crate::{AdviceFound, Findings};
+use lint_words::Trail;
 use rep_lists::{Copies, NoMemory};
 use rep_schema::Schema;
 use std::alloc::Global;
+use std::mem;
 
 impl Linter {
     /// What is left at the end of the script: what may be meant otherwise, and what is declared.
@@ -17,27 +20,33 @@ impl Linter {
         Ok((advice, schema))
     }
 
-    /// All that is found, with what is left.
-    fn into_findings(self, advice: Vec<AdviceFound>, schema: Schema) -> Findings
-        ensures errors { map answer_of result.errors.items ≡ self.answers }
-        ensures parts { result.parts.items ≡ self.parts }
+    /// Takes all that is found out of the linter, with what is left.
+    fn take_findings(&mut self, alloc: Global, advice: Vec<AdviceFound>, schema: Schema) -> Findings
+        ensures errors { map answer_of result.errors.items ≡ self.old.answers }
+        ensures parts { result.parts.items ≡ self.old.parts }
     {
-        let Linter {
-            steps: _steps,
-            trail,
-            errors,
-            parts,
-        } = self;
-        Findings::make(errors, parts, advice, trail.into_parts(), schema)
+        let errors = mem::replace(&mut self.errors, Vec::new(alloc));
+        let parts = mem::replace(&mut self.parts, Vec::new(alloc));
+        let trail = mem::replace(&mut self.trail, Trail::new(alloc));
+        Findings::make(errors, parts, advice, trail, schema)
     }
 
     /// All that is found, at the end of the script.
-    fn finish(self, alloc: Global) -> Result<Findings, NoMemory>
-        ensures errors { IfOk result (λ found. map answer_of found.errors.items ≡ self.answers) }
-        ensures parts { IfOk result (λ found. found.parts.items ≡ self.parts) }
+    fn finish(&mut self, alloc: Global) -> Result<Findings, NoMemory>
+        ensures errors { IfOk result (λ found. map answer_of found.errors.items ≡ self.old.answers) }
+        ensures parts { IfOk result (λ found. found.parts.items ≡ self.old.parts) }
     {
         let (advice, schema) = self.left(alloc)?;
-        Ok(self.into_findings(advice, schema))
+        Ok(self.take_findings(alloc, advice, schema))
+    }
+
+    /// Looks at all lines of a script, and answers all that is found.
+    fn findings(&mut self, alloc: Global, script: &[u8]) -> Result<Findings, NoMemory>
+        ensures errors { IfOk result (λ found. map answer_of found.errors.items ≡ (checked_from 1 (lines_of script.now) self.old).answers) }
+        ensures parts { IfOk result (λ found. found.parts.items ≡ (checked_from 1 (lines_of script.now) self.old).parts) }
+    {
+        self.take_script(alloc, script)?;
+        self.finish(alloc)
     }
 }
 
@@ -50,6 +59,5 @@ pub fn lint(alloc: Global, script: &[u8]) -> Result<Findings, NoMemory>
     ensures parts { IfOk result (λ found. found.parts.items ≡ (script_checked script.now).parts) }
 {
     let mut linter = Linter::make(alloc)?;
-    linter.take_script(alloc, script)?;
-    linter.finish(alloc)
+    linter.findings(alloc, script)
 }

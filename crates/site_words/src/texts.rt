@@ -67,15 +67,19 @@ pub fn add_note(text: &mut String, note: &impl fmt::Display) -> Result<(), Alloc
     writeln!(text, "    {note}")
 }
 
+/// Appends a caret behind so many spaces, as a line.
+fn add_caret(text: &mut String, spaces: usize) -> Result<(), AllocError> {
+    for _ in 0..spaces {
+        text.push(' ')?;
+    }
+    text.push_str("^\n")
+}
+
 /// Appends a script's line, and a caret below its column.
 pub fn add_marked(text: &mut String, line: &[u8], column: usize) -> Result<(), AllocError> {
-    writeln!(text, "    {}", LineText(line))?;
+    add_note(text, &LineText(line))?;
     if column > SHOWN_BYTES {
         return Ok(());
     }
-    for _ in 0..column.saturating_add(3) {
-        text.push(' ')?;
-    }
-    text.push('^')?;
-    text.push('\n')
+    add_caret(text, column.saturating_add(3))
 }
