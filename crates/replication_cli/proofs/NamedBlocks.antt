@@ -76,29 +76,15 @@ stays : (o p : Option Block) → p ≡ o → IsNamedBlock o → IsNamedBlock p
 stays o p same named = subst IsNamedBlock (sym same) named
 
 named_done : (number : ℕ) (c : Command) (w : WorldState) → IsWellFormed c → IsNamedBlock w.block → IsNamedBlock (world_done number c w).block
-named_done number command.Nothing w formed named = named
-named_done number (command.Declare declaration) w formed named = named
 named_done number (command.Snapshot site table parent tests) w formed named = stays _ _ (block_snapshot site (table_place w.schema table) parent (tests_in tests) w) named
-named_done number (command.Row table values) w formed named = named
 named_done number command.Resume w formed named = stays _ _ (block_resumed w.phase w) named
 named_done number (command.Statement statement) w formed named = named_stated number statement w.block named
 named_done number (command.Txn site) w formed named = formed
 named_done number command.Commit w formed named = named_committed w.block w named
 named_done number command.Abandon w formed named = tt
 named_done number (command.Push from to count) w formed named = stays _ _ (block_pushed from to count w) named
-named_done number (command.Fates from to fates) w formed named = named
-named_done number (command.ClearFates from to) w formed named = named
-named_done number (command.Link from to word) w formed named = named
-named_done number (command.Clock site time) w formed named = named
-named_done number (command.Purge site) w formed named = named
-named_done number (command.Execute site origin position) w formed named = named
-named_done number (command.DropError site origin position) w formed named = named
-named_done number (command.Refresh site how) w formed named = named
 named_done number (command.PurgeLog master table) w formed named = stays _ _ (block_log_purged master (table_place w.schema table) w) named
-named_done number command.Suspend w formed named = named
-named_done number (command.Join site source) w formed named = named
-named_done number (command.Show what site) w formed named = named
-named_done number (command.Procedures line) w formed named = named
+named_done number _ w formed named = named
 
 named_left : (o : Option (List SiteName)) (w : WorldState) → IsNamedBlock w.block → IsNamedBlock (left_by o w).block
 named_left None w named = named
@@ -115,38 +101,12 @@ named_refused c w named = go (is_commit c)
 
 block_called : (number : ℕ) (line : ProcLine) (old new : WorldState) (r : Refused) → is_push_of_calls line ≡ true → IsOutOfMemory number (command.Procedures line) old new r → new.block ≡ old.block
 block_called number (proc_line.Push from to) old new r is short = ap (λ (w : WorldState). w.block) (short.called from to refl).rest
-block_called number (proc_line.Table table columns) old new r is short = absurd (cc is)
-block_called number (proc_line.Procedure procedure table does) old new r is short = absurd (cc is)
-block_called number (proc_line.Calls site) old new r is short = absurd (cc is)
-block_called number (proc_line.Call call) old new r is short = absurd (cc is)
-block_called number (proc_line.Send to) old new r is short = absurd (cc is)
-block_called number (proc_line.Fates from to fates) old new r is short = absurd (cc is)
-block_called number (proc_line.Execute site origin position) old new r is short = absurd (cc is)
+block_called number _ old new r is short = absurd (cc is)
 
 block_short : (number : ℕ) (c : Command) (old new : WorldState) (r : Refused) → is_push c ≡ true → IsOutOfMemory number c old new r → new.block ≡ old.block
 block_short number (command.Push from to count) old new r is short = (short.pushed from to count refl).beside.block
 block_short number (command.Procedures line) old new r is short = block_called number line old new r is short
-block_short number command.Nothing old new r is short = absurd (cc is)
-block_short number (command.Declare declaration) old new r is short = absurd (cc is)
-block_short number (command.Snapshot site table parent tests) old new r is short = absurd (cc is)
-block_short number (command.Row table values) old new r is short = absurd (cc is)
-block_short number command.Resume old new r is short = absurd (cc is)
-block_short number (command.Statement statement) old new r is short = absurd (cc is)
-block_short number (command.Txn site) old new r is short = absurd (cc is)
-block_short number command.Commit old new r is short = absurd (cc is)
-block_short number command.Abandon old new r is short = absurd (cc is)
-block_short number (command.Fates from to fates) old new r is short = absurd (cc is)
-block_short number (command.ClearFates from to) old new r is short = absurd (cc is)
-block_short number (command.Link from to word) old new r is short = absurd (cc is)
-block_short number (command.Clock site time) old new r is short = absurd (cc is)
-block_short number (command.Purge site) old new r is short = absurd (cc is)
-block_short number (command.Execute site origin position) old new r is short = absurd (cc is)
-block_short number (command.DropError site origin position) old new r is short = absurd (cc is)
-block_short number (command.Refresh site how) old new r is short = absurd (cc is)
-block_short number (command.PurgeLog master table) old new r is short = absurd (cc is)
-block_short number command.Suspend old new r is short = absurd (cc is)
-block_short number (command.Join site source) old new r is short = absurd (cc is)
-block_short number (command.Show what site) old new r is short = absurd (cc is)
+block_short number _ old new r is short = absurd (cc is)
 
 named_short : (number : ℕ) (c : Command) (old new : WorldState) (r : Refused) → IsOutOfMemory number c old new r → IsNamedBlock old.block → IsNamedBlock new.block
 named_short number c old new r short named = go (is_push c) refl

@@ -1,5 +1,5 @@
 -- No more is told than commands are run, so the counts have room.
-use Rattle.std.proofs.Common.{ℕ, ◌+◌, ◌^◌, ◌≤◌, ◌<◌, arith}
+use Rattle.std.proofs.Common.{ℕ, ◌+◌, ◌^◌, ◌<◌, arith}
 use Rattle.world.specs.declared.answer.Outcome.{Outcome}
 use Rattle.world.specs.declared.answer.Outcome.TheVariants as outcome
 use Rattle.replication_cli.specs.declared.tally.Tally.{Tally}

@@ -1,5 +1,5 @@
 -- What a command does to a storm that is being run.
-use Rattle.std.proofs.Common.{◌≡◌, ℕ, ◌+◌, List, Some, None, false, refl, sym, ap, inl, inr, add-zero, add-one}
+use Rattle.std.proofs.Common.{◌≡◌, ℕ, ◌+◌, Some, None, false, refl, sym, ap, inl, inr, add-zero, add-one}
 use Rattle.std.specs.Prelude.{◌⊎◌, Option}
 use Rattle.rep_values.specs.declared.refusal.Refusal.{Refusal}
 use Rattle.report_text.specs.Refusals.{is_memory, refused_text}

@@ -25,16 +25,15 @@ use Rattle.world_state.specs.PushAnswers.{push_count, push_errors}
 use Rattle.world_state.specs.Procs.{Procs, proc_of}
 use Rattle.world_state.specs.CallBlocks.{sent_number}
 use Rattle.world.specs.declared.answer.Answer.{Answer}
-use Rattle.world.specs.declared.answer.Outcome.{Outcome}
 use Rattle.world.specs.declared.answer.Outcome.TheVariants as outcome
 use Rattle.world.specs.Outcomes.{committed, block_outcome, world_outcome}
-use Rattle.world.specs.Texts.{committed_text, block_text, new_error_text, pushed_text, refreshed_text, log_purged_text, shown_found, call_block_text, calls_sent_text, procs_text, shown_calls, show_text, world_text}
+use Rattle.world.specs.Texts.{committed_text, block_text, new_error_text, refreshed_text, log_purged_text, shown_found, call_block_text, procs_text, shown_calls, show_text, world_text}
 use Rattle.world.specs.Doing.{IsDone}
 use Rattle.replication_cli.specs.declared.tally.Tally.{Tally}
 use Rattle.replication_cli.specs.Words.{word_at, digits_number}
 use Rattle.replication_cli.specs.Tallies.{is_commit, is_refused, is_push, errors_of, with_text, with_outcome, NumbersFit}
-use Rattle.replication_cli.specs.Runs.{Running, IsNamedBlock}
-use Rattle.replication_cli.proofs.WordsOfLines.{is_word, word_of_line, name_is_word, decimal_is_word, decimal_is_not_none, digits_number-decimal}
+use Rattle.replication_cli.specs.Runs.{IsNamedBlock}
+use Rattle.replication_cli.proofs.WordsOfLines.{word_of_line, name_is_word, decimal_is_word, decimal_is_not_none, digits_number-decimal}
 
 -- ---- counting
 

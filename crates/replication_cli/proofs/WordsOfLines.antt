@@ -1,5 +1,5 @@
 -- The words of a line that is made of words, and the numbers that some of them are.
-use Rattle.std.proofs.Common.{◌≡◌, ℕ, zero, suc, ◌+◌, ◌*◌, ◌-◌, ◌^◌, ◌<◌, ◌≤◌, ◌==◌, Bool, true, false, cond, List, [], ◌∷◌, ◌++◌, length, map, take, drop, refl, sym, ap, subst, ◌∙◌, arith, lit≤, add-one, append_assoc}
+use Rattle.std.proofs.Common.{◌≡◌, ℕ, zero, suc, ◌+◌, ◌*◌, ◌-◌, ◌^◌, ◌<◌, ◌≤◌, ◌==◌, Bool, true, false, List, [], ◌∷◌, ◌++◌, length, map, take, drop, refl, ap, subst, ◌∙◌, arith, add-one, append_assoc}
 use Rattle.std.specs.Prelude.{◌&&◌, ◌||◌, not, codes, decimal, fold, nat_eq, nat_le}
 use Rattle.std.specs.List.{AllByRecursion, list_all, position_or_len, before_first, after_first}
 use Rattle.std.specs.Int.Digits.{digits_of, number_from_digits_after}

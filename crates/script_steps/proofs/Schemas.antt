@@ -57,30 +57,13 @@ declared_lands number d w w' answer done =
 
 -- the schema behind a command that was done
 pub lands : (number : ℕ) (c : Command) (w w' : WorldState) (answer : Answer) → IsDone number c w w' answer → renewed (schema_with c w.schema) w.schema ≡ w'.schema
-lands number command.Nothing w w' answer done = plain number w w' command.Nothing tt done.world
 lands number (command.Declare d) w w' answer done = declared_lands number d w w' answer done
 lands number (command.Snapshot site table parent tests) w w' answer done =
     along number w w' (with_snapshot_at site (table_place w.schema table) parent (tests_in tests) w) done.world (snapshot number w w' site (table_place w.schema table) parent (tests_in tests))
 lands number (command.Row table values) w w' answer done = along number w w' (world_done number (command.Row table values) w) done.world refl
 lands number command.Resume w w' answer done = along number w w' (resumed w.phase w) done.world (resume number w w' w.phase)
-lands number (command.Statement statement) w w' answer done = plain number w w' (command.Statement statement) tt done.world
-lands number (command.Txn site) w w' answer done = plain number w w' (command.Txn site) tt done.world
-lands number command.Commit w w' answer done = plain number w w' command.Commit tt done.world
-lands number command.Abandon w w' answer done = plain number w w' command.Abandon tt done.world
-lands number (command.Push from to count) w w' answer done = plain number w w' (command.Push from to count) tt done.world
-lands number (command.Fates from to fates) w w' answer done = plain number w w' (command.Fates from to fates) tt done.world
-lands number (command.ClearFates from to) w w' answer done = plain number w w' (command.ClearFates from to) tt done.world
-lands number (command.Link from to word) w w' answer done = plain number w w' (command.Link from to word) tt done.world
-lands number (command.Clock site time) w w' answer done = plain number w w' (command.Clock site time) tt done.world
-lands number (command.Purge site) w w' answer done = plain number w w' (command.Purge site) tt done.world
-lands number (command.Execute site origin position) w w' answer done = plain number w w' (command.Execute site origin position) tt done.world
-lands number (command.DropError site origin position) w w' answer done = plain number w w' (command.DropError site origin position) tt done.world
-lands number (command.Refresh site how) w w' answer done = plain number w w' (command.Refresh site how) tt done.world
-lands number (command.PurgeLog master table) w w' answer done = plain number w w' (command.PurgeLog master table) tt done.world
 lands number command.Suspend w w' answer done = along number w w' (world_done number command.Suspend w) done.world refl
-lands number (command.Join site source) w w' answer done = plain number w w' (command.Join site source) tt done.world
-lands number (command.Show what site) w w' answer done = plain number w w' (command.Show what site) tt done.world
-lands number (command.Procedures line) w w' answer done = plain number w w' (command.Procedures line) tt done.world
+lands number c w w' answer done = plain number w w' c tt done.world
 
 -- the same, by what was found of it
 pub schema-done : (number : ℕ) (c : Command) (w w' : WorldState) (answer : Answer) (schema : Schema) (next : Option Schema) → IsDone number c w w' answer → schema ≡ w.schema → next ≡ schema_with c schema
@@ -93,40 +76,14 @@ pub schema-refused : (number : ℕ) (c : Command) (w w' : WorldState) (r : Refus
 schema-refused number c w w' r refused = sym (ap (λ (y : WorldState). y.schema) refused.world ∙ (refused_stays c w).schema)
 
 short_calls : (number : ℕ) (line : ProcLine) (w w' : WorldState) (r : Refused) → IsOutOfMemory number (command.Procedures line) w w' r → w.schema ≡ w'.schema
-short_calls number (proc_line.Table table columns) w w' r short = sym (ap (λ (y : WorldState). y.schema) (short.kept refl))
-short_calls number (proc_line.Procedure procedure table does) w w' r short = sym (ap (λ (y : WorldState). y.schema) (short.kept refl))
-short_calls number (proc_line.Calls site) w w' r short = sym (ap (λ (y : WorldState). y.schema) (short.kept refl))
-short_calls number (proc_line.Call call) w w' r short = sym (ap (λ (y : WorldState). y.schema) (short.kept refl))
-short_calls number (proc_line.Send to) w w' r short = sym (ap (λ (y : WorldState). y.schema) (short.kept refl))
 short_calls number (proc_line.Push from to) w w' r short = sym (ap (λ (y : WorldState). y.schema) (short.called from to refl).rest)
-short_calls number (proc_line.Fates from to fates) w w' r short = sym (ap (λ (y : WorldState). y.schema) (short.kept refl))
-short_calls number (proc_line.Execute site origin position) w w' r short = sym (ap (λ (y : WorldState). y.schema) (short.kept refl))
+short_calls number _ w w' r short = sym (ap (λ (y : WorldState). y.schema) (short.kept refl))
 
 -- and so does one for which there was no memory
 pub schema-short : (number : ℕ) (c : Command) (w w' : WorldState) (r : Refused) → IsOutOfMemory number c w w' r → w.schema ≡ w'.schema
 schema-short number (command.Push from to count) w w' r short = sym (short.pushed from to count refl).beside.schema
 schema-short number (command.Procedures line) w w' r short = short_calls number line w w' r short
-schema-short number command.Nothing w w' r short = sym (ap (λ (y : WorldState). y.schema) (short.kept refl))
-schema-short number (command.Declare d) w w' r short = sym (ap (λ (y : WorldState). y.schema) (short.kept refl))
-schema-short number (command.Snapshot site table parent tests) w w' r short = sym (ap (λ (y : WorldState). y.schema) (short.kept refl))
-schema-short number (command.Row table values) w w' r short = sym (ap (λ (y : WorldState). y.schema) (short.kept refl))
-schema-short number command.Resume w w' r short = sym (ap (λ (y : WorldState). y.schema) (short.kept refl))
-schema-short number (command.Statement statement) w w' r short = sym (ap (λ (y : WorldState). y.schema) (short.kept refl))
-schema-short number (command.Txn site) w w' r short = sym (ap (λ (y : WorldState). y.schema) (short.kept refl))
-schema-short number command.Commit w w' r short = sym (ap (λ (y : WorldState). y.schema) (short.kept refl))
-schema-short number command.Abandon w w' r short = sym (ap (λ (y : WorldState). y.schema) (short.kept refl))
-schema-short number (command.Fates from to fates) w w' r short = sym (ap (λ (y : WorldState). y.schema) (short.kept refl))
-schema-short number (command.ClearFates from to) w w' r short = sym (ap (λ (y : WorldState). y.schema) (short.kept refl))
-schema-short number (command.Link from to word) w w' r short = sym (ap (λ (y : WorldState). y.schema) (short.kept refl))
-schema-short number (command.Clock site time) w w' r short = sym (ap (λ (y : WorldState). y.schema) (short.kept refl))
-schema-short number (command.Purge site) w w' r short = sym (ap (λ (y : WorldState). y.schema) (short.kept refl))
-schema-short number (command.Execute site origin position) w w' r short = sym (ap (λ (y : WorldState). y.schema) (short.kept refl))
-schema-short number (command.DropError site origin position) w w' r short = sym (ap (λ (y : WorldState). y.schema) (short.kept refl))
-schema-short number (command.Refresh site how) w w' r short = sym (ap (λ (y : WorldState). y.schema) (short.kept refl))
-schema-short number (command.PurgeLog master table) w w' r short = sym (ap (λ (y : WorldState). y.schema) (short.kept refl))
-schema-short number command.Suspend w w' r short = sym (ap (λ (y : WorldState). y.schema) (short.kept refl))
-schema-short number (command.Join site source) w w' r short = sym (ap (λ (y : WorldState). y.schema) (short.kept refl))
-schema-short number (command.Show what site) w w' r short = sym (ap (λ (y : WorldState). y.schema) (short.kept refl))
+schema-short number _ w w' r short = sym (ap (λ (y : WorldState). y.schema) (short.kept refl))
 
 -- and so does a line that isn't done
 pub schema-err : (number : ℕ) (c : Command) (w w' : WorldState) (r : Refused) (schema : Schema) → IsOutOfMemory number c w w' r ⊎ IsRefused number c w w' r → schema ≡ w.schema → schema ≡ w'.schema
