@@ -40,6 +40,40 @@ fn put_errors<W: fmt::Write>(f: &mut fmt::Formatter<W>, command: &Command) -> fm
     f.write_str("each that stands was printed as an `error` line behind a push of calls")
 }
 
+/// What to do about a refusal, where the same words serve every line and all that it names; None for the others.
+fn fixed_advice(refusal: &Refusal) -> Option<&'static str> {
+    let text = match refusal {
+        Refusal::UnknownName => {
+            "upper and lower case differ; declare the name, or write the declared one"
+        }
+        Refusal::NameTaken => "each name, each level and each grouped column stands once",
+        Refusal::WrongPhase => {
+            "declarations stand above `resume`, statements in a block, and all else behind `resume` and outside of blocks"
+        }
+        Refusal::RowShape => {
+            "give a value for each column that the site doesn't fill in, numbers for NUMBER and DATE, texts for TEXT and SITE"
+        }
+        Refusal::KeyTaken => "`update` changes it",
+        Refusal::NoRow => "`insert` adds one",
+        Refusal::UniqueTaken(_) => "give it other values",
+        Refusal::ValueRange => "numbers go from -1000000000000000 to 1000000000000000",
+        Refusal::KeyNotOwn => {
+            "in a convergent table a new key begins with the name of the site that writes it"
+        }
+        Refusal::RuleBroken(_) => "its maximum never falls, and its minimum never rises",
+        Refusal::Barred => {
+            "nothing is deleted from it, and a block writes convergent tables alone or others alone"
+        }
+        Refusal::FilledBySite => "leave it out",
+        Refusal::QueueNotEmpty(_) => "push them to the master first",
+        Refusal::Suspended => "say `resume` first",
+        Refusal::CheckFailed(_) => "give values that meet it",
+        Refusal::Memory => "give the program more",
+        _ => return None,
+    };
+    Some(text)
+}
+
 /// What to do about a refusal.
 fn put_advice<W: fmt::Write>(
     f: &mut fmt::Formatter<W>,
@@ -47,51 +81,22 @@ fn put_advice<W: fmt::Write>(
     refusal: &Refusal,
 ) -> fmt::Result {
     match refusal {
-        Refusal::UnknownName => f.write_str(
-            "upper and lower case differ; declare the name, or write the declared one",
-        ),
-        Refusal::NameTaken => f.write_str(
-            "each name, each level and each grouped column stands once",
-        ),
-        Refusal::WrongPhase => f.write_str(
-            "declarations stand above `resume`, statements in a block, and all else behind `resume` and outside of blocks",
-        ),
-        Refusal::RowShape => f.write_str(
-            "give a value for each column that the site doesn't fill in, numbers for NUMBER and DATE, texts for TEXT and SITE",
-        ),
-        Refusal::KeyTaken => f.write_str("`update` changes it"),
-        Refusal::NoRow => f.write_str("`insert` adds one"),
-        Refusal::UniqueTaken(_) => f.write_str("give it other values"),
-        Refusal::ValueRange => f.write_str("numbers go from -1000000000000000 to 1000000000000000"),
-        Refusal::KeyNotOwn => f.write_str(
-            "in a convergent table a new key begins with the name of the site that writes it",
-        ),
-        Refusal::RuleBroken(_) => f.write_str(
-            "its maximum never falls, and its minimum never rises",
-        ),
-        Refusal::Barred => f.write_str(
-            "nothing is deleted from it, and a block writes convergent tables alone or others alone",
-        ),
-        Refusal::FilledBySite => f.write_str("leave it out"),
         Refusal::LinkDown => put_link(f, command),
         Refusal::NoSuchError => put_errors(f, command),
         Refusal::StillFails(error) => {
             f.write_str("first ")?;
             put_remedy(f, error)
         }
-        Refusal::QueueNotEmpty(_) => f.write_str("push them to the master first"),
         Refusal::LogTooYoung(_, _) => put_refresh(f, command),
-        Refusal::Suspended => f.write_str("say `resume` first"),
         Refusal::LimitReached(limit) => write!(f, "there may be {}", limit_text(*limit)),
-        Refusal::SchemaRule(rule) => f.write_str(rule_text(*rule).unwrap_or(
-            "see the rules of schemas",
-        )),
-        Refusal::CheckFailed(_) => f.write_str("give values that meet it"),
+        Refusal::SchemaRule(rule) => {
+            f.write_str(rule_text(*rule).unwrap_or("see the rules of schemas"))
+        }
         Refusal::NotQuiet(site, _) => write!(
             f,
             "push from each master to {site}, and execute or drop the errors that `show errors {site}` lists"
         ),
-        Refusal::Memory => f.write_str("give the program more"),
+        _ => f.write_str(fixed_advice(refusal).unwrap_or("see the guide")),
     }
 }
 
