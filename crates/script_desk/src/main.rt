@@ -25,18 +25,12 @@ use std::process::ExitCode;
 use std::{env, io};
 pub use words::{Asked, asked_by};
 
-/// Appends the words behind the program's name.
-fn add_words<R: Env + AllocGlobal>(rt: &R, words: &mut Vec<String>) -> io::Result<()> {
-    for word in env::args(rt)?.skip(1) {
-        words.push(word)?;
-    }
-    Ok(())
-}
-
 /// The words behind the program's name, or an error where they can't be had as text or there is no memory.
 fn words_of<R: Env + AllocGlobal>(rt: &R) -> io::Result<Vec<String>> {
     let mut words = Vec::new(rt.alloc());
-    add_words(rt, &mut words)?;
+    for word in env::args(rt)?.skip(1) {
+        words.push(word)?;
+    }
     Ok(words)
 }
 
@@ -66,29 +60,16 @@ fn exit_code(status: Status) -> ExitCode
     ExitCode::from(status.code())
 }
 
-/// Does what the words ask for, with the process's own input and output.
-fn run_standard(rt: &HostRuntime, words: &[&str]) -> Status {
-    let mut source = StdSource::make(rt.reader());
-    let mut sink = StdSink::make(io::writer(rt));
-    run_desk(rt, rt.alloc(), words, &mut source, &mut sink)
-}
-
-/// Does what the words ask for, where there is memory for slices of them.
-fn run_asked(rt: &HostRuntime, words: &[String]) -> Status {
-    match slices_of(rt.alloc(), words) {
-        Ok(slices) => run_standard(rt, &slices),
-        Err(_) => Status::Memory,
-    }
-}
-
-/// How the run ends, where the words can be had, and where they can't.
-fn status_of(rt: &HostRuntime) -> Status {
-    match words_of(rt) {
-        Ok(words) => run_asked(rt, &words),
-        Err(error) => status_without_words(&error),
-    }
-}
-
 fn main(rt: HostRuntime) -> ExitCode {
-    exit_code(status_of(&rt))
+    let alloc = rt.alloc();
+    let words = match words_of(&rt) {
+        Ok(words) => words,
+        Err(error) => return exit_code(status_without_words(&error)),
+    };
+    let Ok(words) = slices_of(alloc, &words) else {
+        return exit_code(Status::Memory);
+    };
+    let mut source = StdSource::make(rt.reader());
+    let mut sink = StdSink::make(io::writer(&rt));
+    exit_code(run_desk(&rt, alloc, &words, &mut source, &mut sink))
 }
