@@ -126,12 +126,7 @@ impl Explainer {
     }
 
     /// The words behind a line of a push.
-    fn push_words(
-        &self,
-        alloc: Global,
-        made: Made<'_>,
-        line: &[u8],
-    ) -> Result<String, NoMemory> {
+    fn push_words(&self, alloc: Global, made: Made<'_>, line: &[u8]) -> Result<String, NoMemory> {
         let mut text = String::new(alloc);
         self.add_push_words(alloc, &mut text, made, line)?;
         Ok(text)

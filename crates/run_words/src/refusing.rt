@@ -171,12 +171,7 @@ impl Explainer {
     }
 
     /// Appends why a command isn't for now; where the line before that was refused so has the same cause, that line's number.
-    fn add_cause(
-        &mut self,
-        text: &mut String,
-        line: u32,
-        cause: &Cause,
-    ) -> Result<(), AllocError>
+    fn add_cause(&mut self, text: &mut String, line: u32, cause: &Cause) -> Result<(), AllocError>
         ensures { self.new ≡ self.old }
     {
         let first = self.flow.first_cause(*cause);

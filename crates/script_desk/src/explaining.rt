@@ -33,11 +33,7 @@ fn status_of(next: Next) -> Status
 
 /// What a script's run prints, with words, and how it ends. It is told behind what is told already.
 #[tactic(auto, using(crate::proofs::Ends::end_facts))]
-fn explained_in(
-    alloc: Global,
-    script: &[u8],
-    told: &mut Told,
-) -> Result<(String, Status), NoMemory>
+fn explained_in(alloc: Global, script: &[u8], told: &mut Told) -> Result<(String, Status), NoMemory>
     ensures { IfOk result (λ ended. RunEnds script.now ended.1) }
 {
     let next = explain(alloc, script, told)?;

@@ -40,7 +40,8 @@ impl Linter {
         for to in self.steps.schema().sites.as_slice() {
             self.add_unfinished(from, &to.name, found)?;
         }
-        self.trail.add_standing(from, standing(self.steps.world(), from), found)
+        self.trail
+            .add_standing(from, standing(self.steps.world(), from), found)
     }
 
     /// Adds what may be meant otherwise in a script whose declarations have ended.

@@ -70,12 +70,7 @@ fn add_choices(
 }
 
 /// Tells what `additive` makes of a column, or would.
-fn add_sum(
-    text: &mut String,
-    sum: i64,
-    cell: &Cell<'_>,
-    here: &Value,
-) -> Result<(), AllocError> {
+fn add_sum(text: &mut String, sum: i64, cell: &Cell<'_>, here: &Value) -> Result<(), AllocError> {
     match cell.adding {
         Adding::Did => writeln!(text, "            `additive` makes {sum} of it"),
         Adding::Could if is_in_range(sum) => add_choices(text, sum, cell, here),

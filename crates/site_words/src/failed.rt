@@ -197,7 +197,14 @@ fn add_update(
         table.name.0,
         ValuesText(key.values())
     )?;
-    add_parts(text, entry, here.name, table, here.store.get(number, key), parts)
+    add_parts(
+        text,
+        entry,
+        here.name,
+        table,
+        here.store.get(number, key),
+        parts,
+    )
 }
 
 /// Tells of the row that has this key now.

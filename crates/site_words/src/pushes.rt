@@ -146,7 +146,9 @@ impl Pushed {
         entry: &Entry,
     ) -> Result<(), AllocError> {
         let Entry::Done {
-            origin, position, ..
+            origin,
+            position,
+            ..
         } = entry
         else {
             return Ok(());

@@ -60,8 +60,8 @@ impl<'a> fmt::Display for State<'a> {
 
 /// The transaction of another master that one waits for at a site, if there is one.
 fn missing_past<'a>(site: &Site<PageTables>, past: &'a [PastEntry]) -> Option<&'a PastEntry> {
-    past.iter()
-        .find(|one| !one.origin.is_same(site.name()) && site.covered(&one.origin) < one.number)
+    past.iter().find(|one| !one.origin.is_same(site.name())
+        && site.covered(&one.origin) < one.number)
 }
 
 /// What became of a position that didn't arrive.
@@ -82,12 +82,7 @@ fn after<'a>(site: &Site<PageTables>, position: u64, past: &'a [PastEntry]) -> S
 }
 
 /// For what a position waits at a site, up to whose mark all positions are finished.
-fn waiting<'a>(
-    site: &Site<PageTables>,
-    position: u64,
-    mark: u64,
-    sent: &Sent<'a>,
-) -> State<'a> {
+fn waiting<'a>(site: &Site<PageTables>, position: u64, mark: u64, sent: &Sent<'a>) -> State<'a> {
     if sent.dep > mark {
         return State::Behind {
             position,
@@ -99,11 +94,7 @@ fn waiting<'a>(
 }
 
 /// What became of a position that arrived.
-fn arrived<'a>(
-    sender: &'a Site<PageTables>,
-    site: &Site<PageTables>,
-    position: u64,
-) -> State<'a> {
+fn arrived<'a>(sender: &'a Site<PageTables>, site: &Site<PageTables>, position: u64) -> State<'a> {
     match sender.queue().entry(site.name(), position) {
         Some(sent) => waiting(site, position, site.mark(sender.name()), &sent),
         None => State::Waits(position),
