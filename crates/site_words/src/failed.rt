@@ -31,6 +31,14 @@ impl<'a> Here<'a> {
     fn table(&self, number: u32) -> Option<&TableEntry> {
         self.store.schema().tables.as_slice().get(number as usize)
     }
+
+    /// The row of a key in the table of a number.
+    fn row(&self, number: u32, key: &Key) -> Option<&Row> {
+        match self.store.schema().tables.as_slice().get(number as usize) {
+            Some(_) => self.store.get(number, key),
+            None => None,
+        }
+    }
 }
 
 /// Whether a column, which stands at a place of its table, belongs to a group by the group's number.
@@ -197,14 +205,7 @@ fn add_update(
         table.name.0,
         ValuesText(key.values())
     )?;
-    add_parts(
-        text,
-        entry,
-        here.name,
-        table,
-        here.store.get(number, key),
-        parts,
-    )
+    add_parts(text, entry, here.name, table, here.row(number, key), parts)
 }
 
 /// Tells of the row that has this key now.
@@ -214,7 +215,7 @@ fn add_present(
     number: u32,
     key: &Key,
 ) -> Result<(), AllocError> {
-    match here.store.get(number, key) {
+    match here.row(number, key) {
         Some(present) => writeln!(
             text,
             "        {} has {} now",
