@@ -1,6 +1,6 @@
 -- What a line does to lanes and declared sites.
 use Rattle.std.proofs.Common.{◌≡◌, ℕ, List, [], ◌∷◌, ◌++◌, map, Bool, true, false, cond, Some, None, refl, sym, ap, subst, ◌∙◌, append-nil, inl, inr}
-use Rattle.std.specs.Prelude.{◌⊎◌, Option}
+use Rattle.std.specs.Prelude.{◌⊎◌, Option, Result, Ok, Err, OnOk}
 use Rattle.std.specs.List.{AllByRecursion}
 use Rattle.std.proofs.lemmas.List.{map-append}
 use Rattle.rep_values.specs.declared.name.SiteName.{SiteName}
@@ -81,11 +81,12 @@ declares_none c lanes other = sym (append-nil lanes)
 changed_same : (test : SiteEntry → Bool) (change : SiteEntry → SiteEntry) → ((entry : SiteEntry) → lane_of (change entry) ≡ lane_of entry) → (sites : List SiteEntry)
     → map lane_of (with_changed test change sites) ≡ map lane_of sites
 changed_same test change same [] = refl
-changed_same test change same (entry ∷ sites) = go (test entry)
+changed_same test change same (entry ∷ sites) = go (test entry) (changed_same test change same sites)
   where
-    go : (b : Bool) → map lane_of (cond b (change entry ∷ sites) (entry ∷ with_changed test change sites)) ≡ lane_of entry ∷ map lane_of sites
-    go true = ap (λ (lane : Lane). lane ∷ map lane_of sites) (same entry)
-    go false = ap (λ (lanes : List Lane). lane_of entry ∷ lanes) (changed_same test change same sites)
+    go : (b : Bool) → map lane_of (with_changed test change sites) ≡ map lane_of sites
+        → map lane_of (cond b (change entry ∷ sites) (entry ∷ with_changed test change sites)) ≡ lane_of entry ∷ map lane_of sites
+    go true later = ap (λ (lane : Lane). lane ∷ map lane_of sites) (same entry)
+    go false later = ap (λ (lanes : List Lane). lane_of entry ∷ lanes) later
 
 -- a declaration adds the lanes of its sites
 declared_adds : (d : Declare) (s : Schema) → map lane_of (declared d s).sites ≡ map lane_of s.sites ++ lanes_in d
@@ -115,7 +116,7 @@ module _ (number : ℕ) (w : WorldState) where
   plain : (c : Command) → IsPlain c → (world_done number c w).schema ≡ w.schema
   plain c is = (plain_stays number c w is).schema
 
-  snapshot : (site : SiteName) (table : Option ℕ) (parent : Option ParentWords) (tests : List TestWords) → (with_snapshot_at site table parent (tests_in tests) w).schema ≡ w.schema
+  snapshot : (site : SiteName) (table : Option ℕ) (parent : Option ParentWords) (tests : Option (List TestWords)) → (with_snapshot_at site table parent (tests_in tests) w).schema ≡ w.schema
   snapshot site None parent tests = refl
   snapshot site (Some table) parent tests = refl
 
@@ -184,6 +185,12 @@ adds_done number c old new w answer done world lanes = record {
       ∙ sym (done_adds number old.world.world c)
       ∙ ap (λ (y : WorldState). map lane_of y.schema.sites) (sym done.world ∙ sym world);
 }
+
+-- so it is where there was memory to follow it
+pub adds_followed : {A E : Type 0} (result : Result A E) (number : ℕ) (c : Command) (old new : Followed) (w : WorldState) (answer : Answer) → IsDone number c old.world.world w answer → new.world.world ≡ w
+    → OnOk result (new.lanes ≡ old.lanes ++ lanes_declared c) → OnOk result (AddsLanes old new)
+adds_followed (Ok a) number c old new w answer done world lanes = adds_done number c old new w answer done world lanes
+adds_followed (Err e) number c old new w answer done world lanes = tt
 
 -- behind one that was refused, not for want of memory
 pub adds_refused : (number : ℕ) (c : Command) (old new : Followed) (w : WorldState) (r : Refused) → is_memory r.refusal ≡ false → IsOutOfMemory number c old.world.world w r ⊎ IsRefused number c old.world.world w r

@@ -1,6 +1,6 @@
 -- The step of a line, by what its command does, and that of all lines.
 use Rattle.std.proofs.Common.{◌≡◌, ◌≢◌, ℕ, ◌+◌, ◌-◌, ◌≤◌, ◌<◌, arith, List, [], ◌∷◌, ◌++◌, length, map, Bool, true, false, cond, Some, None, refl, sym, ap, subst, ◌∙◌, nat_lt, append_assoc, append-nil}
-use Rattle.std.specs.Prelude.{slice_get, is_err, Option, Result, Ok, Err}
+use Rattle.std.specs.Prelude.{slice_get, is_err, Option, Result, Ok, Err, IfOk, OnOk}
 use Rattle.std.proofs.lemmas.Bool.{ltb-true, ltb-false, lt-leb, le-ltb, lt-ltb}
 use Rattle.rep_values.specs.declared.refusal.Refusal.{Refusal}
 use Rattle.report_text.specs.Texts.{malformed_text}
@@ -100,6 +100,12 @@ line_goes n line c outcome s s' few read goes said = record {
   where
     is : (turns : List LiveTurn) → engine_step turns s n line ≡ command_step turns s n c
     is turns = step_is turns s n line few ∙ ap (read_step turns s n) read
+
+-- so it is where such a command was run
+pub line_answers : {A E : Type 0} (outcome_of : A → Outcome) (result : Result A E) (n : ℕ) (line : List ℕ) (c : LiveCommand) (s s' : LiveState) → OnOk result (GoesOn n c s s')
+    → IfOk result (λ answer. said_in (outcome_of answer) ≡ Ok (command_refused s n c)) → n ≤ most_lines → live_parsed line ≡ Ok c → IfOk result (λ answer. LineGoes n line (outcome_of answer) s s')
+line_answers outcome_of (Ok answer) n line c s s' goes said few read = line_goes n line c (outcome_of answer) s s' few read goes said
+line_answers outcome_of (Err e) n line c s s' goes said few read = tt
 
 -- an empty line meets no refusal
 nothing_meets : (p : LivePart) (w : WorldState) (n : ℕ) → plain_refused p w n command.Nothing ≡ None

@@ -1,5 +1,5 @@
 //! A world that is followed.
-ghost use Rattle.std.specs.Prelude.{◌≡◌, ◌+◌, ◌++◌, ◌≤◌, [], false, None, Some, Ok, map, IfOk, OnOk};
+ghost use Rattle.std.specs.Prelude.{◌≡◌, ◌+◌, ◌++◌, ◌≤◌, [], false, None, Some, Ok, map, IfOk, OnOk, IsTrue};
 ghost use Rattle.script_parse.specs.Named.{NamesColumn};
 ghost use Rattle.script_parse.specs.LiveLines.{LiveNamesColumn};
 ghost use Rattle.report_text.specs.Refusals.{is_memory};
@@ -108,6 +108,16 @@ fn take_in(
     match part.take(alloc, number, command) {
         Ok(refusal) => Ok(answered(number, refusal)),
         Err(NoMemory) => Err(NoMemory),
+    }
+}
+
+/// Whether a command is that of a line that is passed over.
+fn is_nothing(command: &LiveCommand) -> bool
+    ensures { IsTrue result → command.now ≡ LiveCommand.Plain Command.Nothing }
+{
+    match command {
+        LiveCommand::Plain(Command::Nothing) => true,
+        _ => false,
     }
 }
 
@@ -389,7 +399,7 @@ impl Follower {
     }
 
     /// Runs a line, and tells what came of it and to journals.
-    #[tactic(auto, using(crate::proofs::Stories::keeps_all, crate::proofs::LineSteps::line_goes, crate::proofs::LineSteps::line_passes, crate::proofs::LineSteps::line_breaks))]
+    #[tactic(auto, using(crate::proofs::Stories::keeps_all, crate::proofs::LineSteps::line_answers, crate::proofs::LineSteps::line_passes, crate::proofs::LineSteps::line_breaks))]
     fn run_line<X: Threads + Wait + Sync>(
         &mut self,
         rt: &X,
@@ -407,10 +417,12 @@ impl Follower {
         ensures keeps { IfOk result (λ answer. KeepsTold self.old self.new answer.entries.items) }
     {
         match self.parser.parse_live(alloc, line) {
-            Ok(LiveCommand::Plain(Command::Nothing)) => {
-                Ok(without_entries(alloc, Outcome::PassedOver))
+            Ok(command) => {
+                if is_nothing(&command) {
+                    return Ok(without_entries(alloc, Outcome::PassedOver));
+                }
+                self.run(rt, alloc, number, command, told)
             }
-            Ok(command) => self.run(rt, alloc, number, command, told),
             Err(LineStop::Rule(rule)) => Ok(without_entries(alloc, Outcome::Malformed(rule))),
             Err(LineStop::Memory) => Err(NoMemory),
         }

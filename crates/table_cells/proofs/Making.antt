@@ -2,7 +2,7 @@
 use Rattle.std.proofs.Common.{◌≡◌, ℕ, suc, ◌+◌, List, [], ◌∷◌, ◌++◌, map, ap, ◌∙◌, append_assoc, add-one}
 use Rattle.rep_schema.specs.Tables.{Cells}
 use Rattle.rep_values.specs.declared.value.Value.{Value}
-use Rattle.page_tables.specs.Stored.{Stored}
+use Rattle.rep_schema.specs.Putting.{StoreState}
 use Rattle.page_text.specs.declared.table.Cell.{Cell}
 use Rattle.table_cells.specs.Cells.{cell_of, cells_from}
 
@@ -13,7 +13,7 @@ made_more f left rest x made more whole y kept next is push =
     ap (λ m. m ++ map f rest) push ∙ append_assoc made (y ∷ []) (map f rest) ∙ ap (λ z. made ++ (z ∷ map f rest)) is ∙ (rw next at kept)
 
 -- the same of the cells of a row
-pub cells_more : (masters : List Stored) (table : ℕ) (key left rest : Cells) (column : ℕ) (v : Value) (cells more whole : List Cell) (cell : Cell)
+pub cells_more : (masters : List StoreState) (table : ℕ) (key left rest : Cells) (column : ℕ) (v : Value) (cells more whole : List Cell) (cell : Cell)
     → cells ++ cells_from masters table key column left ≡ whole → left ≡ v ∷ rest → cell ≡ cell_of masters table key column v → more ≡ cells ++ cell ∷ []
     → more ++ cells_from masters table key (column + 1) rest ≡ whole
 cells_more masters table key left rest column v cells more whole cell kept next is push =

@@ -6,7 +6,7 @@ use Rattle.std.proofs.lemmas.Bool.{lt-ltb, le-ltb, le-leb, ltb-true, leb-true, a
 use Rattle.rep_values.specs.declared.value.Value.{Value}
 use Rattle.rep_values.specs.Number.{IsKeyLen}
 use Rattle.rep_schema.specs.Tables.{Cells}
-use Rattle.page_tables.specs.Stored.{Stored}
+use Rattle.rep_schema.specs.Putting.{StoreState}
 use Rattle.page_text.specs.declared.look.Look.TheVariants.{Same, Differs}
 use Rattle.table_cells.specs.Cells.{shows, is_key, look_of_cell}
 
@@ -38,7 +38,7 @@ key_fails key keyless = false_from_ne_true (is_key key) (λ passes.
     let most : length key ≤ 4 = leb-true (length key) 4 parts.1 in
     keyless (omega arith, most))
 
-module _ (masters : List Stored) (table : ℕ) (key : Cells) (column : ℕ) (v : Value) where
+module _ (masters : List StoreState) (table : ℕ) (key : Cells) (column : ℕ) (v : Value) where
   -- each master shows the value
   pub look_same : IsKeyLen (length key) → list_all (shows table key column v) masters ≡ true → Same ≡ look_of_cell masters table key column v
   look_same keyed all = sym (cond-true (is_key key && list_all (shows table key column v) masters) Same Differs
