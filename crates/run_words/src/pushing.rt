@@ -62,21 +62,36 @@ impl Explainer {
         ensures told { OnOk result (told.new ≡ told.old ++ bytes.now) }
     {
         let pushed = self.fared(alloc, from, to, plan)?;
+        self.tell_fared(alloc, from, to, pushed.as_ref(), bytes, told)
+    }
+
+    /// Tells those lines, where it is known how the push fared.
+    fn tell_fared<'a>(
+        &self,
+        alloc: Global,
+        from: &'a SiteName,
+        to: &'a SiteName,
+        pushed: Option<&'a Pushed>,
+        bytes: &[u8],
+        told: &mut Told,
+    ) -> Result<(), NoMemory>
+        ensures { OnOk result (told.new ≡ told.old ++ bytes.now) }
+    {
         let made = Made {
             stream: Stream::Rows,
             from,
             to,
-            pushed: pushed.as_ref(),
+            pushed,
         };
         self.tell_push(alloc, made, bytes, told)
     }
 
     /// Tells the line of a push of calls and those of its errors, with words behind the latter.
-    pub(crate) fn tell_calls(
+    pub(crate) fn tell_calls<'a>(
         &self,
         alloc: Global,
-        from: &SiteName,
-        to: &SiteName,
+        from: &'a SiteName,
+        to: &'a SiteName,
         bytes: &[u8],
         told: &mut Told,
     ) -> Result<(), NoMemory>
