@@ -1,5 +1,5 @@
 -- What a line does to lanes and declared sites.
-use Rattle.std.proofs.Common.{◌≡◌, ℕ, List, [], ◌∷◌, ◌++◌, map, Bool, true, false, cond, Some, None, refl, sym, ap, subst, ◌∙◌, append-nil, inl, inr}
+use Rattle.std.proofs.Common.{◌≡◌, ℕ, List, [], ◌∷◌, ◌++◌, map, Bool, true, false, cond, Some, None, refl, sym, ap, ◌∙◌, append-nil, inl, inr}
 use Rattle.std.specs.Prelude.{◌⊎◌, Option, Result, Ok, Err, OnOk}
 use Rattle.std.specs.List.{AllByRecursion}
 use Rattle.std.proofs.lemmas.List.{map-append}
@@ -34,7 +34,7 @@ use Rattle.world_run.specs.Ended.{RanPart}
 use Rattle.world_run.specs.declared.live_part.OpenPart.{OpenPart}
 use Rattle.world_run.specs.LiveParts.{sessions_of, world_behind_part}
 use Rattle.run_story.specs.declared.lane.Lane.{Lane}
-use Rattle.run_story.specs.Lanes.{lane_of, bare, lanes_in, lanes_declared, HasLanes}
+use Rattle.run_story.specs.Lanes.{lane_of, bare, lanes_in, lanes_declared}
 use Rattle.run_story.specs.Telling.{Followed, lane_at, AddsLanes}
 use Rattle.run_story.specs.Running.{PartRan}
 

@@ -1,14 +1,12 @@
 -- The step of a line, by what its command does, and that of all lines.
-use Rattle.std.proofs.Common.{◌≡◌, ◌≢◌, ℕ, ◌+◌, ◌-◌, ◌≤◌, ◌<◌, arith, List, [], ◌∷◌, ◌++◌, length, map, Bool, true, false, cond, Some, None, refl, sym, ap, subst, ◌∙◌, nat_lt, append_assoc, append-nil}
-use Rattle.std.specs.Prelude.{slice_get, is_err, Option, Result, Ok, Err, IfOk, OnOk}
+use Rattle.std.proofs.Common.{◌≡◌, ℕ, ◌≤◌, ◌<◌, List, length, Bool, true, false, cond, None, refl, sym, ap, ◌∙◌, nat_lt}
+use Rattle.std.specs.Prelude.{Option, Result, Ok, Err, IfOk, OnOk}
 use Rattle.std.proofs.lemmas.Bool.{ltb-true, ltb-false, lt-leb, le-ltb, lt-ltb}
 use Rattle.rep_values.specs.declared.refusal.Refusal.{Refusal}
 use Rattle.report_text.specs.Texts.{malformed_text}
 use Rattle.script_lex.specs.Lines.{lexed}
-use Rattle.script_drive.specs.Runs.{Stepped, halts, last_state}
-use Rattle.script_drive.specs.Limits.{limited}
-use Rattle.script_drive.specs.Lines.{lines_after}
-use Rattle.script_drive.specs.LineBytes.{most_lines, most_bytes, line_step}
+use Rattle.script_drive.specs.Runs.{Stepped, halts}
+use Rattle.script_drive.specs.LineBytes.{most_lines, most_bytes}
 use Rattle.script_drive.proofs.LimitLemmas.{limited-many, limited-long, limited-within}
 use Rattle.script_parse.specs.declared.command.Command.{Command}
 use Rattle.script_parse.specs.declared.command.Command.TheVariants as command
@@ -21,7 +19,7 @@ use Rattle.world_state.specs.World.{WorldState}
 use Rattle.world_run.specs.declared.live_part.LivePart.{LivePart}
 use Rattle.world_run.specs.declared.live_part.LivePart.TheVariants as part
 use Rattle.world_run.specs.LiveParts.{taken, part_opened, as_part, session_in}
-use Rattle.world_run.specs.LiveScripts.{LiveState, answered, plain_in, end_in, command_step, read_step, live_step, allowed}
+use Rattle.world_run.specs.LiveScripts.{LiveState, answered, plain_in, end_in, command_step, read_step, live_step}
 use Rattle.run_story.specs.declared.happening.Outcome.{Outcome}
 use Rattle.run_story.specs.declared.happening.Outcome.TheVariants.{PassedOver, Declared, Shown, Done, Refused, Malformed}
 use Rattle.run_story.specs.Telling.{ends_run}

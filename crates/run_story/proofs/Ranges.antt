@@ -1,5 +1,5 @@
 -- Numbers one after the other, and a list that is read at such places.
-use Rattle.std.proofs.Common.{◌≡◌, ℕ, zero, suc, ◌+◌, ◌≤◌, List, [], ◌∷◌, ◌++◌, length, drop, refl, sym, ap, ◌∙◌, arith, inl, inr}
+use Rattle.std.proofs.Common.{◌≡◌, ℕ, zero, suc, ◌+◌, ◌≤◌, List, ◌∷◌, ◌++◌, length, drop, refl, sym, ap, ◌∙◌, arith, inl, inr}
 use Rattle.std.specs.Prelude.{slice_get, Option, None, Some}
 use Rattle.std.specs.List.{filter_map, range_with_len}
 use Rattle.std.proofs.lemmas.List.{drop_all}

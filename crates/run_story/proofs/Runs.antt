@@ -1,15 +1,14 @@
 -- A script that is run line by line, and where the engine's own run of it ends.
-use Rattle.std.proofs.Common.{◌≡◌, ℕ, suc, ◌+◌, ◌-◌, arith, List, [], ◌∷◌, ◌++◌, length, length-append, map, Bool, true, false, cond, Some, None, refl, sym, ap, subst, ◌∙◌, append_assoc, append-nil}
-use Rattle.std.specs.Prelude.{slice_get, Option}
+use Rattle.std.proofs.Common.{◌≡◌, ℕ, suc, ◌+◌, ◌-◌, arith, List, [], ◌∷◌, ◌++◌, length, length-append, Bool, true, false, cond, Some, refl, sym, ap, subst, ◌∙◌, append_assoc}
+use Rattle.std.specs.Prelude.{slice_get}
 use Rattle.std.proofs.lemmas.List.{map-append, length-map}
-use Rattle.script_drive.specs.Runs.{Stepped, state_after, last_state}
+use Rattle.script_drive.specs.Runs.{state_after, last_state}
 use Rattle.script_drive.proofs.RunLemmas.{state_after-append}
 use Rattle.script_drive.specs.Lines.{lines_after}
 use Rattle.live_laws.specs.declared.turn.LiveTurn.{LiveTurn}
-use Rattle.world_run.specs.Ended.{RanPart}
 use Rattle.world_run.specs.declared.live_part.LivePart.{LivePart}
 use Rattle.world_run.specs.declared.live_part.LivePart.TheVariants as part
-use Rattle.world_run.specs.LiveScripts.{LiveState, live_start, end_of, FullIn, IsFull, allowed, known, known_by}
+use Rattle.world_run.specs.LiveScripts.{LiveState, live_start, end_of, FullIn, allowed, known, known_by}
 use Rattle.run_story.specs.declared.happening.Line.{Line}
 use Rattle.run_story.specs.Telling.{StoryView, words_of, ends_run, ends_run_in, AreLinesOf}
 use Rattle.run_story.specs.Running.{story_stand, engine_step, said_in, line_said, LineGoes, Stands, SaysAll, IsRun, RunsAsEngine}

@@ -1,9 +1,9 @@
 -- A script that is taken byte by byte, and its lines.
-use Rattle.std.proofs.Common.{◌≡◌, ◌≢◌, ℕ, ◌-◌, List, [], ◌∷◌, ◌++◌, length, map, drop, refl, sym, ap, ◌∙◌, arith, append_assoc}
-use Rattle.std.specs.Prelude.{◌==◌, Bool, true, false, slice_get, Option}
+use Rattle.std.proofs.Common.{◌≡◌, ◌≢◌, ℕ, ◌-◌, List, [], ◌∷◌, ◌++◌, length, refl, sym, ap, ◌∙◌, append_assoc}
+use Rattle.std.specs.Prelude.{◌==◌, true, false, slice_get}
 use Rattle.std.proofs.lemmas.Bool.{ne_eqb, eq-eqb}
 use Rattle.std.proofs.lemmas.List.{append-nil}
-use Rattle.script_drive.specs.Lines.{whole_lines, pending, last_line, lines_after}
+use Rattle.script_drive.specs.Lines.{lines_after}
 use Rattle.run_story.specs.declared.happening.Line.{Line}
 use Rattle.run_story.specs.Telling.{words_of, ends_run_in, AreLinesOf}
 

@@ -6,7 +6,6 @@ use Rattle.world_run.specs.LiveScripts.{LiveState, live_start, known}
 use Rattle.run_story.specs.declared.happening.Span.{Span}
 use Rattle.run_story.specs.declared.happening.Line.{Line}
 use Rattle.run_story.specs.declared.happening.Outcome.{Outcome}
-use Rattle.run_story.specs.declared.lane.Lane.{Lane}
 use Rattle.run_story.specs.Lanes.{HasLanes}
 use Rattle.run_story.specs.Telling.{StoryView, Followed, words_of, ends_run_in, KeepsTold, TellsJournals, AreLinesOf}
 use Rattle.run_story.specs.Running.{stand_of, story_view, LineGoes, IsSound, RunsAsEngine}

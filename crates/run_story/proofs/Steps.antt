@@ -1,5 +1,5 @@
 -- What comes of a command, by how far the part is.
-use Rattle.std.proofs.Common.{◌≡◌, ◌≢◌, ℕ, ◌≤◌, ◌<◌, arith, List, [], length, length-append, Bool, true, false, cond, Some, None, refl, sym, ap, subst, ◌∙◌, nat_lt, inl, inr}
+use Rattle.std.proofs.Common.{◌≡◌, ◌≢◌, ℕ, ◌≤◌, ◌<◌, arith, List, length, length-append, Bool, true, false, cond, Some, None, refl, sym, ap, subst, ◌∙◌, nat_lt, inl, inr}
 use Rattle.std.specs.Prelude.{◌⊎◌, Option, Result, Ok, Err}
 use Rattle.std.proofs.lemmas.Bool.{ltb-true}
 use Rattle.rep_values.specs.declared.name.SiteName.{SiteName}
@@ -12,7 +12,6 @@ use Rattle.script_parse.specs.declared.command.Command.{Command}
 use Rattle.script_parse.specs.declared.command.Command.TheVariants as command
 use Rattle.script_parse.specs.declared.live_lines.LiveCommand.{LiveCommand}
 use Rattle.script_parse.specs.declared.live_lines.LiveCommand.TheVariants as live_command
-use Rattle.live_laws.specs.declared.turn.LiveTurn.{LiveTurn}
 use Rattle.world_state.specs.declared.refused.Refused.{Refused}
 use Rattle.world_state.specs.World.{WorldState}
 use Rattle.world_state.specs.Refusals.{world_refusal}
@@ -27,7 +26,7 @@ use Rattle.world_run.specs.declared.live_part.OpenPart.{OpenPart}
 use Rattle.world_run.specs.declared.live_part.LivePart.{LivePart}
 use Rattle.world_run.specs.declared.live_part.LivePart.TheVariants as part
 use Rattle.world_run.specs.LiveParts.{most_sessions, sessions_of, new_part, part_refusal, stated, block_ended, changed_by, taken, with_session, next_session}
-use Rattle.world_run.specs.LiveScripts.{LiveState, allowed, known, known_by}
+use Rattle.world_run.specs.LiveScripts.{LiveState, known, known_by}
 use Rattle.world_run.specs.LiveAnswers.{IsAnswered}
 use Rattle.run_story.specs.declared.lane.Lane.{Lane}
 use Rattle.run_story.specs.declared.part.Part.{Part}
@@ -68,10 +67,7 @@ pub refused_said : (number : ℕ) (c : Command) (w w' : WorldState) (r : Refused
 refused_said number c w w' r told (inl short) = let memory = rw short.memory at told in absurd (cc memory)
 refused_said number c w w' r told (inr is) = is.told
 
--- an empty line meets none
-pub nothing_said : (number : ℕ) (w : WorldState) → step_refused number command.Nothing w ≡ None
-nothing_said number w = refl
-
+-- a line that is taken into a part meets the refusal that it is told
 pub taken_said : (told : Result OpenPart Refusal) (old new : OpenPart) (refused : Option Refusal) → IsAnswered told old new refused → hindrance_of told ≡ refused
 taken_said told old new None is = rw is refl
 taken_said told old new (Some why) is = rw is.0 refl
@@ -87,12 +83,6 @@ module _ (w : WorldState) (n : ℕ) where
   pub goes_taken : (c : Command) (p q : OpenPart) (refused : Option Refusal) → IsAnswered (taken n c p) p q refused → GoesOn n (live_command.Plain c) (at w (part.Open p)) (at w (part.Open q))
   goes_taken c p q None told turns may = (tt, rw told refl)
   goes_taken c p q (Some why) told turns may = (tt, rw (told.0, told.1) refl)
-
-  -- and where none is open
-  pub goes_around : (c : Command) (p : LivePart) (w' : WorldState) → ((q : OpenPart) → p ≢ part.Open q) → w' ≡ world_step n c w → GoesOn n (live_command.Plain c) (at w p) (at w' p)
-  goes_around c part.NotYet w' other step turns may = (tt, rw step refl)
-  goes_around c (part.Open p) w' other step turns may = absurd (other p refl)
-  goes_around c (part.Ended e) w' other step turns may = (may, rw step refl)
 
   -- an empty line
   pub goes_nothing : (p : LivePart) → GoesOn n (live_command.Plain command.Nothing) (at w p) (at w p)
@@ -114,12 +104,6 @@ module _ (w : WorldState) (n : ℕ) where
   pub goes_session : (p q : OpenPart) (refused : Option Refusal) → IsAnswered (next_session p) p q refused → GoesOn n live_command.Session (at w (part.Open p)) (at w (part.Open q))
   goes_session p q None told turns may = (tt, rw told refl)
   goes_session p q (Some why) told turns may = (tt, rw (told.0, told.1) refl)
-
-  -- outside a part none does
-  pub goes_no_session : (p : LivePart) → ((q : OpenPart) → p ≢ part.Open q) → GoesOn n live_command.Session (at w p) (at w p)
-  goes_no_session part.NotYet other turns may = (tt, refl)
-  goes_no_session (part.Open p) other turns may = absurd (other p refl)
-  goes_no_session (part.Ended e) other turns may = (may, refl)
 
   -- a part is run
   pub goes_end : (p : OpenPart) (v : LentWorld) (e : RanPart) → PartRan w p v e → GoesOn n live_command.End (at w (part.Open p)) (at v.world (part.Ended e))
@@ -175,16 +159,6 @@ known_session w p q None told known =
     let next = next_is (nat_lt (length (sessions_of p)) most_sessions) p q told in
     let few : length (sessions_of p) < most_sessions = ltb-true (length (sessions_of p)) most_sessions next.0 in
     rw next.1 (known.0, subst (λ (n : ℕ). n ≤ most_sessions) (sym (length-append (sessions_of p) _)) (omega (arith, few)))
-
--- what is known of a part that isn't open hangs on no world
-pub known_around : (p : LivePart) (w w' : WorldState) → ((q : OpenPart) → p ≢ part.Open q) → known_by p w → known_by p w'
-known_around part.NotYet w w' other known = tt
-known_around (part.Open p) w w' other known = absurd (other p refl)
-known_around (part.Ended e) w w' other known = known
-
--- a part that is opened
-pub known_open : (w : WorldState) (site : SiteName) → live_refusal site w ≡ None → known_by (part.Open (new_part site)) w
-known_open w site passes = (passes, omega arith)
 
 -- a part that was run
 pub known_end : (w w' : WorldState) (p : OpenPart) (v : LentWorld) (e : RanPart) → PartRan w p v e → known_by (part.Ended e) w'

@@ -24,7 +24,7 @@ use Rattle.run_story.specs.declared.part.Part.{Part}
 use Rattle.run_story.specs.declared.part.Part.TheVariants as kept
 use Rattle.run_story.specs.declared.happening.Line.{Line}
 use Rattle.run_story.specs.declared.happening.Outcome.{Outcome}
-use Rattle.run_story.specs.declared.happening.Outcome.TheVariants.{PassedOver, Declared, Shown, Done, Refused, Malformed}
+use Rattle.run_story.specs.declared.happening.Outcome.TheVariants.{Refused, Malformed}
 use Rattle.run_story.specs.Telling.{StoryView, Followed, words_of, ends_run, ends_run_in, IsTold}
 
 -- ---- where a script stands

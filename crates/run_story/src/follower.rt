@@ -212,7 +212,7 @@ impl Follower {
     }
 
     /// Runs a command that every script may have, and tells what came of it, beside what came to journals.
-    #[tactic(auto, using(crate::proofs::Lanes::adds_done, crate::proofs::Lanes::adds_refused, crate::proofs::Steps::done_steps, crate::proofs::Steps::refused_steps, crate::proofs::Steps::done_said, crate::proofs::Steps::refused_said))]
+    #[tactic(auto, using(crate::proofs::Lanes::adds_refused, crate::proofs::Steps::done_steps, crate::proofs::Steps::refused_steps, crate::proofs::Steps::done_said, crate::proofs::Steps::refused_said))]
     fn step(
         &mut self,
         alloc: Global,
@@ -304,7 +304,7 @@ impl Follower {
     }
 
     /// `end`
-    #[tactic(auto, using(crate::proofs::Lanes::adds_none, crate::proofs::Lanes::adds_ran, crate::proofs::Steps::known_end, crate::proofs::Steps::free_end, crate::proofs::Steps::goes_no_end, crate::proofs::Steps::open_passes, crate::proofs::Steps::open_few))]
+    #[tactic(auto, using(crate::proofs::Lanes::adds_none, crate::proofs::Steps::known_end, crate::proofs::Steps::free_end, crate::proofs::Steps::goes_no_end, crate::proofs::Steps::open_passes, crate::proofs::Steps::open_few))]
     fn end_part<X: Threads + Wait + Sync>(
         &mut self,
         rt: &X,
@@ -399,7 +399,7 @@ impl Follower {
     }
 
     /// Runs a line, and tells what came of it and to journals.
-    #[tactic(auto, using(crate::proofs::Stories::keeps_all, crate::proofs::LineSteps::line_answers, crate::proofs::LineSteps::line_passes, crate::proofs::LineSteps::line_breaks))]
+    #[tactic(auto, using(crate::proofs::Stories::keeps_all))]
     fn run_line<X: Threads + Wait + Sync>(
         &mut self,
         rt: &X,
@@ -430,7 +430,7 @@ impl Follower {
 
     /// Runs the line behind so many, and tells what came of it and to journals. One line too many breaks rule 2. Where there is no
     /// memory, no further line may be run.
-    #[tactic(auto, using(crate::proofs::Stories::keeps_all, crate::proofs::LineSteps::line_many))]
+    #[tactic(auto, using(crate::proofs::Stories::keeps_all))]
     pub fn run_next<X: Threads + Wait + Sync>(
         &mut self,
         rt: &X,

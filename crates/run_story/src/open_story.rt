@@ -70,7 +70,6 @@ fn ends_run(outcome: &Outcome) -> bool
 
 impl OpenStory {
     /// A script of which nothing was read.
-    #[tactic(auto, using(crate::proofs::Sound::sound_at_start))]
     pub fn make(alloc: Global) -> Result<OpenStory, NoMemory>
         ensures lines { IfOk result (λ story. story.lines ≡ []) }
         ensures sound { IfOk result IsSound }
@@ -135,7 +134,7 @@ impl OpenStory {
     }
 
     /// Reads a script from its first line to its last, or to the first that is malformed.
-    #[tactic(auto, using(crate::proofs::Scripts::at_start, crate::proofs::Scripts::goes_at_start, crate::proofs::Scripts::past_byte, crate::proofs::Scripts::past_end, crate::proofs::Scripts::stopped_early, crate::proofs::Scripts::read_whole, crate::proofs::Scripts::read_last))]
+    #[tactic(auto, using(crate::proofs::Scripts::at_start, crate::proofs::Scripts::goes_at_start, crate::proofs::Scripts::past_byte, crate::proofs::Scripts::past_end, crate::proofs::Scripts::read_whole, crate::proofs::Scripts::read_last))]
     pub fn read<X: Threads + Wait + Sync>(
         &mut self,
         rt: &X,
