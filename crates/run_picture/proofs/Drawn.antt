@@ -6,7 +6,6 @@ use Rattle.page_text.specs.declared.page.Part.{Part}
 use Rattle.page_text.specs.declared.page.Part.TheVariants as part
 use Rattle.lane_drawing.specs.Marks.{marks_of}
 use Rattle.run_story.specs.Telling.{StoryView, TellsJournals}
-use Rattle.run_picture.specs.Marks.{DrawsJournals}
 use Rattle.run_picture.specs.Folding.{shown_marks}
 use Rattle.run_picture.specs.Drawn.{HasChart, IsDrawnIn}
 use Rattle.run_picture.proofs.Journals.{whole_stories_are_drawn}

@@ -1,6 +1,6 @@
 -- A piece of a list, read from a place on.
 use Rattle.std.proofs.Common.{◌≡◌, ℕ, zero, suc, ◌+◌, ◌-◌, ◌<◌, min, List, [], ◌∷◌, ◌++◌, length, map, take, drop, refl, sym, ap, ◌∙◌, arith, length-take, length-drop, append-nil}
-use Rattle.std.specs.Prelude.{slice_get, ◌≤◌, Option, Some, None}
+use Rattle.std.specs.Prelude.{slice_get, ◌≤◌, Option, Some}
 use Rattle.std.proofs.lemmas.Option.{slice_get_past}
 use Rattle.rep_lists.proofs.Places.{drop_from_found}
 use Rattle.run_story.specs.declared.happening.Span.{Span}

@@ -11,7 +11,7 @@ use Rattle.run_story.specs.Telling.{StoryView}
 use Rattle.run_picture.specs.declared.folding.Showing.{Showing}
 use Rattle.run_picture.specs.declared.folding.Showing.TheVariants as showing
 use Rattle.run_picture.specs.Marks.{span_marks, line_marks}
-use Rattle.run_picture.specs.Folding.{has_turns, is_to_see, shown_marks, marks_as, IsShowing}
+use Rattle.run_picture.specs.Folding.{has_turns, is_to_see, marks_as, IsShowing}
 
 -- of a line to whose journals nothing came there are no marks
 no_marks : (story : StoryView) (line : Line) → line.entries ≡ [] → line_marks story line ≡ []

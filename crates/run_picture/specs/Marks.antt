@@ -1,5 +1,5 @@
 -- The marks of entries of journals in a drawing.
-use Rattle.std.specs.Prelude.{◌≡◌, ℕ, ◌+◌, ◌*◌, ◌==◌, Bool, false, List, [], ◌∷◌, ◌++◌, map, filter, take, drop, slice_get, flat_map, Option, Some, None}
+use Rattle.std.specs.Prelude.{◌≡◌, ℕ, ◌+◌, ◌*◌, ◌==◌, List, [], map, filter, take, drop, slice_get, flat_map, Option, Some, None}
 use Rattle.page_text.specs.declared.look.Look.{Look}
 use Rattle.page_text.specs.declared.look.Look.TheVariants as look
 use Rattle.lane_drawing.specs.Marks.{Mark}

@@ -10,19 +10,25 @@ use page_text::{Heading, Look, Page, Part, text_of, words_of};
 use rep_lists::{Items, NoMemory};
 use rep_values::SiteName;
 use run_ending::ending_of;
-use run_story::{Lane, Story};
+use run_story::{Lane, Line, Story};
 use std::alloc::Global;
+
+/// How many packets were sent in some lines, marks that went back among them.
+fn packets_in(lines: &[Line]) -> u64 {
+    let mut packets: u64 = 0;
+    for line in lines {
+        packets = packets
+            .saturating_add(line.sent.len() as u64)
+            .saturating_add(line.answered.len() as u64);
+    }
+    packets
+}
 
 /// What is said of a run above its picture.
 fn summary(alloc: Global, story: &Story) -> Result<Items<u8>, NoMemory> {
     let lines = story.lines().len();
     let sites = story.lanes().len();
-    let mut packets: u64 = 0;
-    for line in story.lines() {
-        packets = packets
-            .saturating_add(line.sent.len() as u64)
-            .saturating_add(line.answered.len() as u64);
-    }
+    let packets = packets_in(story.lines());
     let text = format!(in alloc;
         "{lines} lines, {sites} sites, {packets} packets. At the left stand the lines of the script."
     )?;

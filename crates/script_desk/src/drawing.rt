@@ -18,17 +18,22 @@ use std::thread::Threads;
 /// The title of a picture.
 const TITLE: &[u8] = b"A run of replication";
 
+/// Whether a line that came to this ended its run.
+fn is_end(outcome: &Outcome) -> bool {
+    if let Outcome::Malformed(_) = outcome {
+        return true;
+    }
+    false
+}
+
 /// The status of a run whose last line came to this.
 fn status_at(outcome: &Outcome) -> Status
     ensures { EndsRun result }
 {
-    match outcome {
-        Outcome::Malformed(_) => Status::Malformed,
-        Outcome::PassedOver
-        | Outcome::Declared
-        | Outcome::Shown
-        | Outcome::Done
-        | Outcome::Refused(_) => Status::Done,
+    if is_end(outcome) {
+        Status::Malformed
+    } else {
+        Status::Done
     }
 }
 
